@@ -45,7 +45,10 @@ nothing_left view got now item none more less =
     let one : Holding = holding_by got item in
     less ∙ (ap (lose (is_of (item_chunk item))) (more ∙ ap (λ (hs : List Holding). hs ++ one ∷ []) none) ∙ ap (λ (b : Bool). if b then [] else one ∷ []) (is_chunk-same (item_chunk item)))
 
--- and so where it made calls meanwhile
+-- a hand that gave an item up behind calls that left it what it held holds one less than before them
+pub less_later : (view last now : View) (item : Ref) → HoldsTheSame view last → HoldsLess item last now → HoldsLess item view now
+less_later view last now item same less = less ∙ ap (lose (is_of (item_chunk item))) same
+
+-- and nothing, where it got that item when it held nothing
 pub nothing_left_later : (view got last now : View) (item : Ref) → HoldsNothing view → HoldsToo (Some item) view got → HoldsTheSame got last → HoldsLess item last now → HoldsNothing now
-nothing_left_later view got last now item none more same less =
-    nothing_left view got now item none more (less ∙ ap (lose (is_of (item_chunk item))) same)
+nothing_left_later view got last now item none more same less = nothing_left view got now item none more (less_later got last now item same less)

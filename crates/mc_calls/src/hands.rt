@@ -1,7 +1,7 @@
 //! Arenas that are opened, and their hands.
 ghost use Rattle.std.specs.Prelude.{IfSome, IfOk};
 ghost use Rattle.mc_calls.specs.Hands.{AreHandsOf, IsIdleHandOf};
-ghost use Rattle.mc_calls.specs.Pairs.{AreReady};
+ghost use Rattle.mc_calls.specs.Pairs.{AreIdle, AreReady};
 
 use mc_classes::Config;
 use mc_words::{Arena, Hand, NewError};
@@ -30,7 +30,7 @@ pub fn next_hand(arena: &Arena, hands: &mut Vec<Hand>) -> Option<Hand>
 }
 
 /// The two hands of the lowest numbers that are left.
-pub fn two_of(arena: &Arena, hands: &mut Vec<Hand>) -> Option<(Hand, Hand)>
+fn two_of(arena: &Arena, hands: &mut Vec<Hand>) -> Option<(Hand, Hand)>
     requires hands { AreHandsOf arena.now hands.old.items }
     ensures hands { AreHandsOf arena.now hands.new.items }
     ensures two { IfSome result (λ two. IsIdleHandOf arena.now two.0 × IsIdleHandOf arena.now two.1) }
@@ -50,6 +50,23 @@ pub fn three_of(arena: &Arena, hands: &mut Vec<Hand>) -> Option<(Hand, Hand, Han
     let second = next_hand(arena, hands)?;
     let third = next_hand(arena, hands)?;
     Some((first, second, third))
+}
+
+/// Two hands of a thread: one holds an item, while the other acts.
+#[derive(Drop)]
+pub struct Pair {
+    pub reader: Hand,
+    pub writer: Hand,
+}
+
+/// The two hands of the lowest numbers that are left, for a thread.
+pub fn pair_of(arena: &Arena, hands: &mut Vec<Hand>) -> Option<Pair>
+    requires hands { AreHandsOf arena.now hands.old.items }
+    ensures hands { AreHandsOf arena.now hands.new.items }
+    ensures pair { IfSome result (AreIdle arena.now) }
+{
+    let (reader, writer) = two_of(arena, hands)?;
+    Some(Pair { reader, writer })
 }
 
 /// One hand of two.

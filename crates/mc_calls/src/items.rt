@@ -6,29 +6,14 @@ ghost use Rattle.mc_items.specs.ItemRefs.{IsItemRef, item_chunk};
 ghost use Rattle.mc_items.specs.Keeping.{HoldsTheSame, HoldsToo};
 ghost use Rattle.mc_calls.specs.Hands.{IsReadyHandOf};
 
-use crate::words::{are_from, words_from};
-use mc_items::{Ref, SetError, delete, get, read, release, set, touch};
+use crate::words::words_from;
+use mc_items::{Ref, delete, get, set, touch};
 use mc_memory::Refused;
 use mc_pages::ChunkId;
-use mc_stripe::{Key, Stamp};
+use mc_stripe::Key;
 use mc_words::{Arena, Hand};
 use std::alloc::Global;
 use std::sync::Wait;
-
-/// Stores these words under the key.
-pub fn set_words<R: Wait>(
-    rt: &R,
-    arena: &Arena,
-    hand: &mut Hand,
-    key: Key,
-    words: &[u64],
-) -> Result<Stamp, SetError>
-    requires arena { IsReadyHandOf arena.now hand.old }
-    ensures arena { IsReadyHandOf arena.now hand.new }
-    ensures holdings { HoldsTheSame (view hand.old) (view hand.new) }
-{
-    set(rt, arena, hand, key, words)
-}
 
 /// Items of so many words, from the first on, for the keys from the first on, before the second. True if each was stored.
 pub fn store_all<R: Wait>(
@@ -45,7 +30,7 @@ pub fn store_all<R: Wait>(
 {
     let words = words_from(alloc, first, len)?;
     for key in keys.0..keys.1 {
-        if set_words(rt, arena, hand, key, &words).is_err() {
+        if set(rt, arena, hand, key, &words).is_err() {
             return Ok(false);
         }
     }
@@ -64,46 +49,6 @@ pub fn get_key<R: Wait>(rt: &R, arena: &Arena, hand: &mut Hand, key: Key) -> Opt
         Ok(found) => found,
         Err(_) => None,
     }
-}
-
-/// Whether the item has so many words, from the first on.
-pub fn has_words(
-    alloc: Global,
-    arena: &Arena,
-    hand: &mut Hand,
-    item: &Ref,
-    first: u64,
-    len: u64,
-) -> Result<bool, Refused>
-    requires arena { IsReadyHandOf arena.now hand.old }
-    requires item { IsItemRef (view hand.old) item.now }
-    ensures arena { IsReadyHandOf arena.now hand.new }
-    ensures item { IsItemRef (view hand.new) item.now }
-    ensures holdings { HoldsTheSame (view hand.old) (view hand.new) }
-{
-    let words = read(alloc, arena, hand, item)?;
-    Ok(are_from(&words, first, len))
-}
-
-/// Whether the key has an item of so many words, from the first on.
-pub fn key_has<R: Wait>(
-    rt: &R,
-    alloc: Global,
-    arena: &Arena,
-    hand: &mut Hand,
-    key: Key,
-    first: u64,
-    len: u64,
-) -> Result<bool, Refused>
-    requires arena { IsReadyHandOf arena.now hand.old }
-    ensures arena { IsReadyHandOf arena.now hand.new }
-{
-    let Some(item) = get_key(rt, arena, hand, key) else {
-        return Ok(false);
-    };
-    let own = has_words(alloc, arena, hand, &item, first, len)?;
-    release(arena, hand, item);
-    Ok(own)
 }
 
 /// Whether the key had an item, which is deleted. None at want of memory.

@@ -1,4 +1,4 @@
-//! What tests on hands share: arenas that are opened, calls of hands that may make any, the mover's too, words of items, lists of calls, and sums over a closed arena. A
+//! What tests on hands share: arenas that are opened, calls of hands that may make any, the mover's too, words of items, lists of calls, threads, and sums over a closed arena. A
 //! hand of these contracts is one of the arena's, and may make any call; so is it behind each call.
 #![tactic(auto)]
 
@@ -11,20 +11,20 @@ mod moves;
 mod own;
 mod stats;
 mod steps;
+mod threads;
 mod turns;
 mod words;
 
 pub use accounts::{NO_SUMS, Pages, Sums, all_sums, class_sums, count_keys, count_pages, head};
 pub use getters::{GETTERS, Getter, get_by, is_there};
-pub use hands::{Two, next_hand, one_of, opened, opened_two, three_of, two_of};
+pub use hands::{Pair, Two, next_hand, one_of, opened, opened_two, pair_of, three_of};
 pub use hints::{follow, hint_of};
-pub use items::{
-    delete_key, get_key, has_chunk, has_words, header, key_has, set_words, store_all, touch_key,
-};
+pub use items::{delete_key, get_key, has_chunk, header, store_all, touch_key};
 pub use mc_trial_values::FOUR_CLASSES;
-pub use moves::{reassign_by, set_mode_by, try_turn_by, turn_by};
-pub use own::{are_own, is_own, own_words, store_own};
+pub use moves::{set_mode_by, turn_by};
+pub use own::{are_own, is_own, own_words, release_own, store_own};
 pub use stats::{Chunks, Stats, stats_of};
 pub use steps::{Played, Step, StepError, play_all, run};
+pub use threads::{Beside, Job, Worked};
 pub use turns::{NO_TURNS, Turns};
 pub use words::{are_from, words_from};

@@ -1,12 +1,11 @@
 //! Items whose words tell their key and their stamp, so that a word of another item would be seen.
 ghost use Rattle.mc_words.specs.hand.Arenas.{view};
 ghost use Rattle.mc_items.specs.ItemRefs.{IsItemRef};
-ghost use Rattle.mc_items.specs.Keeping.{HoldsTheSame};
+ghost use Rattle.mc_items.specs.Keeping.{HoldsLess, HoldsTheSame};
 ghost use Rattle.mc_calls.specs.Hands.{IsReadyHandOf};
 
-use crate::items::{has_words, set_words};
 use crate::words::{are_from, words_from};
-use mc_items::Ref;
+use mc_items::{Ref, read, release, set};
 use mc_memory::Refused;
 use mc_stripe::{Key, Stamp};
 use mc_words::{Arena, Hand};
@@ -52,25 +51,39 @@ pub fn store_own<R: Wait>(
 {
     let stamp = hand.next_stamp().unwrap_or(0);
     let words = own_words(alloc, key, stamp, len)?;
-    Ok(set_words(rt, arena, hand, key, &words).is_ok())
+    Ok(set(rt, arena, hand, key, &words).is_ok())
 }
 
-/// Whether the item is such an item of the key, and has so many words.
-pub fn is_own(
-    alloc: Global,
-    arena: &Arena,
-    hand: &mut Hand,
-    item: &Ref,
-    key: Key,
-    len: u64,
-) -> Result<bool, Refused>
+/// Whether the item is such an item of the key, and has so many words. False, too, where memory ran out.
+pub fn is_own(alloc: Global, arena: &Arena, hand: &mut Hand, item: &Ref, key: Key, len: u64) -> bool
     requires arena { IsReadyHandOf arena.now hand.old }
     requires item { IsItemRef (view hand.old) item.now }
     ensures arena { IsReadyHandOf arena.now hand.new }
     ensures item { IsItemRef (view hand.new) item.now }
     ensures holdings { HoldsTheSame (view hand.old) (view hand.new) }
 {
-    let first = first_word(key, item.stamp());
-    let own = has_words(alloc, arena, hand, item, first, len)?;
-    Ok(own && item.key() == key)
+    match read(alloc, arena, hand, item) {
+        Ok(words) => item.key() == key && are_own(&words, key, item.stamp(), len),
+        Err(_) => false,
+    }
+}
+
+/// The same of an item that is given up.
+#[tactic(auto, using(crate::proofs::Kept::less_later))]
+pub fn release_own(
+    alloc: Global,
+    arena: &Arena,
+    hand: &mut Hand,
+    item: Ref,
+    key: Key,
+    len: u64,
+) -> bool
+    requires arena { IsReadyHandOf arena.now hand.old }
+    requires item { IsItemRef (view hand.old) item }
+    ensures arena { IsReadyHandOf arena.now hand.new }
+    ensures holdings { HoldsLess item (view hand.old) (view hand.new) }
+{
+    let own = is_own(alloc, arena, hand, &item, key, len);
+    release(arena, hand, item);
+    own
 }

@@ -64,12 +64,13 @@ pub fn run<R: Wait, S: Step>(
     Ok(())
 }
 
-/// Plays with the two hands of a new arena of four classes. They and the arena are dropped by one call, behind all that may fail.
+/// Plays with the two hands of a new arena of four classes, and with what else is given. They and the arena are dropped by one call,
+/// behind all that may fail.
 #[macro_export]
 macro_rules! play_two {
-    ($rt:expr, $play:ident) => {{
+    ($rt:expr, $play:ident $(, $argument:expr)*) => {{
         let mut two = $crate::opened_two($rt.alloc(), &$crate::FOUR_CLASSES)?;
-        let played = $play(&$rt, $rt.alloc(), &mut two);
+        let played = $play(&$rt, $rt.alloc(), &mut two $(, $argument)*);
         drop(two);
         played
     }};

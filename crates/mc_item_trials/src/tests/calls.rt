@@ -1,8 +1,8 @@
 //! Many calls at once, of hands that may make any.
 ghost use Rattle.mc_calls.specs.Hands.{IsReadyHandOf};
 
-use mc_calls::{Getter, get_by, is_there, set_words, words_from};
-use mc_items::SetError;
+use mc_calls::{Getter, get_by, is_there, words_from};
+use mc_items::{SetError, set};
 use mc_memory::Refused;
 use mc_stripe::Key;
 use mc_words::{Arena, Hand};
@@ -22,7 +22,7 @@ pub fn refusal_of_set<R: Wait>(
     ensures arena { IsReadyHandOf arena.now hand.new }
 {
     let words = words_from(alloc, 0, len)?;
-    Ok(set_words(rt, arena, hand, key, &words).err())
+    Ok(set(rt, arena, hand, key, &words).err())
 }
 
 /// References to the items of the keys from the first on, before the second, which count for good. True if each has one.

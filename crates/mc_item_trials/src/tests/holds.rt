@@ -6,8 +6,8 @@ ghost use Rattle.mc_calls.specs.Pairs.{AreReady};
 
 use super::assert_same;
 use super::steps::Step;
-use mc_calls::{FOUR_CLASSES, GETTERS, Getter, Two, get_by, has_words, opened_two, play_all};
-use mc_items::{Ref, release};
+use mc_calls::{GETTERS, Getter, Two, are_from, get_by, play_all, play_two};
+use mc_items::{Ref, read, release};
 use mc_memory::Refused;
 use mc_pages::ChunkId;
 use mc_stripe::{Key, Stamp};
@@ -36,7 +36,8 @@ fn is_item(
     ensures item { IsItemRef (view hand.new) item.now }
 {
     let is_named = (item.key(), item.stamp(), item.len()) == (key, stamp, 3);
-    Ok(has_words(alloc, arena, hand, item, first, 3)? && is_named)
+    let words = read(alloc, arena, hand, item)?;
+    Ok(is_named && are_from(&words, first, 3))
 }
 
 /// A key is stored over, while its first item is held: each reader has the words of its own.
@@ -74,10 +75,7 @@ fn store_over<R: Abort + Wait>(
 #[test]
 fn a_held_item_keeps_its_words(rt: HostRuntime) -> Result<(), Fail> {
     for getter in GETTERS {
-        let mut two = opened_two(rt.alloc(), &FOUR_CLASSES)?;
-        let played = store_over(&rt, rt.alloc(), &mut two, getter);
-        drop(two);
-        played?;
+        play_two!(rt, store_over, getter)?;
     }
     Ok(())
 }

@@ -37,9 +37,8 @@ fn refusal_of_try(arena: &Arena, hand: &mut Hand, key: Key) -> Option<TryGetErro
 fn hold_too_often<R: Abort + Wait>(rt: &R, alloc: Global, two: &mut Two) -> Result<(), Fail>
     requires { AreReady two.old }
 {
+    let hint = hint_behind(rt, alloc, two, Step::Sets(1, 2, 0, 3))?;
     let Two { arena, hand, .. } = two;
-    let one = Step::Sets(1, 2, 0, 3);
-    let hint = hint_behind(rt, alloc, arena, hand, one)?;
     let most = [Step::HoldsOften(1, 254)];
     play_all(rt, alloc, arena, hand, &most)?;
     let last = refusal_of_try(arena, hand, 1);

@@ -6,14 +6,8 @@ use std::test::Fail;
 
 /// The same classes; a turn looks at one chunk.
 const ONE_A_TURN: Config = Config {
-    page: 1024,
-    limit: 4096,
-    first: 48,
-    num: 2,
-    den: 1,
-    max: 512,
-    stripes: 4,
     bulk: 1,
+    ..FOUR_CLASSES
 };
 
 #[test]

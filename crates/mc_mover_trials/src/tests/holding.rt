@@ -3,8 +3,8 @@ ghost use Rattle.mc_calls.specs.Pairs.{AreReady};
 
 use super::assert_same;
 use super::steps::Step;
-use mc_calls::{Two, get_key, has_words, play_all, play_two, store_all};
-use mc_items::release;
+use mc_calls::{Two, are_from, get_key, play_all, play_two, store_all};
+use mc_items::{read, release};
 use mc_pages::Reassign;
 use std::alloc::Global;
 use std::process::Abort;
@@ -33,8 +33,8 @@ fn move_a_held_page<R: Abort + Wait>(rt: &R, alloc: Global, two: &mut Two) -> Re
         Step::Reassigns(Some(4), 2, Err(Reassign::Busy)),
     ];
     play_all(rt, alloc, arena, hand, &steps)?;
-    let own = has_words(alloc, arena, reader, &item, 100, 22)?;
-    assert_same(rt, own, true, "words 100 to 121");
+    let words = read(alloc, arena, reader, &item)?;
+    assert_same(rt, are_from(&words, 100, 22), true, "words 100 to 121");
     release(arena, reader, item);
     let steps = [Step::Finishes(1, 0, 1, 0, 0), Step::Idles];
     play_all(rt, alloc, arena, hand, &steps)?;

@@ -5,8 +5,8 @@ ghost use Rattle.mc_calls.specs.Pairs.{AreReady};
 
 use super::assert_equal;
 use super::steps::Step;
-use mc_calls::{Two, play_all, play_two, try_turn_by};
-use mc_mover::{Counts, TryTurn, Turn};
+use mc_calls::{Two, play_all, play_two};
+use mc_mover::{Counts, TryTurn, Turn, try_turn};
 use mc_words::{Arena, Hand};
 use std::alloc::Global;
 use std::process::Abort;
@@ -31,7 +31,7 @@ fn turn_beside_stripe(
     let Ok(held) = arena.try_stripe(holder, stripe) else {
         return None;
     };
-    let found = try_turn_by(arena, hand);
+    let found = try_turn(arena, hand);
     arena.give_stripe(holder, held);
     Some(found)
 }
@@ -50,7 +50,7 @@ fn turn_beside_slabs(
     let Ok(slabs) = arena.try_slabs(holder) else {
         return None;
     };
-    let found = try_turn_by(arena, hand);
+    let found = try_turn(arena, hand);
     arena.give_slabs(holder, slabs);
     Some(found)
 }
@@ -76,7 +76,7 @@ fn move_beside_stripe<R: Abort + Wait>(rt: &R, alloc: Global, two: &mut Two) -> 
     let went = turn_beside_stripe(arena, hand, other, 1);
     let wanted = Turn::Went(evicted(1, 1));
     assert_equal(rt, went, Some(Ok(wanted)), "beside its stripe");
-    let done = try_turn_by(arena, hand);
+    let done = try_turn(arena, hand);
     let wanted = Turn::Finished(evicted(1, 0));
     assert_equal(rt, done, Ok(wanted), "once it was given");
     let steps = [Step::Moved(1, 0, 2, 1)];
@@ -100,10 +100,10 @@ fn turn_beside_held_slabs<R: Abort + Wait>(rt: &R, alloc: Global, two: &mut Two)
     play_all(rt, alloc, arena, hand, &steps)?;
     let refused = turn_beside_slabs(arena, hand, other);
     assert_equal(rt, refused, Some(Err(TryTurn::Held)), "a page moves");
-    let done = try_turn_by(arena, hand);
+    let done = try_turn(arena, hand);
     let wanted = Turn::Finished(evicted(2, 0));
     assert_equal(rt, done, Ok(wanted), "once they were given");
-    let idle = try_turn_by(arena, hand);
+    let idle = try_turn(arena, hand);
     assert_equal(rt, idle, Ok(Turn::Idle), "when no page moves");
     Ok(())
 }

@@ -1,13 +1,7 @@
 //! Pages that move while their class has other chunks: items are taken there.
-ghost use Rattle.mc_calls.specs.Pairs.{AreReady};
-
-use super::assert_same;
 use super::steps::Step;
-use mc_calls::{FOUR_CLASSES, Two, key_has, play_all, play_two, run};
+use mc_calls::{FOUR_CLASSES, run};
 use mc_pages::Reassign;
-use std::alloc::Global;
-use std::process::Abort;
-use std::sync::Wait;
 use std::test::Fail;
 
 #[test]
@@ -23,33 +17,19 @@ fn an_item_is_taken_to_a_dead_chunk_of_its_class(rt: HostRuntime) -> Result<(), 
     run(&rt, rt.alloc(), &FOUR_CLASSES, &steps)
 }
 
-/// An item is rescued, read, and evicted as the eldest.
-fn read_behind_a_rescue<R: Abort + Wait>(rt: &R, alloc: Global, two: &mut Two) -> Result<(), Fail>
-    requires { AreReady two.old }
-{
-    let Two { arena, hand, .. } = two;
+#[test]
+fn a_rescued_item_keeps_its_words_and_its_age(rt: HostRuntime) -> Result<(), Fail> {
     let steps = [
-        Step::Sets(1, 8, 61),
-        Step::Sets(8, 9, 61),
+        Step::Sets(1, 9, 61),
         Step::Deletes(8),
         Step::Reassigns(Some(4), 1, Ok(())),
         Step::Finishes(2, 1, 1, 0, 0),
-    ];
-    play_all(rt, alloc, arena, hand, &steps)?;
-    let own = key_has(rt, alloc, arena, hand, 2, 1, 61)?;
-    assert_same(rt, own, true, "the words of the item that was rescued");
-    let steps = [
+        Step::Reads(2, 1, 61),
         Step::Sets(9, 10, 61),
         Step::Touches(2, false),
         Step::Touches(3, true),
     ];
-    play_all(rt, alloc, arena, hand, &steps)?;
-    Ok(())
-}
-
-#[test]
-fn a_rescued_item_keeps_its_words_and_its_age(rt: HostRuntime) -> Result<(), Fail> {
-    play_two!(rt, read_behind_a_rescue)
+    run(&rt, rt.alloc(), &FOUR_CLASSES, &steps)
 }
 
 #[test]

@@ -2,11 +2,13 @@
 ghost use Rattle.mc_calls.specs.Hands.{IsReadyHandOf};
 
 use mc_calls::{
-    Chunks, Played, delete_key, reassign_by, set_mode_by, stats_of, store_all, touch_key, turn_by,
+    Chunks, Played, are_from, delete_key, get_key, header, set_mode_by, stats_of, store_all,
+    touch_key, turn_by,
 };
 use mc_classes::ClassId;
-use mc_mover::{Counts, Turn, forget, trim};
-use mc_pages::Reassign;
+use mc_items::{TryGetError, read, release, try_get};
+use mc_mover::{Counts, Turn, forget, reassign, trim};
+use mc_pages::{ChunkId, Reassign};
 use mc_stripe::Key;
 use mc_words::{Arena, Hand};
 use std::alloc::Global;
@@ -21,6 +23,12 @@ pub enum Step {
     Deletes(Key),
     /// The key's item is touched, if it is there.
     Touches(Key, bool),
+    /// The key's item has so many words, from a first one on.
+    Reads(Key, u64, u64),
+    /// A get that waits for nobody is refused so, or not at all. A reference that it gives counts for good.
+    TryGets(Key, Option<TryGetError>),
+    /// The chunk's header.
+    Head(ChunkId, u64),
     /// A move is asked for, from a class or any to a class or the pool.
     Reassigns(Option<ClassId>, ClassId, Result<(), Reassign>),
     /// A turn finds that no page moves.
@@ -52,6 +60,27 @@ fn counts(cleared: u64, rescued: u64, evicted: u64, busy: u64, locked: u64) -> C
         busy,
         locked,
     }
+}
+
+/// Whether the key has an item of so many words, from the first on.
+fn reads<R: Wait>(
+    rt: &R,
+    alloc: Global,
+    arena: &Arena,
+    hand: &mut Hand,
+    key: Key,
+    words: (u64, u64),
+) -> Played
+    requires arena { IsReadyHandOf arena.now hand.old }
+    ensures arena { IsReadyHandOf arena.now hand.new }
+{
+    let Some(item) = get_key(rt, arena, hand, key) else {
+        return Ok(false);
+    };
+    let found = read(alloc, arena, hand, &item);
+    release(arena, hand, item);
+    let (first, len) = words;
+    Ok(are_from(&found?, first, len))
 }
 
 /// Whether the mode is set, and a survey tells it.
@@ -139,6 +168,9 @@ impl mc_calls::Step for Step {
                 *first,
                 *len,
             ),
+            Step::Reads(key, first, len) => {
+                reads(rt, alloc, arena, hand, *key, (*first, *len))
+            }
             Step::Modes(mode) => Ok(has_mode(rt, alloc, arena, hand, *mode)),
             Step::Pages(granted, pool, running) => {
                 Ok(has_pages(rt, alloc, arena, hand, (*granted, *pool, *running)))
@@ -168,7 +200,9 @@ fn acts<R: Wait>(rt: &R, arena: &Arena, hand: &mut Hand, step: &Step) -> bool
     match step {
         Step::Deletes(key) => delete_key(rt, arena, hand, *key) == Some(true),
         Step::Touches(key, there) => touch_key(rt, arena, hand, *key) == Some(*there),
-        Step::Reassigns(src, dst, answer) => { reassign_by(rt, arena, hand, *src, *dst) == *answer }
+        Step::TryGets(key, refused) => try_get(arena, hand, *key).err() == *refused,
+        Step::Head(chunk, head) => header(arena, hand, *chunk) == Some(*head),
+        Step::Reassigns(src, dst, answer) => reassign(rt, arena, hand, *src, *dst) == *answer,
         Step::Trims => trim(rt, arena, hand).is_ok() || trim(rt, arena, hand).is_ok(),
         Step::Forgets => {
             forget(rt, arena, hand);

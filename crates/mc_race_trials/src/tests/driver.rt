@@ -2,11 +2,12 @@
 ghost use Rattle.mc_calls.specs.Hands.{IsIdleHandOf};
 
 use super::words::draw;
-use mc_calls::{NO_TURNS, Turns};
+use mc_calls::{Job, NO_TURNS, Turns, Worked};
 use mc_mover::{Survey, TryTurn, reassign, set_mode, survey, try_turn, turn};
 use mc_words::{Arena, Hand};
 use std::alloc::Global;
 use std::sync::Wait;
+use std::thread::Threads;
 
 /// How many rounds there are.
 const ROUNDS: u64 = 60_000;
@@ -35,6 +36,13 @@ impl Tally {
     }
 }
 
+/// A mover's hand, and what its rounds told.
+#[derive(Drop)]
+struct Mover {
+    hand: Hand,
+    tally: Tally,
+}
+
 /// Asks for the next move: to the pool or a class, from any class or a named one. It may be refused.
 fn begin_next<R: Wait>(rt: &R, arena: &Arena, hand: &mut Hand, drawn: u64)
     requires arena { IsIdleHandOf arena.now hand.old }
@@ -48,30 +56,30 @@ fn begin_next<R: Wait>(rt: &R, arena: &Arena, hand: &mut Hand, drawn: u64)
     let _answer = reassign(rt, arena, hand, src, drawn / 65_536 % 5);
 }
 
-/// A turn that waits.
-fn turn_by<R: Wait>(rt: &R, arena: &Arena, hand: &mut Hand, tally: &mut Tally) -> bool
-    requires arena { IsIdleHandOf arena.now hand.old }
-    ensures arena { IsIdleHandOf arena.now hand.new }
+/// A turn that waits. True where no page moves behind it.
+fn turn_by<R: Wait>(rt: &R, arena: &Arena, mover: &mut Mover) -> bool
+    requires arena { IsIdleHandOf arena.now mover.old.hand }
+    ensures arena { IsIdleHandOf arena.now mover.new.hand }
 {
-    match turn(rt, arena, hand) {
-        Ok(done) => tally.turns.note(done),
+    match turn(rt, arena, &mut mover.hand) {
+        Ok(done) => mover.tally.turns.note(done),
         Err(_) => {
-            tally.check(false);
+            mover.tally.check(false);
             false
         }
     }
 }
 
 /// A turn that waits for nobody.
-fn try_turn_by(arena: &Arena, hand: &mut Hand, tally: &mut Tally) -> bool
-    requires arena { IsIdleHandOf arena.now hand.old }
-    ensures arena { IsIdleHandOf arena.now hand.new }
+fn try_turn_by(arena: &Arena, mover: &mut Mover) -> bool
+    requires arena { IsIdleHandOf arena.now mover.old.hand }
+    ensures arena { IsIdleHandOf arena.now mover.new.hand }
 {
-    match try_turn(arena, hand) {
-        Ok(done) => tally.turns.note(done),
+    match try_turn(arena, &mut mover.hand) {
+        Ok(done) => mover.tally.turns.note(done),
         Err(TryTurn::Held) => false,
         Err(TryTurn::NoMemory(_)) => {
-            tally.check(false);
+            mover.tally.check(false);
             false
         }
     }
@@ -87,79 +95,81 @@ fn adds_up(found: &Survey) -> bool {
 }
 
 /// A survey, which adds up.
-fn survey_by<R: Wait>(
-    rt: &R,
-    alloc: Global,
-    arena: &Arena,
-    hand: &mut Hand,
-    tally: &mut Tally,
-    sweep: bool,
-)
-    requires arena { IsIdleHandOf arena.now hand.old }
-    ensures arena { IsIdleHandOf arena.now hand.new }
+fn survey_by<R: Wait>(rt: &R, alloc: Global, arena: &Arena, mover: &mut Mover, sweep: bool)
+    requires arena { IsIdleHandOf arena.now mover.old.hand }
+    ensures arena { IsIdleHandOf arena.now mover.new.hand }
 {
-    match survey(rt, alloc, arena, hand, sweep) {
-        Ok(found) => tally.check(adds_up(&found)),
-        Err(_) => tally.check(false),
+    match survey(rt, alloc, arena, &mut mover.hand, sweep) {
+        Ok(found) => mover.tally.check(adds_up(&found)),
+        Err(_) => mover.tally.check(false),
     }
 }
 
 /// A turn that waits, or one that doesn't. True where no page moves behind it.
-fn one_turn<R: Wait>(rt: &R, arena: &Arena, hand: &mut Hand, tally: &mut Tally, waits: bool) -> bool
-    requires arena { IsIdleHandOf arena.now hand.old }
-    ensures arena { IsIdleHandOf arena.now hand.new }
+fn one_turn<R: Wait>(rt: &R, arena: &Arena, mover: &mut Mover, waits: bool) -> bool
+    requires arena { IsIdleHandOf arena.now mover.old.hand }
+    ensures arena { IsIdleHandOf arena.now mover.new.hand }
 {
     if waits {
-        return turn_by(rt, arena, hand, tally);
+        return turn_by(rt, arena, mover);
     }
-    try_turn_by(arena, hand, tally)
+    try_turn_by(arena, mover)
 }
 
 /// One turn, and where no page moves behind it, the next move.
-fn turn_on<R: Wait>(rt: &R, arena: &Arena, hand: &mut Hand, tally: &mut Tally, drawn: u64)
-    requires arena { IsIdleHandOf arena.now hand.old }
-    ensures arena { IsIdleHandOf arena.now hand.new }
+fn turn_on<R: Wait>(rt: &R, arena: &Arena, mover: &mut Mover, drawn: u64)
+    requires arena { IsIdleHandOf arena.now mover.old.hand }
+    ensures arena { IsIdleHandOf arena.now mover.new.hand }
 {
-    if one_turn(rt, arena, hand, tally, drawn % 2 == 0) {
-        begin_next(rt, arena, hand, drawn / 256);
+    if one_turn(rt, arena, mover, drawn % 2 == 0) {
+        begin_next(rt, arena, &mut mover.hand, drawn / 256);
     }
 }
 
 /// One round.
-fn act<R: Wait>(
-    rt: &R,
-    alloc: Global,
-    arena: &Arena,
-    hand: &mut Hand,
-    tally: &mut Tally,
-    drawn: u64,
-)
-    requires arena { IsIdleHandOf arena.now hand.old }
-    ensures arena { IsIdleHandOf arena.now hand.new }
+fn act<R: Wait>(rt: &R, alloc: Global, arena: &Arena, mover: &mut Mover, drawn: u64)
+    requires arena { IsIdleHandOf arena.now mover.old.hand }
+    ensures arena { IsIdleHandOf arena.now mover.new.hand }
 {
     match drawn % 64 {
-        0 => set_mode(rt, arena, hand, drawn / 64 % 3),
-        1 => survey_by(rt, alloc, arena, hand, tally, drawn / 64 % 2 == 0),
-        _ => turn_on(rt, arena, hand, tally, drawn / 64),
+        0 => set_mode(rt, arena, &mut mover.hand, drawn / 64 % 3),
+        1 => survey_by(rt, alloc, arena, mover, drawn / 64 % 2 == 0),
+        _ => turn_on(rt, arena, mover, drawn / 64),
     }
-}
-
-/// A mover's hand, and what its rounds told.
-#[derive(Drop)]
-pub struct Mover {
-    pub hand: Hand,
-    pub tally: Tally,
 }
 
 /// A mover's rounds.
-pub fn drive<R: Wait>(rt: &R, alloc: Global, arena: &Arena, thread: u64, hand: Hand) -> Mover
+pub fn drive<R: Wait>(
+    rt: &R,
+    alloc: Global,
+    arena: &Arena,
+    thread: u64,
+    hand: Hand,
+) -> Worked<Tally>
     requires hand { IsIdleHandOf arena.now hand }
     ensures hand { IsIdleHandOf arena.now result.hand }
 {
-    let mut hand = hand;
-    let mut tally = NOTHING;
+    let mut mover = Mover {
+        hand,
+        tally: NOTHING,
+    };
     for round in 0..ROUNDS {
-        act(rt, alloc, arena, &mut hand, &mut tally, draw(thread, round));
+        act(rt, alloc, arena, &mut mover, draw(thread, round));
     }
-    Mover { hand, tally }
+    let Mover { hand, tally } = mover;
+    Worked { hand, told: tally }
+}
+
+/// A mover's thread: its number, and its hand.
+#[derive(Drop)]
+pub struct Driver(pub u64, pub Hand);
+
+impl Job for Driver {
+    type Told = Tally;
+
+    ghost is_ready = { λ arena job. IsIdleHandOf arena job.1 };
+
+    fn work<R: Threads + Wait + Sync>(self, rt: &R, alloc: Global, arena: &Arena) -> Worked<Tally> {
+        drive(rt, alloc, arena, self.0, self.1)
+    }
 }

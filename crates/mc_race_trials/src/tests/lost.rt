@@ -1,26 +1,25 @@
 //! Hands that are lost while others go on: with references, with a stripe, and with pages and lists. Who doesn't wait goes on reading.
 ghost use Rattle.std.specs.Prelude.{IfSome};
-ghost use Rattle.std.specs.Thread.{IsSync};
 ghost use Rattle.mc_calls.specs.Hands.{AreHandsOf, IsIdleHandOf};
 ghost use Rattle.mc_race_trials.specs.Keepers.{AreNear, IsKeeperOf};
 
 use super::calls::set_key;
-use super::driver::{Mover, drive};
+use super::driver::drive;
 use super::ends::check;
 use super::holding::give_all_back;
 use super::replays::is_stripe_legal;
 use super::stress::TWELVE_PAGES;
 use super::words::{KEYS, draw};
 use super::workers::{
-    Keeper, NOTHING, Told, give_one_back, keep_and_read, make_room, no_hints, place_in, read_one,
+    Keeper, NOTHING, give_one_back, keep_and_read, make_room, no_hints, place_in, read_one,
 };
-use mc_calls::{head, next_hand, one_of, opened, three_of};
+use mc_calls::{Beside, Job, Worked, head, next_hand, opened, three_of};
 use mc_pages::ChunkId;
 use mc_words::{Arena, Final, Hand};
 use std::alloc::Global;
 use std::sync::Wait;
 use std::test::Fail;
-use std::thread::{Threads, join};
+use std::thread::Threads;
 
 /// How many rounds a reader has before its first hand is lost, and how many in all.
 const ROUNDS: (u64, u64) = (16_000, 32_000);
@@ -86,43 +85,59 @@ fn lose_slabs(arena: &Arena, hand: Hand) -> bool
     arena.try_slabs(&mut hand).is_ok()
 }
 
-/// A reader's last hand, what its rounds told, with how many references its first one was lost, and whether its second was lost with a
-/// stripe.
-#[derive(Drop)]
-struct Reader {
-    hand: Hand,
-    told: Told,
+/// What was lost with a thread's hands, and how often something was wrong.
+#[derive(Clone, Copy)]
+struct Lost {
+    /// How many references were lost with the first one.
     refs: u64,
-    stripe: bool,
+    /// Whether another was lost with the lock that it is to take.
+    lock: bool,
+    wrong: u64,
 }
 
-/// A reader's rounds: its first hand is lost with the references that it keeps, and its second with the stripe of the thread's number.
-fn read<R: Wait>(
+/// A mover's rounds, behind which a hand is lost with pages and lists, if nobody has them.
+fn drive_and_lose<R: Wait>(
     rt: &R,
     alloc: Global,
     arena: &Arena,
-    thread: u64,
-    hands: (Hand, Hand, Hand),
-) -> Reader
+    hand: Hand,
+    other: Hand,
+) -> Worked<Lost>
+    requires hand { IsIdleHandOf arena.now hand }
+    requires other { IsIdleHandOf arena.now other }
+    ensures hand { IsIdleHandOf arena.now result.hand }
+{
+    let Worked { hand, told } = drive(rt, alloc, arena, 0, hand);
+    let told = Lost {
+        refs: 0,
+        lock: lose_slabs(arena, other),
+        wrong: told.wrong,
+    };
+    Worked { hand, told }
+}
+
+/// A reader's hands: one is lost with references, one with a stripe, and one is left.
+type Hands = (Hand, Hand, Hand);
+
+/// A reader's rounds: its first hand is lost with the references that it keeps, and its second with the stripe of the thread's number.
+fn read<R: Wait>(rt: &R, alloc: Global, arena: &Arena, thread: u64, hands: Hands) -> Worked<Lost>
     requires hands { IsIdleHandOf arena.now hands.0 × IsIdleHandOf arena.now hands.1 × IsIdleHandOf arena.now hands.2 }
     ensures hand { IsIdleHandOf arena.now result.hand }
 {
     let (first, second, hand) = hands;
-    let mut told = NOTHING;
     let Ok(hints) = no_hints(alloc, arena) else {
-        told.note(false);
-        return Reader {
-            hand,
-            told,
+        let told = Lost {
             refs: 0,
-            stripe: false,
+            lock: false,
+            wrong: 1,
         };
+        return Worked { hand, told };
     };
     let mut keeper = Keeper {
         hand: first,
         kept: Vec::new(alloc),
         hints,
-        told,
+        told: NOTHING,
     };
     act_often(rt, alloc, arena, &mut keeper, thread, (0, ROUNDS.0));
     let Keeper {
@@ -132,7 +147,7 @@ fn read<R: Wait>(
         told,
     } = keeper;
     let refs = kept.len() as u64;
-    let stripe = lose_stripe(arena, second, thread);
+    let lock = lose_stripe(arena, second, thread);
     let mut keeper = Keeper {
         hand,
         kept: Vec::new(alloc),
@@ -141,81 +156,39 @@ fn read<R: Wait>(
     };
     act_often(rt, alloc, arena, &mut keeper, thread, ROUNDS);
     let hand = give_all_back(arena, keeper.hand, keeper.kept);
-    Reader {
+    let wrong = keeper.told.wrong;
+    Worked {
         hand,
-        told: keeper.told,
-        refs,
-        stripe,
+        told: Lost { refs, lock, wrong },
     }
 }
 
-/// A mover's rounds, behind which a hand is lost with pages and lists, if nobody has them.
-fn drive_and_lose<R: Wait>(
-    rt: &R,
-    alloc: Global,
-    arena: &Arena,
-    hands: (Hand, Hand),
-) -> (Mover, bool)
-    requires hands { IsIdleHandOf arena.now hands.0 × IsIdleHandOf arena.now hands.1 }
-    ensures hand { IsIdleHandOf arena.now result.0.hand }
-{
-    let (hand, other) = hands;
-    let mover = drive(rt, alloc, arena, 0, hand);
-    let lost = lose_slabs(arena, other);
-    (mover, lost)
+/// The mover's thread, with its hands.
+#[derive(Drop)]
+struct Mover(Hand, Hand);
+
+impl Job for Mover {
+    type Told = Lost;
+
+    ghost is_ready = { λ arena job. IsIdleHandOf arena job.0 × IsIdleHandOf arena job.1 };
+
+    fn work<R: Threads + Wait + Sync>(self, rt: &R, alloc: Global, arena: &Arena) -> Worked<Lost> {
+        drive_and_lose(rt, alloc, arena, self.0, self.1)
+    }
 }
 
-/// Two readers' rounds at once.
-fn read_beside<R: Threads + Wait + Sync>(
-    rt: &R,
-    alloc: Global,
-    arena: &Arena,
-    first: (Hand, Hand, Hand),
-    second: (Hand, Hand, Hand),
-) -> (Reader, Reader)
-    requires first { IsIdleHandOf arena.now first.0 × IsIdleHandOf arena.now first.1 × IsIdleHandOf arena.now first.2 }
-    requires second { IsIdleHandOf arena.now second.0 × IsIdleHandOf arena.now second.1 × IsIdleHandOf arena.now second.2 }
-    ensures hands { IsIdleHandOf arena.now result.0.hand × IsIdleHandOf arena.now result.1.hand }
-{
-    join(
-        rt,
-        move || -> Reader
-            requires { IsSync R.row × IsIdleHandOf arena.now first.0 × IsIdleHandOf arena.now first.1 × IsIdleHandOf arena.now first.2 }
-            ensures { IsIdleHandOf arena.entry.now result.hand }
-        { read(rt, alloc, arena, 1, first) },
-        move || -> Reader
-            requires { IsSync R.row × IsIdleHandOf arena.now second.0 × IsIdleHandOf arena.now second.1 × IsIdleHandOf arena.now second.2 }
-            ensures { IsIdleHandOf arena.entry.now result.hand }
-        { read(rt, alloc, arena, 2, second) },
-    )
-}
+/// A reader's thread: its number, and its hands.
+#[derive(Drop)]
+struct Reader(u64, Hands);
 
-/// A mover's and two readers' rounds at once.
-fn run_all<R: Threads + Wait + Sync>(
-    rt: &R,
-    alloc: Global,
-    arena: &Arena,
-    mover: (Hand, Hand),
-    first: (Hand, Hand, Hand),
-    second: (Hand, Hand, Hand),
-) -> ((Mover, bool), (Reader, Reader))
-    requires mover { IsIdleHandOf arena.now mover.0 × IsIdleHandOf arena.now mover.1 }
-    requires first { IsIdleHandOf arena.now first.0 × IsIdleHandOf arena.now first.1 × IsIdleHandOf arena.now first.2 }
-    requires second { IsIdleHandOf arena.now second.0 × IsIdleHandOf arena.now second.1 × IsIdleHandOf arena.now second.2 }
-    ensures mover { IsIdleHandOf arena.now result.0.0.hand }
-    ensures readers { IsIdleHandOf arena.now result.1.0.hand × IsIdleHandOf arena.now result.1.1.hand }
-{
-    join(
-        rt,
-        move || -> (Mover, bool)
-            requires { IsSync R.row × IsIdleHandOf arena.now mover.0 × IsIdleHandOf arena.now mover.1 }
-            ensures { IsIdleHandOf arena.entry.now result.0.hand }
-        { drive_and_lose(rt, alloc, arena, mover) },
-        move || -> (Reader, Reader)
-            requires { IsSync R.row × (IsIdleHandOf arena.now first.0 × IsIdleHandOf arena.now first.1 × IsIdleHandOf arena.now first.2) × (IsIdleHandOf arena.now second.0 × IsIdleHandOf arena.now second.1 × IsIdleHandOf arena.now second.2) }
-            ensures { IsIdleHandOf arena.entry.now result.0.hand × IsIdleHandOf arena.entry.now result.1.hand }
-        { read_beside(rt, alloc, arena, first, second) },
-    )
+impl Job for Reader {
+    type Told = Lost;
+
+    ghost is_ready = { λ arena job. IsIdleHandOf arena job.1.0 × IsIdleHandOf arena job.1.1 × IsIdleHandOf arena job.1.2 };
+
+    fn work<R: Threads + Wait + Sync>(self, rt: &R, alloc: Global, arena: &Arena) -> Worked<Lost> {
+        read(rt, alloc, arena, self.0, self.1)
+    }
 }
 
 /// Stores an item for each key, while there is room.
@@ -228,55 +201,22 @@ fn store_each<R: Wait>(rt: &R, alloc: Global, arena: &Arena, hand: &mut Hand)
     }
 }
 
-/// What was lost, and how often something was wrong.
-#[derive(Clone, Copy)]
-struct Lost {
-    /// Whether pages and lists were.
-    slabs: bool,
-    /// Whether the stripes of both readers were.
-    stripes: (bool, bool),
-    /// How many references were.
-    refs: u64,
-    wrong: u64,
-}
+/// A mover, and two readers.
+type Jobs = Beside<Mover, Beside<Reader, Reader>>;
 
-/// One hand of all that are left, and what was lost.
-fn gather(arena: &Arena, mover: (Mover, bool), first: Reader, second: Reader) -> (Hand, Lost)
-    requires mover { IsIdleHandOf arena.now mover.0.hand }
-    requires first { IsIdleHandOf arena.now first.hand }
-    requires second { IsIdleHandOf arena.now second.hand }
-    ensures hand { IsIdleHandOf arena.now result.0 }
-{
-    let (Mover { hand, tally }, slabs) = mover;
-    let hand = one_of(arena, hand, first.hand);
-    let hand = one_of(arena, hand, second.hand);
-    let wrong = tally.wrong.saturating_add(first.told.wrong);
-    let lost = Lost {
-        slabs,
-        stripes: (first.stripe, second.stripe),
-        refs: first.refs.saturating_add(second.refs),
-        wrong: wrong.saturating_add(second.told.wrong),
-    };
-    (hand, lost)
-}
-
-/// All rounds, once items were stored. None where a hand is missing.
-fn stress<R: Threads + Wait + Sync>(
-    rt: &R,
-    alloc: Global,
-    arena: &Arena,
-    hands: &mut Vec<Hand>,
-) -> Option<(Hand, Lost)>
+/// Those with the eight hands of the lowest numbers that are left, once items were stored. None where there are fewer.
+fn jobs_of<R: Wait>(rt: &R, alloc: Global, arena: &Arena, hands: &mut Vec<Hand>) -> Option<Jobs>
     requires hands { AreHandsOf arena.now hands.old.items }
-    ensures hand { IfSome result (λ done. IsIdleHandOf arena.now done.0) }
+    ensures mover { IfSome result (λ jobs. IsIdleHandOf arena.now jobs.0.0 × IsIdleHandOf arena.now jobs.0.1) }
+    ensures first { IfSome result (λ jobs. IsIdleHandOf arena.now jobs.1.0.1.0 × IsIdleHandOf arena.now jobs.1.0.1.1 × IsIdleHandOf arena.now jobs.1.0.1.2) }
+    ensures second { IfSome result (λ jobs. IsIdleHandOf arena.now jobs.1.1.1.0 × IsIdleHandOf arena.now jobs.1.1.1.1 × IsIdleHandOf arena.now jobs.1.1.1.2) }
 {
-    let mut mover = next_hand(arena, hands)?;
-    let other = next_hand(arena, hands)?;
-    let first = three_of(arena, hands)?;
-    let second = three_of(arena, hands)?;
-    store_each(rt, alloc, arena, &mut mover);
-    let (mover, (first, second)) = run_all(rt, alloc, arena, (mover, other), first, second);
-    Some(gather(arena, mover, first, second))
+    let mut hand = next_hand(arena, hands)?;
+    store_each(rt, alloc, arena, &mut hand);
+    let mover = Mover(hand, next_hand(arena, hands)?);
+    let first = Reader(1, three_of(arena, hands)?);
+    let second = Reader(2, three_of(arena, hands)?);
+    Some(Beside(mover, Beside(first, second)))
 }
 
 /// How many hold a chunk with this header beside the link. None where it is neither linked nor unlinked, but counts.
@@ -320,20 +260,20 @@ fn is_stripe_left(alloc: Global, left: &Final, number: u64, lost: bool) -> Resul
 }
 
 /// What is left tells which values are out, and counts the references that were lost.
-fn check_left(alloc: Global, left: &Final, lost: &Lost) -> Result<(), Fail> {
-    check(lost.wrong == 0, "each item has its own words")?;
-    check(lost.slabs, "nobody else had pages and lists")?;
+fn check_left(
+    alloc: Global,
+    left: &Final,
+    mover: Lost,
+    first: Lost,
+    second: Lost,
+) -> Result<(), Fail> {
+    let wrong = (mover.wrong, first.wrong, second.wrong);
+    check(wrong == (0, 0, 0), "each item has its own words")?;
+    check(mover.lock, "nobody else had pages and lists")?;
     check(left.slabs().is_none(), "pages and lists are out")?;
-    check(
-        all_holders(left) == Some(lost.refs),
-        "lost references count",
-    )?;
-    for (number, lost) in [
-        (0, false),
-        (1, lost.stripes.0),
-        (2, lost.stripes.1),
-        (3, false),
-    ] {
+    let refs = first.refs.saturating_add(second.refs);
+    check(all_holders(left) == Some(refs), "lost references count")?;
+    for (number, lost) in [(0, false), (1, first.lock), (2, second.lock), (3, false)] {
         let is_right = is_stripe_left(alloc, left, number, lost)?;
         check(is_right, "a stripe is there, unless it was lost")?;
     }
@@ -343,11 +283,13 @@ fn check_left(alloc: Global, left: &Final, lost: &Lost) -> Result<(), Fail> {
 #[test]
 fn lost_hands_cost_what_they_had(rt: HostRuntime) -> Result<(), Fail> {
     let (arena, mut hands) = opened(rt.alloc(), &TWELVE_PAGES, 8)?;
-    let Some((hand, lost)) = stress(&rt, rt.alloc(), &arena, &mut hands) else {
+    let Some(jobs) = jobs_of(&rt, rt.alloc(), &arena, &mut hands) else {
         return Err(Fail::new("there are eight hands"));
     };
+    let Worked { hand, told } = jobs.work(&rt, rt.alloc(), &arena);
+    let (mover, (first, second)) = told;
     let left = arena.close(hand);
-    let checked = check_left(rt.alloc(), &left, &lost);
+    let checked = check_left(rt.alloc(), &left, mover, first, second);
     drop(left);
     checked
 }

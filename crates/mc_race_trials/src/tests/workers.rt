@@ -7,11 +7,13 @@ use super::calls::{delete_key, set_key, touch_key};
 use super::holding::{give_all_back, give_back, is_own, keep_again, keep_key};
 use super::replays::{Calls, NO_CALLS};
 use super::words::{KEYS, draw};
+use mc_calls::{Job, Worked};
 use mc_items::Ref;
 use mc_stripe::{Key, Stamp};
 use mc_words::{Again, Arena, Hand, Hint};
 use std::alloc::{AllocError, Global};
 use std::sync::Wait;
+use std::thread::Threads;
 
 /// How many rounds a worker has.
 const ROUNDS: u64 = 49_152;
@@ -252,22 +254,15 @@ pub fn no_hints(alloc: Global, _arena: &Arena) -> Result<Hints, AllocError>
     Ok(hints)
 }
 
-/// A worker's hand, and what its rounds told.
-#[derive(Drop)]
-pub struct Worker {
-    pub hand: Hand,
-    pub told: Told,
-}
-
 /// A worker's rounds.
-pub fn work<R: Wait>(rt: &R, alloc: Global, arena: &Arena, thread: u64, hand: Hand) -> Worker
+fn work<R: Wait>(rt: &R, alloc: Global, arena: &Arena, thread: u64, hand: Hand) -> Worked<Told>
     requires hand { IsIdleHandOf arena.now hand }
     ensures hand { IsIdleHandOf arena.now result.hand }
 {
     let mut told = NOTHING;
     let Ok(hints) = no_hints(alloc, arena) else {
         told.note(false);
-        return Worker { hand, told };
+        return Worked { hand, told };
     };
     let mut keeper = Keeper {
         hand,
@@ -279,8 +274,22 @@ pub fn work<R: Wait>(rt: &R, alloc: Global, arena: &Arena, thread: u64, hand: Ha
         do_round(rt, alloc, arena, &mut keeper, (thread, round));
     }
     let hand = give_all_back(arena, keeper.hand, keeper.kept);
-    Worker {
+    Worked {
         hand,
         told: keeper.told,
+    }
+}
+
+/// A worker's thread: its number, and its hand.
+#[derive(Drop)]
+pub struct Worker(pub u64, pub Hand);
+
+impl Job for Worker {
+    type Told = Told;
+
+    ghost is_ready = { λ arena job. IsIdleHandOf arena job.1 };
+
+    fn work<R: Threads + Wait + Sync>(self, rt: &R, alloc: Global, arena: &Arena) -> Worked<Told> {
+        work(rt, alloc, arena, self.0, self.1)
     }
 }

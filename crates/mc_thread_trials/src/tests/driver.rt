@@ -1,23 +1,19 @@
 //! The mover's thread of the stress: it begins moves between all classes and the pool, and turns without a pause.
 ghost use Rattle.mc_calls.specs.Hands.{IsIdleHandOf, IsReadyHandOf};
 
-use mc_calls::{NO_TURNS, Turns, reassign_by, turn_by};
+use mc_calls::{Job, NO_TURNS, Turns, Worked, turn_by};
+use mc_mover::reassign;
 use mc_trial_values::draw;
 use mc_words::{Arena, Hand};
+use std::alloc::Global;
 use std::sync::Wait;
+use std::thread::Threads;
 
 /// How many turns there are.
 const TURNS: u64 = 6000;
 
 /// The most turns that a page needs which nobody holds up.
 const LAST_TURNS: u64 = 32;
-
-/// The mover's hand, and what its turns told.
-#[derive(Drop)]
-pub struct Mover {
-    pub hand: Hand,
-    pub tally: Turns,
-}
 
 /// Asks for the next move: to the pool or a class, from any class or a named one. It may be refused.
 fn begin_next<R: Wait>(rt: &R, arena: &Arena, hand: &mut Hand, round: u64)
@@ -31,7 +27,7 @@ fn begin_next<R: Wait>(rt: &R, arena: &Arena, hand: &mut Hand, round: u64)
         Some(1 + (drawn >> 8) % 4)
     };
     let dst = (drawn >> 16) % 5;
-    let _answer = reassign_by(rt, arena, hand, src, dst);
+    let _answer = reassign(rt, arena, hand, src, dst);
 }
 
 /// One turn, and where no page moves behind it, the next move.
@@ -47,8 +43,8 @@ fn turn_on<R: Wait>(rt: &R, arena: &Arena, hand: &mut Hand, tally: &mut Turns, r
     }
 }
 
-/// The mover's turns.
-pub fn drive<R: Wait>(rt: &R, arena: &Arena, hand: Hand) -> Mover
+/// The mover's turns: what they told.
+fn drive<R: Wait>(rt: &R, arena: &Arena, hand: Hand) -> Worked<Turns>
     requires arena { IsIdleHandOf arena.now hand }
     ensures arena { IsIdleHandOf arena.now result.hand }
 {
@@ -57,7 +53,26 @@ pub fn drive<R: Wait>(rt: &R, arena: &Arena, hand: Hand) -> Mover
     for round in 0..TURNS {
         turn_on(rt, arena, &mut hand, &mut tally, round);
     }
-    Mover { hand, tally }
+    Worked { hand, told: tally }
+}
+
+/// The mover's thread, with its hand.
+#[derive(Drop)]
+pub struct Mover(pub Hand);
+
+impl Job for Mover {
+    type Told = Turns;
+
+    ghost is_ready = { λ arena job. IsIdleHandOf arena job.0 };
+
+    fn work<R: Threads + Wait + Sync>(
+        self,
+        rt: &R,
+        _alloc: Global,
+        arena: &Arena,
+    ) -> Worked<Turns> {
+        drive(rt, arena, self.0)
+    }
 }
 
 /// Turns until no page moves, if that is asked for. False where that takes too long.

@@ -1,21 +1,16 @@
 //! Four threads set, get, read, give up and delete items over forty keys of one class of two pages. Each word of an item tells its
 //! key and stamp, so a word of another item would be seen.
 ghost use Rattle.std.specs.Prelude.{IfSome};
-ghost use Rattle.std.specs.Thread.{IsSync};
-ghost use Rattle.mc_words.specs.hand.Arenas.{view};
-ghost use Rattle.mc_items.specs.ItemRefs.{IsItemRef};
-ghost use Rattle.mc_items.specs.Keeping.{HoldsTheSame};
-ghost use Rattle.mc_calls.specs.Hands.{AreHandsOf, IsIdleHandOf, IsReadyHandOf};
+ghost use Rattle.mc_calls.specs.Hands.{AreHandsOf, IsIdleHandOf};
+ghost use Rattle.mc_calls.specs.Pairs.{AreIdle};
 
 use super::assert_same;
-use super::workers::{Worker, join_worker};
 use mc_calls::{
-    Getter, count_keys, delete_key, get_by, head, is_own, one_of, opened, store_own, two_of,
+    Beside, FOUR_CLASSES, Getter, Job, Pair, Worked, class_sums, count_keys, delete_key, get_by,
+    is_own, one_of, opened, pair_of, release_own, store_own,
 };
-use mc_classes::{Config, PageId};
-use mc_items::{Ref, release};
-use mc_memory::Refused;
-use mc_pages::{ChunkId, Owner};
+use mc_classes::Config;
+use mc_pages::Owner;
 use mc_stripe::Key;
 use mc_trial_values::draw;
 use mc_words::{Arena, Final, Hand};
@@ -23,18 +18,13 @@ use std::alloc::Global;
 use std::process::Abort;
 use std::sync::Wait;
 use std::test::Fail;
-use std::thread::{Threads, join};
+use std::thread::Threads;
 
 /// Two pages; the lowest class has 96 bytes and 10 chunks a page.
 const TWO_PAGES: Config = Config {
-    page: 1024,
     limit: 2048,
     first: 96,
-    num: 2,
-    den: 1,
-    max: 512,
-    stripes: 4,
-    bulk: 64,
+    ..FOUR_CLASSES
 };
 
 /// How many chunks a page of that class has.
@@ -49,230 +39,93 @@ const KEYS: u64 = 40;
 /// How often each thread acts.
 const ROUNDS: u64 = 2000;
 
-/// What the thread does in a round.
-#[derive(Clone, Copy)]
-enum Action {
-    Set,
-    Delete,
-    Get(Getter),
-}
-
-/// What a thread does in this round, and with which key. Each thread begins elsewhere.
-fn choose(thread: u64, round: u64) -> (Action, Key) {
-    let drawn = draw(thread, round);
-    let action = match drawn % 8 {
-        0 | 1 | 2 => Action::Set,
-        3 => Action::Delete,
-        4 => Action::Get(Getter::TryGet),
-        _ => Action::Get(Getter::Get),
-    };
-    (action, (drawn >> 8) % KEYS)
-}
-
-/// Reads an item that is held, before and behind a set of the next key. True if all words were its own.
-fn reads_own<R: Wait>(
-    rt: &R,
-    alloc: Global,
-    arena: &Arena,
-    reader: &mut Hand,
-    writer: &mut Hand,
-    item: &Ref,
-    key: Key,
-) -> Result<bool, Refused>
-    requires reader { IsReadyHandOf arena.now reader.old }
-    requires item { IsItemRef (view reader.old) item.now }
-    requires writer { IsIdleHandOf arena.now writer.old }
-    ensures reader { IsReadyHandOf arena.now reader.new }
-    ensures item { IsItemRef (view reader.new) item.now }
-    ensures holdings { HoldsTheSame (view reader.old) (view reader.new) }
-    ensures writer { IsIdleHandOf arena.now writer.new }
-{
-    let before = is_own(alloc, arena, reader, item, key, LEN)?;
-    let next = key.wrapping_add(1) % KEYS;
-    let _stored = store_own(rt, alloc, arena, writer, next, LEN)?;
-    let behind = is_own(alloc, arena, reader, item, key, LEN)?;
-    Ok(before && behind)
-}
-
-/// Gets the key's item, reads it before and behind a set of the next key, and gives the reference up, also where memory ran out.
-/// True if all words were its own.
+/// Gets the key's item, reads it before and behind a set of the next key, and gives it up. True if all words were its own.
 #[tactic(auto, using(mc_calls::proofs::Kept::nothing_left_later))]
 fn read_twice<R: Wait>(
     rt: &R,
     alloc: Global,
     arena: &Arena,
-    reader: &mut Hand,
-    writer: &mut Hand,
+    pair: &mut Pair,
     key: Key,
     getter: Getter,
-) -> Result<bool, Refused>
-    requires reader { IsIdleHandOf arena.now reader.old }
-    requires writer { IsIdleHandOf arena.now writer.old }
-    ensures reader { IsIdleHandOf arena.now reader.new }
-    ensures writer { IsIdleHandOf arena.now writer.new }
+) -> bool
+    requires pair { AreIdle arena.now pair.old }
+    ensures pair { AreIdle arena.now pair.new }
 {
-    let Some(item) = get_by(rt, arena, reader, key, getter) else {
-        return Ok(true);
+    let Some(item) = get_by(rt, arena, &mut pair.reader, key, getter) else {
+        return true;
     };
-    let own = reads_own(rt, alloc, arena, reader, writer, &item, key);
-    release(arena, reader, item);
-    own
+    let next = key.wrapping_add(1) % KEYS;
+    let before = is_own(alloc, arena, &mut pair.reader, &item, key, LEN);
+    let between = store_own(rt, alloc, arena, &mut pair.writer, next, LEN).is_ok();
+    let behind = release_own(alloc, arena, &mut pair.reader, item, key, LEN);
+    before && between && behind
 }
 
-/// One round of a thread. True if all words that were read were their items' own.
-fn act<R: Wait>(
-    rt: &R,
-    alloc: Global,
-    arena: &Arena,
-    reader: &mut Hand,
-    writer: &mut Hand,
-    chosen: (Action, Key),
-) -> Result<bool, Refused>
-    requires reader { IsIdleHandOf arena.now reader.old }
-    requires writer { IsIdleHandOf arena.now writer.old }
-    ensures reader { IsIdleHandOf arena.now reader.new }
-    ensures writer { IsIdleHandOf arena.now writer.new }
+/// One drawn round of a thread. True if all words that were read were their items' own. False, too, where memory ran out.
+fn act<R: Wait>(rt: &R, alloc: Global, arena: &Arena, pair: &mut Pair, drawn: u64) -> bool
+    requires pair { AreIdle arena.now pair.old }
+    ensures pair { AreIdle arena.now pair.new }
 {
-    let (action, key) = chosen;
-    match action {
-        Action::Set => {
-            let _stored = store_own(rt, alloc, arena, writer, key, LEN)?;
-            Ok(true)
+    let key = (drawn >> 8) % KEYS;
+    match drawn % 8 {
+        0 | 1 | 2 => store_own(rt, alloc, arena, &mut pair.writer, key, LEN).is_ok(),
+        3 => {
+            let _deleted = delete_key(rt, arena, &mut pair.writer, key);
+            true
         }
-        Action::Delete => {
-            let _deleted = delete_key(rt, arena, writer, key);
-            Ok(true)
-        }
-        Action::Get(getter) => read_twice(rt, alloc, arena, reader, writer, key, getter),
+        4 => read_twice(rt, alloc, arena, pair, key, Getter::TryGet),
+        _ => read_twice(rt, alloc, arena, pair, key, Getter::Get),
     }
 }
 
-/// A thread's rounds.
-fn work<R: Wait>(rt: &R, alloc: Global, arena: &Arena, thread: u64, hands: (Hand, Hand)) -> Worker
-    requires hands { IsIdleHandOf arena.now hands.0 × IsIdleHandOf arena.now hands.1 }
-    ensures hands { IsIdleHandOf arena.now result.reader × IsIdleHandOf arena.now result.writer }
+/// A thread's rounds: how many were wrong. Each thread draws others.
+fn work<R: Wait>(rt: &R, alloc: Global, arena: &Arena, thread: u64, pair: Pair) -> Worked<u64>
+    requires pair { AreIdle arena.now pair }
+    ensures hand { IsIdleHandOf arena.now result.hand }
 {
-    let (mut reader, mut writer) = hands;
+    let mut pair = pair;
     let mut wrong = 0;
     for round in 0..ROUNDS {
-        let chosen = choose(thread, round);
-        match act(rt, alloc, arena, &mut reader, &mut writer, chosen) {
-            Ok(true) => {}
-            _ => wrong += 1,
+        if !act(rt, alloc, arena, &mut pair, draw(thread, round)) {
+            wrong += 1;
         }
     }
-    Worker {
-        reader,
-        writer,
-        wrong,
+    let Pair { reader, writer } = pair;
+    Worked {
+        hand: one_of(arena, reader, writer),
+        told: wrong,
     }
 }
 
-/// Two threads' rounds at once, of this number and the next.
-fn work_beside<R: Threads + Wait + Sync>(
-    rt: &R,
-    alloc: Global,
-    arena: &Arena,
-    thread: u64,
-    first: (Hand, Hand),
-    second: (Hand, Hand),
-) -> (Worker, Worker)
-    requires first { IsIdleHandOf arena.now first.0 × IsIdleHandOf arena.now first.1 }
-    requires second { IsIdleHandOf arena.now second.0 × IsIdleHandOf arena.now second.1 }
-    ensures first { IsIdleHandOf arena.now result.0.reader × IsIdleHandOf arena.now result.0.writer }
-    ensures second { IsIdleHandOf arena.now result.1.reader × IsIdleHandOf arena.now result.1.writer }
-{
-    join(
-        rt,
-        move || -> Worker
-            requires { IsSync R.row × IsIdleHandOf arena.now first.0 × IsIdleHandOf arena.now first.1 }
-            ensures { IsIdleHandOf arena.entry.now result.reader × IsIdleHandOf arena.entry.now result.writer }
-        { work(rt, alloc, arena, thread, first) },
-        move || -> Worker
-            requires { IsSync R.row × IsIdleHandOf arena.now second.0 × IsIdleHandOf arena.now second.1 }
-            ensures { IsIdleHandOf arena.entry.now result.reader × IsIdleHandOf arena.entry.now result.writer }
-        { work(rt, alloc, arena, thread.wrapping_add(1), second) },
-    )
-}
+/// A thread that acts on items: its number, and its hands.
+#[derive(Drop)]
+struct Actor(u64, Pair);
 
-/// One hand of two workers, and how many items both found wrong.
-fn both(arena: &Arena, workers: (Worker, Worker)) -> (Hand, u64)
-    requires first { IsIdleHandOf arena.now workers.0.reader × IsIdleHandOf arena.now workers.0.writer }
-    requires second { IsIdleHandOf arena.now workers.1.reader × IsIdleHandOf arena.now workers.1.writer }
-    ensures hand { IsIdleHandOf arena.now result.0 }
-{
-    let (first, second) = workers;
-    let (hand, wrong) = join_worker(arena, first);
-    let (other, more) = join_worker(arena, second);
-    let hand = one_of(arena, hand, other);
-    (hand, wrong.saturating_add(more))
-}
+impl Job for Actor {
+    type Told = u64;
 
-/// The hands of two workers.
-fn next_pairs(arena: &Arena, hands: &mut Vec<Hand>) -> Option<((Hand, Hand), (Hand, Hand))>
-    requires hands { AreHandsOf arena.now hands.old.items }
-    ensures hands { AreHandsOf arena.now hands.new.items }
-    ensures first { IfSome result (λ pairs. IsIdleHandOf arena.now pairs.0.0 × IsIdleHandOf arena.now pairs.0.1) }
-    ensures second { IfSome result (λ pairs. IsIdleHandOf arena.now pairs.1.0 × IsIdleHandOf arena.now pairs.1.1) }
-{
-    let first = two_of(arena, hands)?;
-    let second = two_of(arena, hands)?;
-    Some((first, second))
-}
+    ghost is_ready = { λ arena job. AreIdle arena job.1 };
 
-/// Four threads' rounds at once: one hand, and how many items were found wrong. None where a hand is missing.
-fn work_by_four<R: Threads + Wait + Sync>(
-    rt: &R,
-    alloc: Global,
-    arena: &Arena,
-    hands: &mut Vec<Hand>,
-) -> Option<(Hand, u64)>
-    requires hands { AreHandsOf arena.now hands.old.items }
-    ensures hand { IfSome result (λ found. IsIdleHandOf arena.now found.0) }
-{
-    let low = next_pairs(arena, hands)?;
-    let high = next_pairs(arena, hands)?;
-    let (low, high) = join(
-        rt,
-        move || -> (Worker, Worker)
-            requires { IsSync R.row × (IsIdleHandOf arena.now low.0.0 × IsIdleHandOf arena.now low.0.1) × (IsIdleHandOf arena.now low.1.0 × IsIdleHandOf arena.now low.1.1) }
-            ensures { (IsIdleHandOf arena.entry.now result.0.reader × IsIdleHandOf arena.entry.now result.0.writer) × (IsIdleHandOf arena.entry.now result.1.reader × IsIdleHandOf arena.entry.now result.1.writer) }
-        { work_beside(rt, alloc, arena, 1, low.0, low.1) },
-        move || -> (Worker, Worker)
-            requires { IsSync R.row × (IsIdleHandOf arena.now high.0.0 × IsIdleHandOf arena.now high.0.1) × (IsIdleHandOf arena.now high.1.0 × IsIdleHandOf arena.now high.1.1) }
-            ensures { (IsIdleHandOf arena.entry.now result.0.reader × IsIdleHandOf arena.entry.now result.0.writer) × (IsIdleHandOf arena.entry.now result.1.reader × IsIdleHandOf arena.entry.now result.1.writer) }
-        { work_beside(rt, alloc, arena, 3, high.0, high.1) },
-    );
-    let (hand, wrong) = both(arena, low);
-    let (other, more) = both(arena, high);
-    let hand = one_of(arena, hand, other);
-    Some((hand, wrong.saturating_add(more)))
-}
-
-/// How many chunks of a page, or of several, are free, dead, and of items that nobody holds.
-#[derive(Clone, Copy, Debug, PartialEq, Eq)]
-struct Sums {
-    free: u64,
-    dead: u64,
-    linked: u64,
-}
-
-/// Adds the chunks of a page to these. None where a chunk is in another state.
-fn add_page(left: &Final, page: PageId, sums: Sums) -> Option<Sums> {
-    let Sums {
-        mut free,
-        mut dead,
-        mut linked,
-    } = sums;
-    for index in 0..CHUNKS {
-        match head(left, ChunkId { page, index })? % 262_144 {
-            65_536 => free = free.saturating_add(1),
-            131_072 => dead = dead.saturating_add(1),
-            196_609 => linked = linked.saturating_add(1),
-            _ => return None,
-        }
+    fn work<R: Threads + Wait + Sync>(self, rt: &R, alloc: Global, arena: &Arena) -> Worked<u64> {
+        work(rt, alloc, arena, self.0, self.1)
     }
-    Some(Sums { free, dead, linked })
+}
+
+/// Four such threads.
+type Actors = Beside<Beside<Actor, Actor>, Beside<Actor, Actor>>;
+
+/// Those with the eight hands of the lowest numbers that are left. None where there are fewer.
+fn actors_of(arena: &Arena, hands: &mut Vec<Hand>) -> Option<Actors>
+    requires hands { AreHandsOf arena.now hands.old.items }
+    ensures low { IfSome result (λ jobs. AreIdle arena.now jobs.0.0.1 × AreIdle arena.now jobs.0.1.1) }
+    ensures high { IfSome result (λ jobs. AreIdle arena.now jobs.1.0.1 × AreIdle arena.now jobs.1.1.1) }
+{
+    let first = Actor(1, pair_of(arena, hands)?);
+    let second = Actor(2, pair_of(arena, hands)?);
+    let third = Actor(3, pair_of(arena, hands)?);
+    let fourth = Actor(4, pair_of(arena, hands)?);
+    Some(Beside(Beside(first, second), Beside(third, fourth)))
 }
 
 /// How many chunks of the class are free as its list says, and whether both pages within the limit are the class's.
@@ -288,16 +141,8 @@ fn listed(left: &Final) -> Option<(u64, bool)> {
 
 /// Each chunk of the closed arena is free, dead or an item's, and its lists and stripes tell the same.
 fn assert_left(rt: &impl Abort, left: &Final) -> Result<(), Fail> {
-    let none = Sums {
-        free: 0,
-        dead: 0,
-        linked: 0,
-    };
-    let Some(sums) = add_page(left, 0, none) else {
-        return Err(Fail::new("each chunk is free, dead or linked"));
-    };
-    let Some(sums) = add_page(left, 1, sums) else {
-        return Err(Fail::new("each chunk is free, dead or linked"));
+    let Some(sums) = class_sums(left, 1) else {
+        return Err(Fail::new("nobody holds a chunk"));
     };
     let Some((free, are_owned)) = listed(left) else {
         return Err(Fail::new("pages and lists are there"));
@@ -319,10 +164,12 @@ fn assert_left(rt: &impl Abort, left: &Final) -> Result<(), Fail> {
 #[test]
 fn no_read_shows_another_item(rt: HostRuntime) -> Result<(), Fail> {
     let (arena, mut hands) = opened(rt.alloc(), &TWO_PAGES, 8)?;
-    let Some((hand, wrong)) = work_by_four(&rt, rt.alloc(), &arena, &mut hands) else {
+    let Some(actors) = actors_of(&arena, &mut hands) else {
         return Err(Fail::new("there are eight hands"));
     };
-    assert_same(&rt, wrong, 0, "words of other items");
+    let Worked { hand, told } = actors.work(&rt, rt.alloc(), &arena);
+    let none = ((0, 0), (0, 0));
+    assert_same(&rt, told, none, "words of other items");
     let left = arena.close(hand);
     let accounted = assert_left(&rt, &left);
     drop(left);

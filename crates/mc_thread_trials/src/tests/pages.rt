@@ -1,14 +1,13 @@
 //! A mover's thread moves pages between four classes, while three workers store, hold, read and delete items.
 ghost use Rattle.std.specs.Prelude.{IfSome};
-ghost use Rattle.std.specs.Thread.{IsSync};
 ghost use Rattle.mc_calls.specs.Hands.{AreHandsOf, IsIdleHandOf};
 
 use super::assert_same;
-use super::driver::{Mover, drive, end_if};
-use super::workers::{KEYS, Worker, gather, store_each, work};
+use super::driver::{Mover, end_if};
+use super::workers::{KEYS, Worker, store_each};
 use mc_calls::{
-    NO_SUMS, Stats, Sums, Turns, all_sums, class_sums, count_keys, count_pages, next_hand, opened,
-    set_mode_by, stats_of, two_of,
+    Beside, FOUR_CLASSES, Job, NO_SUMS, Stats, Sums, Turns, Worked, all_sums, class_sums,
+    count_keys, count_pages, next_hand, opened, pair_of, set_mode_by, stats_of,
 };
 use mc_classes::{ClassId, Config};
 use mc_words::{Arena, Final, Hand};
@@ -16,127 +15,17 @@ use std::alloc::Global;
 use std::process::Abort;
 use std::sync::Wait;
 use std::test::Fail;
-use std::thread::{Threads, join};
+use std::thread::Threads;
 
 /// Eight pages; the same four classes. A turn looks at three chunks.
 const EIGHT_PAGES: Config = Config {
-    page: 1024,
     limit: 8192,
-    first: 48,
-    num: 2,
-    den: 1,
-    max: 512,
-    stripes: 4,
     bulk: 3,
+    ..FOUR_CLASSES
 };
 
-/// The mover's turns beside a worker's rounds.
-fn drive_beside<R: Threads + Wait + Sync>(
-    rt: &R,
-    alloc: Global,
-    arena: &Arena,
-    mover: Hand,
-    hands: (Hand, Hand),
-) -> (Mover, Worker)
-    requires mover { IsIdleHandOf arena.now mover }
-    requires hands { IsIdleHandOf arena.now hands.0 × IsIdleHandOf arena.now hands.1 }
-    ensures mover { IsIdleHandOf arena.now result.0.hand }
-    ensures hands { IsIdleHandOf arena.now result.1.reader × IsIdleHandOf arena.now result.1.writer }
-{
-    join(
-        rt,
-        move || -> Mover
-            requires { IsSync R.row × IsIdleHandOf arena.now mover }
-            ensures { IsIdleHandOf arena.entry.now result.hand }
-        { drive(rt, arena, mover) },
-        move || -> Worker
-            requires { IsSync R.row × IsIdleHandOf arena.now hands.0 × IsIdleHandOf arena.now hands.1 }
-            ensures { IsIdleHandOf arena.entry.now result.reader × IsIdleHandOf arena.entry.now result.writer }
-        { work(rt, alloc, arena, 1, hands) },
-    )
-}
-
-/// Two workers' rounds at once.
-fn work_beside<R: Threads + Wait + Sync>(
-    rt: &R,
-    alloc: Global,
-    arena: &Arena,
-    first: (Hand, Hand),
-    second: (Hand, Hand),
-) -> (Worker, Worker)
-    requires first { IsIdleHandOf arena.now first.0 × IsIdleHandOf arena.now first.1 }
-    requires second { IsIdleHandOf arena.now second.0 × IsIdleHandOf arena.now second.1 }
-    ensures first { IsIdleHandOf arena.now result.0.reader × IsIdleHandOf arena.now result.0.writer }
-    ensures second { IsIdleHandOf arena.now result.1.reader × IsIdleHandOf arena.now result.1.writer }
-{
-    join(
-        rt,
-        move || -> Worker
-            requires { IsSync R.row × IsIdleHandOf arena.now first.0 × IsIdleHandOf arena.now first.1 }
-            ensures { IsIdleHandOf arena.entry.now result.reader × IsIdleHandOf arena.entry.now result.writer }
-        { work(rt, alloc, arena, 2, first) },
-        move || -> Worker
-            requires { IsSync R.row × IsIdleHandOf arena.now second.0 × IsIdleHandOf arena.now second.1 }
-            ensures { IsIdleHandOf arena.entry.now result.reader × IsIdleHandOf arena.entry.now result.writer }
-        { work(rt, alloc, arena, 3, second) },
-    )
-}
-
-/// The mover and three workers at once.
-fn run_all<R: Threads + Wait + Sync>(
-    rt: &R,
-    alloc: Global,
-    arena: &Arena,
-    mover: Hand,
-    first: (Hand, Hand),
-    second: (Hand, Hand),
-    third: (Hand, Hand),
-) -> ((Mover, Worker), (Worker, Worker))
-    requires mover { IsIdleHandOf arena.now mover }
-    requires first { IsIdleHandOf arena.now first.0 × IsIdleHandOf arena.now first.1 }
-    requires second { IsIdleHandOf arena.now second.0 × IsIdleHandOf arena.now second.1 }
-    requires third { IsIdleHandOf arena.now third.0 × IsIdleHandOf arena.now third.1 }
-    ensures mover { IsIdleHandOf arena.now result.0.0.hand }
-    ensures first { IsIdleHandOf arena.now result.0.1.reader × IsIdleHandOf arena.now result.0.1.writer }
-    ensures second { IsIdleHandOf arena.now result.1.0.reader × IsIdleHandOf arena.now result.1.0.writer }
-    ensures third { IsIdleHandOf arena.now result.1.1.reader × IsIdleHandOf arena.now result.1.1.writer }
-{
-    join(
-        rt,
-        move || -> (Mover, Worker)
-            requires { IsSync R.row × IsIdleHandOf arena.now mover × IsIdleHandOf arena.now first.0 × IsIdleHandOf arena.now first.1 }
-            ensures { IsIdleHandOf arena.entry.now result.0.hand × IsIdleHandOf arena.entry.now result.1.reader × IsIdleHandOf arena.entry.now result.1.writer }
-        { drive_beside(rt, alloc, arena, mover, first) },
-        move || -> (Worker, Worker)
-            requires { IsSync R.row × (IsIdleHandOf arena.now second.0 × IsIdleHandOf arena.now second.1) × (IsIdleHandOf arena.now third.0 × IsIdleHandOf arena.now third.1) }
-            ensures { (IsIdleHandOf arena.entry.now result.0.reader × IsIdleHandOf arena.entry.now result.0.writer) × (IsIdleHandOf arena.entry.now result.1.reader × IsIdleHandOf arena.entry.now result.1.writer) }
-        { work_beside(rt, alloc, arena, second, third) },
-    )
-}
-
-/// What is left when all threads are done: one hand, what the mover's turns told, and how many rounds showed words of other items.
-#[derive(Drop)]
-struct Done {
-    hand: Hand,
-    tally: Turns,
-    wrong: u64,
-}
-
-/// One hand of all.
-fn gather_all(arena: &Arena, mover: Mover, first: Worker, second: Worker, third: Worker) -> Done
-    requires mover { IsIdleHandOf arena.now mover.hand }
-    requires first { IsIdleHandOf arena.now first.reader × IsIdleHandOf arena.now first.writer }
-    requires second { IsIdleHandOf arena.now second.reader × IsIdleHandOf arena.now second.writer }
-    requires third { IsIdleHandOf arena.now third.reader × IsIdleHandOf arena.now third.writer }
-    ensures hand { IsIdleHandOf arena.now result.hand }
-{
-    let Mover { hand, tally } = mover;
-    let (hand, first) = gather(arena, hand, first);
-    let (hand, second) = gather(arena, hand, second);
-    let (hand, third) = gather(arena, hand, third);
-    let wrong = first.saturating_add(second).saturating_add(third);
-    Done { hand, tally, wrong }
-}
+/// What the threads tell: the mover's turns, and of each worker how many rounds showed words of other items.
+type Told = ((Turns, u64), (u64, u64));
 
 /// All threads' work in this mode, once items were stored. None where a hand is missing, or memory ran out.
 fn stress<R: Threads + Wait + Sync>(
@@ -145,24 +34,22 @@ fn stress<R: Threads + Wait + Sync>(
     arena: &Arena,
     hands: &mut Vec<Hand>,
     mode: u64,
-) -> Option<Done>
+) -> Option<Worked<Told>>
     requires hands { AreHandsOf arena.now hands.old.items }
-    ensures hand { IfSome result (λ done. IsIdleHandOf arena.now done.hand) }
+    ensures hand { IfSome result (λ worked. IsIdleHandOf arena.now worked.hand) }
 {
-    let mut mover = next_hand(arena, hands)?;
-    let first = two_of(arena, hands)?;
-    let second = two_of(arena, hands)?;
-    let third = two_of(arena, hands)?;
-    if !set_mode_by(rt, arena, &mut mover, mode) {
+    let mut hand = next_hand(arena, hands)?;
+    if !set_mode_by(rt, arena, &mut hand, mode) {
         return None;
     }
-    if store_each(rt, alloc, arena, &mut mover).is_err() {
+    if store_each(rt, alloc, arena, &mut hand).is_err() {
         return None;
     }
-    let (low, high) = run_all(rt, alloc, arena, mover, first, second, third);
-    let (mover, first) = low;
-    let (second, third) = high;
-    Some(gather_all(arena, mover, first, second, third))
+    let first = Worker(1, pair_of(arena, hands)?);
+    let second = Worker(2, pair_of(arena, hands)?);
+    let third = Worker(3, pair_of(arena, hands)?);
+    let all = Beside(Beside(Mover(hand), first), Beside(second, third));
+    Some(all.work(rt, alloc, arena))
 }
 
 /// The class's chunks are those of its pages, and what is used is linked, or cleared on a moving page.
@@ -242,17 +129,15 @@ fn assert_left<R: Abort + Wait>(
     rt: &R,
     alloc: Global,
     arena: Arena,
-    done: Done,
+    worked: Worked<Told>,
     ends: bool,
 ) -> Result<(), Fail>
-    requires hand { IsIdleHandOf arena done.hand }
+    requires hand { IsIdleHandOf arena worked.hand }
 {
-    let Done {
-        mut hand,
-        mut tally,
-        wrong,
-    } = done;
-    assert_same(rt, wrong, 0, "words of other items");
+    let Worked { mut hand, told } = worked;
+    let ((mut tally, first), (second, third)) = told;
+    let wrong = (first, second, third);
+    assert_same(rt, wrong, (0, 0, 0), "words of other items");
     let ended = end_if(rt, &arena, &mut hand, &mut tally, ends);
     assert_same(rt, ended, true, "the last move ends");
     let surveyed = stats_of(rt, alloc, &arena, &mut hand, true);
@@ -271,7 +156,7 @@ fn account<R: Abort + Threads + Wait + Sync>(
 ) -> Result<(), Fail> {
     let (arena, mut hands) = opened(alloc, &EIGHT_PAGES, 7)?;
     match stress(rt, alloc, &arena, &mut hands, mode) {
-        Some(done) => assert_left(rt, alloc, arena, done, ends),
+        Some(worked) => assert_left(rt, alloc, arena, worked, ends),
         None => Err(Fail::new("there are seven hands, and memory for items")),
     }
 }

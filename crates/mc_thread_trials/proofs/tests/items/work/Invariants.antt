@@ -1,6 +1,6 @@
 use Rattle.std.proofs.Common.{◌≤◌}
-use Rattle.mc_calls.specs.Hands.{IsIdleHandOf}
+use Rattle.mc_calls.specs.Pairs.{AreIdle}
 use Rattle.mc_thread_trials.proofs.tests.items.work.Given as goal
 
 abbrev pub invariant-loop-round : goal.invariant-loop-round
-invariant-loop-round g l = IsIdleHandOf l.arena l.reader × IsIdleHandOf l.arena l.writer × (l.wrong ≤ l.round)
+invariant-loop-round g l = AreIdle l.arena l.pair × (l.wrong ≤ l.round)

@@ -1,5 +1,5 @@
-use Rattle.mc_calls.specs.Hands.{IsIdleHandOf}
+use Rattle.mc_calls.specs.Pairs.{AreIdle}
 use Rattle.mc_thread_trials.proofs.tests.workers.work.Given as goal
 
-abbrev pub invariant-loop-round : goal.invariant-loop-round
-invariant-loop-round g l = IsIdleHandOf l.arena l.reader × IsIdleHandOf l.arena l.writer
+abbrev pub invariant-loop-number : goal.invariant-loop-number
+invariant-loop-number g l = AreIdle l.arena l.pair
