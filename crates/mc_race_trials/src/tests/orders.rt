@@ -1,10 +1,7 @@
 //! Both orders in which a hand has an item again while another one takes it away, and what the next turns find then.
 ghost use Rattle.std.specs.Prelude.{◌≡◌, IfSome, true};
-ghost use Rattle.mc_pages.specs.Pages.{is_on_the_move};
-ghost use Rattle.mc_pages.specs.SlabState.{class_of_page};
-ghost use Rattle.mc_core.specs.State.{has_chunk, is_class};
-ghost use Rattle.mc_words.specs.hand.Arenas.{IsHandOf, setup_of, view};
-ghost use Rattle.mc_words.specs.hand.Observers.{HasSlabs, slabs_lent};
+ghost use Rattle.mc_words.specs.hand.Arenas.{IsHandOf, view};
+ghost use Rattle.mc_words.specs.hand.Observers.{HasSlabs};
 ghost use Rattle.mc_words.specs.hand.Ready.{IsReady};
 ghost use Rattle.mc_items.specs.ItemRefs.{IsItemRef};
 ghost use Rattle.mc_calls.specs.Hands.{IsReadyHandOf};
@@ -14,10 +11,10 @@ ghost use Rattle.mc_race_trials.specs.Keepers.{IsNear};
 use super::calls::set_key;
 use super::ends::check;
 use super::races::{Fate, look_and_lock, take_away};
-use super::words::are_words_of;
-use mc_calls::{Two, has_chunk, hint_of, opened_two};
-use mc_classes::{ClassId, Config};
-use mc_items::{Ref, again, get, read, release};
+use super::words::len_of;
+use mc_calls::{FOUR_CLASSES, Two, has_chunk, hint_of, opened_two, release_own};
+use mc_classes::Config;
+use mc_items::{Ref, again, get};
 use mc_mover::{Counts, Turn, reassign, turn};
 use mc_pages::ChunkId;
 use mc_stripe::Key;
@@ -29,39 +26,12 @@ use std::test::Fail;
 
 /// Two pages; classes of 48, 96, 192 and 512 bytes. A page has two chunks of the greatest.
 const TWO_PAGES: Config = Config {
-    page: 1024,
     limit: 2048,
-    first: 48,
-    num: 2,
-    den: 1,
-    max: 512,
-    stripes: 4,
-    bulk: 64,
+    ..FOUR_CLASSES
 };
 
 /// The key whose item goes into the first chunk, and that chunk. Each fourth key has an item of the greatest class.
 const FIRST: (Key, ChunkId) = (3, ChunkId { page: 0, index: 1 });
-
-/// The class of a chunk's page, if it moves.
-fn class_on_move(arena: &Arena, _hand: &Hand, held: &SlabsHeld, chunk: ChunkId) -> Option<ClassId>
-    requires arena { IsHandOf arena.now _hand.now }
-    requires held { HasSlabs _hand.now held.now }
-    requires near { has_chunk (setup_of arena.now).table chunk ≡ true }
-    ensures own { IfSome result (λ class. class_of_page (slabs_lent held.now) chunk.page ≡ class) }
-    ensures moving { IfSome result (λ class. is_on_the_move (slabs_lent held.now) chunk.page ≡ true) }
-    ensures class { IfSome result (λ class. is_class (setup_of arena.now).table class ≡ true) }
-{
-    let moving = held.moving()?;
-    if moving.page != chunk.page {
-        return None;
-    }
-    let class = held.slabs().owner(chunk.page).class();
-    if class >= 1 && class <= arena.classes().count() {
-        Some(class)
-    } else {
-        None
-    }
-}
 
 /// Whether the hand may make any call.
 fn is_ready(hand: &Hand) -> bool
@@ -119,30 +89,13 @@ fn race<R: Abort>(
     let Ok(mut slabs) = arena.try_slabs(hand) else {
         return None;
     };
-    let class = class_on_move(arena, hand, &slabs, chunk)?;
-    let (key, stripe) = look_and_lock(arena, hand, &slabs, chunk)?;
-    let item = had_again(arena, other, hint);
-    let fate = take_away(rt, arena, hand, &mut slabs, stripe, class, chunk, key)?;
+    let item = look_and_lock(arena, hand, &slabs, chunk)?;
+    let had = had_again(arena, other, hint);
+    let fate = take_away(rt, arena, hand, &mut slabs, item)?;
     if !give_back(arena, hand, slabs) {
         return None;
     }
-    Some((fate, item))
-}
-
-/// Whether the item is the key's, and has its own words. It is given up, also where memory ran out.
-fn is_own(alloc: Global, arena: &Arena, hand: &mut Hand, item: Ref, key: Key) -> bool
-    requires hand { IsReadyHandOf arena.now hand.old }
-    requires item { IsItemRef (view hand.old) item }
-    ensures hand { IsReadyHandOf arena.now hand.new }
-{
-    let stamp = item.stamp();
-    let is_keys = item.key() == key;
-    let words = read(alloc, arena, hand, &item);
-    release(arena, hand, item);
-    match words {
-        Ok(words) => is_keys && are_words_of(&words, key, stamp),
-        Err(_) => false,
-    }
+    Some((fate, had))
 }
 
 /// Whether the key leads to an item, which has its own words.
@@ -151,7 +104,7 @@ fn has_own<R: Wait>(rt: &R, alloc: Global, arena: &Arena, hand: &mut Hand, key: 
     ensures hand { IsReadyHandOf arena.now hand.new }
 {
     match get(rt, arena, hand, key) {
-        Ok(Some(item)) => is_own(alloc, arena, hand, item, key),
+        Ok(Some(item)) => release_own(alloc, arena, hand, item, key, len_of(key)),
         _ => false,
     }
 }
@@ -236,10 +189,8 @@ fn race_again_first<R: Abort + Wait>(
         turns(rt, arena, hand, Turn::Went(went)),
         "it holds up its page",
     )?;
-    check(
-        is_own(alloc, arena, other, item, FIRST.0),
-        "its words are its own",
-    )?;
+    let own = release_own(alloc, arena, other, item, FIRST.0, len_of(FIRST.0));
+    check(own, "its words are its own")?;
     let ended = Turn::Finished(counts(1, 0, 1, 0));
     check(
         turns(rt, arena, hand, ended),

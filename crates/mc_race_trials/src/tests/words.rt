@@ -9,7 +9,7 @@ use std::alloc::Global;
 pub const KEYS: u64 = 16;
 
 /// How many words the key's item has: the most that its class has room for. A fourth of the keys goes to each class.
-fn len_of(key: Key) -> u64 {
+pub fn len_of(key: Key) -> u64 {
     match key % 4 {
         0 => 3,
         1 => 9,
