@@ -25,6 +25,6 @@ pub use moves::{set_mode_by, turn_by};
 pub use own::{are_own, is_own, own_words, release_own, store_own};
 pub use stats::{Chunks, Stats, stats_of};
 pub use steps::{Played, Step, StepError, play_all, run};
-pub use threads::{Beside, Job, Worked};
+pub use threads::{Job, Worked, work_four, work_three};
 pub use turns::{NO_TURNS, Turns};
 pub use words::{are_from, words_from};

@@ -25,51 +25,89 @@ pub trait Job: Send + Drop {
     ghost is_ready: { Arena → Self → Type 0 };
 
     /// Does it. One hand is left of its own.
-    fn work<R: Threads + Wait + Sync>(
-        self,
-        rt: &R,
-        alloc: Global,
-        arena: &Arena,
-    ) -> Worked<Self::Told>
+    fn work<R: Wait>(self, rt: &R, alloc: Global, arena: &Arena) -> Worked<Self::Told>
         requires { is_ready arena.now self }
         ensures { IsIdleHandOf arena.now result.hand };
 }
 
-/// Two jobs at once. One hand is left of both, and what both tell.
-#[derive(Drop)]
-pub struct Beside<A, B>(pub A, pub B);
-
-impl<A: Job, B: Job> Job for Beside<A, B> {
-    type Told = (A::Told, B::Told);
-
-    ghost is_ready = { λ arena jobs. A.is_ready arena jobs.0 × B.is_ready arena jobs.1 };
-
-    fn work<R: Threads + Wait + Sync>(
-        self,
-        rt: &R,
-        alloc: Global,
-        arena: &Arena,
-    ) -> Worked<(A::Told, B::Told)> {
-        let Beside(first, second) = self;
-        let (first, second) = join(
-            rt,
-            move || -> Worked<A::Told>
-                requires { IsSync R.row × IsSend A.row × A.is_ready arena.now first }
-                ensures { IsIdleHandOf arena.entry.now result.hand }
-            { first.work(rt, alloc, arena) },
-            move || -> Worked<B::Told>
-                requires { IsSync R.row × IsSend B.row × B.is_ready arena.now second }
-                ensures { IsIdleHandOf arena.entry.now result.hand }
-            { second.work(rt, alloc, arena) },
-        );
-        let Worked { hand, told } = first;
-        let Worked {
-            hand: other,
-            told: more,
-        } = second;
-        Worked {
-            hand: one_of(arena, hand, other),
-            told: (told, more),
-        }
+/// One hand of two that worked, and what both tell.
+fn both<T, U>(arena: &Arena, first: Worked<T>, second: Worked<U>) -> Worked<(T, U)>
+    requires first { IsIdleHandOf arena.now first.hand }
+    requires second { IsIdleHandOf arena.now second.hand }
+    ensures { IsIdleHandOf arena.now result.hand }
+{
+    let Worked { hand, told } = first;
+    let Worked {
+        hand: other,
+        told: more,
+    } = second;
+    Worked {
+        hand: one_of(arena, hand, other),
+        told: (told, more),
     }
+}
+
+/// Two jobs at once. One hand is left, and what they tell.
+fn work_two<R: Threads + Wait + Sync, A: Job, B: Job>(
+    rt: &R,
+    alloc: Global,
+    arena: &Arena,
+    jobs: (A, B),
+) -> Worked<(A::Told, B::Told)>
+    requires { A.is_ready arena.now jobs.0 × B.is_ready arena.now jobs.1 }
+    ensures { IsIdleHandOf arena.now result.hand }
+{
+    let (first, second) = jobs;
+    let (first, second) = join(
+        rt,
+        move || first.work(rt, alloc, arena),
+        move || second.work(rt, alloc, arena),
+    );
+    both(arena, first, second)
+}
+
+/// Three jobs at once. One hand is left, and what they tell.
+pub fn work_three<R: Threads + Wait + Sync, A: Job, B: Job, C: Job>(
+    rt: &R,
+    alloc: Global,
+    arena: &Arena,
+    job: A,
+    others: (B, C),
+) -> Worked<(A::Told, (B::Told, C::Told))>
+    requires job { A.is_ready arena.now job }
+    requires others { B.is_ready arena.now others.0 × C.is_ready arena.now others.1 }
+    ensures { IsIdleHandOf arena.now result.hand }
+{
+    let (first, others) = join(
+        rt,
+        move || job.work(rt, alloc, arena),
+        move ||
+            requires { IsSync R.row × IsSend B.row × IsSend C.row × B.is_ready arena.now others.0 × C.is_ready arena.now others.1 }
+        { work_two(rt, alloc, arena, others) },
+    );
+    both(arena, first, others)
+}
+
+/// Four jobs at once. One hand is left, and what they tell.
+pub fn work_four<R: Threads + Wait + Sync, A: Job, B: Job, C: Job, D: Job>(
+    rt: &R,
+    alloc: Global,
+    arena: &Arena,
+    low: (A, B),
+    high: (C, D),
+) -> Worked<((A::Told, B::Told), (C::Told, D::Told))>
+    requires low { A.is_ready arena.now low.0 × B.is_ready arena.now low.1 }
+    requires high { C.is_ready arena.now high.0 × D.is_ready arena.now high.1 }
+    ensures { IsIdleHandOf arena.now result.hand }
+{
+    let (low, high) = join(
+        rt,
+        move ||
+            requires { IsSync R.row × IsSend A.row × IsSend B.row × A.is_ready arena.now low.0 × B.is_ready arena.now low.1 }
+        { work_two(rt, alloc, arena, low) },
+        move ||
+            requires { IsSync R.row × IsSend C.row × IsSend D.row × C.is_ready arena.now high.0 × D.is_ready arena.now high.1 }
+        { work_two(rt, alloc, arena, high) },
+    );
+    both(arena, low, high)
 }

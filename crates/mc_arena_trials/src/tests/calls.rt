@@ -87,7 +87,8 @@ fn pop_next(arena: &Arena, hand: &mut Hand, held: &mut SlabsHeld, class: ClassId
         return None;
     }
     match arena.pop(hand, held, class) {
-        Ok(fresh) => fresh,
+        Ok(Some(fresh)) => Some(fresh),
+        Ok(None) => None,
         Err(_) => None,
     }
 }

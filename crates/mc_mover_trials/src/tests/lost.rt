@@ -4,9 +4,7 @@ ghost use Rattle.mc_calls.specs.Hands.{IsReadyHandOf};
 
 use super::steps::Step;
 use super::{assert_equal, assert_same};
-use mc_calls::{
-    FOUR_CLASSES, Two, are_from, delete_key, get_key, header, opened_two, play_all,
-};
+use mc_calls::{FOUR_CLASSES, Two, are_from, delete_key, get_key, header, opened_two, play_all};
 use mc_items::{TryGetError, read, release};
 use mc_mover::{TryTurn, try_turn};
 use mc_pages::{ChunkId, Reassign};

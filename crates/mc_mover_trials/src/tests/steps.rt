@@ -168,9 +168,7 @@ impl mc_calls::Step for Step {
                 *first,
                 *len,
             ),
-            Step::Reads(key, first, len) => {
-                reads(rt, alloc, arena, hand, *key, (*first, *len))
-            }
+            Step::Reads(key, first, len) => { reads(rt, alloc, arena, hand, *key, (*first, *len)) }
             Step::Modes(mode) => Ok(has_mode(rt, alloc, arena, hand, *mode)),
             Step::Pages(granted, pool, running) => {
                 Ok(has_pages(rt, alloc, arena, hand, (*granted, *pool, *running)))

@@ -7,7 +7,6 @@ use mc_mover::{Survey, TryTurn, reassign, set_mode, survey, try_turn, turn};
 use mc_words::{Arena, Hand};
 use std::alloc::Global;
 use std::sync::Wait;
-use std::thread::Threads;
 
 /// How many rounds there are.
 const ROUNDS: u64 = 60_000;
@@ -138,28 +137,6 @@ fn act<R: Wait>(rt: &R, alloc: Global, arena: &Arena, mover: &mut Mover, drawn: 
     }
 }
 
-/// A mover's rounds.
-pub fn drive<R: Wait>(
-    rt: &R,
-    alloc: Global,
-    arena: &Arena,
-    thread: u64,
-    hand: Hand,
-) -> Worked<Tally>
-    requires hand { IsIdleHandOf arena.now hand }
-    ensures hand { IsIdleHandOf arena.now result.hand }
-{
-    let mut mover = Mover {
-        hand,
-        tally: NOTHING,
-    };
-    for round in 0..ROUNDS {
-        act(rt, alloc, arena, &mut mover, draw(thread, round));
-    }
-    let Mover { hand, tally } = mover;
-    Worked { hand, told: tally }
-}
-
 /// A mover's thread: its number, and its hand.
 #[derive(Drop)]
 pub struct Driver(pub u64, pub Hand);
@@ -169,7 +146,17 @@ impl Job for Driver {
 
     ghost is_ready = { λ arena job. IsIdleHandOf arena job.1 };
 
-    fn work<R: Threads + Wait + Sync>(self, rt: &R, alloc: Global, arena: &Arena) -> Worked<Tally> {
-        drive(rt, alloc, arena, self.0, self.1)
+    /// Its rounds: what they told.
+    fn work<R: Wait>(self, rt: &R, alloc: Global, arena: &Arena) -> Worked<Tally> {
+        let Driver(thread, hand) = self;
+        let mut mover = Mover {
+            hand,
+            tally: NOTHING,
+        };
+        for round in 0..ROUNDS {
+            act(rt, alloc, arena, &mut mover, draw(thread, round));
+        }
+        let Mover { hand, tally } = mover;
+        Worked { hand, told: tally }
     }
 }

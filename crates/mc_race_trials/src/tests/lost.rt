@@ -4,7 +4,7 @@ ghost use Rattle.mc_calls.specs.Hands.{AreHandsOf, IsIdleHandOf};
 ghost use Rattle.mc_race_trials.specs.Keepers.{AreNear, IsKeeperOf};
 
 use super::calls::set_key;
-use super::driver::drive;
+use super::driver::Driver;
 use super::ends::check;
 use super::holding::give_all_back;
 use super::replays::is_stripe_legal;
@@ -13,13 +13,12 @@ use super::words::{KEYS, draw};
 use super::workers::{
     Keeper, NOTHING, give_one_back, keep_and_read, make_room, no_hints, place_in, read_one,
 };
-use mc_calls::{Beside, Job, Worked, head, next_hand, opened, three_of};
+use mc_calls::{Job, Worked, head, next_hand, opened, three_of, work_three};
 use mc_pages::ChunkId;
 use mc_words::{Arena, Final, Hand};
 use std::alloc::Global;
 use std::sync::Wait;
 use std::test::Fail;
-use std::thread::Threads;
 
 /// How many rounds a reader has before its first hand is lost, and how many in all.
 const ROUNDS: (u64, u64) = (16_000, 32_000);
@@ -95,75 +94,7 @@ struct Lost {
     wrong: u64,
 }
 
-/// A mover's rounds, behind which a hand is lost with pages and lists, if nobody has them.
-fn drive_and_lose<R: Wait>(
-    rt: &R,
-    alloc: Global,
-    arena: &Arena,
-    hand: Hand,
-    other: Hand,
-) -> Worked<Lost>
-    requires hand { IsIdleHandOf arena.now hand }
-    requires other { IsIdleHandOf arena.now other }
-    ensures hand { IsIdleHandOf arena.now result.hand }
-{
-    let Worked { hand, told } = drive(rt, alloc, arena, 0, hand);
-    let told = Lost {
-        refs: 0,
-        lock: lose_slabs(arena, other),
-        wrong: told.wrong,
-    };
-    Worked { hand, told }
-}
-
-/// A reader's hands: one is lost with references, one with a stripe, and one is left.
-type Hands = (Hand, Hand, Hand);
-
-/// A reader's rounds: its first hand is lost with the references that it keeps, and its second with the stripe of the thread's number.
-fn read<R: Wait>(rt: &R, alloc: Global, arena: &Arena, thread: u64, hands: Hands) -> Worked<Lost>
-    requires hands { IsIdleHandOf arena.now hands.0 × IsIdleHandOf arena.now hands.1 × IsIdleHandOf arena.now hands.2 }
-    ensures hand { IsIdleHandOf arena.now result.hand }
-{
-    let (first, second, hand) = hands;
-    let Ok(hints) = no_hints(alloc, arena) else {
-        let told = Lost {
-            refs: 0,
-            lock: false,
-            wrong: 1,
-        };
-        return Worked { hand, told };
-    };
-    let mut keeper = Keeper {
-        hand: first,
-        kept: Vec::new(alloc),
-        hints,
-        told: NOTHING,
-    };
-    act_often(rt, alloc, arena, &mut keeper, thread, (0, ROUNDS.0));
-    let Keeper {
-        hand: _lost,
-        kept,
-        hints,
-        told,
-    } = keeper;
-    let refs = kept.len() as u64;
-    let lock = lose_stripe(arena, second, thread);
-    let mut keeper = Keeper {
-        hand,
-        kept: Vec::new(alloc),
-        hints,
-        told,
-    };
-    act_often(rt, alloc, arena, &mut keeper, thread, ROUNDS);
-    let hand = give_all_back(arena, keeper.hand, keeper.kept);
-    let wrong = keeper.told.wrong;
-    Worked {
-        hand,
-        told: Lost { refs, lock, wrong },
-    }
-}
-
-/// The mover's thread, with its hands.
+/// The mover's thread, with two hands: one moves pages, and one is lost with pages and lists behind that, if nobody has them.
 #[derive(Drop)]
 struct Mover(Hand, Hand);
 
@@ -172,22 +103,66 @@ impl Job for Mover {
 
     ghost is_ready = { λ arena job. IsIdleHandOf arena job.0 × IsIdleHandOf arena job.1 };
 
-    fn work<R: Threads + Wait + Sync>(self, rt: &R, alloc: Global, arena: &Arena) -> Worked<Lost> {
-        drive_and_lose(rt, alloc, arena, self.0, self.1)
+    fn work<R: Wait>(self, rt: &R, alloc: Global, arena: &Arena) -> Worked<Lost> {
+        let Mover(hand, other) = self;
+        let Worked { hand, told } = Driver(0, hand).work(rt, alloc, arena);
+        let told = Lost {
+            refs: 0,
+            lock: lose_slabs(arena, other),
+            wrong: told.wrong,
+        };
+        Worked { hand, told }
     }
 }
 
-/// A reader's thread: its number, and its hands.
+/// A reader's thread: its number, and its hands. The first is lost with the references that it keeps, the second with the stripe of the
+/// thread's number, and the third is left.
 #[derive(Drop)]
-struct Reader(u64, Hands);
+struct Reader(u64, (Hand, Hand, Hand));
 
 impl Job for Reader {
     type Told = Lost;
 
     ghost is_ready = { λ arena job. IsIdleHandOf arena job.1.0 × IsIdleHandOf arena job.1.1 × IsIdleHandOf arena job.1.2 };
 
-    fn work<R: Threads + Wait + Sync>(self, rt: &R, alloc: Global, arena: &Arena) -> Worked<Lost> {
-        read(rt, alloc, arena, self.0, self.1)
+    fn work<R: Wait>(self, rt: &R, alloc: Global, arena: &Arena) -> Worked<Lost> {
+        let Reader(thread, (first, second, hand)) = self;
+        let Ok(hints) = no_hints(alloc, arena) else {
+            let told = Lost {
+                refs: 0,
+                lock: false,
+                wrong: 1,
+            };
+            return Worked { hand, told };
+        };
+        let mut keeper = Keeper {
+            hand: first,
+            kept: Vec::new(alloc),
+            hints,
+            told: NOTHING,
+        };
+        act_often(rt, alloc, arena, &mut keeper, thread, (0, ROUNDS.0));
+        let Keeper {
+            hand: _lost,
+            kept,
+            hints,
+            told,
+        } = keeper;
+        let refs = kept.len() as u64;
+        let lock = lose_stripe(arena, second, thread);
+        let mut keeper = Keeper {
+            hand,
+            kept: Vec::new(alloc),
+            hints,
+            told,
+        };
+        act_often(rt, alloc, arena, &mut keeper, thread, ROUNDS);
+        let hand = give_all_back(arena, keeper.hand, keeper.kept);
+        let wrong = keeper.told.wrong;
+        Worked {
+            hand,
+            told: Lost { refs, lock, wrong },
+        }
     }
 }
 
@@ -202,7 +177,7 @@ fn store_each<R: Wait>(rt: &R, alloc: Global, arena: &Arena, hand: &mut Hand)
 }
 
 /// A mover, and two readers.
-type Jobs = Beside<Mover, Beside<Reader, Reader>>;
+type Jobs = (Mover, (Reader, Reader));
 
 /// Those with the eight hands of the lowest numbers that are left, once items were stored. None where there are fewer.
 fn jobs_of<R: Wait>(rt: &R, alloc: Global, arena: &Arena, hands: &mut Vec<Hand>) -> Option<Jobs>
@@ -216,7 +191,7 @@ fn jobs_of<R: Wait>(rt: &R, alloc: Global, arena: &Arena, hands: &mut Vec<Hand>)
     let mover = Mover(hand, next_hand(arena, hands)?);
     let first = Reader(1, three_of(arena, hands)?);
     let second = Reader(2, three_of(arena, hands)?);
-    Some(Beside(mover, Beside(first, second)))
+    Some((mover, (first, second)))
 }
 
 /// How many hold a chunk with this header beside the link. None where it is neither linked nor unlinked, but counts.
@@ -283,10 +258,10 @@ fn check_left(
 #[test]
 fn lost_hands_cost_what_they_had(rt: HostRuntime) -> Result<(), Fail> {
     let (arena, mut hands) = opened(rt.alloc(), &TWELVE_PAGES, 8)?;
-    let Some(jobs) = jobs_of(&rt, rt.alloc(), &arena, &mut hands) else {
+    let Some((mover, readers)) = jobs_of(&rt, rt.alloc(), &arena, &mut hands) else {
         return Err(Fail::new("there are eight hands"));
     };
-    let Worked { hand, told } = jobs.work(&rt, rt.alloc(), &arena);
+    let Worked { hand, told } = work_three(&rt, rt.alloc(), &arena, mover, readers);
     let (mover, (first, second)) = told;
     let left = arena.close(hand);
     let checked = check_left(rt.alloc(), &left, mover, first, second);

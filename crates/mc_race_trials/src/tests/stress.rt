@@ -5,7 +5,7 @@ ghost use Rattle.mc_calls.specs.Hands.{AreHandsOf, IsIdleHandOf};
 use super::driver::Driver;
 use super::ends::check_left;
 use super::workers::Worker;
-use mc_calls::{Beside, FOUR_CLASSES, Job, Worked, next_hand, opened};
+use mc_calls::{FOUR_CLASSES, Worked, next_hand, opened, work_four};
 use mc_classes::Config;
 use mc_words::{Arena, Hand};
 use std::test::Fail;
@@ -17,29 +17,29 @@ pub const TWELVE_PAGES: Config = Config {
     ..FOUR_CLASSES
 };
 
-/// Two movers, and a worker beside each.
-type Pairs = Beside<Beside<Driver, Worker>, Beside<Driver, Worker>>;
+/// A mover, and a worker beside it.
+type Pair = (Driver, Worker);
 
-/// Those with the four hands of the lowest numbers that are left, by which they are numbered. None where there are fewer.
-fn pairs_of(arena: &Arena, hands: &mut Vec<Hand>) -> Option<Pairs>
+/// Two of them, with the four hands of the lowest numbers that are left, which are the threads' numbers. None where there are fewer.
+fn two_pairs(arena: &Arena, hands: &mut Vec<Hand>) -> Option<(Pair, Pair)>
     requires hands { AreHandsOf arena.now hands.old.items }
     ensures low { IfSome result (λ jobs. IsIdleHandOf arena.now jobs.0.0.1 × IsIdleHandOf arena.now jobs.0.1.1) }
     ensures high { IfSome result (λ jobs. IsIdleHandOf arena.now jobs.1.0.1 × IsIdleHandOf arena.now jobs.1.1.1) }
 {
     let mover = Driver(0, next_hand(arena, hands)?);
-    let low = Beside(mover, Worker(1, next_hand(arena, hands)?));
+    let low = (mover, Worker(1, next_hand(arena, hands)?));
     let mover = Driver(2, next_hand(arena, hands)?);
-    let high = Beside(mover, Worker(3, next_hand(arena, hands)?));
-    Some(Beside(low, high))
+    let high = (mover, Worker(3, next_hand(arena, hands)?));
+    Some((low, high))
 }
 
 #[test]
 fn what_is_kept_is_read_beside_two_movers(rt: HostRuntime) -> Result<(), Fail> {
     let (arena, mut hands) = opened(rt.alloc(), &TWELVE_PAGES, 4)?;
-    let Some(pairs) = pairs_of(&arena, &mut hands) else {
+    let Some((low, high)) = two_pairs(&arena, &mut hands) else {
         return Err(Fail::new("there are four hands"));
     };
-    let Worked { hand, told } = pairs.work(&rt, rt.alloc(), &arena);
+    let Worked { hand, told } = work_four(&rt, rt.alloc(), &arena, low, high);
     let (low, high) = told;
     check_left(&rt, rt.alloc(), arena, hand, low, high)
 }

@@ -13,7 +13,6 @@ use mc_stripe::{Key, Stamp};
 use mc_words::{Again, Arena, Hand, Hint};
 use std::alloc::{AllocError, Global};
 use std::sync::Wait;
-use std::thread::Threads;
 
 /// How many rounds a worker has.
 const ROUNDS: u64 = 49_152;
@@ -254,32 +253,6 @@ pub fn no_hints(alloc: Global, _arena: &Arena) -> Result<Hints, AllocError>
     Ok(hints)
 }
 
-/// A worker's rounds.
-fn work<R: Wait>(rt: &R, alloc: Global, arena: &Arena, thread: u64, hand: Hand) -> Worked<Told>
-    requires hand { IsIdleHandOf arena.now hand }
-    ensures hand { IsIdleHandOf arena.now result.hand }
-{
-    let mut told = NOTHING;
-    let Ok(hints) = no_hints(alloc, arena) else {
-        told.note(false);
-        return Worked { hand, told };
-    };
-    let mut keeper = Keeper {
-        hand,
-        kept: Vec::new(alloc),
-        hints,
-        told,
-    };
-    for round in 0..ROUNDS {
-        do_round(rt, alloc, arena, &mut keeper, (thread, round));
-    }
-    let hand = give_all_back(arena, keeper.hand, keeper.kept);
-    Worked {
-        hand,
-        told: keeper.told,
-    }
-}
-
 /// A worker's thread: its number, and its hand.
 #[derive(Drop)]
 pub struct Worker(pub u64, pub Hand);
@@ -289,7 +262,27 @@ impl Job for Worker {
 
     ghost is_ready = { λ arena job. IsIdleHandOf arena job.1 };
 
-    fn work<R: Threads + Wait + Sync>(self, rt: &R, alloc: Global, arena: &Arena) -> Worked<Told> {
-        work(rt, alloc, arena, self.0, self.1)
+    /// Its rounds: what they told.
+    fn work<R: Wait>(self, rt: &R, alloc: Global, arena: &Arena) -> Worked<Told> {
+        let Worker(thread, hand) = self;
+        let mut told = NOTHING;
+        let Ok(hints) = no_hints(alloc, arena) else {
+            told.note(false);
+            return Worked { hand, told };
+        };
+        let mut keeper = Keeper {
+            hand,
+            kept: Vec::new(alloc),
+            hints,
+            told,
+        };
+        for round in 0..ROUNDS {
+            do_round(rt, alloc, arena, &mut keeper, (thread, round));
+        }
+        let hand = give_all_back(arena, keeper.hand, keeper.kept);
+        Worked {
+            hand,
+            told: keeper.told,
+        }
     }
 }

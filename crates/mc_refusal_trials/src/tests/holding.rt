@@ -8,6 +8,7 @@ ghost use Rattle.mc_refusal_trials.specs.Threes.{AreReadyOf};
 use super::looking::{Looker, look_after, look_before};
 use super::marks::{tell_call, tell_done, tell_refused};
 use super::opening::Three;
+use mc_calls::get_key;
 use mc_items::{Ref, get, read};
 use mc_stripe::Key;
 use mc_words::{Arena, Hand};
@@ -33,10 +34,7 @@ pub fn hold<R: Wait + Print>(rt: &R, all: &mut Three, key: Key) -> Option<Ref>
     if !left_nothing(&all.arena, &mut all.looker, &all.reader) {
         return None;
     }
-    match get(rt, &all.arena, &mut all.reader, key) {
-        Ok(found) => found,
-        Err(_) => None,
-    }
+    get_key(rt, &all.arena, &mut all.reader, key)
 }
 
 // Whether all is as in the snapshot before.

@@ -46,7 +46,14 @@ fn play<R: Wait + Print>(rt: &R, all: &mut Three, step: Step) -> Row
         return Row::Fails;
     }
     tell_call(rt, call.name());
-    let answer = answer_of(rt, all.alloc, &all.arena, &mut all.hand, &all.looker.words, call);
+    let answer = answer_of(
+        rt,
+        all.alloc,
+        &all.arena,
+        &mut all.hand,
+        &all.looker.words,
+        call,
+    );
     if !look_after(&all.arena, &mut all.looker, &all.hand) {
         return Row::Fails;
     }
@@ -54,7 +61,14 @@ fn play<R: Wait + Print>(rt: &R, all: &mut Three, step: Step) -> Row
         return behind_call(rt, call, &all.looker, answer == wanted);
     }
     tell_refused(rt, call.name());
-    let again = answer_of(rt, all.alloc, &all.arena, &mut all.hand, &all.looker.words, call);
+    let again = answer_of(
+        rt,
+        all.alloc,
+        &all.arena,
+        &mut all.hand,
+        &all.looker.words,
+        call,
+    );
     behind_refusal(step, &all.looker.before, &all.looker.after, again)
 }
 

@@ -7,7 +7,6 @@ use mc_trial_values::draw;
 use mc_words::{Arena, Hand};
 use std::alloc::Global;
 use std::sync::Wait;
-use std::thread::Threads;
 
 /// How many turns there are.
 const TURNS: u64 = 6000;
@@ -43,19 +42,6 @@ fn turn_on<R: Wait>(rt: &R, arena: &Arena, hand: &mut Hand, tally: &mut Turns, r
     }
 }
 
-/// The mover's turns: what they told.
-fn drive<R: Wait>(rt: &R, arena: &Arena, hand: Hand) -> Worked<Turns>
-    requires arena { IsIdleHandOf arena.now hand }
-    ensures arena { IsIdleHandOf arena.now result.hand }
-{
-    let mut hand = hand;
-    let mut tally = NO_TURNS;
-    for round in 0..TURNS {
-        turn_on(rt, arena, &mut hand, &mut tally, round);
-    }
-    Worked { hand, told: tally }
-}
-
 /// The mover's thread, with its hand.
 #[derive(Drop)]
 pub struct Mover(pub Hand);
@@ -65,13 +51,14 @@ impl Job for Mover {
 
     ghost is_ready = { λ arena job. IsIdleHandOf arena job.0 };
 
-    fn work<R: Threads + Wait + Sync>(
-        self,
-        rt: &R,
-        _alloc: Global,
-        arena: &Arena,
-    ) -> Worked<Turns> {
-        drive(rt, arena, self.0)
+    /// Its turns: what they told.
+    fn work<R: Wait>(self, rt: &R, _alloc: Global, arena: &Arena) -> Worked<Turns> {
+        let Mover(mut hand) = self;
+        let mut tally = NO_TURNS;
+        for round in 0..TURNS {
+            turn_on(rt, arena, &mut hand, &mut tally, round);
+        }
+        Worked { hand, told: tally }
     }
 }
 

@@ -3,32 +3,18 @@ ghost use Rattle.std.specs.Prelude.{IfSome};
 ghost use Rattle.mc_calls.specs.Hands.{AreHandsOf, IsIdleHandOf};
 
 use super::assert_same;
-use mc_calls::{Beside, FOUR_CLASSES, Getter, Job, Worked, is_there, next_hand, opened};
+use mc_calls::{FOUR_CLASSES, Getter, Job, Worked, is_there, next_hand, opened, work_four};
 use mc_stripe::{Call, Key};
 use mc_words::{Arena, Final, Hand};
 use std::alloc::Global;
 use std::sync::Wait;
 use std::test::Fail;
-use std::thread::Threads;
 
 /// How often each thread gets the key.
 const GETS: u64 = 1000;
 
 /// The key.
 const MISSING: Key = 6;
-
-/// One thread's gets: whether one found something.
-fn get_often<R: Wait>(rt: &R, arena: &Arena, hand: Hand) -> Worked<bool>
-    requires arena { IsIdleHandOf arena.now hand }
-    ensures arena { IsIdleHandOf arena.now result.hand }
-{
-    let mut hand = hand;
-    let mut found = false;
-    for _time in 0..GETS {
-        found |= is_there(rt, arena, &mut hand, MISSING, Getter::Get);
-    }
-    Worked { hand, told: found }
-}
 
 /// A thread that gets the key, with its hand.
 #[derive(Drop)]
@@ -39,16 +25,22 @@ impl Job for Searcher {
 
     ghost is_ready = { λ arena job. IsIdleHandOf arena job.0 };
 
-    fn work<R: Threads + Wait + Sync>(self, rt: &R, _alloc: Global, arena: &Arena) -> Worked<bool> {
-        get_often(rt, arena, self.0)
+    /// Its gets: whether one found something.
+    fn work<R: Wait>(self, rt: &R, _alloc: Global, arena: &Arena) -> Worked<bool> {
+        let Searcher(mut hand) = self;
+        let mut found = false;
+        for _time in 0..GETS {
+            found |= is_there(rt, arena, &mut hand, MISSING, Getter::Get);
+        }
+        Worked { hand, told: found }
     }
 }
 
-/// Four such threads.
-type Searchers = Beside<Beside<Searcher, Searcher>, Beside<Searcher, Searcher>>;
+/// Two such threads.
+type Searchers = (Searcher, Searcher);
 
-/// Those with the four hands of the lowest numbers that are left. None where there are fewer.
-fn searchers_of(arena: &Arena, hands: &mut Vec<Hand>) -> Option<Searchers>
+/// Four, with the hands of the lowest numbers that are left. None where there are fewer.
+fn four_searchers(arena: &Arena, hands: &mut Vec<Hand>) -> Option<(Searchers, Searchers)>
     requires hands { AreHandsOf arena.now hands.old.items }
     ensures low { IfSome result (λ jobs. IsIdleHandOf arena.now jobs.0.0.0 × IsIdleHandOf arena.now jobs.0.1.0) }
     ensures high { IfSome result (λ jobs. IsIdleHandOf arena.now jobs.1.0.0 × IsIdleHandOf arena.now jobs.1.1.0) }
@@ -57,7 +49,7 @@ fn searchers_of(arena: &Arena, hands: &mut Vec<Hand>) -> Option<Searchers>
     let second = Searcher(next_hand(arena, hands)?);
     let third = Searcher(next_hand(arena, hands)?);
     let fourth = Searcher(next_hand(arena, hands)?);
-    Some(Beside(Beside(first, second), Beside(third, fourth)))
+    Some(((first, second), (third, fourth)))
 }
 
 /// How many calls the stripe noted, if all are gets of that key that found nothing.
@@ -83,10 +75,10 @@ fn is_missed(call: &Call) -> bool {
 #[test]
 fn each_get_is_noted(rt: HostRuntime) -> Result<(), Fail> {
     let (arena, mut hands) = opened(rt.alloc(), &FOUR_CLASSES, 4)?;
-    let Some(searchers) = searchers_of(&arena, &mut hands) else {
+    let Some((low, high)) = four_searchers(&arena, &mut hands) else {
         return Err(Fail::new("there are four hands"));
     };
-    let Worked { hand, told } = searchers.work(&rt, rt.alloc(), &arena);
+    let Worked { hand, told } = work_four(&rt, rt.alloc(), &arena, low, high);
     let nothing = ((false, false), (false, false));
     assert_same(&rt, told, nothing, "what was found");
     let left = arena.close(hand);

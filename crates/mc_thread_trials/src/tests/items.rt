@@ -1,13 +1,13 @@
 //! Four threads set, get, read, give up and delete items over forty keys of one class of two pages. Each word of an item tells its
 //! key and stamp, so a word of another item would be seen.
 ghost use Rattle.std.specs.Prelude.{IfSome};
-ghost use Rattle.mc_calls.specs.Hands.{AreHandsOf, IsIdleHandOf};
+ghost use Rattle.mc_calls.specs.Hands.{AreHandsOf};
 ghost use Rattle.mc_calls.specs.Pairs.{AreIdle};
 
 use super::assert_same;
 use mc_calls::{
-    Beside, FOUR_CLASSES, Getter, Job, Pair, Worked, class_sums, count_keys, delete_key, get_by,
-    is_own, one_of, opened, pair_of, release_own, store_own,
+    FOUR_CLASSES, Getter, Job, Pair, Worked, class_sums, count_keys, delete_key, get_by, is_own,
+    one_of, opened, pair_of, release_own, store_own, work_four,
 };
 use mc_classes::Config;
 use mc_pages::Owner;
@@ -18,7 +18,6 @@ use std::alloc::Global;
 use std::process::Abort;
 use std::sync::Wait;
 use std::test::Fail;
-use std::thread::Threads;
 
 /// Two pages; the lowest class has 96 bytes and 10 chunks a page.
 const TWO_PAGES: Config = Config {
@@ -79,25 +78,6 @@ fn act<R: Wait>(rt: &R, alloc: Global, arena: &Arena, pair: &mut Pair, drawn: u6
     }
 }
 
-/// A thread's rounds: how many were wrong. Each thread draws others.
-fn work<R: Wait>(rt: &R, alloc: Global, arena: &Arena, thread: u64, pair: Pair) -> Worked<u64>
-    requires pair { AreIdle arena.now pair }
-    ensures hand { IsIdleHandOf arena.now result.hand }
-{
-    let mut pair = pair;
-    let mut wrong = 0;
-    for round in 0..ROUNDS {
-        if !act(rt, alloc, arena, &mut pair, draw(thread, round)) {
-            wrong += 1;
-        }
-    }
-    let Pair { reader, writer } = pair;
-    Worked {
-        hand: one_of(arena, reader, writer),
-        told: wrong,
-    }
-}
-
 /// A thread that acts on items: its number, and its hands.
 #[derive(Drop)]
 struct Actor(u64, Pair);
@@ -107,16 +87,27 @@ impl Job for Actor {
 
     ghost is_ready = { λ arena job. AreIdle arena job.1 };
 
-    fn work<R: Threads + Wait + Sync>(self, rt: &R, alloc: Global, arena: &Arena) -> Worked<u64> {
-        work(rt, alloc, arena, self.0, self.1)
+    /// Its rounds: how many were wrong. Each thread draws others.
+    fn work<R: Wait>(self, rt: &R, alloc: Global, arena: &Arena) -> Worked<u64> {
+        let Actor(thread, mut pair) = self;
+        let mut wrong = 0;
+        for round in 0..ROUNDS {
+            if !act(rt, alloc, arena, &mut pair, draw(thread, round)) {
+                wrong += 1;
+            }
+        }
+        Worked {
+            hand: one_of(arena, pair.reader, pair.writer),
+            told: wrong,
+        }
     }
 }
 
-/// Four such threads.
-type Actors = Beside<Beside<Actor, Actor>, Beside<Actor, Actor>>;
+/// Two such threads.
+type Actors = (Actor, Actor);
 
-/// Those with the eight hands of the lowest numbers that are left. None where there are fewer.
-fn actors_of(arena: &Arena, hands: &mut Vec<Hand>) -> Option<Actors>
+/// Four, with the eight hands of the lowest numbers that are left. None where there are fewer.
+fn four_actors(arena: &Arena, hands: &mut Vec<Hand>) -> Option<(Actors, Actors)>
     requires hands { AreHandsOf arena.now hands.old.items }
     ensures low { IfSome result (λ jobs. AreIdle arena.now jobs.0.0.1 × AreIdle arena.now jobs.0.1.1) }
     ensures high { IfSome result (λ jobs. AreIdle arena.now jobs.1.0.1 × AreIdle arena.now jobs.1.1.1) }
@@ -125,7 +116,7 @@ fn actors_of(arena: &Arena, hands: &mut Vec<Hand>) -> Option<Actors>
     let second = Actor(2, pair_of(arena, hands)?);
     let third = Actor(3, pair_of(arena, hands)?);
     let fourth = Actor(4, pair_of(arena, hands)?);
-    Some(Beside(Beside(first, second), Beside(third, fourth)))
+    Some(((first, second), (third, fourth)))
 }
 
 /// How many chunks of the class are free as its list says, and whether both pages within the limit are the class's.
@@ -164,10 +155,10 @@ fn assert_left(rt: &impl Abort, left: &Final) -> Result<(), Fail> {
 #[test]
 fn no_read_shows_another_item(rt: HostRuntime) -> Result<(), Fail> {
     let (arena, mut hands) = opened(rt.alloc(), &TWO_PAGES, 8)?;
-    let Some(actors) = actors_of(&arena, &mut hands) else {
+    let Some((low, high)) = four_actors(&arena, &mut hands) else {
         return Err(Fail::new("there are eight hands"));
     };
-    let Worked { hand, told } = actors.work(&rt, rt.alloc(), &arena);
+    let Worked { hand, told } = work_four(&rt, rt.alloc(), &arena, low, high);
     let none = ((0, 0), (0, 0));
     assert_same(&rt, told, none, "words of other items");
     let left = arena.close(hand);

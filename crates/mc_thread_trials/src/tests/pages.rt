@@ -6,8 +6,8 @@ use super::assert_same;
 use super::driver::{Mover, end_if};
 use super::workers::{KEYS, Worker, store_each};
 use mc_calls::{
-    Beside, FOUR_CLASSES, Job, NO_SUMS, Stats, Sums, Turns, Worked, all_sums, class_sums,
-    count_keys, count_pages, next_hand, opened, pair_of, set_mode_by, stats_of,
+    FOUR_CLASSES, NO_SUMS, Stats, Sums, Turns, Worked, all_sums, class_sums, count_keys,
+    count_pages, next_hand, opened, pair_of, set_mode_by, stats_of, work_four,
 };
 use mc_classes::{ClassId, Config};
 use mc_words::{Arena, Final, Hand};
@@ -48,8 +48,8 @@ fn stress<R: Threads + Wait + Sync>(
     let first = Worker(1, pair_of(arena, hands)?);
     let second = Worker(2, pair_of(arena, hands)?);
     let third = Worker(3, pair_of(arena, hands)?);
-    let all = Beside(Beside(Mover(hand), first), Beside(second, third));
-    Some(all.work(rt, alloc, arena))
+    let low = (Mover(hand), first);
+    Some(work_four(rt, alloc, arena, low, (second, third)))
 }
 
 /// The class's chunks are those of its pages, and what is used is linked, or cleared on a moving page.

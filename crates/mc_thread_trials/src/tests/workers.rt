@@ -7,9 +7,7 @@ ghost use Rattle.mc_words.specs.hand.Observers.{hint_chunk};
 ghost use Rattle.mc_calls.specs.Hands.{IsIdleHandOf};
 ghost use Rattle.mc_calls.specs.Pairs.{AreIdle};
 
-use mc_calls::{
-    Job, Pair, Worked, delete_key, get_key, is_own, one_of, release_own, store_own,
-};
+use mc_calls::{Job, Pair, Worked, delete_key, get_key, is_own, one_of, release_own, store_own};
 use mc_items::{again, hint};
 use mc_memory::Refused;
 use mc_stripe::Key;
@@ -17,7 +15,6 @@ use mc_trial_values::draw;
 use mc_words::{Arena, Hand, Hint};
 use std::alloc::Global;
 use std::sync::Wait;
-use std::thread::Threads;
 
 /// How many keys there are.
 pub const KEYS: u64 = 64;
@@ -144,25 +141,6 @@ fn act<R: Wait>(rt: &R, alloc: Global, arena: &Arena, pair: &mut Pair, round: Ro
     before && between && behind && once_more
 }
 
-/// A worker's rounds: how many were wrong.
-fn work<R: Wait>(rt: &R, alloc: Global, arena: &Arena, thread: u64, pair: Pair) -> Worked<u64>
-    requires pair { AreIdle arena.now pair }
-    ensures hand { IsIdleHandOf arena.now result.hand }
-{
-    let mut pair = pair;
-    let mut wrong = 0u64;
-    for number in 0..ROUNDS {
-        if !act(rt, alloc, arena, &mut pair, Round { thread, number }) {
-            wrong = wrong.saturating_add(1);
-        }
-    }
-    let Pair { reader, writer } = pair;
-    Worked {
-        hand: one_of(arena, reader, writer),
-        told: wrong,
-    }
-}
-
 /// A worker's thread: its number, and its hands.
 #[derive(Drop)]
 pub struct Worker(pub u64, pub Pair);
@@ -172,7 +150,19 @@ impl Job for Worker {
 
     ghost is_ready = { λ arena job. AreIdle arena job.1 };
 
-    fn work<R: Threads + Wait + Sync>(self, rt: &R, alloc: Global, arena: &Arena) -> Worked<u64> {
-        work(rt, alloc, arena, self.0, self.1)
+    /// Its rounds: how many were wrong.
+    fn work<R: Wait>(self, rt: &R, alloc: Global, arena: &Arena) -> Worked<u64> {
+        let Worker(thread, mut pair) = self;
+        let mut wrong = 0u64;
+        for number in 0..ROUNDS {
+            let round = Round { thread, number };
+            if !act(rt, alloc, arena, &mut pair, round) {
+                wrong = wrong.saturating_add(1);
+            }
+        }
+        Worked {
+            hand: one_of(arena, pair.reader, pair.writer),
+            told: wrong,
+        }
     }
 }

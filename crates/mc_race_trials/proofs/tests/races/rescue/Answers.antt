@@ -15,13 +15,13 @@ use Rattle.mc_race_trials.proofs.tests.races.rescue.Goals as goal
 pub condemn_original-requires-clause-copy : goal.condemn_original-requires-clause-copy
 condemn_original-requires-clause-copy g c =
     let view : View = c.args.hand.now.seat.me.0 in
-    let one = copy_holding c.args.chunk c.args.fresh.chunk c.requires.copy.0 c.args.fresh.room in
-    found_among c.args.fresh.chunk (is_copy_of c.args.chunk) view.row.holdings one c.requires.copy.1 (is_chunk-same c.args.chunk)
+    let one = copy_holding c.args.item.chunk c.args.fresh.chunk c.requires.copy.0 c.args.fresh.room in
+    found_among c.args.fresh.chunk (is_copy_of c.args.item.chunk) view.row.holdings one c.requires.copy.1 (is_chunk-same c.args.item.chunk)
 
 pub condemn_original-requires-clause-reason : goal.condemn_original-requires-clause-reason
 condemn_original-requires-clause-reason g c =
     let view : View = c.args.hand.now.seat.me.0 in
-    let chunk = c.args.chunk in
+    let chunk = c.args.item.chunk in
     let slabs = c.args.slabs.now.shared in
     let table = c.args.arena.now.table.shared.key.table in
     let one = copy_holding chunk c.args.fresh.chunk c.requires.copy.0 c.args.fresh.room in
@@ -33,4 +33,4 @@ discard-requires-clause-fresh g c =
     let view : View = c.args.hand.now.seat.me.0 in
     let now : View = c.condemn_original.new.hand.seat.me.0 in
     let finds = c.in-Err.ensures.moved.0 in
-    subst (λ (hs : List Holding). IsFreshIn hs c.args.fresh.chunk c.args.fresh.room) (sym (finds_keep (λ (v : View). v.row.holdings) (λ one v. refl) (λ chunk head v. refl) c.args.chunk view now finds)) c.requires.fresh
+    subst (λ (hs : List Holding). IsFreshIn hs c.args.fresh.chunk c.args.fresh.room) (sym (finds_keep (λ (v : View). v.row.holdings) (λ one v. refl) (λ chunk head v. refl) c.args.item.chunk view now finds)) c.requires.fresh

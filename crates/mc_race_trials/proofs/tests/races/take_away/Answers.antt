@@ -1,4 +1,4 @@
-use Rattle.std.proofs.Common.{◌≡◌, ◌+◌, ◌≤◌, ◌&&◌, ◌||◌, true, false, List, [], ◌∷◌, ◌++◌, Some, refl, sym, ap, subst, ◌∙◌}
+use Rattle.std.proofs.Common.{◌≡◌, ◌+◌, ◌≤◌, ◌&&◌, ◌||◌, true, false, List, [], ◌∷◌, ◌++◌, Some, refl, sym, ap, subst, ◌∙◌, rules}
 use Rattle.std.specs.List.{list_all}
 use Rattle.std.proofs.lemmas.Bool.{and_from, or_left, or_right}
 use Rattle.mc_pages.specs.declared.ids.ChunkId.{ChunkId}
@@ -29,11 +29,11 @@ pop_off-requires-clause-moving g c =
     let swept : View = c.sweep.new.hand.seat.me.0 in
     let slabs = c.args.slabs.now.shared in
     let kept = c.sweep.new.held.shared in
-    let chunk = c.args.chunk in
-    let (key, stamp, leads) = c.requires.leads in
+    let chunk = c.args.item.chunk in
+    let (key, stamp, leads) = c.requires.leads.leads in
     let number = c.reserve.new.held.number in
     let value = c.reserve.new.held.stripe in
-    sweeps_slabs (λ (s : SlabState). is_on_the_move s chunk.page) (λ s chunk. refl) (class_at slabs c.args.class).order made slabs swept kept c.sweep.ensures.swept ∙ c.requires.moving
+    sweeps_slabs (λ (s : SlabState). is_on_the_move s chunk.page) (λ s chunk. refl) (class_at slabs c.in_ok-class.class).order made slabs swept kept c.sweep.ensures.swept ∙ c.in_ok-class.ensures.moving
 
 pub pop_off-requires-clause-out : goal.pop_off-requires-clause-out
 pop_off-requires-clause-out g c =
@@ -42,54 +42,43 @@ pop_off-requires-clause-out g c =
     let swept : View = c.sweep.new.hand.seat.me.0 in
     let slabs = c.args.slabs.now.shared in
     let kept = c.sweep.new.held.shared in
-    let chunk = c.args.chunk in
-    let (key, stamp, leads) = c.requires.leads in
+    let chunk = c.args.item.chunk in
+    let (key, stamp, leads) = c.requires.leads.leads in
     let number = c.reserve.new.held.number in
     let value = c.reserve.new.held.stripe in
     let read = word_read view chunk 0 in
-    let first = made_reaches view made slabs c.requires.slabs c.args.stripe.number _ c.args.stripe.stripe c.in_default.ensures.view key chunk stamp number value c.requires.lent leads c.requires.linked c.reserve.ensures.number (ap (λ (h : StripeHeld). h.stripe) c.in_default.ensures.reserved) c.reserve.ensures.held in
-    let at = reaches_swept number value key chunk stamp read (class_at slabs c.args.class).order made slabs swept kept c.sweep.ensures.swept first in
+    let first = made_reaches view made slabs c.requires.slabs c.args.item.stripe.number _ c.args.item.stripe.stripe c.in_default.ensures.view key chunk stamp number value c.requires.leads.lent leads c.requires.leads.linked c.reserve.ensures.number (ap (λ (h : StripeHeld). h.stripe) c.in_default.ensures.reserved) c.reserve.ensures.held in
+    let at = reaches_swept number value key chunk stamp read (class_at slabs c.in_ok-class.class).order made slabs swept kept c.sweep.ensures.swept first in
     out_now swept number value key chunk stamp at.leads c.sweep.ensures.arena.lawful kept at.mine
 
-pub rescue-requires-clause-stripe : goal.rescue-requires-clause-stripe
-rescue-requires-clause-stripe g c =
+pub rescue-requires-clause-item : goal.rescue-requires-clause-item
+rescue-requires-clause-item g c =
     let view : View = c.args.hand.now.seat.me.0 in
     let made : View = c.reserve.new.hand.seat.me.0 in
     let swept : View = c.sweep.new.hand.seat.me.0 in
     let slabs = c.args.slabs.now.shared in
     let kept = c.sweep.new.held.shared in
-    let chunk = c.args.chunk in
-    let (key, stamp, leads) = c.requires.leads in
+    let chunk = c.args.item.chunk in
+    let (key, stamp, leads) = c.requires.leads.leads in
     let number = c.reserve.new.held.number in
     let value = c.reserve.new.held.stripe in
     let read = word_read view chunk 0 in
-    let first = made_reaches view made slabs c.requires.slabs c.args.stripe.number _ c.args.stripe.stripe c.in_default.ensures.view key chunk stamp number value c.requires.lent leads c.requires.linked c.reserve.ensures.number (ap (λ (h : StripeHeld). h.stripe) c.in_default.ensures.reserved) c.reserve.ensures.held in
-    let at = reaches_swept number value key chunk stamp read (class_at slabs c.args.class).order made slabs swept kept c.sweep.ensures.swept first in
+    let first = made_reaches view made slabs c.requires.slabs c.args.item.stripe.number _ c.args.item.stripe.stripe c.in_default.ensures.view key chunk stamp number value c.requires.leads.lent leads c.requires.leads.linked c.reserve.ensures.number (ap (λ (h : StripeHeld). h.stripe) c.in_default.ensures.reserved) c.reserve.ensures.held in
+    let at = reaches_swept number value key chunk stamp read (class_at slabs c.in_ok-class.class).order made slabs swept kept c.sweep.ensures.swept first in
     let popped : View = c.pop_off.new.hand.seat.me.0 in
     let copy = c.in-Some.fresh.chunk in
     let pops = c.in-Some.ensures.popped.0 in
     let there = popped_reaches swept popped kept chunk copy pops number value key stamp read at in
-    there.leads.mine
-
-pub rescue-requires-clause-key : goal.rescue-requires-clause-key
-rescue-requires-clause-key g c =
-    let view : View = c.args.hand.now.seat.me.0 in
-    let made : View = c.reserve.new.hand.seat.me.0 in
-    let swept : View = c.sweep.new.hand.seat.me.0 in
-    let slabs = c.args.slabs.now.shared in
-    let kept = c.sweep.new.held.shared in
-    let chunk = c.args.chunk in
-    let (key, stamp, leads) = c.requires.leads in
-    let number = c.reserve.new.held.number in
-    let value = c.reserve.new.held.stripe in
-    let read = word_read view chunk 0 in
-    let first = made_reaches view made slabs c.requires.slabs c.args.stripe.number _ c.args.stripe.stripe c.in_default.ensures.view key chunk stamp number value c.requires.lent leads c.requires.linked c.reserve.ensures.number (ap (λ (h : StripeHeld). h.stripe) c.in_default.ensures.reserved) c.reserve.ensures.held in
-    let at = reaches_swept number value key chunk stamp read (class_at slabs c.args.class).order made slabs swept kept c.sweep.ensures.swept first in
-    let popped : View = c.pop_off.new.hand.seat.me.0 in
-    let copy = c.in-Some.fresh.chunk in
-    let pops = c.in-Some.ensures.popped.0 in
-    let there = popped_reaches swept popped kept chunk copy pops number value key stamp read at in
-    stripe_reached view popped (Rattle.mc_pages.specs.Changes.after_replace kept copy chunk) c.args.stripe.number number value key chunk stamp there (c.pop_off.ensures.arena.setup ∙ sym c.requires.arena.setup) c.requires.key c.reserve.ensures.number
+    record {
+      of_key = record {
+        near = c.requires.leads.of_key.near;
+        inside = search rules;
+        key = stripe_reached view popped (Rattle.mc_pages.specs.Changes.after_replace kept copy chunk) c.args.item.stripe.number number value key chunk stamp there (c.pop_off.ensures.arena.setup ∙ sym c.requires.arena.setup) c.requires.leads.of_key.key c.reserve.ensures.number;
+      };
+      mine = there.leads.mine;
+      ready = search rules;
+      empty = search rules;
+    }
 
 pub rescue-requires-clause-moving : goal.rescue-requires-clause-moving
 rescue-requires-clause-moving g c =
@@ -98,11 +87,11 @@ rescue-requires-clause-moving g c =
     let swept : View = c.sweep.new.hand.seat.me.0 in
     let slabs = c.args.slabs.now.shared in
     let kept = c.sweep.new.held.shared in
-    let chunk = c.args.chunk in
-    let (key, stamp, leads) = c.requires.leads in
+    let chunk = c.args.item.chunk in
+    let (key, stamp, leads) = c.requires.leads.leads in
     let number = c.reserve.new.held.number in
     let value = c.reserve.new.held.stripe in
-    ap (λ (s : SlabState). is_on_the_move s chunk.page) c.in-Some.ensures.popped.1 ∙ (sweeps_slabs (λ (s : SlabState). is_on_the_move s chunk.page) (λ s chunk. refl) (class_at slabs c.args.class).order made slabs swept kept c.sweep.ensures.swept ∙ c.requires.moving)
+    ap (λ (s : SlabState). is_on_the_move s chunk.page) c.in-Some.ensures.popped.1 ∙ (sweeps_slabs (λ (s : SlabState). is_on_the_move s chunk.page) (λ s chunk. refl) (class_at slabs c.in_ok-class.class).order made slabs swept kept c.sweep.ensures.swept ∙ c.in_ok-class.ensures.moving)
 
 pub rescue-requires-clause-copy : goal.rescue-requires-clause-copy
 rescue-requires-clause-copy g c =
@@ -111,8 +100,8 @@ rescue-requires-clause-copy g c =
     let swept : View = c.sweep.new.hand.seat.me.0 in
     let slabs = c.args.slabs.now.shared in
     let kept = c.sweep.new.held.shared in
-    let chunk = c.args.chunk in
-    let (key, stamp, leads) = c.requires.leads in
+    let chunk = c.args.item.chunk in
+    let (key, stamp, leads) = c.requires.leads.leads in
     let number = c.reserve.new.held.number in
     let value = c.reserve.new.held.stripe in
     let popped : View = c.pop_off.new.hand.seat.me.0 in
@@ -128,47 +117,35 @@ rescue-requires-clause-copy g c =
     let room : room_in pops.seen.setup.table (class_of_page kept chunk.page) ≡ c.in-Some.fresh.room = ap (λ (x : Setup). room_in x.table (class_of_page kept chunk.page)) setup ∙ sym c.in-Some.ensures.fresh.0 in
     (issue, ap (holding_of copy) all ∙ (found_last swept.row.holdings last none_fresh c.in-Some.fresh.room fresh ∙ ap (λ n. Some (copy_holding chunk copy issue n)) room))
 
-pub evict-requires-clause-stripe : goal.evict-requires-clause-stripe
-evict-requires-clause-stripe g c =
+pub evict-requires-clause-item : goal.evict-requires-clause-item
+evict-requires-clause-item g c =
     let view : View = c.args.hand.now.seat.me.0 in
     let made : View = c.reserve.new.hand.seat.me.0 in
     let swept : View = c.sweep.new.hand.seat.me.0 in
     let slabs = c.args.slabs.now.shared in
     let kept = c.sweep.new.held.shared in
-    let chunk = c.args.chunk in
-    let (key, stamp, leads) = c.requires.leads in
+    let chunk = c.args.item.chunk in
+    let (key, stamp, leads) = c.requires.leads.leads in
     let number = c.reserve.new.held.number in
     let value = c.reserve.new.held.stripe in
     let read = word_read view chunk 0 in
-    let first = made_reaches view made slabs c.requires.slabs c.args.stripe.number _ c.args.stripe.stripe c.in_default.ensures.view key chunk stamp number value c.requires.lent leads c.requires.linked c.reserve.ensures.number (ap (λ (h : StripeHeld). h.stripe) c.in_default.ensures.reserved) c.reserve.ensures.held in
-    let at = reaches_swept number value key chunk stamp read (class_at slabs c.args.class).order made slabs swept kept c.sweep.ensures.swept first in
+    let first = made_reaches view made slabs c.requires.slabs c.args.item.stripe.number _ c.args.item.stripe.stripe c.in_default.ensures.view key chunk stamp number value c.requires.leads.lent leads c.requires.leads.linked c.reserve.ensures.number (ap (λ (h : StripeHeld). h.stripe) c.in_default.ensures.reserved) c.reserve.ensures.held in
+    let at = reaches_swept number value key chunk stamp read (class_at slabs c.in_ok-class.class).order made slabs swept kept c.sweep.ensures.swept first in
     let passed : View = c.pop_off.new.hand.seat.me.0 in
     let own = class_of_page kept chunk.page in
     let passes = (c.in-None.ensures.none refl).0 in
     let same = (c.in-None.ensures.none refl).1 in
     let there = reaches_passed number value key chunk stamp read chunk.page (class_at kept own).free swept passed kept passes at in
-    there.leads.mine
-
-pub evict-requires-clause-key : goal.evict-requires-clause-key
-evict-requires-clause-key g c =
-    let view : View = c.args.hand.now.seat.me.0 in
-    let made : View = c.reserve.new.hand.seat.me.0 in
-    let swept : View = c.sweep.new.hand.seat.me.0 in
-    let slabs = c.args.slabs.now.shared in
-    let kept = c.sweep.new.held.shared in
-    let chunk = c.args.chunk in
-    let (key, stamp, leads) = c.requires.leads in
-    let number = c.reserve.new.held.number in
-    let value = c.reserve.new.held.stripe in
-    let read = word_read view chunk 0 in
-    let first = made_reaches view made slabs c.requires.slabs c.args.stripe.number _ c.args.stripe.stripe c.in_default.ensures.view key chunk stamp number value c.requires.lent leads c.requires.linked c.reserve.ensures.number (ap (λ (h : StripeHeld). h.stripe) c.in_default.ensures.reserved) c.reserve.ensures.held in
-    let at = reaches_swept number value key chunk stamp read (class_at slabs c.args.class).order made slabs swept kept c.sweep.ensures.swept first in
-    let passed : View = c.pop_off.new.hand.seat.me.0 in
-    let own = class_of_page kept chunk.page in
-    let passes = (c.in-None.ensures.none refl).0 in
-    let same = (c.in-None.ensures.none refl).1 in
-    let there = reaches_passed number value key chunk stamp read chunk.page (class_at kept own).free swept passed kept passes at in
-    stripe_reached view passed kept c.args.stripe.number number value key chunk stamp there (c.pop_off.ensures.arena.setup ∙ sym c.requires.arena.setup) c.requires.key c.reserve.ensures.number
+    record {
+      of_key = record {
+        near = c.requires.leads.of_key.near;
+        inside = search rules;
+        key = stripe_reached view passed kept c.args.item.stripe.number number value key chunk stamp there (c.pop_off.ensures.arena.setup ∙ sym c.requires.arena.setup) c.requires.leads.of_key.key c.reserve.ensures.number;
+      };
+      mine = there.leads.mine;
+      ready = search rules;
+      empty = search rules;
+    }
 
 pub evict-requires-clause-reason : goal.evict-requires-clause-reason
 evict-requires-clause-reason g c =
@@ -177,8 +154,8 @@ evict-requires-clause-reason g c =
     let swept : View = c.sweep.new.hand.seat.me.0 in
     let slabs = c.args.slabs.now.shared in
     let kept = c.sweep.new.held.shared in
-    let chunk = c.args.chunk in
-    let (key, stamp, leads) = c.requires.leads in
+    let chunk = c.args.item.chunk in
+    let (key, stamp, leads) = c.requires.leads.leads in
     let number = c.reserve.new.held.number in
     let value = c.reserve.new.held.stripe in
     let passed : View = c.pop_off.new.hand.seat.me.0 in
@@ -186,10 +163,10 @@ evict-requires-clause-reason g c =
     let passes = (c.in-None.ensures.none refl).0 in
     let same = (c.in-None.ensures.none refl).1 in
     let table = c.args.arena.now.table.shared.key.table in
-    let owned : own ≡ c.args.class = sweeps_slabs (λ (s : SlabState). class_of_page s chunk.page) (λ s chunk. refl) (class_at slabs c.args.class).order made slabs swept kept c.sweep.ensures.swept ∙ c.requires.own in
-    let moving : is_on_the_move kept chunk.page ≡ true = sweeps_slabs (λ (s : SlabState). is_on_the_move s chunk.page) (λ s chunk. refl) (class_at slabs c.args.class).order made slabs swept kept c.sweep.ensures.swept ∙ c.requires.moving in
-    let is : is_class swept.setup.table c.args.class ≡ true = ap (λ (x : Setup). is_class x.table c.args.class) c.sweep.ensures.arena.setup ∙ c.requires.class in
-    let valid = class_of_slabs swept c.sweep.ensures.arena.lawful kept c.args.class c.sweep.ensures.held is in
+    let owned : own ≡ c.in_ok-class.class = sweeps_slabs (λ (s : SlabState). class_of_page s chunk.page) (λ s chunk. refl) (class_at slabs c.in_ok-class.class).order made slabs swept kept c.sweep.ensures.swept ∙ c.in_ok-class.ensures.own in
+    let moving : is_on_the_move kept chunk.page ≡ true = sweeps_slabs (λ (s : SlabState). is_on_the_move s chunk.page) (λ s chunk. refl) (class_at slabs c.in_ok-class.class).order made slabs swept kept c.sweep.ensures.swept ∙ c.in_ok-class.ensures.moving in
+    let is : is_class swept.setup.table c.in_ok-class.class ≡ true = ap (λ (x : Setup). is_class x.table c.in_ok-class.class) c.sweep.ensures.arena.setup ∙ c.in_ok-class.ensures.class in
+    let valid = class_of_slabs swept c.sweep.ensures.arena.lawful kept c.in_ok-class.class c.sweep.ensures.held is in
     let alive : list_all (is_found_alive swept.row.looks) (class_at kept own).order ≡ true = ap (λ n. list_all (is_found_alive swept.row.looks) (class_at kept n).order) owned ∙ c.sweep.ensures.alive in
     let apart : (other : ChunkId) → 1 ≤ times other (class_at kept own).free → times other (class_at kept own).order ≡ 0 = λ other there. free_apart swept c.sweep.ensures.arena.lawful kept c.sweep.ensures.held own (subst (λ n. Rattle.mc_pages.specs.SlabState.IsClass kept n) (sym owned) valid) other there in
     let none = alive_passed chunk.page kept (class_at kept own).order (class_at kept own).free swept passed c.sweep.ensures.held apart alive passes in
@@ -205,8 +182,8 @@ evict-requires-clause-no_copy g c =
     let swept : View = c.sweep.new.hand.seat.me.0 in
     let slabs = c.args.slabs.now.shared in
     let kept = c.sweep.new.held.shared in
-    let chunk = c.args.chunk in
-    let (key, stamp, leads) = c.requires.leads in
+    let chunk = c.args.item.chunk in
+    let (key, stamp, leads) = c.requires.leads.leads in
     let number = c.reserve.new.held.number in
     let value = c.reserve.new.held.stripe in
     let passed : View = c.pop_off.new.hand.seat.me.0 in

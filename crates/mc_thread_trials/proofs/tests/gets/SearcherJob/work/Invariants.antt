@@ -1,5 +1,5 @@
 use Rattle.mc_calls.specs.Hands.{IsIdleHandOf}
-use Rattle.mc_thread_trials.proofs.tests.gets.get_often.Given as goal
+use Rattle.mc_thread_trials.proofs.tests.gets.SearcherJob.work.Given as goal
 
 abbrev pub invariant-loop-time : goal.invariant-loop-time
 invariant-loop-time g l = IsIdleHandOf l.arena l.hand
