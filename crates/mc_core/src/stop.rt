@@ -1,4 +1,7 @@
 //! Why a list of events is not played to its end.
+ghost use Rattle.std.specs.Prelude.{◌≡◌};
+ghost use Rattle.mc_core.specs.declared.stop.Stop.{Stop};
+
 use mc_memory::Refused;
 use thiserror::Error;
 
@@ -13,10 +16,7 @@ pub enum Stop {
 }
 
 impl From<Refused> for Stop {
-    ghost use Rattle.std.specs.Prelude.{◌≡◌};
-    ghost use Rattle.mc_core.specs.declared.stop.Stop.TheVariants.{NoMemory};
-
-    ghost from_gives = { λ refused error. error ≡ NoMemory refused };
+    ghost from_gives = { λ refused error. error ≡ Stop.NoMemory refused };
 
     fn from(refused: Refused) -> Stop {
         Stop::NoMemory(refused)

@@ -10,9 +10,9 @@ ghost use Rattle.mc_pages.specs.Ages.{fresh_ages};
 ghost use Rattle.mc_pages.specs.Linked.{AreLinked, chunks_of};
 ghost use Rattle.mc_pages.specs.Base.{base_of, tail_of};
 ghost use Rattle.mc_pages.specs.Changes.{after_trim};
-ghost use Rattle.mc_pages.specs.SlabState.{fresh_slabs, IsClass, class_at, class_of_page, totals_of};
+ghost use Rattle.mc_pages.specs.SlabState.{SlabValue, fresh_slabs, IsClass, class_at, class_of_page, totals_of};
 ghost use Rattle.mc_pages.specs.Accounted.{IsAccounted};
-ghost use Rattle.mc_pages.specs.InOrder.{roomless};
+ghost use Rattle.mc_pages.specs.InOrder.{AreKept, roomless, value_of};
 
 mod chunks;
 mod moving;
@@ -65,11 +65,7 @@ pub struct Slabs {
 }
 
 impl Model for Slabs {
-    ghost use Rattle.mc_pages.specs.SlabState.{SlabValue};
-
     ghost Value = { SlabValue };
-
-    ghost use Rattle.mc_pages.specs.InOrder.{value_of, AreKept};
 
     ghost view = { value_of };
 

@@ -3,6 +3,7 @@
 //! Nothing stands below this module, so that no other reaches what is private here: lists and calls write by `put`.
 ghost use Rattle.std.specs.Prelude.{◌≡◌, ℕ, ◌+◌, ◌*◌, ◌<◌, ◌≤◌, IfOk, length};
 ghost use Rattle.mc_pages.specs.Rows.{RowsState, IsChange, IsField, IsRow, IsList, field_of, with_change, row_at, row_place, length_of, lengthened, shortened, fresh_rows};
+ghost use Rattle.mc_pages.specs.RowsInside.{rows_of, HasSpace};
 
 use super::link::Link;
 use super::{Change, Field, ListName, Mark};
@@ -36,11 +37,7 @@ pub struct Rows {
 }
 
 impl Model for Rows {
-    ghost use Rattle.mc_pages.specs.Rows.{RowsState};
-
     ghost Value = { RowsState };
-
-    ghost use Rattle.mc_pages.specs.RowsInside.{rows_of, HasSpace};
 
     ghost view = { rows_of };
 
