@@ -1,6 +1,6 @@
 //! Why a list of events is not played to its end.
 ghost use Rattle.std.specs.Prelude.{◌≡◌};
-ghost use Rattle.mc_core.specs.declared.stop.Stop.{Stop};
+ghost use Rattle.mc_core.specs.declared.stop.Stop.TheVariants.{NoMemory};
 
 use mc_memory::Refused;
 use thiserror::Error;
@@ -16,7 +16,7 @@ pub enum Stop {
 }
 
 impl From<Refused> for Stop {
-    ghost from_gives = { λ refused error. error ≡ Stop.NoMemory refused };
+    ghost from_gives = { λ refused error. error ≡ NoMemory refused };
 
     fn from(refused: Refused) -> Stop {
         Stop::NoMemory(refused)

@@ -285,8 +285,7 @@ impl State {
     {
         let head = self.head(chunk).with_tag_free();
         self.list_back(chunk);
-        self.set_head(chunk, head);
-        self.note(hand, Look::PutBack(chunk, head))
+        self.set_noted_head(hand, chunk, head, Look::PutBack(chunk, head))
     }
 
     /// Whether the hand may clear the chunk: it is free or dead, and its page moves.
@@ -313,8 +312,7 @@ impl State {
     {
         let head = self.head(chunk).with_tag_out();
         self.list_clear(chunk);
-        self.set_head(chunk, head);
-        self.note(hand, Look::Cleared(chunk, head))
+        self.set_noted_head(hand, chunk, head, Look::Cleared(chunk, head))
     }
 
     /// Whether the hand may cut the chunk: it is the next of a page just given.
@@ -335,7 +333,6 @@ impl State {
     {
         let head = self.head(chunk).with_tag_free();
         self.list_cut(chunk);
-        self.set_head(chunk, head);
-        self.note(hand, Look::Cut(chunk, head))
+        self.set_noted_head(hand, chunk, head, Look::Cut(chunk, head))
     }
 }

@@ -207,6 +207,22 @@ impl State {
         looks.push(look)
     }
 
+    /// Writes a header, and notes what the hand did by that.
+    pub(super) fn set_noted_head(
+        &mut self,
+        hand: u64,
+        chunk: ChunkId,
+        head: Head,
+        look: Look,
+    ) -> Result<(), Refused>
+        requires here { hand < length self.old.ids }
+        requires issue { head.issue < 2 ^ 46 }
+        ensures { OnOk result (self.new ≡ with_look (with_head self.old chunk head) hand look) }
+    {
+        self.set_head(chunk, head);
+        self.note(hand, look)
+    }
+
     /// Notes what the hand saw, if it has the slabs lock.
     pub(super) fn note_if_held(&mut self, hand: u64, look: Look) -> Result<(), Refused>
         requires { hand < length self.old.ids }

@@ -142,8 +142,7 @@ impl State {
         let rescues = self.has_copy(hand, chunk);
         self.tell_condemn(hand, key, rescues);
         self.bind(hand, chunk, item.as_slice())?;
-        self.set_head(chunk, head);
-        self.note(hand, Look::Condemned(chunk, head))
+        self.set_noted_head(hand, chunk, head, Look::Condemned(chunk, head))
     }
 
     /// Each copy of this chunk that the hand holds is to have these words.
