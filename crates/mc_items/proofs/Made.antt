@@ -38,6 +38,7 @@ use Rattle.mc_words.proofs.Hands.HandNumbers.{number_stays}
 use Rattle.mc_items.proofs.Locks.{waits_slabs_keep}
 use Rattle.mc_items.proofs.Freed.{Evicts, back_is_free, entry_keeps, evicts_after, evicts_before, evicts_none, one_keeps}
 use Rattle.mc_items.proofs.Passes.{OwnTuple, each_keeps, own_of}
+use Rattle.mc_items.proofs.Supplies.{FindsNoneDead, recovers_here}
 
 -- chunks that stand in an order, in that sequence, are of it
 pub follows_there : (order chunks : List ChunkId) → follows order chunks ≡ true → (chunk : ChunkId) → Contains chunks chunk → Contains order chunk
@@ -98,6 +99,15 @@ none_recovered view was slabs mine class is now left recovers none =
     let own = λ (chunk : ChunkId) (there : Contains recovers.again chunk). (stands_out view was slabs mine class is chunk (follows_there (class_at slabs class).order recovers.again recovers.oldest_first chunk there)).own in
     let after = none_back class recovers.again recovers.seen slabs now left (class_here view was slabs mine class is) own none recovers.each in
     (after.0, recovers.looked ++ recovers.again, sees_both recovers.looked recovers.again view recovers.seen now recovers.sees after.1)
+
+-- nor by looks at the chunks that hints name
+pub none_dead : (view : View) → LawfulView view → (slabs : SlabState) → view.slabs ≡ Some slabs → (class : ℕ) → is_class view.setup.table class ≡ true
+    → (tried swept now : View) (before between left : SlabState) (none : (first_free (class_at slabs class) ≡ None) × (before ≡ slabs) × (tried ≡ view)) → Recovers (class_at before class).order tried before swept between → swept ≡ with_seen tried swept
+    → (first_free (class_at between class) ≡ None) × (left ≡ between) × (now ≡ swept) → FindsNoneDead class view slabs now left
+none_dead view was slabs mine class is tried swept now before between left none recovers seen last =
+    let here = recovers_here class view tried swept now slabs before between left none recovers seen in
+    let (same, looked, sees) = none_recovered view was slabs mine class is swept between here last.0 in
+    record { empty = none.0; looked = looked; sees = subst (λ (v : View). SeesHeaders looked view v) (sym last.2) sees; same = last.1 ∙ same }
 
 pub none_changed : (view : View) → LawfulView view → (slabs : SlabState) → view.slabs ≡ Some slabs → (class : ℕ) → is_class view.setup.table class ≡ true → (now : View) (left : SlabState) → FindsNoFree class view slabs now left → left ≡ slabs
 none_changed view was slabs mine class is now left finds = (none_recovered view was slabs mine class is now left finds.sweeps.recovers finds.still).0

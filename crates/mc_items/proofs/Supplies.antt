@@ -12,11 +12,11 @@ use Rattle.mc_core.specs.Silent.{is_among}
 use Rattle.mc_core.specs.State.{room_in}
 use Rattle.mc_words.specs.hand.View.{View}
 use Rattle.mc_words.specs.page.Owner.{PopsFirst, SeesOther}
-use Rattle.mc_words.specs.chunk.Sweeps.{Recovers, Sweeps, with_seen}
+use Rattle.mc_words.specs.chunk.Sweeps.{Recovers, SeesHeaders, Sweeps, with_seen}
 use Rattle.mc_words.specs.hand.Views.{chunk_popped, fresh_holding, head_seen, with_holdings}
 use Rattle.std.proofs.lemmas.Bool.{and_from, and_parts}
 use Rattle.mc_words.proofs.Pages.LookedOver.{among_behind, sees_both, sees_headers_alone}
-use Rattle.mc_items.specs.Supplying.{FindsNoFree, FindsNoneDead, FindsWorn, GainsFresh, SuppliesFree}
+use Rattle.mc_items.specs.Supplying.{FindsNoFree, FindsWorn, GainsFresh, SuppliesFree}
 
 -- what follows of a chunk that there may be
 pub if_some : {A E : Type 0} (P Q : A → Type 0) (r : Result (Option A) E) → ((a : A) → P a → Q a) → IfOk r (λ o. IfSome o P) → IfOk r (λ o. IfSome o Q)
@@ -91,6 +91,13 @@ all_still [] first second whole = refl
 all_still (chunk ∷ order) first second whole =
     let parts = and_parts (is_among second chunk) (list_all (is_among second) order) whole in
     and_from _ _ (among_behind first second chunk parts.0) (all_still order first second parts.1)
+
+-- the class has no free chunk, and none came of chunks that were looked at; nothing was changed
+pub record FindsNoneDead (class : ℕ) (view : View) (slabs : SlabState) (now : View) (left : SlabState) : Type 0 where
+  pub empty : first_free (class_at slabs class) ≡ None
+  pub looked : List ChunkId
+  pub sees : SeesHeaders looked view now
+  pub same : left ≡ slabs
 
 -- there was none, and the class was swept
 module _ (class : ℕ) (view tried swept now : View) (slabs before between left : SlabState) (none : FindsNoneDead class view slabs tried before) (sweeps : Sweeps (class_at before class).order tried before swept between) (seen : swept ≡ with_seen tried swept) where

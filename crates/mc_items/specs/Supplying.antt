@@ -18,7 +18,7 @@ use Rattle.mc_words.specs.hand.View.{View}
 use Rattle.mc_words.specs.rule.Happens.{Happens}
 use Rattle.mc_words.specs.page.Cuts.{CutsEach}
 use Rattle.mc_words.specs.page.Owner.{PopsFirst, PutsBack, SeesOther}
-use Rattle.mc_words.specs.chunk.Sweeps.{Recovers, SeesHeaders, Sweeps, with_seen}
+use Rattle.mc_words.specs.chunk.Sweeps.{Recovers, Sweeps, with_seen}
 use Rattle.mc_words.specs.item.Removal.{Condemns, FindsHeld, SeesHeld, key_seen}
 use Rattle.mc_words.specs.lock.Lent.{BeginsWithSeen, IsLentStripe}
 use Rattle.mc_words.specs.hand.Views.{fresh_holding, head_seen, slabs_changed, stripe_given, stripe_missed, stripe_taken, with_holdings}
@@ -42,13 +42,6 @@ pub record FindsWorn (class : ℕ) (view : View) (slabs : SlabState) (now : View
   pub swept : View
   pub sweeps : SweepsEmpty class view slabs swept left
   pub worn : SeesOther swept (first_free (class_at left class)) (λ head. most_issue ≤ head.issue) now
-
--- the class has no free chunk, and none came of chunks that were looked at; nothing was changed
-pub record FindsNoneDead (class : ℕ) (view : View) (slabs : SlabState) (now : View) (left : SlabState) : Type 0 where
-  pub empty : first_free (class_at slabs class) ≡ None
-  pub looked : List ChunkId
-  pub sees : SeesHeaders looked view now
-  pub same : left ≡ slabs
 
 -- the class has no free chunk, and none came by a sweep: each that it handed out was found alive
 pub record FindsNoFree (class : ℕ) (view : View) (slabs : SlabState) (now : View) (left : SlabState) : Type 0 where

@@ -14,7 +14,7 @@ ghost use Rattle.mc_items.specs.FreshChunks.{IsFreshFor};
 ghost use Rattle.mc_items.specs.OnKeys.{Acts, AreUnchanged, SeesMore};
 ghost use Rattle.mc_items.specs.Sources.{AsksMove, LacksMore, MakesFree, MakesNone, SuppliesChunk, SuppliesNone};
 ghost use Rattle.mc_items.specs.Storing.{IsOwnItem};
-ghost use Rattle.mc_items.specs.Supplying.{FindsNoFree, FindsNoneDead, FindsWorn, GainsFresh, Grows, SuppliesFree};
+ghost use Rattle.mc_items.specs.Supplying.{FindsNoFree, FindsWorn, GainsFresh, Grows, SuppliesFree};
 
 use crate::evicting::{Supply, evict_one};
 use crate::setting::SetError;
@@ -23,39 +23,8 @@ use mc_pages::Grow;
 use mc_stripe::NoMemory;
 use mc_words::{Arena, Fresh, Hand, SlabsHeld, WornOut};
 
-// Hands out a free chunk of the class; where there is none, those of its chunks are put back first that are dead as hints say.
-fn pop_or_recover(
-    arena: &Arena,
-    hand: &mut Hand,
-    held: &mut SlabsHeld,
-    class: ClassId,
-) -> Result<Option<Fresh>, WornOut>
-    requires arena { IsHandOf arena.now hand.old }
-    requires class { is_class (setup_of arena.now).table class ≡ true }
-    requires held { HasSlabs hand.old held.old }
-    requires room { length (view hand.old).row.holdings ≤ 255 }
-    ensures arena { IsHandOf arena.now hand.new }
-    ensures locks { locks_of hand.new ≡ locks_of hand.old }
-    ensures held { HasSlabs hand.new held.new }
-    ensures supplied { IfOk result (λ popped. IfSome popped (λ fresh. Acts (SuppliesFree class (fresh_chunk fresh)) hand.old held.old hand.new held.new)) }
-    ensures fresh { IfOk result (λ popped. IfSome popped (IsFreshFor (setup_of arena.now) class (view hand.new))) }
-    ensures gains { IfOk result (λ popped. IfSome popped (λ fresh. GainsFresh (view hand.old) (fresh_chunk fresh) (fresh_room fresh) (view hand.new))) }
-    ensures none { result ≡ Ok None → Acts (FindsNoneDead class) hand.old held.old hand.new held.new × SeesMore hand.old hand.new }
-    ensures worn { OnErr result (Acts (FindsWorn class) hand.old held.old hand.new held.new × SeesMore hand.old hand.new) }
-    ensures own { IfOk result (λ popped. IfSome popped (λ fresh. IsOwnItem (view hand.new) (fresh_chunk fresh))) }
-    ensures uncut { (slabs_lent held.new).uncut ≡ (slabs_lent held.old).uncut }
-{
-    match arena.pop(hand, held, class) {
-        Ok(Some(fresh)) => return Ok(Some(fresh)),
-        Ok(None) => {}
-        Err(error) => return Err(error),
-    }
-    arena.recover(hand, held, class);
-    arena.pop(hand, held, class)
-}
-
-// Hands out a free chunk of the class; where there is none, dead chunks of the class are put
-// back first: those that hints name, and only where that gives none, whatever a look at each chunk finds.
+// Hands out a free chunk of the class; where there is none, dead chunks of the class are put back first: those that hints name, and
+// only where that gives none, whatever a look at each chunk finds.
 pub(crate) fn pop_or_sweep(
     arena: &Arena,
     hand: &mut Hand,
@@ -77,7 +46,13 @@ pub(crate) fn pop_or_sweep(
     ensures own { IfOk result (λ popped. IfSome popped (λ fresh. IsOwnItem (view hand.new) (fresh_chunk fresh))) }
     ensures uncut { (slabs_lent held.new).uncut ≡ (slabs_lent held.old).uncut }
 {
-    match pop_or_recover(arena, hand, held, class) {
+    match arena.pop(hand, held, class) {
+        Ok(Some(fresh)) => return Ok(Some(fresh)),
+        Ok(None) => {}
+        Err(error) => return Err(error),
+    }
+    arena.recover(hand, held, class);
+    match arena.pop(hand, held, class) {
         Ok(Some(fresh)) => return Ok(Some(fresh)),
         Ok(None) => {}
         Err(error) => return Err(error),
