@@ -12,6 +12,7 @@ ghost use Rattle.mc_machine.specs.Lines.{acted, deleted, dropped, general_text_o
 ghost use Rattle.mc_machine.specs.Machine.{all_swept, with_mode};
 ghost use Rattle.mc_keeper.specs.Replies.{stored_name, told_name};
 ghost use Rattle.mc_keeper.specs.Stages.{reassign_stages, set_stages, stages, window_stages};
+ghost use Rattle.mc_keeper.specs.declared.keeper.serve.Stop.TheVariants.{NoMemory};
 
 use super::Keeper;
 use super::refs::{HoldError, TooManyRefs};
@@ -41,9 +42,6 @@ pub enum Stop {
 }
 
 impl From<Refused> for Stop {
-    ghost use Rattle.std.specs.Prelude.{◌≡◌};
-    ghost use Rattle.mc_keeper.specs.declared.keeper.serve.Stop.TheVariants.{NoMemory};
-
     ghost from_gives = { λ refused stop. stop ≡ NoMemory refused };
 
     fn from(refused: Refused) -> Stop {
