@@ -2,6 +2,7 @@
 ghost use Rattle.std.specs.Prelude.{◌≡◌, ◌+◌, ◌<◌, ◌^◌, true, false, Some, None, IfOk, OnOk, length, map, slice_set};
 ghost use Rattle.mc_pages.specs.Ledger.{all_untouched, fits, owner_after, page_of, replay};
 ghost use Rattle.mc_map.specs.Replays.{is_fitting, replays};
+ghost use Rattle.mc_map.specs.declared.replay.Misfit.TheVariants.{NoMemory};
 
 use mc_memory::{Refused, filled, push};
 use mc_pages::{Entry, Owner};
@@ -17,9 +18,6 @@ pub enum Misfit {
 }
 
 impl From<Refused> for Misfit {
-    ghost use Rattle.std.specs.Prelude.{◌≡◌};
-    ghost use Rattle.mc_map.specs.declared.replay.Misfit.TheVariants.{NoMemory};
-
     ghost from_gives = { λ refused error. error ≡ NoMemory refused };
 
     fn from(refused: Refused) -> Misfit {
