@@ -97,7 +97,7 @@ fn classes_value(alloc: Global, lines: &[ClassLine]) -> Result<Value, AllocError
 
 /// The line of a class.
 fn class_value(alloc: Global, line: &ClassLine) -> Result<Value, AllocError> {
-    let numbers = [
+    let pairs = [
         ("class", line.class),
         ("size", line.size),
         ("per_page", line.per_page),
@@ -112,12 +112,12 @@ fn class_value(alloc: Global, line: &ClassLine) -> Result<Value, AllocError> {
         ("bytes", line.bytes),
         ("evictions", line.evictions),
     ];
-    named(alloc, &numbers)
+    named(alloc, &pairs)
 }
 
 /// The numbers of the whole.
 fn totals_value(alloc: Global, totals: Totals) -> Result<Value, AllocError> {
-    let numbers = [
+    let pairs = [
         ("granted", totals.granted),
         ("pool", totals.pool),
         ("moved", totals.moved),
@@ -125,7 +125,7 @@ fn totals_value(alloc: Global, totals: Totals) -> Result<Value, AllocError> {
         ("evictions_nomem", totals.evictions_nomem),
         ("busy", totals.busy),
     ];
-    named(alloc, &numbers)
+    named(alloc, &pairs)
 }
 
 /// How pages changed hands.
