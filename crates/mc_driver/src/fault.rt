@@ -1,6 +1,9 @@
 //! How a run ends when it isn't done.
 ghost use Rattle.std.specs.Prelude.{◌≡◌};
+ghost use Rattle.mc_driver.specs.Run.{stop_fault};
 ghost use Rattle.mc_driver.specs.Status.{status_of};
+ghost use Rattle.mc_driver.specs.Threads.{ended_fault};
+ghost use Rattle.mc_driver.specs.declared.fault.RunFault.TheVariants.{Memory};
 
 use mc_keeper::Stop;
 use mc_memory::Refused;
@@ -52,9 +55,6 @@ impl RunFault {
 }
 
 impl From<Refused> for RunFault {
-    ghost use Rattle.std.specs.Prelude.{◌≡◌};
-    ghost use Rattle.mc_driver.specs.declared.fault.RunFault.TheVariants.{Memory};
-
     ghost from_gives = { λ refused fault. fault ≡ Memory refused };
 
     fn from(refused: Refused) -> RunFault {
@@ -63,9 +63,6 @@ impl From<Refused> for RunFault {
 }
 
 impl From<Stop> for RunFault {
-    ghost use Rattle.std.specs.Prelude.{◌≡◌};
-    ghost use Rattle.mc_driver.specs.Run.{stop_fault};
-
     ghost from_gives = { λ stop fault. fault ≡ stop_fault stop };
 
     fn from(stop: Stop) -> RunFault {
@@ -77,9 +74,6 @@ impl From<Stop> for RunFault {
 }
 
 impl From<Ended> for RunFault {
-    ghost use Rattle.std.specs.Prelude.{◌≡◌};
-    ghost use Rattle.mc_driver.specs.Threads.{ended_fault};
-
     ghost from_gives = { λ ended fault. fault ≡ ended_fault ended };
 
     fn from(ended: Ended) -> RunFault {

@@ -12,7 +12,7 @@ mod run;
 mod threads;
 
 pub use fault::RunFault;
-pub use mc_options::{Options, Run, options};
+pub use mc_options::{CommandLineError, Options, Run, options};
 pub use mc_streams::{Input, Output, RecordedWriter, Source};
 pub use mc_workers::{Free, Gate, Pass, Point, Unstarted};
 pub use run::run_serial;

@@ -19,9 +19,9 @@ pub use automove::Acted;
 use mc_classes::ClassTable;
 use mc_memory::Refused;
 use mc_pages::Slabs;
-use mc_parts::{DeadCounts, Holds, ItemTable, KeyIndex, LastDead};
+use mc_parts::{DeadCounts, Holds, ItemTable, KeyIndex};
 use mc_watch::Decider;
-use noted::DeadNotes;
+use noted::DeadHints;
 pub use refs::{HoldError, TooManyRefs};
 pub use serve::Stop;
 use std::alloc::Global;
@@ -43,10 +43,8 @@ pub struct Keeper {
     holds: Holds,
     /// How many handed-out chunks of each class are dead, so that a sweep walks only where one is.
     dead: DeadCounts,
-    /// Which of each class came last, so that the only one is put back without a walk.
-    last_dead: LastDead,
-    /// Which of each class came since its last sweep, so that several are put back without a walk.
-    noted: DeadNotes,
+    /// Which of each class came last, and which since its last sweep, so that one or several are put back without a walk.
+    hints: DeadHints,
     /// How many turns of the mover were begun.
     turns: u64,
     /// What the automover knows of the last windows.
@@ -80,8 +78,7 @@ impl Keeper {
         let index = KeyIndex::new(alloc, most_items(&table))?;
         let holds = Holds::new(alloc)?;
         let dead = DeadCounts::new(alloc, table.count())?;
-        let last_dead = LastDead::new(alloc, table.count())?;
-        let noted = DeadNotes::new(alloc, table.count())?;
+        let hints = DeadHints::new(alloc, table.count())?;
         Ok(Keeper {
             alloc,
             table,
@@ -91,8 +88,7 @@ impl Keeper {
             items: ItemTable::new(alloc),
             holds,
             dead,
-            last_dead,
-            noted,
+            hints,
             turns: 0,
             decider,
         })

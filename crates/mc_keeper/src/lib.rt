@@ -6,7 +6,6 @@
 #![tactic(auto)]
 
 mod keeper;
-mod reply;
 
 pub use keeper::{Acted, HoldError, Keeper, Stop, Stored, TooManyRefs};
 pub use mc_machine::{Counts, Ending};

@@ -10,20 +10,11 @@ use Rattle.mc_script.specs.declared.command.Command.{Command}
 use Rattle.mc_script.specs.declared.command.Command.TheVariants as command
 use Rattle.mc_machine.specs.Item.{item_bytes}
 use Rattle.mc_machine.specs.Machine.{Machine}
-use Rattle.mc_keeper.specs.declared.keeper.serve.Stop as keeper_stop
-use Rattle.mc_keeper.specs.declared.keeper.serve.Stop.TheVariants as stops
 use Rattle.mc_map.specs.declared.kept.ClassLine.{ClassLine}
 use Rattle.mc_map.specs.declared.map.Map.{Map}
-use Rattle.mc_map.specs.declared.player.Stop.{Stop}
-use Rattle.mc_map.specs.declared.player.Stop.TheVariants.{Turns, NoMemory}
 use Rattle.mc_map.specs.Agree.{Agrees}
 use Rattle.mc_map.specs.Books.{Book, glance_of, noted}
 use Rattle.mc_map.specs.Kept.{IsLine}
-
--- why a command wasn't done, as the keeper says it
-abbrev pub stop_of : keeper_stop.Stop → Stop
-stop_of stops.Turns = Turns
-stop_of (stops.NoMemory refused) = NoMemory refused
 
 -- the class of an item of so many words, or 0 where it is too large
 abbrev pub given_class : Classes → ℕ → ℕ

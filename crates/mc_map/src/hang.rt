@@ -9,7 +9,7 @@ ghost use Rattle.mc_map.specs.Kept.{chunks_of};
 use crate::items::{HeldItem, Items};
 use crate::map::MapError;
 use mc_classes::{ClassId, ClassTable, Config, ConfigError};
-use mc_keeper::{Keeper, Moving};
+use mc_keeper::{Keeper, Moving, Stop};
 use mc_memory::{Refused, from_slice, insert, push};
 use mc_options::Run;
 use mc_script::Command;
@@ -60,11 +60,11 @@ impl From<Refused> for Lost {
     }
 }
 
-impl From<mc_keeper::Stop> for Lost {
-    fn from(stop: mc_keeper::Stop) -> Lost {
+impl From<Stop> for Lost {
+    fn from(stop: Stop) -> Lost {
         match stop {
-            mc_keeper::Stop::Turns => Lost::Unknown,
-            mc_keeper::Stop::NoMemory(refused) => Lost::from(refused),
+            Stop::Turns => Lost::Unknown,
+            Stop::NoMemory(refused) => Lost::from(refused),
         }
     }
 }

@@ -1,4 +1,7 @@
 //! A map: all that is shown of a memory at one moment.
+ghost use Rattle.std.specs.Prelude.{◌≡◌};
+ghost use Rattle.mc_map.specs.declared.map.MapError.TheVariants.{NoMemory};
+
 use crate::hang::Hang;
 use crate::kept::ClassLine;
 use mc_classes::PageId;
@@ -17,9 +20,6 @@ pub enum MapError {
 }
 
 impl From<Refused> for MapError {
-    ghost use Rattle.std.specs.Prelude.{◌≡◌};
-    ghost use Rattle.mc_map.specs.declared.map.MapError.TheVariants.{NoMemory};
-
     ghost from_gives = { λ refused error. error ≡ NoMemory refused };
 
     fn from(refused: Refused) -> MapError {

@@ -23,7 +23,7 @@ use crate::items::Items;
 use crate::kept::{ClassLine, class_line};
 use crate::map::{Map, MapError};
 use mc_classes::{ClassTable, ConfigError};
-use mc_keeper::{HoldError, Keeper, Reassign, Stored};
+use mc_keeper::{HoldError, Keeper, Reassign, Stop, Stored};
 use mc_memory::{Refused, filled, from_slice, push};
 use mc_options::Run;
 use mc_pages::{Entry, Owner};
@@ -32,40 +32,6 @@ use std::alloc::Global;
 
 /// The most keys whose items are counted.
 const MOST_KEYS: usize = 4_294_967_296;
-
-/// Why a command wasn't done.
-#[derive(Debug, PartialEq, Eq, Drop)]
-pub enum Stop {
-    /// It asks for more turns of the mover than a run has.
-    Turns,
-    /// Memory ran out.
-    NoMemory(Refused),
-}
-
-impl From<Refused> for Stop {
-    ghost use Rattle.std.specs.Prelude.{◌≡◌};
-    ghost use Rattle.mc_map.specs.declared.player.Stop.TheVariants.{NoMemory};
-
-    ghost from_gives = { λ refused stop. stop ≡ NoMemory refused };
-
-    fn from(refused: Refused) -> Stop {
-        Stop::NoMemory(refused)
-    }
-}
-
-impl From<mc_keeper::Stop> for Stop {
-    ghost use Rattle.std.specs.Prelude.{◌≡◌};
-    ghost use Rattle.mc_map.specs.Map.{stop_of};
-
-    ghost from_gives = { λ stop told. told ≡ stop_of stop };
-
-    fn from(stop: mc_keeper::Stop) -> Stop {
-        match stop {
-            mc_keeper::Stop::Turns => Stop::Turns,
-            mc_keeper::Stop::NoMemory(refused) => Stop::NoMemory(refused),
-        }
-    }
-}
 
 /// A keeper, its books, and how many chunks of the moving page are cleared.
 #[derive(Drop)]

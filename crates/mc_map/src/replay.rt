@@ -16,23 +16,12 @@ pub enum Misfit {
     NoMemory(Refused),
 }
 
-impl From<Refused> for Misfit {
-    ghost use Rattle.std.specs.Prelude.{◌≡◌};
-    ghost use Rattle.mc_map.specs.declared.replay.Misfit.TheVariants.{NoMemory};
-
-    ghost from_gives = { λ refused error. error ≡ NoMemory refused };
-
-    fn from(refused: Refused) -> Misfit {
-        Misfit::NoMemory(refused)
-    }
-}
-
 /// The owners of so many untouched pages after these entries, page 0 first. An entry that finds its page otherwise is refused.
 pub fn owners_after(alloc: Global, pages: usize, entries: &[Entry]) -> Result<Vec<Owner>, Misfit>
     ensures owners { IfOk result (λ owners. replay (all_untouched pages) entries.now ≡ Some owners.items) }
     ensures misfit { result ≡ Err Misfit.Entry → replay (all_untouched pages) entries.now ≡ None }
 {
-    let mut owners = filled(alloc, Owner::Untouched, pages)?;
+    let mut owners = filled(alloc, Owner::Untouched, pages).map_err(Misfit::NoMemory)?;
     for entry in entries {
         apply(&mut owners, *entry)?;
     }
@@ -46,7 +35,8 @@ pub fn columns(alloc: Global, pages: usize, entries: &[Entry]) -> Result<Vec<Vec
 {
     let mut columns = Vec::new(alloc);
     for count in 0..entries.len() + 1 {
-        push(&mut columns, owners_after(alloc, pages, &entries[..count])?)?;
+        let owners = owners_after(alloc, pages, &entries[..count])?;
+        push(&mut columns, owners).map_err(Misfit::NoMemory)?;
     }
     Ok(columns)
 }

@@ -109,24 +109,16 @@ impl LastDead {
     }
 }
 
-/// Counts a chunk as dead where nobody holds it, and notes it as its class's last. No key leads to it any more.
-pub fn count_unheld(
-    dead: &mut DeadCounts,
-    last: &mut LastDead,
-    holds: &Holds,
-    slabs: &Slabs,
-    chunk: ChunkId,
-)
+/// Counts a chunk as dead where nobody holds it. No key leads to it any more.
+pub fn count_unheld(dead: &mut DeadCounts, holds: &Holds, slabs: &Slabs, chunk: ChunkId)
     requires class { IsClass slabs.now.state (class_of_page slabs.now.state chunk.page) }
     requires of_each { length dead.old ≡ length slabs.now.state.classes }
     requires few { slice_index_or dead.old (class_of_page slabs.now.state chunk.page - 1) 0 < 65536 }
     ensures counts { dead.new ≡ (if is_held holds.now chunk then dead.old else slice_set dead.old (class_of_page slabs.now.state chunk.page - 1) (slice_index_or dead.old (class_of_page slabs.now.state chunk.page - 1) 0 + 1)) }
-    ensures last { last.new ≡ (if is_held holds.now chunk then last.old else slice_set last.old (class_of_page slabs.now.state chunk.page - 1) (Some chunk)) }
 {
     if !holds.is_held(chunk) {
         let class = class_of(slabs, chunk);
         dead.increment(class);
-        last.set(class, chunk);
     }
 }
 

@@ -6,6 +6,7 @@ ghost use Rattle.mc_picture.specs.Drawn.{Extends, IsDrawn};
 use crate::cells::{LEFT, column_at, row_at, write_cells};
 use crate::classes::ClassRow;
 use crate::legend::{legend_end, write_legend};
+use crate::sheet::Sheet;
 use mc_map::{Misfit, columns};
 use mc_pages::{Entry, Owner};
 use std::alloc::{AllocError, Global};
@@ -76,27 +77,23 @@ pub fn write_chart(
         return Err(ChartError::Large);
     }
     let shown = columns(alloc, pages, ledger)?;
-    draw(&shown, pages, ledger, classes, page, text)?;
+    let sheet = Sheet {
+        pages,
+        page,
+        ledger,
+        classes,
+    };
+    draw(&shown, &sheet, text)?;
     Ok(())
 }
 
-/// Adds the chart of these columns, each with the owners of all pages of so many bytes. Column k comes behind entry k of the ledger.
-fn draw(
-    columns: &[Vec<Owner>],
-    pages: usize,
-    ledger: &[Entry],
-    classes: &[ClassRow],
-    page: u64,
-    text: &mut String,
-) -> Result<(), AllocError>
-    requires pages { pages ≤ 4096 }
-    requires ledger { length ledger.now ≤ 4096 }
-    requires classes { length classes.now ≤ 63 }
+/// Adds the chart of these columns, each with the owners of all pages. Column k comes behind entry k of the ledger.
+fn draw(columns: &[Vec<Owner>], sheet: &Sheet, text: &mut String) -> Result<(), AllocError>
     ensures drawn { OnOk result (IsDrawn (map (λ column. column.items) columns.now) (string_bytes text.old) (string_bytes text.new)) }
 {
-    write_front(pages, ledger, classes, page, text)?;
+    write_front(sheet, text)?;
     write_cells(columns, text)?;
-    write_back(columns, pages, ledger, classes, text)?;
+    write_back(columns, sheet, text)?;
     Ok(())
 }
 
@@ -110,42 +107,25 @@ fn legend_at(pages: usize) -> usize
 
 /// Adds what stands before the cells: the head, the title and the names of the rows.
 #[tactic(auto, using(crate::proofs::Extends::extends_on))]
-fn write_front(
-    pages: usize,
-    ledger: &[Entry],
-    classes: &[ClassRow],
-    page: u64,
-    text: &mut String,
-) -> Result<(), AllocError>
-    requires pages { pages ≤ 4096 }
-    requires ledger { length ledger.now ≤ 4096 }
-    requires classes { length classes.now ≤ 63 }
+fn write_front(sheet: &Sheet, text: &mut String) -> Result<(), AllocError>
     ensures { OnOk result (Extends (string_bytes text.old) (string_bytes text.new)) }
 {
-    let wide = column_at(ledger.len() + 2).max(LEAST);
-    write_head(wide, legend_end(legend_at(pages), classes, ledger), text)?;
-    write_title(pages, page, ledger.len(), text)?;
-    write_names(pages, text)?;
+    let entries = sheet.ledger.len();
+    let wide = column_at(entries + 2).max(LEAST);
+    write_head(wide, legend_end(sheet, legend_at(sheet.pages)), text)?;
+    write_title(sheet.pages, sheet.page, entries, text)?;
+    write_names(sheet.pages, text)?;
     Ok(())
 }
 
 /// Adds what stands behind the cells: the numbers of classes in them, the axis and the legend.
 #[tactic(auto, using(crate::proofs::Extends::extends_on))]
-fn write_back(
-    columns: &[Vec<Owner>],
-    pages: usize,
-    ledger: &[Entry],
-    classes: &[ClassRow],
-    text: &mut String,
-) -> Result<(), AllocError>
-    requires pages { pages ≤ 4096 }
-    requires ledger { length ledger.now ≤ 4096 }
-    requires classes { length classes.now ≤ 63 }
+fn write_back(columns: &[Vec<Owner>], sheet: &Sheet, text: &mut String) -> Result<(), AllocError>
     ensures { OnOk result (Extends (string_bytes text.old) (string_bytes text.new)) }
 {
     write_labels(columns, text)?;
-    write_axis(ledger, row_at(pages), text)?;
-    write_legend(classes, ledger, legend_at(pages), text)?;
+    write_axis(sheet.ledger, row_at(sheet.pages), text)?;
+    write_legend(sheet, legend_at(sheet.pages), text)?;
     text.push_str("</svg>\n")?;
     Ok(())
 }

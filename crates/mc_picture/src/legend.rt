@@ -1,9 +1,9 @@
 //! What the letters, the colours and the patterns of a chart mean.
-ghost use Rattle.std.specs.Prelude.{◌≤◌, OnOk, length, string_bytes};
+ghost use Rattle.std.specs.Prelude.{◌≤◌, OnOk, string_bytes};
 ghost use Rattle.mc_picture.specs.Drawn.{Extends};
 
 use crate::cells::{colour, write_box};
-use crate::classes::ClassRow;
+use crate::sheet::Sheet;
 use mc_classes::ClassId;
 use mc_pages::Entry;
 use std::alloc::AllocError;
@@ -11,14 +11,8 @@ use std::fmt::Write;
 
 /// Adds the legend, so far from the top.
 #[tactic(auto, using(crate::proofs::Extends::extends, crate::proofs::Extends::extends_on))]
-pub(crate) fn write_legend(
-    classes: &[ClassRow],
-    ledger: &[Entry],
-    top: usize,
-    text: &mut String,
-) -> Result<(), AllocError>
-    requires classes { length classes.now ≤ 63 }
-    requires top { top ≤ 100000 }
+pub(crate) fn write_legend(sheet: &Sheet, top: usize, text: &mut String) -> Result<(), AllocError>
+    requires { top ≤ 100000 }
     ensures { OnOk result (Extends (string_bytes text.old) (string_bytes text.new)) }
 {
     let y = top + 8;
@@ -27,7 +21,7 @@ pub(crate) fn write_legend(
         "<text class=\"s\" x=\"16\" y=\"{y}\">G granted, T taken from the pool, B began to move, E came to its end; a number is a class</text>"
     )?;
     write_patterns(top + 20, text)?;
-    write_class_keys(classes, ledger, top + 44, text)?;
+    write_class_keys(sheet, top + 44, text)?;
     Ok(())
 }
 
@@ -45,19 +39,13 @@ fn write_patterns(y: usize, text: &mut String) -> Result<(), AllocError>
 
 /// Adds the classes that the ledger names, four in a line.
 #[tactic(auto, using(crate::proofs::Extends::extends_on))]
-fn write_class_keys(
-    classes: &[ClassRow],
-    ledger: &[Entry],
-    top: usize,
-    text: &mut String,
-) -> Result<(), AllocError>
-    requires classes { length classes.now ≤ 63 }
-    requires top { top ≤ 200000 }
+fn write_class_keys(sheet: &Sheet, top: usize, text: &mut String) -> Result<(), AllocError>
+    requires { top ≤ 200000 }
     ensures { OnOk result (Extends (string_bytes text.old) (string_bytes text.new)) }
 {
     let mut shown = 0;
-    for row in classes {
-        if !is_named(ledger, row.class) {
+    for row in sheet.classes {
+        if !is_named(sheet.ledger, row.class) {
             continue;
         }
         let (x, y) = (16 + shown % 4 * 160, top + shown / 4 * 24);
@@ -68,11 +56,12 @@ fn write_class_keys(
 }
 
 /// Where the legend ends that begins so far from the top.
-pub(crate) fn legend_end(top: usize, classes: &[ClassRow], ledger: &[Entry]) -> usize
-    requires classes { length classes.now ≤ 63 }
-    requires top { top ≤ 100000 }
+pub(crate) fn legend_end(sheet: &Sheet, top: usize) -> usize
+    requires { top ≤ 100000 }
 {
-    let shown = classes
+    let ledger = sheet.ledger;
+    let shown = sheet
+        .classes
         .iter()
         .filter(|row| is_named(ledger, row.class))
         .count();

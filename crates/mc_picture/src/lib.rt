@@ -7,6 +7,7 @@ mod classes;
 mod hang;
 mod ledger;
 mod legend;
+mod sheet;
 mod text;
 
 pub use chart::{ChartError, MOST_ENTRIES, write_chart};

@@ -11,14 +11,6 @@ use Rattle.mc_core.specs.Rows.{chunk_at}
 use Rattle.mc_script.specs.Words.{◌>>=◌, number_of, words_of}
 use Rattle.mc_script.specs.Forms.{source_of}
 
--- the changes without arguments
-unfoldable pub bare_change : List ℕ → Option Change
-bare_change name =
-    if bytes_eq name (codes "FinishMove") then Some change.FinishMove
-    else if bytes_eq name (codes "Wrap") then Some change.Wrap
-    else if bytes_eq name (codes "TrimLedger") then Some change.TrimLedger
-    else None
-
 -- what the mover found
 unfoldable pub found_of : List ℕ → Option Found
 found_of name =
@@ -44,7 +36,11 @@ number_change name number =
 
 -- the change that these words write
 unfoldable pub change_of : List (List ℕ) → Option Change
-change_of (name ∷ []) = bare_change name
+change_of (name ∷ []) =
+    if bytes_eq name (codes "FinishMove") then Some change.FinishMove
+    else if bytes_eq name (codes "Wrap") then Some change.Wrap
+    else if bytes_eq name (codes "TrimLedger") then Some change.TrimLedger
+    else None
 change_of (name ∷ one ∷ []) =
     if bytes_eq name (codes "Passed") then (do
       found ← found_of one

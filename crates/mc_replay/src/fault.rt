@@ -1,6 +1,9 @@
 //! How a run ends when it isn't done.
 ghost use Rattle.std.specs.Prelude.{◌≡◌};
 ghost use Rattle.mc_replay.specs.Status.{fault_at, status_of};
+ghost use Rattle.mc_replay.specs.declared.fault.NoMemory.TheVariants.{Seen, Told};
+ghost use Rattle.mc_replay.specs.declared.fault.Refusal.TheVariants as of_line;
+ghost use Rattle.mc_replay.specs.declared.fault.RunFault.TheVariants as of_run;
 
 use mc_classes::ConfigError;
 use mc_memory::Refused;
@@ -67,9 +70,6 @@ impl Refusal {
 }
 
 impl From<Refused> for NoMemory {
-    ghost use Rattle.std.specs.Prelude.{◌≡◌};
-    ghost use Rattle.mc_replay.specs.declared.fault.NoMemory.TheVariants.{Seen};
-
     ghost from_gives = { λ refused lack. lack ≡ Seen refused };
 
     fn from(refused: Refused) -> NoMemory {
@@ -78,9 +78,6 @@ impl From<Refused> for NoMemory {
 }
 
 impl From<AllocError> for NoMemory {
-    ghost use Rattle.std.specs.Prelude.{◌≡◌};
-    ghost use Rattle.mc_replay.specs.declared.fault.NoMemory.TheVariants.{Told};
-
     ghost from_gives = { λ _ lack. lack ≡ Told };
 
     fn from(_error: AllocError) -> NoMemory {
@@ -89,11 +86,7 @@ impl From<AllocError> for NoMemory {
 }
 
 impl From<AllocError> for Refusal {
-    ghost use Rattle.std.specs.Prelude.{◌≡◌};
-    ghost use Rattle.mc_replay.specs.declared.fault.NoMemory.TheVariants.{Told};
-    ghost use Rattle.mc_replay.specs.declared.fault.Refusal.TheVariants.{Memory};
-
-    ghost from_gives = { λ _ refusal. refusal ≡ Memory Told };
+    ghost from_gives = { λ _ refusal. refusal ≡ of_line.Memory Told };
 
     fn from(_error: AllocError) -> Refusal {
         Refusal::Memory(NoMemory::Told)
@@ -101,11 +94,7 @@ impl From<AllocError> for Refusal {
 }
 
 impl From<Refused> for Refusal {
-    ghost use Rattle.std.specs.Prelude.{◌≡◌};
-    ghost use Rattle.mc_replay.specs.declared.fault.NoMemory.TheVariants.{Seen};
-    ghost use Rattle.mc_replay.specs.declared.fault.Refusal.TheVariants.{Memory};
-
-    ghost from_gives = { λ refused refusal. refusal ≡ Memory (Seen refused) };
+    ghost from_gives = { λ refused refusal. refusal ≡ of_line.Memory (Seen refused) };
 
     fn from(refused: Refused) -> Refusal {
         Refusal::Memory(NoMemory::Seen(refused))
@@ -126,10 +115,7 @@ impl RunFault {
 }
 
 impl From<NoMemory> for RunFault {
-    ghost use Rattle.std.specs.Prelude.{◌≡◌};
-    ghost use Rattle.mc_replay.specs.declared.fault.RunFault.TheVariants.{Memory};
-
-    ghost from_gives = { λ lack fault. fault ≡ Memory lack };
+    ghost from_gives = { λ lack fault. fault ≡ of_run.Memory lack };
 
     fn from(lack: NoMemory) -> RunFault {
         RunFault::Memory(lack)
@@ -137,11 +123,7 @@ impl From<NoMemory> for RunFault {
 }
 
 impl From<Refused> for RunFault {
-    ghost use Rattle.std.specs.Prelude.{◌≡◌};
-    ghost use Rattle.mc_replay.specs.declared.fault.NoMemory.TheVariants.{Seen};
-    ghost use Rattle.mc_replay.specs.declared.fault.RunFault.TheVariants.{Memory};
-
-    ghost from_gives = { λ refused fault. fault ≡ Memory (Seen refused) };
+    ghost from_gives = { λ refused fault. fault ≡ of_run.Memory (Seen refused) };
 
     fn from(refused: Refused) -> RunFault {
         RunFault::Memory(NoMemory::Seen(refused))

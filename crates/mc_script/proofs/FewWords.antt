@@ -1,10 +1,10 @@
 -- A line with more words than any command has writes none.
 use Rattle.std.proofs.Common.{◌≡◌, ℕ, List, [], ◌∷◌, take, None, refl, sym, ◌∙◌}
-use Rattle.mc_script.specs.Forms.{command_of, set_of, delete_of, worker_and_key_of, get_of, hold_of, drop_of, touch_of, reassign_of, automove_of, window_of, turn_of, stats_of, stats_slabs_of}
+use Rattle.mc_script.specs.Forms.{command_of, set_of, on_key_of, reassign_of, with_number_of, bare_of}
 
 -- six words or more are no command
 none_of_more : (a b c d e f : List ℕ) (words : List (List ℕ)) → command_of (a ∷ b ∷ c ∷ d ∷ e ∷ f ∷ words) ≡ None
-unfolding command_of set_of delete_of worker_and_key_of get_of hold_of drop_of touch_of reassign_of automove_of window_of turn_of stats_of stats_slabs_of
+unfolding command_of set_of on_key_of reassign_of with_number_of bare_of
 none_of_more a b c d e f words = refl
 
 -- so the first six words tell the command

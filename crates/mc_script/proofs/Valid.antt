@@ -6,9 +6,9 @@ use Rattle.std.specs.List.{AllByRecursion}
 use Rattle.std.specs.Str.{bytes_eq}
 use Rattle.std.specs.Str.Lines.{lines}
 use Rattle.mc_script.specs.declared.command.Command.{Command}
-use Rattle.mc_script.specs.declared.command.Command.TheVariants.{Set, Reassign, Window, Stats, StatsSlabs}
+use Rattle.mc_script.specs.declared.command.Command.TheVariants.{Set, Delete, Get, Hold, Drop, Touch, Reassign, Window, Stats, StatsSlabs}
 use Rattle.mc_script.specs.Command.{IsWorker, IsSource, IsValid}
-use Rattle.mc_script.specs.Forms.{◌or◌, worker_and_key_of, source_of, set_of, delete_of, get_of, hold_of, drop_of, touch_of, reassign_of, automove_of, window_of, turn_of, stats_of, stats_slabs_of, command_of}
+use Rattle.mc_script.specs.Forms.{◌or◌, source_of, set_of, key_command_of, on_key_of, reassign_of, with_number_of, bare_of, command_of}
 use Rattle.mc_script.specs.Script.{is_skipped, followed_by, commands_of, script_of}
 use Rattle.mc_script.specs.Words.{◌>>=◌, words_of, number_of, number_between}
 use Rattle.mc_script.proofs.Digits.{number_parts}
@@ -49,6 +49,11 @@ between_fits low high word =
 form_valid : (test : Bool) (form : Option Command) → IfSome form IsValid → IfSome (if test then form else None) IsValid
 form_valid test form h = when_told IsValid test form (λ _. h)
 
+-- so is one of two forms if both are
+either_valid : (test : Bool) (one other : Option Command) → IfSome one IsValid → IfSome other IsValid → IfSome (if test then one else other) IsValid
+either_valid true one other h k = h
+either_valid false one other h k = k
+
 -- after a number
 number_then : {A : Type 0} (P : A → Type 0) (word : List ℕ) (next : ℕ → Option A) → ((n : ℕ) → n < 2 ^ 64 → IfSome (next n) P) → IfSome (number_of word >>= next) P
 number_then P word next h = then_told (λ n. n < 2 ^ 64) P (number_of word) next (number_fits word) h
@@ -56,24 +61,6 @@ number_then P word next h = then_told (λ n. n < 2 ^ 64) P (number_of word) next
 -- after a number with limits
 between_then : {A : Type 0} (P : A → Type 0) (low high : ℕ) (word : List ℕ) (next : ℕ → Option A) → ((n : ℕ) → (low ≤ n) × (n ≤ high) → IfSome (next n) P) → IfSome (number_between low high word >>= next) P
 between_then P low high word next h = then_told (λ n. (low ≤ n) × (n ≤ high)) P (number_between low high word) next (between_fits low high word) h
-
--- ---- a worker and a key
-
--- a worker's number, and a key below 2^64
-abbrev IsNamed : ℕ × ℕ → Type 0
-IsNamed named = IsWorker named.0 × (named.1 < 2 ^ 64)
-
--- a worker and a key are within their limits
-named_fit : (verb : List ℕ) (words : List (List ℕ)) → IfSome (worker_and_key_of verb words) IsNamed
-unfolding worker_and_key_of
-named_fit verb (worker ∷ word ∷ key ∷ []) =
-    when_told IsNamed (bytes_eq word verb) _ (λ _.
-    between_then IsNamed 1 63 worker _ (λ w is_worker. number_then IsNamed key _ (λ k key_fits. (is_worker, key_fits))))
-named_fit verb words = tt
-
--- after a worker and a key
-named_then : (verb : List ℕ) (words : List (List ℕ)) (next : ℕ × ℕ → Option Command) → ((named : ℕ × ℕ) → IsNamed named → IfSome (next named) IsValid) → IfSome (worker_and_key_of verb words >>= next) IsValid
-named_then verb words next h = then_told IsNamed IsValid (worker_and_key_of verb words) next (named_fit verb words) h
 
 -- ---- the forms
 
@@ -86,30 +73,22 @@ set_valid (worker ∷ verb ∷ key ∷ words ∷ base ∷ []) =
     let valid : IsValid (Set w k n b) = (is_worker, key_fits, few.1, base_fits) in valid)))))
 set_valid words = tt
 
--- `del`
-delete_valid : (words : List (List ℕ)) → IfSome (delete_of words) IsValid
-unfolding delete_of
-delete_valid words = named_then (codes "del") words _ (λ named fit. fit)
+-- a verb, a worker and a key
+key_command_valid : (verb : List ℕ) (worker key : ℕ) → IsWorker worker × (key < 2 ^ 64) → IfSome (key_command_of verb worker key) IsValid
+unfolding key_command_of
+key_command_valid verb worker key fit =
+    either_valid (bytes_eq verb (codes "del")) (Some (Delete worker key)) _ fit
+    (either_valid (bytes_eq verb (codes "get")) (Some (Get worker key)) _ fit
+    (either_valid (bytes_eq verb (codes "hold")) (Some (Hold worker key)) _ fit
+    (either_valid (bytes_eq verb (codes "drop")) (Some (Drop worker key)) _ fit
+    (form_valid (bytes_eq verb (codes "touch")) (Some (Touch worker key)) fit))))
 
--- `get`
-get_valid : (words : List (List ℕ)) → IfSome (get_of words) IsValid
-unfolding get_of
-get_valid words = named_then (codes "get") words _ (λ named fit. fit)
-
--- `hold`
-hold_valid : (words : List (List ℕ)) → IfSome (hold_of words) IsValid
-unfolding hold_of
-hold_valid words = named_then (codes "hold") words _ (λ named fit. fit)
-
--- `drop`
-drop_valid : (words : List (List ℕ)) → IfSome (drop_of words) IsValid
-unfolding drop_of
-drop_valid words = named_then (codes "drop") words _ (λ named fit. fit)
-
--- `touch`
-touch_valid : (words : List (List ℕ)) → IfSome (touch_of words) IsValid
-unfolding touch_of
-touch_valid words = named_then (codes "touch") words _ (λ named fit. fit)
+-- their words
+on_key_valid : (words : List (List ℕ)) → IfSome (on_key_of words) IsValid
+unfolding on_key_of
+on_key_valid (worker ∷ verb ∷ key ∷ []) =
+    between_then IsValid 1 63 worker _ (λ w is_worker. number_then IsValid key _ (λ k key_fits. key_command_valid verb w k (is_worker, key_fits)))
+on_key_valid words = tt
 
 -- a source that is a number is below 2^64
 source_fits : (word : List ℕ) → IfSome (source_of word) IsSource
@@ -127,43 +106,26 @@ reassign_valid (verb ∷ src ∷ dst ∷ []) =
     let valid : IsValid (Reassign s d) = (src_fits, dst_fits) in valid)))
 reassign_valid words = tt
 
--- `turn`
-turn_valid : (words : List (List ℕ)) → IfSome (turn_of words) IsValid
-unfolding turn_of
-turn_valid (verb ∷ turns ∷ []) = form_valid (bytes_eq verb (codes "turn")) _ (between_then IsValid 1 1000000 turns _ (λ n within. within))
-turn_valid words = tt
+-- `automove` or `turn`
+with_number_valid : (words : List (List ℕ)) → IfSome (with_number_of words) IsValid
+unfolding with_number_of
+with_number_valid (verb ∷ number ∷ []) =
+    either_valid (bytes_eq verb (codes "automove")) _ _ (between_then IsValid 0 2 number _ (λ m within. within.1))
+    (form_valid (bytes_eq verb (codes "turn")) _ (between_then IsValid 1 1000000 number _ (λ n within. within)))
+with_number_valid words = tt
 
--- `automove`
-automove_valid : (words : List (List ℕ)) → IfSome (automove_of words) IsValid
-unfolding automove_of
-automove_valid (verb ∷ mode ∷ []) = form_valid (bytes_eq verb (codes "automove")) _ (between_then IsValid 0 2 mode _ (λ m within. within.1))
-automove_valid words = tt
-
--- `window`
-window_valid : (words : List (List ℕ)) → IfSome (window_of words) IsValid
-unfolding window_of
-window_valid (verb ∷ []) = form_valid (bytes_eq verb (codes "window")) (Some Window) tt
-window_valid words = tt
-
--- `stats`
-stats_valid : (words : List (List ℕ)) → IfSome (stats_of words) IsValid
-unfolding stats_of
-stats_valid (verb ∷ []) = form_valid (bytes_eq verb (codes "stats")) (Some Stats) tt
-stats_valid words = tt
-
--- `stats slabs`
-stats_slabs_valid : (words : List (List ℕ)) → IfSome (stats_slabs_of words) IsValid
-unfolding stats_slabs_of
-stats_slabs_valid (verb ∷ what ∷ []) = form_valid (bytes_eq verb (codes "stats") && bytes_eq what (codes "slabs")) (Some StatsSlabs) tt
-stats_slabs_valid words = tt
+-- `window`, `stats` or `stats slabs`
+bare_valid : (words : List (List ℕ)) → IfSome (bare_of words) IsValid
+unfolding bare_of
+bare_valid (verb ∷ []) = either_valid (bytes_eq verb (codes "window")) (Some Window) _ tt (form_valid (bytes_eq verb (codes "stats")) (Some Stats) tt)
+bare_valid (verb ∷ what ∷ []) = form_valid (bytes_eq verb (codes "stats") && bytes_eq what (codes "slabs")) (Some StatsSlabs) tt
+bare_valid words = tt
 
 -- all forms
 command_valid : (words : List (List ℕ)) → IfSome (command_of words) IsValid
 unfolding command_of
 command_valid words =
-    or_told _ _ (set_valid words) (or_told _ _ (delete_valid words) (or_told _ _ (get_valid words) (or_told _ _ (hold_valid words) (or_told _ _ (drop_valid words) (or_told _ _ (touch_valid words)
-    (or_told _ _ (reassign_valid words) (or_told _ _ (automove_valid words) (or_told _ _ (window_valid words)
-    (or_told _ _ (turn_valid words) (or_told _ _ (stats_valid words) (stats_slabs_valid words)))))))))))
+    or_told _ _ (set_valid words) (or_told _ _ (on_key_valid words) (or_told _ _ (reassign_valid words) (or_told _ _ (with_number_valid words) (bare_valid words))))
 
 -- ---- the lines
 

@@ -1,6 +1,6 @@
 -- What is written is read.
 use Rattle.std.proofs.Common.{◌≡◌, ℕ, ◌+◌, ◌==◌, ◌^◌, ◌<◌, ◌≤◌, false, List, [], ◌∷◌, length, get_or, codes, Option, Some, None, Ok, All, refl, ap, sym, ◌∙◌, subst, arith}
-use Rattle.std.proofs.lemmas.Bool.{cond-true, cond-false, cond_both, false_from_ne_true, ne_eqb, and_from, le-leb}
+use Rattle.std.proofs.lemmas.Bool.{cond-true, cond-false, false_from_ne_true, ne_eqb, and_from, le-leb}
 use Rattle.std.proofs.lemmas.Fmt.{decimal_nonempty, digits_decimal, digits_value-decimal, length-decimal-le}
 use Rattle.std.proofs.lemmas.Grind.{get_or_default_zero}
 use Rattle.std.proofs.lemmas.List.Elements.{recursion_from_All}
@@ -13,7 +13,7 @@ use Rattle.std.specs.Str.Lines.{lines}
 use Rattle.mc_script.specs.declared.command.Command.{Command}
 use Rattle.mc_script.specs.declared.command.Command.TheVariants.{Set, Delete, Get, Hold, Drop, Touch, Reassign, Automove, Window, Turn, Stats, StatsSlabs}
 use Rattle.mc_script.specs.Command.{IsWorker, IsSource, IsValid}
-use Rattle.mc_script.specs.Forms.{◌or◌, worker_and_key_of, source_of, set_of, delete_of, get_of, hold_of, drop_of, touch_of, reassign_of, automove_of, window_of, turn_of, stats_of, stats_slabs_of, command_of}
+use Rattle.mc_script.specs.Forms.{◌or◌, source_of, set_of, key_command_of, on_key_of, reassign_of, with_number_of, bare_of, command_of}
 use Rattle.mc_script.specs.Script.{commands_of, followed_by, is_skipped, number_sign, script_of}
 use Rattle.mc_script.specs.Words.{◌>>=◌, number_of, number_between}
 use Rattle.mc_script.specs.Written.{source_word, words_for, text_of}
@@ -119,45 +119,42 @@ source_again : (src : Option ℕ) → IsSource src → source_of (source_word sr
 source_again None fits = refl
 source_again (Some class) fits = cond-false _ _ _ (no_minus class fits) ∙ then_some _ _ class (number_again class fits)
 
--- a worker and a key are read as they are
-named_again : (verb : List ℕ) (worker key : ℕ) → IsWorker worker → key < 2 ^ 64 → worker_and_key_of verb (decimal worker ∷ verb ∷ decimal key ∷ []) ≡ Some (worker, key)
-unfolding worker_and_key_of
-named_again verb worker key is_worker fits =
-    cond-true _ _ _ ((bytes_eq-Decides verb verb).1 refl)
-    ∙ then_some _ _ worker (between_again 1 63 worker is_worker.0 is_worker.1 (omega (arith, is_worker.1)))
+-- a worker and a key are read as they are, and the verb asks for something by them
+on_key_again : (verb : List ℕ) (worker key : ℕ) → IsWorker worker → key < 2 ^ 64 → on_key_of (decimal worker ∷ verb ∷ decimal key ∷ []) ≡ key_command_of verb worker key
+unfolding on_key_of
+on_key_again verb worker key is_worker fits =
+    then_some _ _ worker (between_again 1 63 worker is_worker.0 is_worker.1 (omega (arith, is_worker.1)))
     ∙ then_some _ _ key (number_again key fits)
 
--- `reassign` names no worker
-not_named : (verb src dst : List ℕ) → worker_and_key_of verb (codes "reassign" ∷ src ∷ dst ∷ []) ≡ None
-unfolding worker_and_key_of
-not_named verb src dst = cond_both (bytes_eq src verb) None None (λ found. found ≡ None) (λ _. refl) (λ _. refl)
+-- `reassign` is no worker
+no_worker : (src dst : List ℕ) → on_key_of (codes "reassign" ∷ src ∷ dst ∷ []) ≡ None
+unfolding on_key_of
+no_worker src dst = refl
 
 -- the first form has it
 first_again : (one other : Option Command) (command : Command) → one ≡ Some command → (one or other) ≡ Some command
 first_again one other command e = ap (λ (o : Option Command). o or other) e
 
--- a form that needs a worker hasn't it
-next_again : (found : Option (ℕ × ℕ)) (next : ℕ × ℕ → Option Command) (other : Option Command) (command : Command) → found ≡ None → other ≡ Some command → ((found >>= next) or other) ≡ Some command
-next_again found next other command none e = ap (λ (o : Option (ℕ × ℕ)). (o >>= next) or other) none ∙ e
+-- the first form hasn't it
+next_again : (one other : Option Command) (command : Command) → one ≡ None → other ≡ Some command → (one or other) ≡ Some command
+next_again one other command none e = ap (λ (o : Option Command). o or other) none ∙ e
 
 -- the words of a command are read as it
 command_again : (command : Command) → IsValid command → command_of (words_for command) ≡ Some command
-unfolding command_of worker_and_key_of set_of delete_of get_of hold_of drop_of touch_of reassign_of automove_of window_of turn_of stats_of stats_slabs_of
+unfolding command_of set_of key_command_of on_key_of reassign_of with_number_of bare_of
 command_again (Set worker key words base) valid =
     first_again _ _ _
     (then_some _ _ worker (between_again 1 63 worker valid.0.0 valid.0.1 (omega (arith, valid.0.1)))
     ∙ then_some _ _ key (number_again key valid.1)
     ∙ then_some _ _ words (between_again 0 4096 words (omega arith) valid.2 (omega (arith, valid.2)))
     ∙ then_some _ _ base (number_again base valid.3))
-command_again (Delete worker key) valid = first_again _ _ _ (then_some _ _ (worker, key) (named_again (codes "del") worker key valid.0 valid.1))
-command_again (Get worker key) valid = first_again _ _ _ (then_some _ _ (worker, key) (named_again (codes "get") worker key valid.0 valid.1))
-command_again (Hold worker key) valid = first_again _ _ _ (then_some _ _ (worker, key) (named_again (codes "hold") worker key valid.0 valid.1))
-command_again (Drop worker key) valid = first_again _ _ _ (then_some _ _ (worker, key) (named_again (codes "drop") worker key valid.0 valid.1))
-command_again (Touch worker key) valid = first_again _ _ _ (then_some _ _ (worker, key) (named_again (codes "touch") worker key valid.0 valid.1))
+command_again (Delete worker key) valid = first_again _ _ _ (on_key_again (codes "del") worker key valid.0 valid.1)
+command_again (Get worker key) valid = first_again _ _ _ (on_key_again (codes "get") worker key valid.0 valid.1)
+command_again (Hold worker key) valid = first_again _ _ _ (on_key_again (codes "hold") worker key valid.0 valid.1)
+command_again (Drop worker key) valid = first_again _ _ _ (on_key_again (codes "drop") worker key valid.0 valid.1)
+command_again (Touch worker key) valid = first_again _ _ _ (on_key_again (codes "touch") worker key valid.0 valid.1)
 command_again (Reassign src dst) valid =
-    let none = λ (verb : List ℕ). not_named verb (source_word src) (decimal dst) in
-    next_again _ _ _ _ (none (codes "del")) (next_again _ _ _ _ (none (codes "get")) (next_again _ _ _ _ (none (codes "hold")) (next_again _ _ _ _ (none (codes "drop")) (next_again _ _ _ _ (none (codes "touch"))
-    (first_again _ _ _ (then_some _ _ src (source_again src valid.0) ∙ then_some _ _ dst (number_again dst valid.1)))))))
+    next_again _ _ _ (no_worker (source_word src) (decimal dst)) (first_again _ _ _ (then_some _ _ src (source_again src valid.0) ∙ then_some _ _ dst (number_again dst valid.1)))
 command_again (Automove mode) valid = first_again _ _ _ (then_some _ _ mode (between_again 0 2 mode (omega arith) valid (omega (arith, valid))))
 command_again Window valid = refl
 command_again (Turn turns) valid = first_again _ _ _ (then_some _ _ turns (between_again 1 1000000 turns valid.0 valid.1 (omega (arith, valid.1))))

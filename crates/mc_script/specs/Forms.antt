@@ -22,45 +22,23 @@ set_of (worker ∷ verb ∷ key ∷ words ∷ base ∷ []) =
     else None
 set_of words = None
 
--- the worker and the key of `<worker> <verb> <key>`
-unfoldable pub worker_and_key_of : List ℕ → List (List ℕ) → Option (ℕ × ℕ)
-worker_and_key_of verb (worker ∷ word ∷ key ∷ []) =
-    if bytes_eq word verb then (do
-      w ← worker_of worker
-      k ← number_of key
-      Some (w, k))
+-- what a verb asks for by a worker on a key
+unfoldable pub key_command_of : List ℕ → ℕ → ℕ → Option Command
+key_command_of verb worker key =
+    if bytes_eq verb (codes "del") then Some (Delete worker key)
+    else if bytes_eq verb (codes "get") then Some (Get worker key)
+    else if bytes_eq verb (codes "hold") then Some (Hold worker key)
+    else if bytes_eq verb (codes "drop") then Some (Drop worker key)
+    else if bytes_eq verb (codes "touch") then Some (Touch worker key)
     else None
-worker_and_key_of verb words = None
 
--- `<worker> del <key>`
-unfoldable pub delete_of : List (List ℕ) → Option Command
-delete_of words = do
-  named ← worker_and_key_of (codes "del") words
-  Some (Delete named.0 named.1)
-
--- `<worker> get <key>`
-unfoldable pub get_of : List (List ℕ) → Option Command
-get_of words = do
-  named ← worker_and_key_of (codes "get") words
-  Some (Get named.0 named.1)
-
--- `<worker> hold <key>`
-unfoldable pub hold_of : List (List ℕ) → Option Command
-hold_of words = do
-  named ← worker_and_key_of (codes "hold") words
-  Some (Hold named.0 named.1)
-
--- `<worker> drop <key>`
-unfoldable pub drop_of : List (List ℕ) → Option Command
-drop_of words = do
-  named ← worker_and_key_of (codes "drop") words
-  Some (Drop named.0 named.1)
-
--- `<worker> touch <key>`
-unfoldable pub touch_of : List (List ℕ) → Option Command
-touch_of words = do
-  named ← worker_and_key_of (codes "touch") words
-  Some (Touch named.0 named.1)
+-- `<worker> <verb> <key>`
+unfoldable pub on_key_of : List (List ℕ) → Option Command
+on_key_of (worker ∷ verb ∷ key ∷ []) = do
+  w ← worker_of worker
+  k ← number_of key
+  key_command_of verb w k
+on_key_of words = None
 
 -- a source is `-1`, which is none, or a number
 abbrev pub source_of : List ℕ → Option (Option ℕ)
@@ -78,38 +56,26 @@ reassign_of (verb ∷ src ∷ dst ∷ []) =
     else None
 reassign_of words = None
 
--- `automove <m>`
-unfoldable pub automove_of : List (List ℕ) → Option Command
-automove_of (verb ∷ mode ∷ []) =
+-- `automove <m>` or `turn <n>`
+unfoldable pub with_number_of : List (List ℕ) → Option Command
+with_number_of (verb ∷ number ∷ []) =
     if bytes_eq verb (codes "automove") then (do
-      m ← number_between 0 2 mode
+      m ← number_between 0 2 number
       Some (Automove m))
-    else None
-automove_of words = None
-
--- `window`
-unfoldable pub window_of : List (List ℕ) → Option Command
-window_of (verb ∷ []) = if bytes_eq verb (codes "window") then Some Window else None
-window_of words = None
-
--- `turn <n>`
-unfoldable pub turn_of : List (List ℕ) → Option Command
-turn_of (verb ∷ turns ∷ []) =
-    if bytes_eq verb (codes "turn") then (do
-      n ← number_between 1 1000000 turns
+    else if bytes_eq verb (codes "turn") then (do
+      n ← number_between 1 1000000 number
       Some (Turn n))
     else None
-turn_of words = None
+with_number_of words = None
 
--- `stats`
-unfoldable pub stats_of : List (List ℕ) → Option Command
-stats_of (verb ∷ []) = if bytes_eq verb (codes "stats") then Some Stats else None
-stats_of words = None
-
--- `stats slabs`
-unfoldable pub stats_slabs_of : List (List ℕ) → Option Command
-stats_slabs_of (verb ∷ what ∷ []) = if bytes_eq verb (codes "stats") && bytes_eq what (codes "slabs") then Some StatsSlabs else None
-stats_slabs_of words = None
+-- `window`, `stats` or `stats slabs`
+unfoldable pub bare_of : List (List ℕ) → Option Command
+bare_of (verb ∷ []) =
+    if bytes_eq verb (codes "window") then Some Window
+    else if bytes_eq verb (codes "stats") then Some Stats
+    else None
+bare_of (verb ∷ what ∷ []) = if bytes_eq verb (codes "stats") && bytes_eq what (codes "slabs") then Some StatsSlabs else None
+bare_of words = None
 
 infixr 20 ◌or◌
 -- the command of the one form, or else that of the other, none where there is neither
@@ -118,6 +84,4 @@ one or other = option_or one other
 
 -- the command that these words write, in the one form that they have
 unfoldable pub command_of : List (List ℕ) → Option Command
-command_of words =
-    set_of words or delete_of words or get_of words or hold_of words or drop_of words or touch_of words or reassign_of words
-    or automove_of words or window_of words or turn_of words or stats_of words or stats_slabs_of words
+command_of words = set_of words or on_key_of words or reassign_of words or with_number_of words or bare_of words

@@ -1,7 +1,7 @@
-//! The forms of a command, a function each.
+//! The forms of a command: a function for each kind of words.
 ghost use Rattle.std.specs.Prelude.{◌≡◌, map};
 ghost use Rattle.std.specs.Str.{bytes_eq};
-ghost use Rattle.mc_script.specs.Forms.{automove_of, command_of, delete_of, drop_of, get_of, hold_of, reassign_of, set_of, source_of, stats_of, stats_slabs_of, touch_of, turn_of, window_of, worker_and_key_of, worker_of};
+ghost use Rattle.mc_script.specs.Forms.{bare_of, command_of, key_command_of, on_key_of, reassign_of, set_of, source_of, with_number_of, worker_of};
 
 use crate::command::Command;
 use crate::number::{number, number_between};
@@ -24,17 +24,10 @@ pub(crate) fn command(words: &[&[u8]]) -> Option<Command>
     ensures { result ≡ command_of (map (λ word. word.now) words.now) }
 {
     set(words)
-        .or_else(|| delete(words))
-        .or_else(|| get(words))
-        .or_else(|| hold(words))
-        .or_else(|| drop(words))
-        .or_else(|| touch(words))
+        .or_else(|| on_key(words))
         .or_else(|| reassign(words))
-        .or_else(|| automove(words))
-        .or_else(|| window(words))
-        .or_else(|| turn(words))
-        .or_else(|| stats(words))
-        .or_else(|| stats_slabs(words))
+        .or_else(|| with_number(words))
+        .or_else(|| bare(words))
 }
 
 /// `<worker> set <key> <n> <base>`
@@ -53,49 +46,30 @@ fn set(words: &[&[u8]]) -> Option<Command>
     }
 }
 
-/// `<worker> del <key>`
-#[tactic(auto, unfolding(crate::specs::Forms::delete_of))]
-fn delete(words: &[&[u8]]) -> Option<Command>
-    ensures { result ≡ delete_of (map (λ word. word.now) words.now) }
+/// `<worker> <verb> <key>`
+#[tactic(auto, unfolding(crate::specs::Forms::on_key_of))]
+fn on_key(words: &[&[u8]]) -> Option<Command>
+    ensures { result ≡ on_key_of (map (λ word. word.now) words.now) }
 {
-    let (worker, key) = worker_and_key(b"del", words)?;
-    Some(Command::Delete { worker, key })
+    match words {
+        [worker, verb, key] => key_command(verb, worker_number(worker)?, number(key)?),
+        _ => None,
+    }
 }
 
-/// `<worker> get <key>`
-#[tactic(auto, unfolding(crate::specs::Forms::get_of))]
-fn get(words: &[&[u8]]) -> Option<Command>
-    ensures { result ≡ get_of (map (λ word. word.now) words.now) }
+/// What a verb asks for by a worker on a key.
+#[tactic(auto, unfolding(crate::specs::Forms::key_command_of))]
+fn key_command(verb: &[u8], worker: u64, key: u64) -> Option<Command>
+    ensures { result ≡ key_command_of verb.now worker key }
 {
-    let (worker, key) = worker_and_key(b"get", words)?;
-    Some(Command::Get { worker, key })
-}
-
-/// `<worker> hold <key>`
-#[tactic(auto, unfolding(crate::specs::Forms::hold_of))]
-fn hold(words: &[&[u8]]) -> Option<Command>
-    ensures { result ≡ hold_of (map (λ word. word.now) words.now) }
-{
-    let (worker, key) = worker_and_key(b"hold", words)?;
-    Some(Command::Hold { worker, key })
-}
-
-/// `<worker> drop <key>`
-#[tactic(auto, unfolding(crate::specs::Forms::drop_of))]
-fn drop(words: &[&[u8]]) -> Option<Command>
-    ensures { result ≡ drop_of (map (λ word. word.now) words.now) }
-{
-    let (worker, key) = worker_and_key(b"drop", words)?;
-    Some(Command::Drop { worker, key })
-}
-
-/// `<worker> touch <key>`
-#[tactic(auto, unfolding(crate::specs::Forms::touch_of))]
-fn touch(words: &[&[u8]]) -> Option<Command>
-    ensures { result ≡ touch_of (map (λ word. word.now) words.now) }
-{
-    let (worker, key) = worker_and_key(b"touch", words)?;
-    Some(Command::Touch { worker, key })
+    match verb {
+        _ if is(verb, b"del") => Some(Command::Delete { worker, key }),
+        _ if is(verb, b"get") => Some(Command::Get { worker, key }),
+        _ if is(verb, b"hold") => Some(Command::Hold { worker, key }),
+        _ if is(verb, b"drop") => Some(Command::Drop { worker, key }),
+        _ if is(verb, b"touch") => Some(Command::Touch { worker, key }),
+        _ => None,
+    }
 }
 
 /// `reassign <src> <dst>`
@@ -112,36 +86,15 @@ fn reassign(words: &[&[u8]]) -> Option<Command>
     }
 }
 
-/// `automove <m>`
-#[tactic(auto, unfolding(crate::specs::Forms::automove_of))]
-fn automove(words: &[&[u8]]) -> Option<Command>
-    ensures { result ≡ automove_of (map (λ word. word.now) words.now) }
+/// `automove <m>` or `turn <n>`
+#[tactic(auto, unfolding(crate::specs::Forms::with_number_of))]
+fn with_number(words: &[&[u8]]) -> Option<Command>
+    ensures { result ≡ with_number_of (map (λ word. word.now) words.now) }
 {
     match words {
         [verb, mode] if is(verb, b"automove") => Some(Command::Automove {
             mode: number_between(0, MAX_MODE, mode)?,
         }),
-        _ => None,
-    }
-}
-
-/// `window`
-#[tactic(auto, unfolding(crate::specs::Forms::window_of))]
-fn window(words: &[&[u8]]) -> Option<Command>
-    ensures { result ≡ window_of (map (λ word. word.now) words.now) }
-{
-    match words {
-        [verb] if is(verb, b"window") => Some(Command::Window),
-        _ => None,
-    }
-}
-
-/// `turn <n>`
-#[tactic(auto, unfolding(crate::specs::Forms::turn_of))]
-fn turn(words: &[&[u8]]) -> Option<Command>
-    ensures { result ≡ turn_of (map (λ word. word.now) words.now) }
-{
-    match words {
         [verb, turns] if is(verb, b"turn") => Some(Command::Turn {
             turns: number_between(1, MAX_TURNS, turns)?,
         }),
@@ -149,35 +102,15 @@ fn turn(words: &[&[u8]]) -> Option<Command>
     }
 }
 
-/// `stats`
-#[tactic(auto, unfolding(crate::specs::Forms::stats_of))]
-fn stats(words: &[&[u8]]) -> Option<Command>
-    ensures { result ≡ stats_of (map (λ word. word.now) words.now) }
+/// `window`, `stats` or `stats slabs`
+#[tactic(auto, unfolding(crate::specs::Forms::bare_of))]
+fn bare(words: &[&[u8]]) -> Option<Command>
+    ensures { result ≡ bare_of (map (λ word. word.now) words.now) }
 {
     match words {
+        [verb] if is(verb, b"window") => Some(Command::Window),
         [verb] if is(verb, b"stats") => Some(Command::Stats),
-        _ => None,
-    }
-}
-
-/// `stats slabs`
-#[tactic(auto, unfolding(crate::specs::Forms::stats_slabs_of))]
-fn stats_slabs(words: &[&[u8]]) -> Option<Command>
-    ensures { result ≡ stats_slabs_of (map (λ word. word.now) words.now) }
-{
-    match words {
         [verb, what] if is(verb, b"stats") && is(what, b"slabs") => Some(Command::StatsSlabs),
-        _ => None,
-    }
-}
-
-/// The worker and the key of `<worker> <verb> <key>`.
-#[tactic(auto, unfolding(crate::specs::Forms::worker_and_key_of))]
-fn worker_and_key(verb: &[u8], words: &[&[u8]]) -> Option<(u64, u64)>
-    ensures { result ≡ worker_and_key_of verb.now (map (λ word. word.now) words.now) }
-{
-    match words {
-        [worker, word, key] if is(word, verb) => Some((worker_number(worker)?, number(key)?)),
         _ => None,
     }
 }

@@ -4,6 +4,7 @@ ghost use Rattle.mc_script.specs.Command.{IsValid};
 ghost use Rattle.mc_script.specs.Forms.{command_of};
 ghost use Rattle.mc_script.specs.Script.{script_of};
 ghost use Rattle.mc_script.specs.Words.{words_of};
+ghost use Rattle.mc_script.specs.declared.script.ScriptError.TheVariants.{NoMemory};
 
 use crate::command::Command;
 use crate::forms::command;
@@ -29,9 +30,6 @@ pub enum ScriptError {
 }
 
 impl From<Refused> for ScriptError {
-    ghost use Rattle.std.specs.Prelude.{◌≡◌};
-    ghost use Rattle.mc_script.specs.declared.script.ScriptError.TheVariants.{NoMemory};
-
     ghost from_gives = { λ refused error. error ≡ NoMemory refused };
 
     fn from(refused: Refused) -> ScriptError {

@@ -3,7 +3,7 @@ ghost use Rattle.std.specs.Prelude.{◌≤◌, IfOk};
 
 use crate::fault::Fault;
 use mc_memory::push;
-use mc_options::{Run, options};
+use mc_options::{CommandLineError, Run, options};
 use std::env::{self, Env};
 
 /// What is to be shown.
@@ -50,13 +50,13 @@ pub fn read_words<R: Env + AllocGlobal>(rt: &R) -> Result<Asked, Fault>
 {
     let mut view = View::Maps;
     let mut words = Vec::new(rt.alloc());
-    for word in env::args(rt)? {
+    for word in env::args(rt).map_err(CommandLineError::from)? {
         match view_of(word.as_str()) {
             Some(named) => view = named,
             None => push(&mut words, word)?,
         }
     }
-    let options = options(rt.alloc(), words.as_slice())?;
+    let options = options(rt.alloc(), words.as_slice()).map_err(CommandLineError::from)?;
     if options.threads {
         return Err(Fault::Threads);
     }

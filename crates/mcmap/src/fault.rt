@@ -3,9 +3,9 @@ ghost use Rattle.std.specs.Prelude.{◌≡◌};
 ghost use Rattle.mcmap.specs.Status.{status_of};
 
 use mc_map::{ConfigError, MapError, Refused, ScriptError, Stop};
+use mc_options::CommandLineError;
 use mc_picture::ChartError;
 use std::alloc::AllocError;
-use std::io::{self, ErrorKind};
 use thiserror::Error;
 
 /// Why the program wasn't done.
@@ -72,20 +72,12 @@ impl Fault {
     }
 }
 
-impl From<clap::Error> for Fault {
-    fn from(error: clap::Error) -> Fault {
-        match error.kind() {
-            clap::error::ErrorKind::OutOfMemory => Fault::Memory,
-            _ => Fault::Options(error),
-        }
-    }
-}
-
-impl From<io::Error> for Fault {
-    fn from(error: io::Error) -> Fault {
-        match error.kind() {
-            ErrorKind::OutOfMemory => Fault::Memory,
-            _ => Fault::Words,
+impl From<CommandLineError> for Fault {
+    fn from(error: CommandLineError) -> Fault {
+        match error {
+            CommandLineError::Options(error) => Fault::Options(error),
+            CommandLineError::Words => Fault::Words,
+            CommandLineError::Memory => Fault::Memory,
         }
     }
 }

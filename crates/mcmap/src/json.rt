@@ -97,39 +97,35 @@ fn classes_value(alloc: Global, lines: &[ClassLine]) -> Result<Value, AllocError
 
 /// The line of a class.
 fn class_value(alloc: Global, line: &ClassLine) -> Result<Value, AllocError> {
-    named(
-        alloc,
-        &[
-            ("class", line.class),
-            ("size", line.size),
-            ("per_page", line.per_page),
-            ("pages", line.pages),
-            ("linked", line.linked),
-            ("held", line.held),
-            ("unlinked", line.unlinked),
-            ("dead", line.dead),
-            ("free", line.free),
-            ("cleared", line.cleared),
-            ("asked", line.asked),
-            ("bytes", line.bytes),
-            ("evictions", line.evictions),
-        ],
-    )
+    let pairs = [
+        ("class", line.class),
+        ("size", line.size),
+        ("per_page", line.per_page),
+        ("pages", line.pages),
+        ("linked", line.linked),
+        ("held", line.held),
+        ("unlinked", line.unlinked),
+        ("dead", line.dead),
+        ("free", line.free),
+        ("cleared", line.cleared),
+        ("asked", line.asked),
+        ("bytes", line.bytes),
+        ("evictions", line.evictions),
+    ];
+    named(alloc, &pairs)
 }
 
 /// The numbers of the whole.
 fn totals_value(alloc: Global, totals: Totals) -> Result<Value, AllocError> {
-    named(
-        alloc,
-        &[
-            ("granted", totals.granted),
-            ("pool", totals.pool),
-            ("moved", totals.moved),
-            ("rescues", totals.rescues),
-            ("evictions_nomem", totals.evictions_nomem),
-            ("busy", totals.busy),
-        ],
-    )
+    let pairs = [
+        ("granted", totals.granted),
+        ("pool", totals.pool),
+        ("moved", totals.moved),
+        ("rescues", totals.rescues),
+        ("evictions_nomem", totals.evictions_nomem),
+        ("busy", totals.busy),
+    ];
+    named(alloc, &pairs)
 }
 
 /// How pages changed hands.

@@ -81,31 +81,16 @@ fn show_form(
     requires valid { All IsValid commands.now }
 {
     if form == Form::Json {
-        return show_json(alloc, player, run, commands, line, text);
+        let map = player.map(run, commands)?;
+        let written = write_json(alloc, &map, line, text);
+        drop(map);
+        return written;
     }
     if line == 0 {
         return show_map(player, run, commands, "at the end", text);
     }
     let heading = format!(in alloc; "at line {line}")?;
     show_map(player, run, commands, heading.as_str(), text)
-}
-
-/// Shows a map as JSON.
-fn show_json(
-    alloc: Global,
-    player: &Player,
-    run: &Run,
-    commands: &[Command],
-    line: u64,
-    text: &mut String,
-) -> Result<(), Fault>
-    requires mode { run.now.automove ≤ 2 }
-    requires valid { All IsValid commands.now }
-{
-    let map = player.map(run, commands)?;
-    let written = write_json(alloc, &map, line, text);
-    drop(map);
-    written
 }
 
 /// Shows a map under this heading. `commands` are those that were done.

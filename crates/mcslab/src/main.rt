@@ -13,13 +13,13 @@ ghost use Rattle.mc_driver.specs.Status.{status_of};
 use help::FORMS;
 use mc_classes::{Failures, Fault};
 use mc_driver::{
-    Free, Input as Standard, Options, Output, RecordedWriter, RunFault, options, run_serial,
-    run_threads,
+    CommandLineError, Free, Input as Standard, Options, Output, RecordedWriter, RunFault, options,
+    run_serial, run_threads,
 };
 use mc_memory::push;
 use std::env;
 use std::env::Env;
-use std::io::{self, ErrorKind};
+use std::io;
 use std::marker::Brand;
 use std::process::ExitCode;
 use std::sync::Wait;
@@ -29,12 +29,8 @@ use std::thread::Threads;
 /// Why the program wasn't done.
 #[derive(Drop)]
 enum Stop {
-    /// The options are refused, or help was asked for.
-    Options(clap::Error),
-    /// The arguments can't be read as text.
-    Words,
-    /// Memory ran out for the arguments or the options. That `clap` or the standard library says, by an error that is no evidence.
-    Memory,
+    /// The command line can't be taken.
+    CommandLine(CommandLineError),
     /// The run wasn't done.
     Fault(RunFault),
 }
@@ -50,21 +46,9 @@ impl From<RunFault> for Stop {
     }
 }
 
-impl From<clap::Error> for Stop {
-    fn from(error: clap::Error) -> Stop {
-        match error.kind() {
-            clap::error::ErrorKind::OutOfMemory => Stop::Memory,
-            _ => Stop::Options(error),
-        }
-    }
-}
-
-impl From<io::Error> for Stop {
-    fn from(error: io::Error) -> Stop {
-        match error.kind() {
-            ErrorKind::OutOfMemory => Stop::Memory,
-            _ => Stop::Words,
-        }
+impl From<CommandLineError> for Stop {
+    fn from(error: CommandLineError) -> Stop {
+        Stop::CommandLine(error)
     }
 }
 
@@ -73,10 +57,13 @@ fn started_with<R: Env + AllocGlobal>(rt: &R) -> Result<Options, Stop>
     ensures { IfOk result (λ options. options.run.automove ≤ 2) }
 {
     let mut words = Vec::new(rt.alloc());
-    for word in env::args(rt)? {
+    for word in env::args(rt).map_err(CommandLineError::from)? {
         push(&mut words, word).map_err(RunFault::from)?;
     }
-    Ok(options(rt.alloc(), words.as_slice())?)
+    match options(rt.alloc(), words.as_slice()) {
+        Ok(options) => Ok(options),
+        Err(error) => Err(Stop::CommandLine(CommandLineError::from(error))),
+    }
 }
 
 /// Runs the script, by one thread or by as many as the options want. Whatever comes of it, what was replied is written before the end.
@@ -133,7 +120,7 @@ fn print_help(rt: &impl Print, options: clap::Error) -> io::Result<()> {
 /// Prints what was asked for or what is wrong, and gives the status to end with.
 fn end(rt: &(impl Print + Eprint), stop: Stop) -> u8 {
     match stop {
-        Stop::Options(error) => {
+        Stop::CommandLine(CommandLineError::Options(error)) => {
             if error.use_stderr() {
                 let _ = rt.eprint(error);
                 return 1;
@@ -143,11 +130,11 @@ fn end(rt: &(impl Print + Eprint), stop: Stop) -> u8 {
                 Err(_) => tell(rt, RunFault::Write),
             }
         }
-        Stop::Words => {
+        Stop::CommandLine(CommandLineError::Words) => {
             let _ = rt.eprintln("mcslab: the arguments are not text");
             1
         }
-        Stop::Memory => {
+        Stop::CommandLine(CommandLineError::Memory) => {
             let _ = rt.eprintln("mcslab: memory");
             4
         }

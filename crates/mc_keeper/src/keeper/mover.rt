@@ -209,7 +209,7 @@ impl Keeper {
         self.slabs.clear(chunk);
         self.items.remove(chunk);
         self.dead.decrement(class);
-        self.noted.omit(class, chunk);
+        self.hints.noted.omit(class, chunk);
     }
 
     /// Takes the chunk's item, which nobody holds, to a free chunk off the page, or else evicts it.

@@ -5,7 +5,7 @@ ghost use Rattle.mc_pages.specs.SlabState.{IsClass, class_of_page};
 use mc_classes::ClassId;
 use mc_memory::{Refused, filled};
 use mc_pages::{ChunkId, Slabs};
-use mc_parts::{Holds, class_of};
+use mc_parts::{Holds, LastDead, class_of};
 use std::alloc::Global;
 
 /// How many chunks of a class are noted. Where more die, a sweep walks (own).
@@ -110,11 +110,29 @@ impl DeadNotes {
     }
 }
 
-/// Notes a chunk where nobody holds it. No key leads to it any more.
-pub(super) fn note_unheld(noted: &mut DeadNotes, holds: &Holds, slabs: &Slabs, chunk: ChunkId)
+/// Hints at the dead of each class: the chunk that died last, be it dead still or not, and those that died since the last sweep.
+#[derive(Drop)]
+pub(super) struct DeadHints {
+    pub(super) last: LastDead,
+    pub(super) noted: DeadNotes,
+}
+
+impl DeadHints {
+    /// No chunk of so many classes has died yet.
+    pub(super) fn new(alloc: Global, classes: u64) -> Result<DeadHints, Refused> {
+        let last = LastDead::new(alloc, classes)?;
+        let noted = DeadNotes::new(alloc, classes)?;
+        Ok(DeadHints { last, noted })
+    }
+}
+
+/// Notes a chunk as its class's last, and among those to be swept, where nobody holds it. No key leads to it any more.
+pub(super) fn note_unheld(hints: &mut DeadHints, holds: &Holds, slabs: &Slabs, chunk: ChunkId)
     requires { IsClass slabs.now.state (class_of_page slabs.now.state chunk.page) }
 {
     if !holds.is_held(chunk) {
-        noted.push(class_of(slabs, chunk), chunk);
+        let class = class_of(slabs, chunk);
+        hints.last.set(class, chunk);
+        hints.noted.push(class, chunk);
     }
 }

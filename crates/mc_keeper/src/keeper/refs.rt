@@ -117,14 +117,8 @@ impl Keeper {
     {
         self.holds.give_back(worker, chunk, place);
         if !is_linked {
-            count_unheld(
-                &mut self.dead,
-                &mut self.last_dead,
-                &self.holds,
-                &self.slabs,
-                chunk,
-            );
-            note_unheld(&mut self.noted, &self.holds, &self.slabs, chunk);
+            count_unheld(&mut self.dead, &self.holds, &self.slabs, chunk);
+            note_unheld(&mut self.hints, &self.holds, &self.slabs, chunk);
         }
     }
 

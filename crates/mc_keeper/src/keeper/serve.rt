@@ -12,21 +12,21 @@ ghost use Rattle.mc_machine.specs.Lines.{acted, deleted, dropped, general_text_o
 ghost use Rattle.mc_machine.specs.Machine.{all_swept, with_mode};
 ghost use Rattle.mc_keeper.specs.Replies.{stored_name, told_name};
 ghost use Rattle.mc_keeper.specs.Stages.{reassign_stages, set_stages, stages, window_stages};
+ghost use Rattle.mc_keeper.specs.declared.keeper.serve.Stop.TheVariants.{NoMemory};
 
 use super::Keeper;
 use super::refs::{HoldError, TooManyRefs};
 use super::store::Stored;
-use crate::reply::Reply;
 use mc_classes::{Failures, Fault};
 use mc_memory::{Refused, reserve};
 use mc_pages::Reassign;
 use mc_parts::{
-    NewWords, push_answer, push_key_line, push_turn_line, push_window_line, push_words_line,
+    NewWords, TextSink, push_answer, push_key_line, push_turn_line, push_window_line,
+    push_words_line,
 };
 use mc_script::Command;
 use mc_watch::{stats_general, stats_slabs};
 use std::marker::Brand;
-use std::mem;
 use std::sync::ledger::{Blank, Ledger};
 
 /// Room for the longest answer about a key: a word of at most 13 bytes, a space, the key, and the line's end.
@@ -42,9 +42,6 @@ pub enum Stop {
 }
 
 impl From<Refused> for Stop {
-    ghost use Rattle.std.specs.Prelude.{◌≡◌};
-    ghost use Rattle.mc_keeper.specs.declared.keeper.serve.Stop.TheVariants.{NoMemory};
-
     ghost from_gives = { λ refused stop. stop ≡ NoMemory refused };
 
     fn from(refused: Refused) -> Stop {
@@ -270,25 +267,16 @@ impl Keeper {
     {
         let counts = self.counts()?;
         let malloced = self.slabs.totals().granted * self.table.page();
-        let mut reply = Reply::new(
-            mem::replace(text, Vec::new(self.alloc)),
-            Failures::<L>::new(refusals),
-        );
-        let written = stats_slabs(
+        let mut sink = TextSink::take(text, Failures::<L>::new(refusals));
+        match stats_slabs(
             &self.table,
             &counts.pages,
             &counts.free,
             malloced,
-            &mut reply,
-        );
-        let (added, refused) = reply.into_parts();
-        *text = added;
-        match written {
-            Ok(()) => Ok(()),
-            Err(Fault) => match refused {
-                Some(refused) => Err(refused),
-                None => unreachable!(),
-            },
+            &mut sink,
+        ) {
+            Ok(()) => Ok(sink.put_back(text)),
+            Err(Fault) => Err(sink.into_refusal(text)),
         }
     }
 
@@ -302,27 +290,18 @@ impl Keeper {
     {
         let totals = self.slabs.totals();
         let running = self.slabs.moving().is_some();
-        let mut reply = Reply::new(
-            mem::replace(text, Vec::new(self.alloc)),
-            Failures::<L>::new(refusals),
-        );
-        let written = stats_general(
+        let mut sink = TextSink::take(text, Failures::<L>::new(refusals));
+        match stats_general(
             totals.pool,
             running,
             totals.moved,
             totals.rescues,
             totals.evictions_nomem,
             totals.busy,
-            &mut reply,
-        );
-        let (added, refused) = reply.into_parts();
-        *text = added;
-        match written {
-            Ok(()) => Ok(()),
-            Err(Fault) => match refused {
-                Some(refused) => Err(refused),
-                None => unreachable!(),
-            },
+            &mut sink,
+        ) {
+            Ok(()) => Ok(sink.put_back(text)),
+            Err(Fault) => Err(sink.into_refusal(text)),
         }
     }
 }

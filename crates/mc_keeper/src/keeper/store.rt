@@ -100,14 +100,8 @@ impl Keeper {
         match self.index.remove(key) {
             Some(chunk) => {
                 self.items.unlink(chunk);
-                count_unheld(
-                    &mut self.dead,
-                    &mut self.last_dead,
-                    &self.holds,
-                    &self.slabs,
-                    chunk,
-                );
-                note_unheld(&mut self.noted, &self.holds, &self.slabs, chunk);
+                count_unheld(&mut self.dead, &self.holds, &self.slabs, chunk);
+                note_unheld(&mut self.hints, &self.holds, &self.slabs, chunk);
                 true
             }
             None => false,
@@ -141,14 +135,8 @@ impl Keeper {
         };
         if let Some(old) = before {
             self.items.unlink(old);
-            count_unheld(
-                &mut self.dead,
-                &mut self.last_dead,
-                &self.holds,
-                &self.slabs,
-                old,
-            );
-            note_unheld(&mut self.noted, &self.holds, &self.slabs, old);
+            count_unheld(&mut self.dead, &self.holds, &self.slabs, old);
+            note_unheld(&mut self.hints, &self.holds, &self.slabs, old);
         }
         self.slabs.pop(class);
         Ok(())

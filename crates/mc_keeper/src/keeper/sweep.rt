@@ -31,7 +31,7 @@ impl Keeper {
         ensures reclaimed { self.new ≡ after_reclaim self.old chunk }
     {
         self.reclaim(chunk);
-        self.noted.forget(class);
+        self.hints.noted.forget(class);
     }
 
     /// Puts back the dead chunks of a class, as they are noted where those are all, else on a walk.
@@ -39,13 +39,13 @@ impl Keeper {
         requires { IsClass self.old.slabs class }
         ensures swept { self.new ≡ swept self.old class }
     {
-        let mut noted = mem::replace(&mut self.noted, DeadNotes::none(self.alloc));
+        let mut noted = mem::replace(&mut self.hints.noted, DeadNotes::none(self.alloc));
         match noted.of_mut(class) {
             Some(chunks) => self.sweep_noted(class, chunks),
             None => self.sweep_order(class),
         }
         noted.forget(class);
-        self.noted = noted;
+        self.hints.noted = noted;
     }
 
     /// Puts back the dead chunks of a class, these where they are all, else on a walk.
@@ -85,7 +85,7 @@ impl Keeper {
         if self.dead.of(class) != 1 {
             return None;
         }
-        let chunk = self.last_dead.of(class)?;
+        let chunk = self.hints.last.of(class)?;
         if self.is_dead(chunk) && class_of(&self.slabs, chunk) == class {
             return Some(chunk);
         }

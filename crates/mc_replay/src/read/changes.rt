@@ -2,7 +2,7 @@
 ghost use Rattle.std.specs.Prelude.{◌≡◌, ◌==◌, map, Some, None, Err, IfOk};
 ghost use Rattle.std.specs.List.{slice_split};
 ghost use Rattle.mc_script.specs.Words.{words_of};
-ghost use Rattle.mc_replay.specs.Changes.{bare_change, change_of, changes_in, changes_of, found_of, number_change};
+ghost use Rattle.mc_replay.specs.Changes.{change_of, changes_in, changes_of, found_of, number_change};
 ghost use Rattle.mc_script.specs.Forms.{source_of};
 
 use super::word::is;
@@ -59,7 +59,9 @@ fn change(words: &[&[u8]]) -> Option<Change>
     ensures { result ≡ change_of (map (λ word. word.now) words.now) }
 {
     match words {
-        [name] => bare_change(name),
+        [name] if is(name, b"FinishMove") => Some(Change::FinishMove),
+        [name] if is(name, b"Wrap") => Some(Change::Wrap),
+        [name] if is(name, b"TrimLedger") => Some(Change::TrimLedger),
         [name, found] if is(name, b"Passed") => Some(Change::Passed(found_of(found)?)),
         [name, one] => number_change(name, number(one)?),
         [name, src, dst] if is(name, b"BeginMove") => {
@@ -69,19 +71,6 @@ fn change(words: &[&[u8]]) -> Option<Change>
             page: number(page)?,
             index: number(index)?,
         })),
-        _ => None,
-    }
-}
-
-/// The change of this name without arguments.
-#[tactic(auto, unfolding(crate::specs::Changes::bare_change))]
-fn bare_change(name: &[u8]) -> Option<Change>
-    ensures { result ≡ bare_change name.now }
-{
-    match name {
-        _ if is(name, b"FinishMove") => Some(Change::FinishMove),
-        _ if is(name, b"Wrap") => Some(Change::Wrap),
-        _ if is(name, b"TrimLedger") => Some(Change::TrimLedger),
         _ => None,
     }
 }

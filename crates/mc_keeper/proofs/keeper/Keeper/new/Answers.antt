@@ -14,9 +14,9 @@ invariant_of-result c =
     = c.set_automove.ensures.mode ∙ ap (λ (s : SlabState). with_mode s c.args.mode) c.in_ok-slabs.ensures.fresh in
     let dead : c.in_ok-dead.dead ≡ replicate (length c.args.table.sizes) 0 = c.in_ok-dead.ensures.fresh ∙ ap (λ (n : ℕ). replicate n 0) c.count.ensures.count in
     record {
-      kept = kept_fresh _ c.args.mode _ _ c.requires.sound slabs c.set_automove.ensures.accounted c.new-8.ensures.empty;
-      indexed = indexed_fresh _ _ c.in_ok-index.ensures.empty c.new-8.ensures.empty;
+      kept = kept_fresh _ c.args.mode _ _ c.requires.sound slabs c.set_automove.ensures.accounted c.new-7.ensures.empty;
+      indexed = indexed_fresh _ _ c.in_ok-index.ensures.empty c.new-7.ensures.empty;
       watched = watched_fresh c.args.table c.args.mode _ _ slabs c.in_ok-decider.ensures;
-      counted = rw (slabs, c.new-8.ensures.empty, dead) (counted_owned _ _ _ _ _ _ (counted_fresh _ _ _) (length-map _ _));
+      counted = rw (slabs, c.new-7.ensures.empty, dead) (counted_owned _ _ _ _ _ _ (counted_fresh _ _ _) (length-map _ _));
       bulk = c.requires.bulk;
     }

@@ -1,0 +1,17 @@
+//! What a chart is drawn of.
+ghost use Rattle.std.specs.Prelude.{◌≤◌, length};
+
+use crate::classes::ClassRow;
+use mc_pages::Entry;
+
+/// So many pages, the bytes of each, the ledger of their owners, and the classes: no more of each than a chart has room for.
+#[derive(Drop)]
+pub(crate) struct Sheet<'a> {
+    pub(crate) pages: usize,
+    pub(crate) page: u64,
+    pub(crate) ledger: &'a [Entry],
+    pub(crate) classes: &'a [ClassRow],
+    ghost few_pages: { pages ≤ 4096 },
+    ghost few_entries: { length ledger.now ≤ 4096 },
+    ghost few_classes: { length classes.now ≤ 63 },
+}
