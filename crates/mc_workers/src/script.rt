@@ -9,12 +9,11 @@ ghost use Rattle.mc_workers.specs.Script.{IsOpened, ServesScript, TellsAll};
 
 use crate::ended::Ended;
 use crate::gate::Gate;
-use crate::mover_line::survey_all;
 use crate::statistics::push_statistics;
 use crate::threads::{Joined, first_hand, run_workers};
 use mc_classes::Config;
 use mc_memory::{Refused, extend_from_slice};
-use mc_mover::set_mode;
+use mc_mover::{set_mode, survey};
 use mc_script::Command;
 use mc_words::{Arena, Hand, NewError};
 use std::alloc::Global;
@@ -113,7 +112,7 @@ fn tell_all<R: Wait>(
         workers,
         mover,
     } = joined;
-    let survey = survey_all(rt, alloc, arena, &mut hand, true)?;
+    let survey = survey(rt, alloc, arena, &mut hand, true)?;
     let mut text = workers;
     extend_from_slice(&mut text, &mover)?;
     push_statistics(&mut text, arena.classes(), &survey)?;

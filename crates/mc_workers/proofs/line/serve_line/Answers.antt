@@ -12,7 +12,7 @@ use Rattle.mc_workers.proofs.line.serve_line.Goals as goal
 
 pub returns-in-Set-clause-kept : goal.returns-in-Set-clause-kept
 returns-in-Set-clause-kept g c =
-    kept_stay (view c.args.hand.now) (view c.set_words.new.hand) c.args.kept.now.items c.requires.kept c.set_words.ensures.keeps (as_often (view c.args.hand.now) (view c.set_words.new.hand) c.set_words.ensures.holdings)
+    kept_stay (view c.args.hand.now) (view c.set_words.new.hand) c.args.kept.now.items c.requires.kept c.set_words.ensures.keeps (as_often (view c.args.hand.now) (view c.set_words.new.hand) c.set_words.ensures.stays.holdings)
 
 pub returns-in-Set-clause-serves : goal.returns-in-Set-clause-serves
 returns-in-Set-clause-serves g c =
@@ -40,7 +40,7 @@ returns-in-Get-clause-serves g c =
 
 pub returns-in-Delete-clause-kept : goal.returns-in-Delete-clause-kept
 returns-in-Delete-clause-kept g c =
-    kept_stay (view c.args.hand.now) (view c.delete_key.new.hand) c.args.kept.now.items c.requires.kept c.delete_key.ensures.keeps (as_often (view c.args.hand.now) (view c.delete_key.new.hand) c.delete_key.ensures.holdings)
+    kept_stay (view c.args.hand.now) (view c.delete_key.new.hand) c.args.kept.now.items c.requires.kept c.delete_key.ensures.keeps (as_often (view c.args.hand.now) (view c.delete_key.new.hand) c.delete_key.ensures.stays.holdings)
 
 pub returns-in-Delete-clause-serves : goal.returns-in-Delete-clause-serves
 returns-in-Delete-clause-serves g c =
