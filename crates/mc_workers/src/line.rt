@@ -1,14 +1,11 @@
 //! One line of a worker, on its hand.
 ghost use Rattle.std.specs.Prelude.{◌≡◌, IfOk, OnErr, true};
 ghost use Rattle.mc_script.specs.Command.{IsValid};
-ghost use Rattle.mc_words.specs.hand.Arenas.{IsHandOf, setup_of, view};
-ghost use Rattle.mc_words.specs.hand.Observers.{number_of};
-ghost use Rattle.mc_words.specs.hand.Ready.{IsReady};
+ghost use Rattle.mc_words.specs.hand.Arenas.{setup_of, view};
 ghost use Rattle.mc_words.specs.item.Refs.{KeepsRefs};
-ghost use Rattle.mc_items.specs.ItemRefs.{AreKept};
 ghost use Rattle.mc_items.specs.Keeping.{HoldsAsOften};
 ghost use Rattle.mc_workers.specs.Asking.{is_workers};
-ghost use Rattle.mc_workers.specs.Hands.{IsReadyHandOf, StaysHolding, StaysReady};
+ghost use Rattle.mc_workers.specs.Hands.{IsKeeping, IsReadyHandOf, StaysHolding, StaysKeeping, StaysReady};
 ghost use Rattle.mc_workers.specs.OnHands.{ServesBy};
 ghost use Rattle.mc_workers.specs.Serving.{AnswersDelete, AnswersGet, AnswersTouch};
 
@@ -34,15 +31,10 @@ pub fn serve_line<R: Wait>(
     kept: &mut Vec<Ref>,
     command: Command,
 ) -> Result<Reply, Refused>
-    requires arena { IsHandOf arena.now hand.old }
-    requires ready { IsReady (view hand.old) }
-    requires kept { AreKept (view hand.old) kept.old.items }
+    requires keeping { IsKeeping arena.now hand.old kept.old.items }
     requires valid { IsValid command }
     requires worker { is_workers command ≡ true }
-    ensures arena { IsHandOf arena.now hand.new }
-    ensures ready { IsReady (view hand.new) }
-    ensures kept { AreKept (view hand.new) kept.new.items }
-    ensures number { number_of hand.new ≡ number_of hand.old }
+    ensures stays { StaysKeeping arena.now hand.old hand.new kept.new.items }
     ensures serves { IfOk result (λ reply. ServesBy arena.now command reply hand.old kept.old.items hand.new kept.new.items) }
     ensures left { OnErr result (kept.new.items ≡ kept.old.items) }
 {

@@ -1,10 +1,9 @@
 //! One line of the mover, on its hand.
 ghost use Rattle.std.specs.Prelude.{◌≡◌, ◌≤◌, Err, IfOk, false};
 ghost use Rattle.mc_script.specs.Command.{IsValid};
-ghost use Rattle.mc_words.specs.hand.Arenas.{IsHandOf, setup_of, view};
-ghost use Rattle.mc_words.specs.hand.Observers.{number_of};
-ghost use Rattle.mc_words.specs.hand.Ready.{IsReady};
+ghost use Rattle.mc_words.specs.hand.Arenas.{setup_of};
 ghost use Rattle.mc_workers.specs.Asking.{is_workers};
+ghost use Rattle.mc_workers.specs.Hands.{IsReadyHandOf, StaysHolding};
 ghost use Rattle.mc_workers.specs.MoverReplies.{CanTell};
 ghost use Rattle.mc_workers.specs.Moving.{ServesMover, StopsMover};
 
@@ -32,14 +31,10 @@ pub fn serve_mover_line<R: Wait>(
     mover: &mut Mover,
     command: Command,
 ) -> Result<MoverReply, Ended>
-    requires arena { IsHandOf arena.now hand.old }
-    requires ready { IsReady (view hand.old) }
+    requires ready { IsReadyHandOf arena.now hand.old }
     requires valid { IsValid command }
     requires mover { is_workers command ≡ false }
-    ensures arena { IsHandOf arena.now hand.new }
-    ensures ready { IsReady (view hand.new) }
-    ensures number { number_of hand.new ≡ number_of hand.old }
-    ensures holdings { (view hand.new).row.holdings ≡ (view hand.old).row.holdings }
+    ensures stays { StaysHolding arena.now hand.old hand.new }
     ensures moves { IfOk result (λ reply. ServesMover command reply mover.old hand.old mover.new hand.new) }
     ensures tellable { IfOk result (CanTell (setup_of arena.now).table) }
     ensures stopped { result ≡ Err Ended.Turns → StopsMover command mover.old hand.old mover.new hand.new }

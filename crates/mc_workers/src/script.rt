@@ -2,9 +2,9 @@
 ghost use Rattle.std.specs.Prelude.{◌≡◌, ◌≤◌, [], All, IfOk, None};
 ghost use Rattle.mc_classes.specs.Refusals.{refusal_of};
 ghost use Rattle.mc_script.specs.Command.{IsValid};
-ghost use Rattle.mc_words.specs.hand.Arenas.{IsHandOf, view};
-ghost use Rattle.mc_words.specs.hand.Ready.{IsReady};
+ghost use Rattle.mc_words.specs.hand.Arenas.{view};
 ghost use Rattle.mc_workers.specs.Asking.{greatest_worker, worker_of};
+ghost use Rattle.mc_workers.specs.Hands.{IsReadyHandOf};
 ghost use Rattle.mc_workers.specs.Script.{IsOpened, ServesScript, TellsAll};
 
 use crate::ended::Ended;
@@ -81,7 +81,7 @@ fn open_arena<R: Wait>(
     requires some { 1 ≤ hands }
     requires few { hands ≤ 64 }
     ensures opened { IfOk result (λ opened. IsOpened config.now mode hands opened.0 opened.1 opened.2.items) }
-    ensures mover { IfOk result (λ opened. IsHandOf opened.0 opened.1 × IsReady (view opened.1)) }
+    ensures mover { IfOk result (λ opened. IsReadyHandOf opened.0 opened.1) }
     ensures none { IfOk result (λ opened. (view opened.1).row.holdings ≡ []) }
 {
     let (arena, mut workers) = match Arena::new(alloc, config, hands) {
@@ -103,8 +103,7 @@ fn tell_all<R: Wait>(
     arena: &Arena,
     joined: Joined,
 ) -> Result<Vec<u8>, Refused>
-    requires arena { IsHandOf arena.now joined.hand }
-    requires ready { IsReady (view joined.hand) }
+    requires ready { IsReadyHandOf arena.now joined.hand }
     ensures tells { IfOk result (λ text. TellsAll arena.now joined text.items) }
 {
     let Joined {

@@ -5,4 +5,4 @@ use Rattle.mc_workers.proofs.mover_line.serve_mover_line.Goals as goal
 -- what was surveyed can be told
 pub returns-in-StatsSlabs-clause-tellable : goal.returns-in-StatsSlabs-clause-tellable
 returns-in-StatsSlabs-clause-tellable g c =
-    survey_told c.args.arena.now c.args.hand.now c.survey-2.new.hand true c.in_ok-survey-2.survey c.requires.arena c.in_ok-survey-2.ensures.surveys
+    survey_told c.args.arena.now c.args.hand.now c.survey-2.new.hand true c.in_ok-survey-2.survey c.requires.ready.0 c.in_ok-survey-2.ensures.surveys

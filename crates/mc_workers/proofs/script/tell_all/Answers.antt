@@ -13,7 +13,7 @@ use Rattle.mc_workers.proofs.script.tell_all.Goals as goal
 pub push_statistics-requires-clause-tellable : goal.push_statistics-requires-clause-tellable
 push_statistics-requires-clause-tellable g c =
     subst (λ (table : Classes). AreTellable table c.in_ok-survey.survey) (sym c.classes.ensures.classes)
-    (survey_told c.args.arena.now c.args.joined.hand c.survey.new.hand true c.in_ok-survey.survey c.requires.arena c.in_ok-survey.ensures.surveys)
+    (survey_told c.args.arena.now c.args.joined.hand c.survey.new.hand true c.in_ok-survey.survey c.requires.ready.0 c.in_ok-survey.ensures.surveys)
 
 pub returns : goal.returns
 returns g c =
@@ -29,7 +29,7 @@ returns g c =
       tells = record {
         survey = survey;
         last = c.survey.new.hand;
-        surveys = subst (λ (setup : Setup). HoldsSlabs (SurveysWhole setup.table survey) before now) c.requires.arena.setup (survey_whole before now survey c.in_ok-survey.ensures.surveys);
+        surveys = subst (λ (setup : Setup). HoldsSlabs (SurveysWhole setup.table survey) before now) c.requires.ready.0.setup (survey_whole before now survey c.in_ok-survey.ensures.surveys);
         told = c.in_ok-push_statistics.ensures.text
             ∙ (ap (λ (table : Classes). longer ++ statistics_text table survey) c.classes.ensures.classes
             ∙ ap (λ (text : List ℕ). text ++ statistics) texts);
