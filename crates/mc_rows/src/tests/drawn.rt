@@ -164,7 +164,7 @@ fn pick_of_mover(random: &mut Pcg32) -> &'static str {
     let mut behind = draw(random, CHANCES);
     for (line, chances) in &OF_MOVER {
         if behind < *chances {
-            return line;
+            return *line;
         }
         behind = behind.saturating_sub(*chances);
     }
