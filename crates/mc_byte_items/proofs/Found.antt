@@ -1,5 +1,5 @@
 -- What a look finds.
-use Rattle.std.proofs.Common.{◌≡◌, ◌∙◌, ℕ, Bool, List, [], Option, None, Some, Ok, Result, IfOk, IfSome, refl, sym, ap, subst}
+use Rattle.std.proofs.Common.{◌≡◌, ◌∙◌, ℕ, Bool, true, false, List, [], Option, None, Some, Ok, Result, IfOk, IfSome, refl, sym, ap, subst}
 use Rattle.mc_packing.specs.Packing.{IsPackingOf, packed, value_in}
 use Rattle.mc_words.specs.declared.arena.Arena.{Arena}
 use Rattle.mc_words.specs.declared.hand.Hand.{Hand}
@@ -14,7 +14,7 @@ use Rattle.mc_items.specs.Keeping.{HoldsToo, SaysNothing}
 use Rattle.mc_items.specs.OnKeys.{ActsOn, Gets}
 use Rattle.mc_words.specs.item.Items.{item_with}
 use Rattle.mc_items.proofs.Chains.{words_said}
-use Rattle.mc_byte_items.specs.Finding.{BumpsItem, DeletesKey, FindsItem, FindsKey, FindsOther, FindsWords, GivesTouched, GivesValue, PutsValue, TouchesKey, TouchesValue}
+use Rattle.mc_byte_items.specs.Finding.{BumpsItem, DeletesKey, FindsItem, FindsKey, FindsOther, FindsWords, GivesTouched, GivesTouchedIf, GivesValue, PutsValue, TouchesKey, TouchesValue}
 use Rattle.mc_byte_items.specs.Hands.{WereSaid, sayings_of}
 use Rattle.mc_byte_items.proofs.Idle.{alone}
 
@@ -100,6 +100,12 @@ module _ (arena : Arena) (hash : ℕ) (key : List ℕ) (before got : Hand) (item
 
   pub touches_key : IsPackingOf key (item_words (view got) item) → (now : Hand) → BumpsItem (number_of before) item now → TouchesKey (setup_of arena) hash key before now
   touches_key own now bumps = (value_in (item_words (view got) item), touches_words (value_in (item_words (view got) item)) own now bumps)
+
+-- or it was found, and touched if that was asked
+pub gives_touched_if : (touches : Bool) (arena : Arena) (hash : ℕ) (key : List ℕ) (before got : Hand) (item : Ref) → FindsItem arena hash item before got → (old new : List ℕ) → PutsValue key (item_words (view got) item) old new → (now : Hand)
+    → (touches ≡ true → BumpsItem (number_of before) item now) → GivesTouchedIf touches (setup_of arena) hash key before now old new
+gives_touched_if true arena hash key before got item found old new puts now bumps = gives_touched arena hash key before got item found old new puts now (bumps refl)
+gives_touched_if false arena hash key before got item found old new puts now bumps = gives_value (setup_of arena) hash key before (item_words (view got) item) found.finds old new puts
 
 -- two answers that are the same
 pub same_ok : {T E : Type 0} (x y : T) → ◌≡◌ {A = Result T E} (Ok x) (Ok y) → x ≡ y

@@ -1,5 +1,5 @@
 -- What is found under a hash: the words of an item, and whether they are a packing of a key.
-use Rattle.std.specs.Prelude.{◌≡◌, ◌⊎◌, ℕ, Bool, false, List, [], ◌∷◌, ◌++◌, Option, Some, IfSome}
+use Rattle.std.specs.Prelude.{◌≡◌, ◌⊎◌, ℕ, Bool, false, true, List, [], ◌∷◌, ◌++◌, Option, Some, IfSome}
 use Rattle.std.specs.Option.{option_map}
 use Rattle.mc_packing.specs.Packing.{IsPackingOf, packed}
 use Rattle.mc_words.specs.declared.arena.Arena.{Arena}
@@ -82,6 +82,11 @@ TouchesKey setup hash key before now = (value : List ℕ) × TouchesValue setup 
 -- the item under the hash is of this key and a value, which stands behind the bytes that were there, and it became the newest of its class
 abbrev pub GivesTouched : Setup → ℕ → List ℕ → Hand → Hand → List ℕ → List ℕ → Type 0
 GivesTouched setup hash key before now old new = (value : List ℕ) × TouchesValue setup hash key value before now × (new ≡ old ++ value)
+
+-- so it is, and it became the newest of its class if that was asked
+abbrev pub GivesTouchedIf : Bool → Setup → ℕ → List ℕ → Hand → Hand → List ℕ → List ℕ → Type 0
+GivesTouchedIf true setup hash key before now old new = GivesTouched setup hash key before now old new
+GivesTouchedIf false setup hash key before now old new = GivesValue setup hash key before old new
 
 -- there was no item of this key, or it was gone when it was to be deleted
 abbrev pub DeletesNone : Setup → ℕ → List ℕ → Hand → Hand → Type 0

@@ -12,37 +12,13 @@ ghost use Rattle.mc_byte_items.specs.Hands.{IsIdleHandOf};
 ghost use Rattle.mc_byte_items.specs.Reading.{RefersTo};
 
 use crate::getting::get_item;
+use crate::label::Label;
 use crate::reading::{is_of, push_value};
 use mc_items::{Ref, release};
 use mc_memory::Refused;
 use mc_words::{Arena, Hand};
 use std::sync::Wait;
 use thiserror::Error;
-
-/// Puts the key's value behind the bytes that are there, and says whether the key has one. It waits for the lock of the hash's stripe.
-/// An item of another key under the hash is none. Beside an entry in the stripe's history it takes memory for these bytes alone; where
-/// that is refused, they stay. (memcached's `process_get_command`)
-pub fn get<R: Wait>(
-    rt: &R,
-    arena: &Arena,
-    hand: &mut Hand,
-    hash: u64,
-    key: &[u8],
-    into: &mut Vec<u8>,
-) -> Result<bool, Refused>
-    requires { IsIdleHandOf arena.now hand.old }
-    ensures idle { IsIdleHandOf arena.now hand.new }
-    ensures number { number_of hand.new ≡ number_of hand.old }
-    ensures value { result ≡ Ok true → GivesValue (setup_of arena.now) hash key.now hand.old into.old.items into.new.items }
-    ensures other { result ≡ Ok false → FindsOther (setup_of arena.now) hash key.now hand.old }
-    ensures kept { (result ≡ Ok true → ⊥) → into.new.items ≡ into.old.items }
-    ensures unsaid { SaysNothing (view hand.old) (view hand.new) }
-{
-    let Some(item) = get_item(rt, arena, hand, hash)? else {
-        return Ok(false);
-    };
-    give_value(arena, hand, item, key, into)
-}
 
 /// Why a get that doesn't wait was refused. The bytes stay.
 #[derive(Debug, PartialEq, Eq, Drop, Error)]
@@ -59,21 +35,20 @@ pub enum TryGetError {
 pub fn try_get(
     arena: &Arena,
     hand: &mut Hand,
-    hash: u64,
-    key: &[u8],
+    at: Label,
     into: &mut Vec<u8>,
 ) -> Result<bool, TryGetError>
     requires { IsIdleHandOf arena.now hand.old }
     ensures idle { IsIdleHandOf arena.now hand.new }
     ensures number { number_of hand.new ≡ number_of hand.old }
-    ensures value { result ≡ Ok true → GivesValue (setup_of arena.now) hash key.now hand.old into.old.items into.new.items }
-    ensures other { result ≡ Ok false → FindsOther (setup_of arena.now) hash key.now hand.old }
+    ensures value { result ≡ Ok true → GivesValue (setup_of arena.now) at.entry.hash at.entry.key.now hand.old into.old.items into.new.items }
+    ensures other { result ≡ Ok false → FindsOther (setup_of arena.now) at.entry.hash at.entry.key.now hand.old }
     ensures kept { (result ≡ Ok true → ⊥) → into.new.items ≡ into.old.items }
-    ensures held { result ≡ Err try_error.Held → FindsStripeHeld (setup_of arena.now) hash hand.old hand.new }
+    ensures held { result ≡ Err try_error.Held → FindsStripeHeld (setup_of arena.now) at.entry.hash hand.old hand.new }
     ensures unsaid { SaysNothing (view hand.old) (view hand.new) }
 {
-    match mc_items::try_get(arena, hand, hash) {
-        Ok(Some(item)) => match give_value(arena, hand, item, key, into) {
+    match mc_items::try_get(arena, hand, at.hash) {
+        Ok(Some(item)) => match give_value(arena, hand, item, at.key, into) {
             Ok(there) => Ok(there),
             Err(refused) => Err(TryGetError::NoMemory(refused)),
         },
@@ -85,29 +60,23 @@ pub fn try_get(
 }
 
 /// Whether the key has an item. It waits for the lock of the hash's stripe.
-pub fn contains<R: Wait>(
-    rt: &R,
-    arena: &Arena,
-    hand: &mut Hand,
-    hash: u64,
-    key: &[u8],
-) -> Result<bool, Refused>
+pub fn contains<R: Wait>(rt: &R, arena: &Arena, hand: &mut Hand, at: Label) -> Result<bool, Refused>
     requires { IsIdleHandOf arena.now hand.old }
     ensures idle { IsIdleHandOf arena.now hand.new }
     ensures number { number_of hand.new ≡ number_of hand.old }
-    ensures key { result ≡ Ok true → FindsKey (setup_of arena.now) hash key.now hand.old }
-    ensures other { result ≡ Ok false → FindsOther (setup_of arena.now) hash key.now hand.old }
+    ensures key { result ≡ Ok true → FindsKey (setup_of arena.now) at.entry.hash at.entry.key.now hand.old }
+    ensures other { result ≡ Ok false → FindsOther (setup_of arena.now) at.entry.hash at.entry.key.now hand.old }
     ensures unsaid { SaysNothing (view hand.old) (view hand.new) }
 {
-    let Some(item) = get_item(rt, arena, hand, hash)? else {
+    let Some(item) = get_item(rt, arena, hand, at.hash)? else {
         return Ok(false);
     };
-    Ok(tell_key(arena, hand, item, key))
+    Ok(tell_key(arena, hand, item, at.key))
 }
 
-// The value of an item that the hand holds, and nothing else, if it is of the key. The reference is given up, also where memory is
-// refused.
-fn give_value(
+/// The value of an item that the hand holds, and nothing else, if it is of the key. The reference is given up, also where memory is
+/// refused.
+pub(crate) fn give_value(
     arena: &Arena,
     hand: &mut Hand,
     item: Ref,

@@ -1,5 +1,5 @@
 -- Which caches are refused, and what is so of the arenas of a new one.
-use Rattle.std.specs.Prelude.{◌+◌, not, if◌then◌else◌, Option, Some}
+use Rattle.std.specs.Prelude.{◌≡◌, ◌+◌, not, if◌then◌else◌, List, All, Option, None, Some}
 use Rattle.std.specs.List.{range_with_len}
 use Rattle.std.specs.Option.{option_map}
 use Rattle.mc_classes.specs.Refusals.{is_between, refusal_of}
@@ -32,3 +32,7 @@ pub record KeepsNoHistory (arena : Arena) : Type 0 where
 pub record IsNewShard (config : CacheConfig) (arena : Arena) : Type 0 where
   pub made : IsMadeWith config.arena (config.workers + 1) 0 (setup_of arena)
   pub history : KeepsNoHistory arena
+
+-- the configuration is accepted, and each of these arenas is made so
+abbrev pub AreNewShards : CacheConfig → List Arena → Type 0
+AreNewShards config arenas = (cache_refusal config ≡ None) × All (IsNewShard config) arenas

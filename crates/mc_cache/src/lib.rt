@@ -4,7 +4,6 @@
 //! both. The tender, in a thread of its own, moves pages between classes.
 #![tactic(auto)]
 
-mod bumping;
 mod bytes;
 mod cache;
 mod hashing;
@@ -17,7 +16,6 @@ mod tending;
 mod window;
 mod working;
 
-pub use bumping::worked_recent;
 pub use bytes::worked_bytes;
 pub use cache::{Cache, Worker};
 pub use hashing::HashKey;
@@ -25,4 +23,4 @@ pub use opening::{CacheConfig, NewError};
 pub use stats::{CacheStats, ClassStats, worked_stats};
 pub use tended::{Tended, worked_tended};
 pub use tending::Tender;
-pub use working::{CallError, SetError, TryGetError};
+pub use working::{CallError, SetError, TryGetError, worked_recent};

@@ -6,7 +6,7 @@ ghost use Rattle.mc_words.specs.hand.Hands.{IsMadeWith};
 ghost use Rattle.mc_cache.specs.Belonging.{BelongsTo, HaveIdleHands};
 ghost use Rattle.mc_cache.specs.Observers.{arenas_of, hash_key, shard_count};
 ghost use Rattle.mc_cache.specs.Bytes.{bytes_of, table_bytes};
-ghost use Rattle.mc_cache.specs.Opening.{IsNewShard, KeepsNoHistory, cache_refusal};
+ghost use Rattle.mc_cache.specs.Opening.{AreNewShards, IsNewShard, KeepsNoHistory, cache_refusal};
 ghost use Rattle.mc_cache.specs.Pairs.{ArePaired};
 ghost use Rattle.mc_cache.specs.Tending.{IsFreshDecider, IsTenderOf, deciders_of, hands_of};
 ghost use Rattle.mc_cache.specs.Shards.{AreIdleHands, AreIdleHandsOf};
@@ -192,10 +192,9 @@ fn add_shard<R: Wait>(
     arenas: &mut Vec<Arena>,
     workers: &mut Vec<Worker>,
 ) -> Result<(), Refused>
-    requires accepted { cache_refusal config.now ≡ None }
     requires count { length workers.old.items ≡ config.now.workers + 1 }
     requires hands { HaveIdleHands arenas.old.items workers.old.items }
-    requires new { All (IsNewShard config.now) arenas.old.items }
+    requires shards { AreNewShards config.now arenas.old.items }
     ensures arenas { OnOk result (length arenas.new.items ≡ length arenas.old.items + 1) }
     ensures count { OnOk result (length workers.new.items ≡ config.now.workers + 1) }
     ensures hands { OnOk result (HaveIdleHands arenas.new.items workers.new.items) }

@@ -1,6 +1,8 @@
 //! The calls of a worker.
-use crate::bumping::get_touching_if;
+ghost use Rattle.mc_cache.specs.Cases.{AskedAgain};
+
 use crate::cache::{Cache, Worker};
+use mc_byte_items::Label;
 use mc_memory::Refused;
 use std::sync::Wait;
 use thiserror::Error;
@@ -81,7 +83,8 @@ impl Worker {
         }
         let arena = &cache.arenas[at.shard];
         let hand = &mut self.hands[at.shard];
-        match mc_byte_items::set(rt, arena, hand, at.hash, key, value, &mut self.words) {
+        let label = Label { hash: at.hash, key };
+        match mc_byte_items::set(rt, arena, hand, label, value, &mut self.words) {
             Ok(_stamp) => Ok(()),
             Err(error) => Err(SetError::Item(error)),
         }
@@ -111,7 +114,8 @@ impl Worker {
         };
         let arena = &cache.arenas[at.shard];
         let hand = &mut self.hands[at.shard];
-        mc_byte_items::get(rt, arena, hand, at.hash, key, into).map_err(CallError::NoMemory)
+        let label = Label { hash: at.hash, key };
+        mc_byte_items::get(rt, arena, hand, label, into, false).map_err(CallError::NoMemory)
     }
 
     /// The same as `get`; and where the key has a value, it is touched then, as by `touch`, unless this worker did so lately: it notes one
@@ -143,7 +147,8 @@ impl Worker {
         let arena = &cache.arenas[at.shard];
         let hand = &mut self.hands[at.shard];
         let due = self.recent.is_due(at.hash);
-        match get_touching_if(rt, arena, hand, at.hash, key, into, due) {
+        let label = Label { hash: at.hash, key };
+        match mc_byte_items::get(rt, arena, hand, label, into, due) {
             Ok(true) => {
                 self.recent.note(at.hash);
                 Ok(true)
@@ -175,7 +180,8 @@ impl Worker {
         };
         let arena = &cache.arenas[at.shard];
         let hand = &mut self.hands[at.shard];
-        match mc_byte_items::try_get(arena, hand, at.hash, key, into) {
+        let label = Label { hash: at.hash, key };
+        match mc_byte_items::try_get(arena, hand, label, into) {
             Ok(found) => Ok(found),
             Err(mc_byte_items::TryGetError::NoMemory(refused)) => {
                 Err(TryGetError::NoMemory(refused))
@@ -204,7 +210,8 @@ impl Worker {
         };
         let arena = &cache.arenas[at.shard];
         let hand = &mut self.hands[at.shard];
-        mc_byte_items::contains(rt, arena, hand, at.hash, key).map_err(CallError::NoMemory)
+        let label = Label { hash: at.hash, key };
+        mc_byte_items::contains(rt, arena, hand, label).map_err(CallError::NoMemory)
     }
 
     /// Deletes the key, and says whether it had a value. An item of another key with the same hash stays; where one is stored between the
@@ -223,7 +230,8 @@ impl Worker {
         };
         let arena = &cache.arenas[at.shard];
         let hand = &mut self.hands[at.shard];
-        mc_byte_items::delete(rt, arena, hand, at.hash, key).map_err(CallError::NoMemory)
+        let label = Label { hash: at.hash, key };
+        mc_byte_items::delete(rt, arena, hand, label).map_err(CallError::NoMemory)
     }
 
     /// Makes the key's item the one of its class that is evicted last, and says whether the key has a value. It waits for locks of the
@@ -242,6 +250,12 @@ impl Worker {
         };
         let arena = &cache.arenas[at.shard];
         let hand = &mut self.hands[at.shard];
-        mc_byte_items::touch(rt, arena, hand, at.hash, key).map_err(CallError::NoMemory)
+        let label = Label { hash: at.hash, key };
+        mc_byte_items::touch(rt, arena, hand, label).map_err(CallError::NoMemory)
     }
 }
+
+/// A worked case: a hash is noted once it was asked for, and no more once another was that has its remainder by 1,024.
+pub fn worked_recent()
+    ensures { AskedAgain }
+{}

@@ -161,3 +161,13 @@ fn plays_rows<R: Abort + Wait>(rt: &R, alloc: Global, rows: &[Row]) -> Result<()
     }
     Ok(())
 }
+
+#[test]
+fn rows_are_played(rt: HostRuntime) -> Result<(), Fail> {
+    plays_rows(&rt, rt.alloc(), &rows::ROWS)?;
+    plays_rows(&rt, rt.alloc(), &hostile::TAKEN)?;
+    plays_rows(&rt, rt.alloc(), &guards::ROWS)?;
+    plays_rows(&rt, rt.alloc(), &holds::ROWS)?;
+    plays_rows(&rt, rt.alloc(), &moves::ROWS)?;
+    plays_rows(&rt, rt.alloc(), &automove::ROWS)
+}

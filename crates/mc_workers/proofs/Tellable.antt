@@ -23,6 +23,9 @@ use Rattle.mc_core.proofs.LawKept.{lawful_events}
 use Rattle.mc_core.proofs.Listed.{per_page_is}
 use Rattle.mc_core.proofs.OfTable.{class_count}
 use Rattle.mc_watch.specs.Texts.{AreCounts}
+use Rattle.mc_words.specs.declared.arena.Arena.{Arena}
+use Rattle.mc_words.specs.declared.hand.Hand.{Hand}
+use Rattle.mc_words.specs.hand.Arenas.{IsHandOf, setup_of, view}
 use Rattle.mc_words.specs.hand.View.{Setup, View}
 use Rattle.mc_words.specs.lock.Doing.{HoldsSlabs}
 use Rattle.mc_words.specs.rule.Happens.{event_of}
@@ -32,6 +35,7 @@ use Rattle.mc_words.specs.lock.Wait.{WaitsForSlabs}
 use Rattle.mc_words.proofs.Locks.Lent.{lent_slabs}
 use Rattle.mc_words.proofs.Locks.TakeAndGive.{held_from}
 use Rattle.mc_mover.specs.declared.numbers.Survey.{Survey}
+use Rattle.mc_mover.specs.Acting.{ActsOnce}
 use Rattle.mc_mover.specs.Surveying.{IsSurvey, Surveys, SweepsClasses, classes_swept, free_in, pages_in}
 use Rattle.mc_mover.proofs.HoldsSlabs.{wait_keeps}
 use Rattle.mc_workers.specs.Script.{SurveysWhole}
@@ -157,10 +161,14 @@ module _ (view now : View) (sweep : Bool) (survey : Survey) (holds : HoldsSlabs 
       (subst (λ (t : Classes). IsOfTable t holds.left) same_table here.1, subst IsSound same_table sound)
 
 -- so its numbers can be told
-pub survey_tellable : (view now : View) (sweep : Bool) (survey : Survey) → HoldsSlabs (Surveys sweep survey) view now → AreTellable view.setup.table survey
+survey_tellable : (view now : View) (sweep : Bool) (survey : Survey) → HoldsSlabs (Surveys sweep survey) view now → AreTellable view.setup.table survey
 survey_tellable view now sweep survey holds =
     let (of, sound) = left_of_table view now sweep survey holds in
     are_tellable view.setup.table holds.left sound of survey holds.does.is
+
+pub survey_told : (arena : Arena) (before now : Hand) (sweep : Bool) (survey : Survey) → IsHandOf arena before → ActsOnce (λ number. Surveys sweep survey) before now → AreTellable (setup_of arena).table survey
+survey_told arena before now sweep survey of_arena acts =
+    subst (λ (s : Setup). AreTellable s.table survey) of_arena.setup (survey_tellable (view before) (view now) sweep survey acts)
 
 -- and they are those of pages and lists of the table
 pub survey_whole : (view now : View) (survey : Survey) → HoldsSlabs (Surveys true survey) view now → HoldsSlabs (SurveysWhole view.setup.table survey) view now

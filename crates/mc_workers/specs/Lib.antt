@@ -13,3 +13,4 @@ pub mod Threads
 pub mod WorkerCases
 pub mod Script
 pub mod Gates
+pub mod Hands

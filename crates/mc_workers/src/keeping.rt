@@ -1,10 +1,8 @@
 //! Lines that take and give back references which the worker keeps meanwhile.
 ghost use Rattle.std.specs.Prelude.{◌≡◌, All, IfOk, IfSome, None, OnErr, true};
-ghost use Rattle.mc_words.specs.hand.Arenas.{IsHandOf, view};
+ghost use Rattle.mc_words.specs.hand.Arenas.{view};
 ghost use Rattle.mc_words.specs.hand.Idle.{is_idle};
-ghost use Rattle.mc_words.specs.hand.Observers.{number_of};
-ghost use Rattle.mc_words.specs.hand.Ready.{IsReady};
-ghost use Rattle.mc_items.specs.ItemRefs.{AreKept};
+ghost use Rattle.mc_workers.specs.Hands.{IsKeeping, StaysKeeping, StaysReady};
 ghost use Rattle.mc_workers.specs.Kept.{IsLastAt, IsToOther};
 ghost use Rattle.mc_workers.specs.Lines.{all_released};
 ghost use Rattle.mc_workers.specs.OnHands.{AnswersDropBy, AnswersHoldBy};
@@ -24,13 +22,8 @@ pub(crate) fn hold<R: Wait>(
     kept: &mut Vec<Ref>,
     key: u64,
 ) -> Result<Reply, Refused>
-    requires arena { IsHandOf arena.now hand.old }
-    requires ready { IsReady (view hand.old) }
-    requires kept { AreKept (view hand.old) kept.old.items }
-    ensures arena { IsHandOf arena.now hand.new }
-    ensures ready { IsReady (view hand.new) }
-    ensures kept { AreKept (view hand.new) kept.new.items }
-    ensures number { number_of hand.new ≡ number_of hand.old }
+    requires keeping { IsKeeping arena.now hand.old kept.old.items }
+    ensures stays { StaysKeeping arena.now hand.old hand.new kept.new.items }
     ensures answers { IfOk result (λ reply. AnswersHoldBy arena.now key reply hand.old kept.old.items hand.new kept.new.items) }
     ensures left { OnErr result (kept.new.items ≡ kept.old.items) }
 {
@@ -54,13 +47,8 @@ pub(crate) fn drop_last(
     kept: &mut Vec<Ref>,
     key: u64,
 ) -> Result<Reply, Refused>
-    requires arena { IsHandOf arena.now hand.old }
-    requires ready { IsReady (view hand.old) }
-    requires kept { AreKept (view hand.old) kept.old.items }
-    ensures arena { IsHandOf arena.now hand.new }
-    ensures ready { IsReady (view hand.new) }
-    ensures kept { AreKept (view hand.new) kept.new.items }
-    ensures number { number_of hand.new ≡ number_of hand.old }
+    requires keeping { IsKeeping arena.now hand.old kept.old.items }
+    ensures stays { StaysKeeping arena.now hand.old hand.new kept.new.items }
     ensures answers { IfOk result (λ reply. AnswersDropBy key reply hand.old kept.old.items hand.new kept.new.items) }
     ensures left { OnErr result (kept.new.items ≡ kept.old.items) }
 {
@@ -87,12 +75,8 @@ fn place_of_last(kept: &[Ref], key: u64) -> Option<usize>
 
 // Gives back each reference that is kept, the last one first.
 pub(crate) fn release_all(arena: &Arena, hand: &mut Hand, mut kept: Vec<Ref>)
-    requires arena { IsHandOf arena.now hand.old }
-    requires ready { IsReady (view hand.old) }
-    requires kept { AreKept (view hand.old) kept.items }
-    ensures arena { IsHandOf arena.now hand.new }
-    ensures ready { IsReady (view hand.new) }
-    ensures number { number_of hand.new ≡ number_of hand.old }
+    requires keeping { IsKeeping arena.now hand.old kept.items }
+    ensures stays { StaysReady arena.now hand.old hand.new }
     ensures idle { is_idle (view hand.new) ≡ true }
     ensures released { view hand.new ≡ all_released kept.items (view hand.old) }
 {

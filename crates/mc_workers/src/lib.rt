@@ -3,7 +3,6 @@
 
 mod ended;
 mod gate;
-mod getting;
 mod keeping;
 mod line;
 mod lines;

@@ -1,21 +1,18 @@
 //! One line of a worker, on its hand.
 ghost use Rattle.std.specs.Prelude.{◌≡◌, IfOk, OnErr, true};
 ghost use Rattle.mc_script.specs.Command.{IsValid};
-ghost use Rattle.mc_words.specs.hand.Arenas.{IsHandOf, setup_of, view};
-ghost use Rattle.mc_words.specs.hand.Observers.{number_of};
-ghost use Rattle.mc_words.specs.hand.Ready.{IsReady};
+ghost use Rattle.mc_words.specs.hand.Arenas.{setup_of, view};
 ghost use Rattle.mc_words.specs.item.Refs.{KeepsRefs};
-ghost use Rattle.mc_items.specs.ItemRefs.{AreKept};
-ghost use Rattle.mc_items.specs.Keeping.{HoldsAsOften, HoldsTheSame};
+ghost use Rattle.mc_items.specs.Keeping.{HoldsAsOften};
 ghost use Rattle.mc_workers.specs.Asking.{is_workers};
+ghost use Rattle.mc_workers.specs.Hands.{IsKeeping, IsReadyHandOf, StaysHolding, StaysKeeping, StaysReady};
 ghost use Rattle.mc_workers.specs.OnHands.{ServesBy};
-ghost use Rattle.mc_workers.specs.Serving.{AnswersDelete, AnswersTouch};
+ghost use Rattle.mc_workers.specs.Serving.{AnswersDelete, AnswersGet, AnswersTouch};
 
-use crate::getting::get_words;
 use crate::keeping::{drop_last, hold};
 use crate::reply::Reply;
 use crate::setting::set_words;
-use mc_items::{Ref, delete, touch};
+use mc_items::{GetError, Ref, delete, get, read, release, touch};
 use mc_memory::Refused;
 use mc_script::Command;
 use mc_words::{Arena, Hand};
@@ -34,15 +31,10 @@ pub fn serve_line<R: Wait>(
     kept: &mut Vec<Ref>,
     command: Command,
 ) -> Result<Reply, Refused>
-    requires arena { IsHandOf arena.now hand.old }
-    requires ready { IsReady (view hand.old) }
-    requires kept { AreKept (view hand.old) kept.old.items }
+    requires keeping { IsKeeping arena.now hand.old kept.old.items }
     requires valid { IsValid command }
     requires worker { is_workers command ≡ true }
-    ensures arena { IsHandOf arena.now hand.new }
-    ensures ready { IsReady (view hand.new) }
-    ensures kept { AreKept (view hand.new) kept.new.items }
-    ensures number { number_of hand.new ≡ number_of hand.old }
+    ensures stays { StaysKeeping arena.now hand.old hand.new kept.new.items }
     ensures serves { IfOk result (λ reply. ServesBy arena.now command reply hand.old kept.old.items hand.new kept.new.items) }
     ensures left { OnErr result (kept.new.items ≡ kept.old.items) }
 {
@@ -62,15 +54,39 @@ pub fn serve_line<R: Wait>(
     }
 }
 
+// Reads the words of the key's item, and releases it again.
+fn get_words<R: Wait>(
+    rt: &R,
+    alloc: Global,
+    arena: &Arena,
+    hand: &mut Hand,
+    key: u64,
+) -> Result<Reply, Refused>
+    requires ready { IsReadyHandOf arena.now hand.old }
+    ensures stays { StaysReady arena.now hand.old hand.new }
+    ensures answers { IfOk result (λ reply. AnswersGet (setup_of arena.now) key reply hand.old hand.new) }
+    ensures holdings { HoldsAsOften (view hand.old) (view hand.new) }
+    ensures keeps { KeepsRefs (view hand.old) (view hand.new) }
+{
+    let item = match get(rt, arena, hand, key) {
+        Ok(Some(item)) => item,
+        Ok(None) => return Ok(Reply::NotFound),
+        Err(GetError::TooManyRefs) => return Ok(Reply::TooManyRefs),
+        Err(GetError::NoMemory(refused)) => return Err(refused),
+    };
+    let words = read(alloc, arena, hand, &item);
+    release(arena, hand, item);
+    match words {
+        Ok(words) => Ok(Reply::Value(words)),
+        Err(refused) => Err(refused),
+    }
+}
+
 // Deletes the key, and says whether it had an item.
 fn delete_key<R: Wait>(rt: &R, arena: &Arena, hand: &mut Hand, key: u64) -> Result<Reply, Refused>
-    requires arena { IsHandOf arena.now hand.old }
-    requires ready { IsReady (view hand.old) }
-    ensures arena { IsHandOf arena.now hand.new }
-    ensures ready { IsReady (view hand.new) }
-    ensures number { number_of hand.new ≡ number_of hand.old }
+    requires ready { IsReadyHandOf arena.now hand.old }
+    ensures stays { StaysHolding arena.now hand.old hand.new }
     ensures answers { IfOk result (λ reply. AnswersDelete (setup_of arena.now) key reply hand.old hand.new) }
-    ensures holdings { HoldsTheSame (view hand.old) (view hand.new) }
     ensures keeps { KeepsRefs (view hand.old) (view hand.new) }
 {
     match delete(rt, arena, hand, key) {
@@ -82,11 +98,8 @@ fn delete_key<R: Wait>(rt: &R, arena: &Arena, hand: &mut Hand, key: u64) -> Resu
 
 // Touches the key, and says whether it has an item.
 fn touch_key<R: Wait>(rt: &R, arena: &Arena, hand: &mut Hand, key: u64) -> Result<Reply, Refused>
-    requires arena { IsHandOf arena.now hand.old }
-    requires ready { IsReady (view hand.old) }
-    ensures arena { IsHandOf arena.now hand.new }
-    ensures ready { IsReady (view hand.new) }
-    ensures number { number_of hand.new ≡ number_of hand.old }
+    requires ready { IsReadyHandOf arena.now hand.old }
+    ensures stays { StaysReady arena.now hand.old hand.new }
     ensures answers { IfOk result (λ reply. AnswersTouch (setup_of arena.now) key reply hand.old hand.new) }
     ensures holdings { HoldsAsOften (view hand.old) (view hand.new) }
     ensures keeps { KeepsRefs (view hand.old) (view hand.new) }

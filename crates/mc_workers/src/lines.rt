@@ -5,10 +5,9 @@ ghost use Rattle.mc_script.specs.Command.{IsValid};
 ghost use Rattle.mc_words.specs.hand.Arenas.{IsHandOf, setup_of, view};
 ghost use Rattle.mc_words.specs.hand.Idle.{is_idle};
 ghost use Rattle.mc_words.specs.hand.Observers.{number_of};
-ghost use Rattle.mc_words.specs.hand.Ready.{IsReady};
-ghost use Rattle.mc_items.specs.ItemRefs.{AreKept};
 ghost use Rattle.mc_workers.specs.Asking.{asked_by, is_asked_by, is_workers, lines_of};
 ghost use Rattle.mc_workers.specs.Gates.{Passed, PassedEach};
+ghost use Rattle.mc_workers.specs.Hands.{IsKeeping, IsReadyHandOf, StaysKeeping};
 ghost use Rattle.mc_workers.specs.Lines.{DoesLines};
 ghost use Rattle.mc_workers.specs.OnHands.{AddsReplyBy, ServesLinesBy};
 
@@ -31,8 +30,7 @@ pub fn serve_lines<R: Wait, G: Gate>(
     hand: &mut Hand,
     text: &mut Vec<u8>,
 ) -> Result<(), Ended>
-    requires arena { IsHandOf shared.now.arena.now hand.old }
-    requires ready { IsReady (view hand.old) }
+    requires ready { IsReadyHandOf shared.now.arena.now hand.old }
     requires none { (view hand.old).row.holdings ≡ [] }
     requires valid { All IsValid shared.now.commands.now }
     requires empty { text.old.items ≡ [] }
@@ -56,14 +54,9 @@ fn serve_each<R: Wait, G: Gate>(
     kept: &mut Vec<Ref>,
     text: &mut Vec<u8>,
 ) -> Result<(), Ended>
-    requires arena { IsHandOf shared.now.arena.now hand.old }
-    requires ready { IsReady (view hand.old) }
-    requires kept { AreKept (view hand.old) kept.old.items }
+    requires keeping { IsKeeping shared.now.arena.now hand.old kept.old.items }
     requires valid { All IsValid shared.now.commands.now }
-    ensures arena { IsHandOf shared.now.arena.now hand.new }
-    ensures ready { IsReady (view hand.new) }
-    ensures kept { AreKept (view hand.new) kept.new.items }
-    ensures number { number_of hand.new ≡ number_of hand.old }
+    ensures stays { StaysKeeping shared.now.arena.now hand.old hand.new kept.new.items }
     ensures serves { OnOk result
         (ServesLinesBy shared.now.arena.now worker shared.now.commands.now hand.old kept.old.items text.old.items hand.new kept.new.items text.new.items) }
     ensures passed { OnOk result (PassedEach (G.LetsOn shared.now.gate.now) worker (length (lines_of worker shared.now.commands.now))) }
@@ -88,15 +81,10 @@ fn serve_gated<R: Wait, G: Gate>(
     command: Command,
     text: &mut Vec<u8>,
 ) -> Result<(), Ended>
-    requires arena { IsHandOf shared.now.arena.now hand.old }
-    requires ready { IsReady (view hand.old) }
-    requires kept { AreKept (view hand.old) kept.old.items }
+    requires keeping { IsKeeping shared.now.arena.now hand.old kept.old.items }
     requires valid { IsValid command }
     requires worker { is_asked_by worker command ≡ true }
-    ensures arena { IsHandOf shared.now.arena.now hand.new }
-    ensures ready { IsReady (view hand.new) }
-    ensures kept { AreKept (view hand.new) kept.new.items }
-    ensures number { number_of hand.new ≡ number_of hand.old }
+    ensures stays { StaysKeeping shared.now.arena.now hand.old hand.new kept.new.items }
     ensures adds { OnOk result (AddsReplyBy shared.now.arena.now command hand.old kept.old.items text.old.items hand.new kept.new.items text.new.items) }
     ensures passed { OnOk result (Passed (G.LetsOn shared.now.gate.now) worker nth) }
 {

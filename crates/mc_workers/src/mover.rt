@@ -1,11 +1,12 @@
 //! What the mover's thread owns beside its hand.
-ghost use Rattle.std.specs.Prelude.{◌≡◌, IfOk};
+ghost use Rattle.std.specs.Prelude.{◌≡◌, IfOk, OnErr, OnOk};
 ghost use Rattle.mc_watch.specs.Decider.{fresh_decider};
-ghost use Rattle.mc_workers.specs.Moving.{decider_of, turns_of};
+ghost use Rattle.mc_workers.specs.Moving.{decider_after, decider_of, decision_after, turns_of};
 
 use mc_classes::ClassTable;
 use mc_memory::Refused;
-use mc_watch::Decider;
+use mc_mover::Survey;
+use mc_watch::{Decider, Decision};
 use std::alloc::Global;
 
 /// The automover's decider, and how many turns of the run were begun.
@@ -24,6 +25,26 @@ impl Mover {
         match Decider::new(alloc, table) {
             Ok(decider) => Ok(Mover { decider, turns: 0 }),
             Err(refused) => Err(refused),
+        }
+    }
+
+    // Feeds the decider the numbers of a window. Gives the decision to act on, in mode 1 alone.
+    pub(crate) fn decide(
+        &mut self,
+        alloc: Global,
+        survey: &Survey,
+    ) -> Result<Option<Decision>, Refused>
+        ensures fed { OnOk result (decider_of self.new ≡ decider_after (decider_of self.old) survey.now) }
+        ensures decided { IfOk result (λ decided. decided ≡ decision_after (decider_of self.old) survey.now) }
+        ensures kept { OnErr result (decider_of self.new ≡ decider_of self.old) }
+        ensures turns { turns_of self.new ≡ turns_of self.old }
+    {
+        let evictions = survey.evictions(alloc)?;
+        let pages = survey.pages(alloc)?;
+        let free = survey.free(alloc)?;
+        match self.decider.feed(&evictions, &pages, &free) {
+            Ok(decision) if survey.mode == 1 => Ok(decision),
+            _ => Ok(None),
         }
     }
 }

@@ -1,23 +1,18 @@
 //! One line of the mover, on its hand.
 ghost use Rattle.std.specs.Prelude.{◌≡◌, ◌≤◌, Err, IfOk, false};
-ghost use Rattle.mc_mover.specs.Acting.{ActsOnce};
-ghost use Rattle.mc_mover.specs.Surveying.{Surveys};
 ghost use Rattle.mc_script.specs.Command.{IsValid};
-ghost use Rattle.mc_words.specs.hand.Arenas.{IsHandOf, setup_of, view};
-ghost use Rattle.mc_words.specs.hand.Observers.{number_of};
-ghost use Rattle.mc_words.specs.hand.Ready.{IsReady};
+ghost use Rattle.mc_words.specs.hand.Arenas.{setup_of};
 ghost use Rattle.mc_workers.specs.Asking.{is_workers};
+ghost use Rattle.mc_workers.specs.Hands.{IsReadyHandOf, StaysHolding};
 ghost use Rattle.mc_workers.specs.MoverReplies.{CanTell};
 ghost use Rattle.mc_workers.specs.Moving.{ServesMover, StopsMover};
-ghost use Rattle.mc_workers.specs.Surveyed.{AreTellable};
 
 use crate::ended::Ended;
 use crate::mover::Mover;
 use crate::mover_reply::MoverReply;
 use crate::turns::do_turns;
 use crate::window::{ask_for_page, end_window};
-use mc_memory::Refused;
-use mc_mover::{Survey, set_mode, survey};
+use mc_mover::{set_mode, survey};
 use mc_script::Command;
 use mc_words::{Arena, Hand};
 use std::alloc::Global;
@@ -36,14 +31,10 @@ pub fn serve_mover_line<R: Wait>(
     mover: &mut Mover,
     command: Command,
 ) -> Result<MoverReply, Ended>
-    requires arena { IsHandOf arena.now hand.old }
-    requires ready { IsReady (view hand.old) }
+    requires ready { IsReadyHandOf arena.now hand.old }
     requires valid { IsValid command }
     requires mover { is_workers command ≡ false }
-    ensures arena { IsHandOf arena.now hand.new }
-    ensures ready { IsReady (view hand.new) }
-    ensures number { number_of hand.new ≡ number_of hand.old }
-    ensures holdings { (view hand.new).row.holdings ≡ (view hand.old).row.holdings }
+    ensures stays { StaysHolding arena.now hand.old hand.new }
     ensures moves { IfOk result (λ reply. ServesMover command reply mover.old hand.old mover.new hand.new) }
     ensures tellable { IfOk result (CanTell (setup_of arena.now).table) }
     ensures stopped { result ≡ Err Ended.Turns → StopsMover command mover.old hand.old mover.new hand.new }
@@ -66,36 +57,13 @@ pub fn serve_mover_line<R: Wait>(
             Ok(MoverReply::Turned(ending, counts))
         }
         Command::Stats => {
-            let survey = survey_all(rt, alloc, arena, hand, false)?;
+            let survey = survey(rt, alloc, arena, hand, false)?;
             Ok(MoverReply::Totals(survey))
         }
         Command::StatsSlabs => {
-            let survey = survey_all(rt, alloc, arena, hand, true)?;
+            let survey = survey(rt, alloc, arena, hand, true)?;
             Ok(MoverReply::Classes(survey))
         }
         _ => unreachable!(),
-    }
-}
-
-// What the classes and the whole have, the dead put back before if that is asked for.
-pub(crate) fn survey_all<R: Wait>(
-    rt: &R,
-    alloc: Global,
-    arena: &Arena,
-    hand: &mut Hand,
-    sweep: bool,
-) -> Result<Survey, Refused>
-    requires arena { IsHandOf arena.now hand.old }
-    requires ready { IsReady (view hand.old) }
-    ensures arena { IsHandOf arena.now hand.new }
-    ensures ready { IsReady (view hand.new) }
-    ensures number { number_of hand.new ≡ number_of hand.old }
-    ensures holdings { (view hand.new).row.holdings ≡ (view hand.old).row.holdings }
-    ensures surveys { IfOk result (λ survey. ActsOnce (λ number. Surveys sweep survey) hand.old hand.new) }
-    ensures tellable { IfOk result (AreTellable (setup_of arena.now).table) }
-{
-    match survey(rt, alloc, arena, hand, sweep) {
-        Ok(survey) => Ok(survey),
-        Err(refused) => Err(refused),
     }
 }

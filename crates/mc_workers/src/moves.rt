@@ -1,11 +1,10 @@
 //! All lines of the mover, in order.
 ghost use Rattle.std.specs.Prelude.{◌≡◌, [], All, length, OnOk, false};
 ghost use Rattle.mc_script.specs.Command.{IsValid};
-ghost use Rattle.mc_words.specs.hand.Arenas.{IsHandOf, setup_of, view};
-ghost use Rattle.mc_words.specs.hand.Observers.{number_of};
-ghost use Rattle.mc_words.specs.hand.Ready.{IsReady};
+ghost use Rattle.mc_words.specs.hand.Arenas.{setup_of};
 ghost use Rattle.mc_workers.specs.Asking.{is_movers, is_workers, lines_of_mover};
 ghost use Rattle.mc_workers.specs.Gates.{Passed, PassedEach};
+ghost use Rattle.mc_workers.specs.Hands.{IsReadyHandOf, StaysHolding};
 ghost use Rattle.mc_workers.specs.Moves.{MovesLines};
 ghost use Rattle.mc_workers.specs.OnHands.{AddsMoveBy, AddsMovesBy};
 
@@ -25,14 +24,10 @@ pub fn move_lines<R: Wait, G: Gate>(
     hand: &mut Hand,
     text: &mut Vec<u8>,
 ) -> Result<(), Ended>
-    requires arena { IsHandOf shared.now.arena.now hand.old }
-    requires ready { IsReady (view hand.old) }
+    requires ready { IsReadyHandOf shared.now.arena.now hand.old }
     requires valid { All IsValid shared.now.commands.now }
     requires empty { text.old.items ≡ [] }
-    ensures arena { IsHandOf shared.now.arena.now hand.new }
-    ensures ready { IsReady (view hand.new) }
-    ensures number { number_of hand.new ≡ number_of hand.old }
-    ensures holdings { (view hand.new).row.holdings ≡ (view hand.old).row.holdings }
+    ensures stays { StaysHolding shared.now.arena.now hand.old hand.new }
     ensures moves { OnOk result (MovesLines (setup_of shared.now.arena.now).table shared.now.commands.now hand.old text.new.items hand.new) }
     ensures passed { OnOk result (PassedEach (G.LetsOn shared.now.gate.now) 0 (length (lines_of_mover shared.now.commands.now))) }
 {
@@ -47,13 +42,9 @@ fn move_each<R: Wait, G: Gate>(
     mover: &mut Mover,
     text: &mut Vec<u8>,
 ) -> Result<(), Ended>
-    requires arena { IsHandOf shared.now.arena.now hand.old }
-    requires ready { IsReady (view hand.old) }
+    requires ready { IsReadyHandOf shared.now.arena.now hand.old }
     requires valid { All IsValid shared.now.commands.now }
-    ensures arena { IsHandOf shared.now.arena.now hand.new }
-    ensures ready { IsReady (view hand.new) }
-    ensures number { number_of hand.new ≡ number_of hand.old }
-    ensures holdings { (view hand.new).row.holdings ≡ (view hand.old).row.holdings }
+    ensures stays { StaysHolding shared.now.arena.now hand.old hand.new }
     ensures moves { OnOk result (AddsMovesBy shared.now.arena.now shared.now.commands.now hand.old mover.old text.old.items hand.new mover.new text.new.items) }
     ensures passed { OnOk result (PassedEach (G.LetsOn shared.now.gate.now) 0 (length (lines_of_mover shared.now.commands.now))) }
 {
@@ -76,14 +67,10 @@ fn move_gated<R: Wait, G: Gate>(
     command: Command,
     text: &mut Vec<u8>,
 ) -> Result<(), Ended>
-    requires arena { IsHandOf shared.now.arena.now hand.old }
-    requires ready { IsReady (view hand.old) }
+    requires ready { IsReadyHandOf shared.now.arena.now hand.old }
     requires valid { IsValid command }
     requires mover { is_workers command ≡ false }
-    ensures arena { IsHandOf shared.now.arena.now hand.new }
-    ensures ready { IsReady (view hand.new) }
-    ensures number { number_of hand.new ≡ number_of hand.old }
-    ensures holdings { (view hand.new).row.holdings ≡ (view hand.old).row.holdings }
+    ensures stays { StaysHolding shared.now.arena.now hand.old hand.new }
     ensures adds { OnOk result (AddsMoveBy shared.now.arena.now command hand.old mover.old text.old.items hand.new mover.new text.new.items) }
     ensures passed { OnOk result (Passed (G.LetsOn shared.now.gate.now) 0 nth) }
 {

@@ -2,19 +2,18 @@
 ghost use Rattle.std.specs.Prelude.{◌≡◌, ◌≤◌, [], All, IfOk, None};
 ghost use Rattle.mc_classes.specs.Refusals.{refusal_of};
 ghost use Rattle.mc_script.specs.Command.{IsValid};
-ghost use Rattle.mc_words.specs.hand.Arenas.{IsHandOf, view};
-ghost use Rattle.mc_words.specs.hand.Ready.{IsReady};
+ghost use Rattle.mc_words.specs.hand.Arenas.{view};
 ghost use Rattle.mc_workers.specs.Asking.{greatest_worker, worker_of};
+ghost use Rattle.mc_workers.specs.Hands.{IsReadyHandOf};
 ghost use Rattle.mc_workers.specs.Script.{IsOpened, ServesScript, TellsAll};
 
 use crate::ended::Ended;
 use crate::gate::Gate;
-use crate::mover_line::survey_all;
 use crate::statistics::push_statistics;
 use crate::threads::{Joined, first_hand, run_workers};
 use mc_classes::Config;
 use mc_memory::{Refused, extend_from_slice};
-use mc_mover::set_mode;
+use mc_mover::{set_mode, survey};
 use mc_script::Command;
 use mc_words::{Arena, Hand, NewError};
 use std::alloc::Global;
@@ -82,7 +81,7 @@ fn open_arena<R: Wait>(
     requires some { 1 ≤ hands }
     requires few { hands ≤ 64 }
     ensures opened { IfOk result (λ opened. IsOpened config.now mode hands opened.0 opened.1 opened.2.items) }
-    ensures mover { IfOk result (λ opened. IsHandOf opened.0 opened.1 × IsReady (view opened.1)) }
+    ensures mover { IfOk result (λ opened. IsReadyHandOf opened.0 opened.1) }
     ensures none { IfOk result (λ opened. (view opened.1).row.holdings ≡ []) }
 {
     let (arena, mut workers) = match Arena::new(alloc, config, hands) {
@@ -104,8 +103,7 @@ fn tell_all<R: Wait>(
     arena: &Arena,
     joined: Joined,
 ) -> Result<Vec<u8>, Refused>
-    requires arena { IsHandOf arena.now joined.hand }
-    requires ready { IsReady (view joined.hand) }
+    requires ready { IsReadyHandOf arena.now joined.hand }
     ensures tells { IfOk result (λ text. TellsAll arena.now joined text.items) }
 {
     let Joined {
@@ -113,7 +111,7 @@ fn tell_all<R: Wait>(
         workers,
         mover,
     } = joined;
-    let survey = survey_all(rt, alloc, arena, &mut hand, true)?;
+    let survey = survey(rt, alloc, arena, &mut hand, true)?;
     let mut text = workers;
     extend_from_slice(&mut text, &mover)?;
     push_statistics(&mut text, arena.classes(), &survey)?;

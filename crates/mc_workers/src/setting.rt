@@ -1,11 +1,9 @@
 //! Lines that store an item.
 ghost use Rattle.std.specs.Prelude.{◌≡◌, ◌≤◌, IfOk, OnOk};
 ghost use Rattle.mc_machine.specs.Item.{words_from};
-ghost use Rattle.mc_words.specs.hand.Arenas.{IsHandOf, view};
-ghost use Rattle.mc_words.specs.hand.Observers.{number_of};
-ghost use Rattle.mc_words.specs.hand.Ready.{IsReady};
+ghost use Rattle.mc_words.specs.hand.Arenas.{view};
 ghost use Rattle.mc_words.specs.item.Refs.{KeepsRefs};
-ghost use Rattle.mc_items.specs.Keeping.{HoldsTheSame};
+ghost use Rattle.mc_workers.specs.Hands.{IsReadyHandOf, StaysHolding};
 ghost use Rattle.mc_workers.specs.Serving.{AnswersSet};
 
 use crate::reply::Reply;
@@ -25,14 +23,10 @@ pub(crate) fn set_words<R: Wait>(
     count: u64,
     base: u64,
 ) -> Result<Reply, Refused>
-    requires arena { IsHandOf arena.now hand.old }
-    requires ready { IsReady (view hand.old) }
+    requires ready { IsReadyHandOf arena.now hand.old }
     requires count { count ≤ 4096 }
-    ensures arena { IsHandOf arena.now hand.new }
-    ensures ready { IsReady (view hand.new) }
-    ensures number { number_of hand.new ≡ number_of hand.old }
+    ensures stays { StaysHolding arena.now hand.old hand.new }
     ensures answers { IfOk result (λ reply. AnswersSet key (words_from base count) reply hand.old hand.new) }
-    ensures holdings { HoldsTheSame (view hand.old) (view hand.new) }
     ensures keeps { KeepsRefs (view hand.old) (view hand.new) }
 {
     let words = count_up(alloc, base, count)?;

@@ -5,7 +5,7 @@ ghost use Rattle.mc_script.specs.Command.{IsValid};
 ghost use Rattle.mc_words.specs.hand.Arenas.{IsHandOf, view};
 ghost use Rattle.mc_words.specs.hand.Hands.{AreHandsFrom, IsNewHand};
 ghost use Rattle.mc_words.specs.hand.Idle.{is_idle};
-ghost use Rattle.mc_words.specs.hand.Ready.{IsReady};
+ghost use Rattle.mc_workers.specs.Hands.{IsReadyHandOf};
 ghost use Rattle.mc_workers.specs.Threads.{AreDone, IsMoved, IsServed, JoinsBoth};
 
 use crate::ended::Ended;
@@ -70,8 +70,7 @@ pub fn run_workers<R: Threads + Wait + Sync, G: Gate + Sync>(
 ) -> Result<Joined, Ended>
     requires hands { AreHandsFrom arena.now worker hands.items }
     requires few { worker + vec_len hands ≤ 64 }
-    requires arena { IsHandOf arena.now mover }
-    requires ready { IsReady (view mover) }
+    requires ready { IsReadyHandOf arena.now mover }
     requires none { (view mover).row.holdings ≡ [] }
     requires valid { All IsValid commands.now }
     ensures done { IfOk result (AreDone arena.now worker commands.now hands.items mover) }
@@ -85,7 +84,7 @@ pub fn run_workers<R: Threads + Wait + Sync, G: Gate + Sync>(
         |scope| -> Result<Joined, Ended>
             requires { IsSync R.row × IsSync G.row
                 × IsNewHand arena.now worker hand × AreHandsFrom arena.now (1 + worker) hands.items × (worker + vec_len hands ≤ 63)
-                × IsHandOf arena.now mover × IsReady (view mover) × ((view mover).row.holdings ≡ []) × All IsValid commands.now }
+                × IsReadyHandOf arena.now mover × ((view mover).row.holdings ≡ []) × All IsValid commands.now }
             ensures { IfOk result (AreDone arena.entry.now worker commands.entry.now (hand ∷ hands.items) mover) }
         {
             let promise = DoneBy {
@@ -159,8 +158,7 @@ fn move_alone<R: Wait, G: Gate>(
     commands: &[Command],
     mut hand: Hand,
 ) -> Result<Joined, Ended>
-    requires arena { IsHandOf arena.now hand }
-    requires ready { IsReady (view hand) }
+    requires ready { IsReadyHandOf arena.now hand }
     requires none { (view hand).row.holdings ≡ [] }
     requires valid { All IsValid commands.now }
     ensures moved { IfOk result (IsMoved arena.now commands.now hand) }
@@ -185,7 +183,7 @@ fn move_alone<R: Wait, G: Gate>(
 pub fn first_hand(arena: &Arena, worker: u64, hands: &mut Vec<Hand>) -> Option<Hand>
     requires hands { AreHandsFrom arena.now worker hands.old.items }
     ensures first { IfSome result (IsNewHand arena.now worker) }
-    ensures ready { IfSome result (λ hand. IsHandOf arena.now hand × IsReady (view hand) × ((view hand).row.holdings ≡ [])) }
+    ensures ready { IfSome result (λ hand. IsReadyHandOf arena.now hand × ((view hand).row.holdings ≡ [])) }
     ensures others { IfSome result (λ hand. AreHandsFrom arena.now (1 + worker) hands.new.items) }
     ensures all { IfSome result (λ hand. hands.old.items ≡ hand ∷ hands.new.items) }
     ensures fewer { IfSome result (λ hand. vec_len hands.new + 1 ≡ vec_len hands.old) }

@@ -3,9 +3,7 @@ ghost use Rattle.std.specs.Prelude.{◌≡◌, ◌≢◌, ◌≤◌, ◌^◌, If
 ghost use Rattle.mc_machine.specs.Mover.{AreAtMost};
 ghost use Rattle.mc_mover.specs.Telling.{counts_in};
 ghost use Rattle.mc_mover.specs.Turning.{AreBelow};
-ghost use Rattle.mc_words.specs.hand.Arenas.{IsHandOf, view};
-ghost use Rattle.mc_words.specs.hand.Observers.{number_of};
-ghost use Rattle.mc_words.specs.hand.Ready.{IsReady};
+ghost use Rattle.mc_workers.specs.Hands.{IsReadyHandOf, StaysHolding};
 ghost use Rattle.mc_workers.specs.Moving.{DoesTurns, RunsOutOfTurns, counts_with, ending_of};
 
 use crate::ended::Ended;
@@ -27,13 +25,9 @@ pub(crate) fn do_turns<R: Wait>(
     mover: &mut Mover,
     asked: u64,
 ) -> Result<(Ending, Counts), Ended>
-    requires arena { IsHandOf arena.now hand.old }
-    requires ready { IsReady (view hand.old) }
+    requires ready { IsReadyHandOf arena.now hand.old }
     requires asked { (1 ≤ asked) × (asked ≤ 1000000) }
-    ensures arena { IsHandOf arena.now hand.new }
-    ensures ready { IsReady (view hand.new) }
-    ensures number { number_of hand.new ≡ number_of hand.old }
-    ensures holdings { (view hand.new).row.holdings ≡ (view hand.old).row.holdings }
+    ensures stays { StaysHolding arena.now hand.old hand.new }
     ensures does { IfOk result (λ done. DoesTurns asked done.0 done.1 mover.old hand.old mover.new hand.new) }
     ensures stopped { result ≡ Err Ended.Turns → RunsOutOfTurns asked mover.old hand.old mover.new hand.new }
 {

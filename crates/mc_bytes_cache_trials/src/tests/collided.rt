@@ -3,7 +3,7 @@ ghost use Rattle.mc_byte_items.specs.Hands.{IsIdleHandOf};
 
 use super::made::SMALL;
 use super::values::{Call, Trial, key_of, value_of};
-use mc_byte_items::{contains, delete, get, set, touch};
+use mc_byte_items::{Label, contains, delete, get, set, touch};
 use mc_words::{Arena, Hand};
 use std::alloc::Global;
 use std::sync::Wait;
@@ -31,11 +31,13 @@ fn store<R: Wait>(
     let other = key_of(alloc, call.number.wrapping_add(HASHES))?;
     let value = value_of(alloc, call.number, call.version)?;
     let mut words = Vec::new(alloc);
-    if set(rt, arena, hand, hash, &key, &value, &mut words).is_err() {
+    let at = Label { hash, key: &key };
+    let next = Label { hash, key: &other };
+    if set(rt, arena, hand, at, &value, &mut words).is_err() {
         return Ok(false);
     }
-    let own = contains(rt, arena, hand, hash, &key)?;
-    let others = contains(rt, arena, hand, hash, &other)?;
+    let own = contains(rt, arena, hand, at)?;
+    let others = contains(rt, arena, hand, next)?;
     Ok(own && !others)
 }
 
@@ -47,23 +49,24 @@ fn act<R: Wait>(rt: &R, arena: &Arena, hand: &mut Hand, trial: &mut Trial) -> Re
     let call = trial.draw();
     let hash = call.number % HASHES;
     let key = key_of(trial.alloc, call.number)?;
+    let at = Label { hash, key: &key };
     match call.kind {
         0 | 1 | 2 => {
             trial.note(call.number, Some(call.version));
             store(rt, trial.alloc, arena, hand, call)
         }
         3 => {
-            let _deleted = delete(rt, arena, hand, hash, &key)?;
+            let _deleted = delete(rt, arena, hand, at)?;
             trial.note(call.number, None);
-            Ok(!contains(rt, arena, hand, hash, &key)?)
+            Ok(!contains(rt, arena, hand, at)?)
         }
         4 => {
-            let there = contains(rt, arena, hand, hash, &key)?;
-            Ok(touch(rt, arena, hand, hash, &key)? == there)
+            let there = contains(rt, arena, hand, at)?;
+            Ok(touch(rt, arena, hand, at)? == there)
         }
         _ => {
             let mut bytes = Vec::new(trial.alloc);
-            if get(rt, arena, hand, hash, &key, &mut bytes)? {
+            if get(rt, arena, hand, at, &mut bytes, false)? {
                 Ok(trial.is_value(call.number, &bytes)?)
             } else {
                 Ok(bytes.is_empty())

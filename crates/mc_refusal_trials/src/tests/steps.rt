@@ -46,14 +46,7 @@ fn play<R: Wait + Print>(rt: &R, all: &mut Three, step: Step) -> Row
         return Row::Fails;
     }
     tell_call(rt, call.name());
-    let answer = answer_of(
-        rt,
-        all.alloc,
-        &all.arena,
-        &mut all.hand,
-        &all.looker.words,
-        call,
-    );
+    let answer = make_call(rt, all, call);
     if !look_after(&all.arena, &mut all.looker, &all.hand) {
         return Row::Fails;
     }
@@ -61,15 +54,24 @@ fn play<R: Wait + Print>(rt: &R, all: &mut Three, step: Step) -> Row
         return behind_call(rt, call, &all.looker, answer == wanted);
     }
     tell_refused(rt, call.name());
-    let again = answer_of(
+    let again = make_call(rt, all, call);
+    behind_refusal(step, &all.looker.before, &all.looker.after, again)
+}
+
+// Makes the call by the hand that acts.
+fn make_call<R: Wait>(rt: &R, all: &mut Three, call: Call) -> Answer
+    requires ready { AreReadyOf all.old.arena all.old.hand all.old.reader all.old.looker.hand }
+    ensures ready { AreReadyOf all.new.arena all.new.hand all.new.reader all.new.looker.hand }
+    ensures reader { all.new.reader ≡ all.old.reader }
+{
+    answer_of(
         rt,
         all.alloc,
         &all.arena,
         &mut all.hand,
         &all.looker.words,
         call,
-    );
-    behind_refusal(step, &all.looker.before, &all.looker.after, again)
+    )
 }
 
 // What becomes of the row, once the call was made.

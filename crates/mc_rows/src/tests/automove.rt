@@ -1,11 +1,11 @@
 //! Runs in which pages move by themselves.
-use super::{FROM_MODE_0, Row, plays, plays_rows};
+use super::{FROM_MODE_0, Row, plays};
 use mc_driver::Run;
 use mc_trial_values::FOUR_CLASSES;
 use std::alloc::{AllocError, Global};
 use std::test::Fail;
 
-const ROWS: [Row<'static>; 5] = [
+pub(super) const ROWS: [Row<'static>; 5] = [
     (
         "in mode 2 an eviction asks for a page, and where it comes from another class there is room again",
         "1 set 1 61 0\n1 set 2 61 0\n1 set 3 61 0\n1 set 4 61 0\n1 set 11 20 0\n1 set 12 20 0\n1 set 13 20 0\n1 set 14 20 0\n1 set 15 20 0\n1 set 16 20 0\nautomove 2\n1 set 5 61 0\nstats\nturn 1\n1 set 6 61 0\n1 touch 2\n",
@@ -37,11 +37,6 @@ const ROWS: [Row<'static>; 5] = [
         Ok(()),
     ),
 ];
-
-#[test]
-fn pages_move_by_themselves(rt: HostRuntime) -> Result<(), Fail> {
-    plays_rows(&rt, rt.alloc(), &ROWS)
-}
 
 /// Adds a line, and its reply.
 fn push_pair(

@@ -58,20 +58,20 @@ const KEEPS: [&str; 3] = ["hold", "drop", "drop"];
 /// How many words are set. 62 are too many.
 const WORDS: [&str; 6] = ["3", "9", "20", "61", "61", "62"];
 
-/// Lines of the mover.
-const OF_MOVER: [&str; 11] = [
-    "turn 1",
-    "turn 2",
-    "turn 100",
-    "window",
-    "window",
-    "window",
-    "window",
-    "stats",
-    "stats slabs",
-    "automove 1",
-    "automove 2",
+/// Lines of the mover, each with its share of the chances that all have together.
+const OF_MOVER: [(&str, u64); 8] = [
+    ("turn 1", 1),
+    ("turn 2", 1),
+    ("turn 100", 1),
+    ("window", 4),
+    ("stats", 1),
+    ("stats slabs", 1),
+    ("automove 1", 1),
+    ("automove 2", 1),
 ];
+
+/// How many chances these lines have together.
+const CHANCES: u64 = 11;
 
 /// From which class a page is to go to which.
 const SOURCES: [&str; 6] = ["-1", "1", "2", "3", "4", "9"];
@@ -159,10 +159,22 @@ fn worker_line(
     format!(in alloc; "{worker} {rest}\n")
 }
 
+/// One of the lines of the mover that need no classes.
+fn pick_of_mover(random: &mut Pcg32) -> &'static str {
+    let mut behind = draw(random, CHANCES);
+    for (line, chances) in &OF_MOVER {
+        if behind < *chances {
+            return *line;
+        }
+        behind = behind.saturating_sub(*chances);
+    }
+    ""
+}
+
 /// A line of the mover.
 fn mover_line(alloc: Global, random: &mut Pcg32) -> Result<String, AllocError> {
     if draw(random, 4) > 0 {
-        let line = pick(random, &OF_MOVER);
+        let line = pick_of_mover(random);
         return format!(in alloc; "{line}\n");
     }
     let src = pick(random, &SOURCES);

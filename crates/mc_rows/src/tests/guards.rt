@@ -2,7 +2,7 @@
 //! it gives other replies.
 ghost use Rattle.std.specs.Prelude.{◌≤◌};
 
-use super::{FROM_MODE_0, Row, plays, plays_rows};
+use super::{FROM_MODE_0, Row, plays};
 use mc_classes::Config;
 use mc_driver::{Run, RunFault};
 use mc_trial_values::FOUR_CLASSES;
@@ -11,7 +11,7 @@ use std::process::Abort;
 use std::sync::Wait;
 use std::test::Fail;
 
-const ROWS: [Row<'static>; 13] = [
+pub(super) const ROWS: [Row<'static>; 13] = [
     (
         "a drop puts nothing back",
         "1 set 1 61 0\n1 set 2 61 0\n1 set 3 61 0\n1 set 4 61 0\n1 set 5 61 0\n1 set 6 61 0\n1 set 7 61 0\n1 set 8 61 0\n1 hold 1\n1 del 1\n1 drop 1\n1 del 8\n1 set 9 61 0\nreassign 4 1\nturn 1\n",
@@ -148,11 +148,6 @@ const STARTED_ROWS: [StartedRow<'static>; 5] = [
         "STORED 11\r\nSTORED 12\r\nSTORED 13\r\nSTORED 14\r\nSTORED 15\r\nSTORED 16\r\nSTORED 17\r\nSTORED 18\r\nSTORED 19\r\nSTORED 20\r\nSTORED 21\r\nSTORED 22\r\nSTORED 23\r\nSTORED 24\r\nSTORED 25\r\nSTORED 26\r\nSTORED 27\r\nSTORED 28\r\nSTORED 29\r\nSTORED 30\r\nSTORED 1\r\nSTORED 2\r\nSTORED 3\r\nSTORED 4\r\nSTORED 5\r\nSTORED 6\r\nSTORED 7\r\nSTORED 8\r\nOK\r\nTURN FINISHED 5 0 5 0 0\r\nSTORED 9\r\nSTORED 50\r\nWINDOW none\r\nSTORED 51\r\nWINDOW none\r\nSTORED 52\r\nWINDOW 3 4 OK\r\n",
     ),
 ];
-
-#[test]
-fn rules_hold(rt: HostRuntime) -> Result<(), Fail> {
-    plays_rows(&rt, rt.alloc(), &ROWS)
-}
 
 /// A turn that finds nothing to do is one of the 1,000,000 that a run has, so the script's last turns run out.
 #[test]

@@ -1,9 +1,9 @@
 //! Runs that read, hold, give back and touch items.
-use super::{FROM_MODE_0, Row, plays, plays_rows};
+use super::{FROM_MODE_0, Row, plays};
 use std::alloc::AllocError;
 use std::test::Fail;
 
-const ROWS: [Row<'static>; 6] = [
+pub(super) const ROWS: [Row<'static>; 6] = [
     (
         "an item that was touched is not the oldest any more",
         "1 set 1 61 0\n1 set 2 61 0\n1 set 3 61 0\n1 set 4 61 0\n1 set 5 61 0\n1 set 6 61 0\n1 set 7 61 0\n1 set 8 61 0\n1 touch 1\n1 set 9 61 0\n1 get 2\n1 touch 1\n",
@@ -41,11 +41,6 @@ const ROWS: [Row<'static>; 6] = [
         Ok(()),
     ),
 ];
-
-#[test]
-fn items_are_held_and_touched(rt: HostRuntime) -> Result<(), Fail> {
-    plays_rows(&rt, rt.alloc(), &ROWS)
-}
 
 /// Adds the text so often.
 fn push_times(text: &mut Vec<u8>, more: &[u8], count: usize) -> Result<(), AllocError> {

@@ -1,5 +1,5 @@
 //! Scripts that are refused, and scripts at the edge of what is taken.
-use super::{FROM_MODE_0, Row, WHOLE, assert_played, assert_same, moves, play, plays, plays_rows};
+use super::{FROM_MODE_0, Row, WHOLE, assert_played, assert_same, moves, play, plays};
 use mc_driver::RunFault;
 use mc_trial_values::FOUR_CLASSES;
 use std::test::Fail;
@@ -22,7 +22,7 @@ const REFUSED: [&str; 14] = [
     "1 window\n",
 ];
 
-const TAKEN: [Row<'static>; 3] = [
+pub(super) const TAKEN: [Row<'static>; 3] = [
     (
         "the most words",
         "1 set 1 4096 0\n",
@@ -57,11 +57,6 @@ fn refused_lines(rt: HostRuntime) -> Result<(), Fail> {
         assert_played(&rt, &played, &Err(RunFault::Script(1)), b"", script);
     }
     Ok(())
-}
-
-#[test]
-fn lines_at_the_edge(rt: HostRuntime) -> Result<(), Fail> {
-    plays_rows(&rt, rt.alloc(), &TAKEN)
 }
 
 /// All turns of a run are done, and one more isn't: the replies before it were written, and the status is 5.

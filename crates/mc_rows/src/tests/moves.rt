@@ -1,5 +1,5 @@
 //! Runs whose pages move.
-use super::{Row, plays, plays_rows};
+use super::{Row, plays};
 use mc_classes::Config;
 use mc_driver::{Run, RunFault};
 use mc_trial_values::FOUR_CLASSES;
@@ -49,11 +49,6 @@ pub(super) const ROWS: [Row<'static>; 7] = [
         Ok(()),
     ),
 ];
-
-#[test]
-fn pages_move(rt: HostRuntime) -> Result<(), Fail> {
-    plays_rows(&rt, rt.alloc(), &ROWS)
-}
 
 #[test]
 fn one_chunk_a_turn(rt: HostRuntime) -> Result<(), Fail> {

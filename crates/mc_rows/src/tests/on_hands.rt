@@ -2,7 +2,7 @@
 ghost use Rattle.std.specs.Prelude.{◌≤◌, All, IfOk};
 ghost use Rattle.mc_script.specs.Command.{IsValid};
 ghost use Rattle.mc_words.specs.hand.Hands.{AreHandsFrom};
-ghost use Rattle.mc_rows.specs.Seats.{IsReadyHand, IsSeat};
+ghost use Rattle.mc_workers.specs.Hands.{IsKeeping, IsReadyHandOf};
 
 use super::Played;
 use super::seats::{MoverSeat, Seat, asked_by, mover_seat, seats_of, serve_mover, serve_worker};
@@ -128,11 +128,11 @@ fn serve<R: Wait>(
     command: Command,
     text: &mut Vec<u8>,
 ) -> Result<(), Ended>
-    requires seats { All (λ seat. IsSeat arena.now seat.hand seat.kept.items) seats.old.items }
-    requires mover { IsReadyHand arena.now mover.old.hand }
+    requires seats { All (λ seat. IsKeeping arena.now seat.hand seat.kept.items) seats.old.items }
+    requires mover { IsReadyHandOf arena.now mover.old.hand }
     requires valid { IsValid command }
-    ensures seats { All (λ seat. IsSeat arena.now seat.hand seat.kept.items) seats.new.items }
-    ensures mover { IsReadyHand arena.now mover.new.hand }
+    ensures seats { All (λ seat. IsKeeping arena.now seat.hand seat.kept.items) seats.new.items }
+    ensures mover { IsReadyHandOf arena.now mover.new.hand }
 {
     match asked_by(command) {
         Some(asked) => serve_worker(rt, alloc, arena, seats, asked, command, text),
@@ -150,8 +150,8 @@ fn play_lines<R: Wait>(
     commands: &[Command],
     text: &mut Vec<u8>,
 ) -> Result<(), Ended>
-    requires seats { All (λ seat. IsSeat arena.now seat.hand seat.kept.items) seats.old.items }
-    requires mover { IsReadyHand arena.now mover.old.hand }
+    requires seats { All (λ seat. IsKeeping arena.now seat.hand seat.kept.items) seats.old.items }
+    requires mover { IsReadyHandOf arena.now mover.old.hand }
     requires valid { All IsValid commands.now }
 {
     for command in commands {

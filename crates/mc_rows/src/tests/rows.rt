@@ -1,11 +1,11 @@
 //! Runs whose streams hold.
-use super::{Row, WHOLE, assert_played, assert_same, play, plays_rows};
+use super::{Row, WHOLE, assert_played, assert_same, play};
 use mc_classes::Config;
 use mc_driver::RunFault;
 use mc_trial_values::{FOUR_CLASSES, too_much};
 use std::test::Fail;
 
-const ROWS: [Row<'static>; 17] = [
+pub(super) const ROWS: [Row<'static>; 17] = [
     (
         "first path",
         "1 set 1 3 7\n1 set 2 3 9\n1 del 2\nstats slabs\n",
@@ -99,11 +99,6 @@ const ROWS: [Row<'static>; 17] = [
         Err(RunFault::Script(1)),
     ),
 ];
-
-#[test]
-fn items_come_and_go(rt: HostRuntime) -> Result<(), Fail> {
-    plays_rows(&rt, rt.alloc(), &ROWS)
-}
 
 #[test]
 fn a_refused_configuration_comes_first(rt: HostRuntime) -> Result<(), Fail> {

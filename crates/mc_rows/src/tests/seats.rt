@@ -4,7 +4,7 @@ ghost use Rattle.mc_script.specs.Command.{IsValid};
 ghost use Rattle.mc_words.specs.hand.Arenas.{view};
 ghost use Rattle.mc_words.specs.hand.Hands.{AreHandsFrom};
 ghost use Rattle.mc_workers.specs.Asking.{is_workers};
-ghost use Rattle.mc_rows.specs.Seats.{IsReadyHand, IsSeat};
+ghost use Rattle.mc_workers.specs.Hands.{IsKeeping, IsReadyHandOf};
 
 use mc_items::Ref;
 use mc_memory::Refused;
@@ -55,9 +55,9 @@ pub fn asked_by(command: Command) -> Option<Asked>
 /// The seat of this hand, which holds nothing.
 #[tactic(auto, using(mc_workers::proofs::KeptRefs::kept_none))]
 fn new_seat(alloc: Global, arena: &Arena, hand: Hand) -> Seat
-    requires arena { IsReadyHand arena.now hand }
+    requires arena { IsReadyHandOf arena.now hand }
     requires none { (view hand).row.holdings ≡ [] }
-    ensures seat { IsSeat arena.now result.hand result.kept.items }
+    ensures seat { IsKeeping arena.now result.hand result.kept.items }
 {
     Seat {
         hand,
@@ -67,8 +67,8 @@ fn new_seat(alloc: Global, arena: &Arena, hand: Hand) -> Seat
 
 /// The mover's seat, with this hand.
 pub fn mover_seat(alloc: Global, arena: &Arena, hand: Hand) -> Result<MoverSeat, Refused>
-    requires hand { IsReadyHand arena.now hand }
-    ensures seat { IfOk result (λ seat. IsReadyHand arena.now seat.hand) }
+    requires hand { IsReadyHandOf arena.now hand }
+    ensures seat { IfOk result (λ seat. IsReadyHandOf arena.now seat.hand) }
 {
     match Mover::new(alloc, arena.classes()) {
         Ok(mover) => Ok(MoverSeat { hand, mover }),
@@ -79,7 +79,7 @@ pub fn mover_seat(alloc: Global, arena: &Arena, hand: Hand) -> Result<MoverSeat,
 /// A seat for each of these hands, which are those of the workers from 1 on.
 pub fn seats_of(alloc: Global, arena: &Arena, mut hands: Vec<Hand>) -> Result<Vec<Seat>, AllocError>
     requires hands { AreHandsFrom arena.now 1 hands.items }
-    ensures seats { IfOk result (λ seats. All (λ seat. IsSeat arena.now seat.hand seat.kept.items) seats.items) }
+    ensures seats { IfOk result (λ seats. All (λ seat. IsKeeping arena.now seat.hand seat.kept.items) seats.items) }
 {
     let mut seats = Vec::new(alloc);
     for worker in 1..64 {
@@ -101,10 +101,10 @@ fn serve_at<R: Wait>(
     command: Command,
     text: &mut Vec<u8>,
 ) -> Result<(), Ended>
-    requires seat { IsSeat arena.now seat.old.hand seat.old.kept.items }
+    requires seat { IsKeeping arena.now seat.old.hand seat.old.kept.items }
     requires valid { IsValid command }
     requires worker { is_workers command ≡ true }
-    ensures seat { IsSeat arena.now seat.new.hand seat.new.kept.items }
+    ensures seat { IsKeeping arena.now seat.new.hand seat.new.kept.items }
 {
     let reply = serve_line(rt, alloc, arena, &mut seat.hand, &mut seat.kept, command)?;
     push_reply(text, key, &reply)?;
@@ -121,10 +121,10 @@ pub fn serve_worker<R: Wait>(
     command: Command,
     text: &mut Vec<u8>,
 ) -> Result<(), Ended>
-    requires seats { All (λ seat. IsSeat arena.now seat.hand seat.kept.items) seats.old.items }
+    requires seats { All (λ seat. IsKeeping arena.now seat.hand seat.kept.items) seats.old.items }
     requires valid { IsValid command }
     requires worker { is_workers command ≡ true }
-    ensures seats { All (λ seat. IsSeat arena.now seat.hand seat.kept.items) seats.new.items }
+    ensures seats { All (λ seat. IsKeeping arena.now seat.hand seat.kept.items) seats.new.items }
 {
     let place = asked.worker.wrapping_sub(1) as usize;
     match seats.get_mut(place) {
@@ -142,10 +142,10 @@ pub fn serve_mover<R: Wait>(
     command: Command,
     text: &mut Vec<u8>,
 ) -> Result<(), Ended>
-    requires seat { IsReadyHand arena.now seat.old.hand }
+    requires seat { IsReadyHandOf arena.now seat.old.hand }
     requires valid { IsValid command }
     requires mover { is_workers command ≡ false }
-    ensures seat { IsReadyHand arena.now seat.new.hand }
+    ensures seat { IsReadyHandOf arena.now seat.new.hand }
 {
     let reply = serve_mover_line(rt, alloc, arena, &mut seat.hand, &mut seat.mover, command)?;
     push_mover_reply(text, arena.classes(), &reply)?;

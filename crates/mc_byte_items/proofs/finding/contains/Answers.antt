@@ -5,7 +5,7 @@ use Rattle.mc_byte_items.proofs.Found.{finds_key, finds_other, same_ok, the_item
 use Rattle.mc_byte_items.proofs.finding.contains.Goals as goal
 
 pub returns-clause-key : goal.returns-clause-key
-returns-clause-key g c = λ is. finds_key (setup_of c.args.arena.now) c.args.hash c.args.key.now c.args.hand.now (item_words (view c.get_item.new.hand) c.in-Some.item) (the_item c.args.arena.now c.args.hash c.args.hand.now c.get_item.new.hand c.in_ok-item.field-0 c.in-Some.item c.in-Some.is c.in_ok-item.ensures.item).finds (c.tell_key.ensures.own (same_ok c.tell_key.result true is))
+returns-clause-key g c = λ is. finds_key (setup_of c.args.arena.now) c.args.at.hash c.args.at.key.now c.args.hand.now (item_words (view c.get_item.new.hand) c.in-Some.item) (the_item c.args.arena.now c.args.at.hash c.args.hand.now c.get_item.new.hand c.in_ok-item.field-0 c.in-Some.item c.in-Some.is c.in_ok-item.ensures.item).finds (c.tell_key.ensures.own (same_ok c.tell_key.result true is))
 
 pub returns-clause-other : goal.returns-clause-other
-returns-clause-other g c = λ is. finds_other (setup_of c.args.arena.now) c.args.hash c.args.key.now c.args.hand.now (item_words (view c.get_item.new.hand) c.in-Some.item) (the_item c.args.arena.now c.args.hash c.args.hand.now c.get_item.new.hand c.in_ok-item.field-0 c.in-Some.item c.in-Some.is c.in_ok-item.ensures.item).finds (c.tell_key.ensures.other (same_ok c.tell_key.result false is))
+returns-clause-other g c = λ is. finds_other (setup_of c.args.arena.now) c.args.at.hash c.args.at.key.now c.args.hand.now (item_words (view c.get_item.new.hand) c.in-Some.item) (the_item c.args.arena.now c.args.at.hash c.args.hand.now c.get_item.new.hand c.in_ok-item.field-0 c.in-Some.item c.in-Some.is c.in_ok-item.ensures.item).finds (c.tell_key.ensures.other (same_ok c.tell_key.result false is))

@@ -9,7 +9,7 @@ pub returns-clause-touches : goal.returns-clause-touches
 returns-clause-touches g c = λ is.
     let own = same_ok c.touch_own.result true is in
     let bumps = subst (λ (n : ℕ). BumpsItem n c.in-Some.item c.touch_own.new.hand) c.get_item.ensures.number (c.touch_own.ensures.bumps own) in
-    touches_key c.args.arena.now c.args.hash c.args.key.now c.args.hand.now c.get_item.new.hand c.in-Some.item (the_item c.args.arena.now c.args.hash c.args.hand.now c.get_item.new.hand c.in_ok-item.field-0 c.in-Some.item c.in-Some.is c.in_ok-item.ensures.item) (c.touch_own.ensures.own own) c.touch_own.new.hand bumps
+    touches_key c.args.arena.now c.args.at.hash c.args.at.key.now c.args.hand.now c.get_item.new.hand c.in-Some.item (the_item c.args.arena.now c.args.at.hash c.args.hand.now c.get_item.new.hand c.in_ok-item.field-0 c.in-Some.item c.in-Some.is c.in_ok-item.ensures.item) (c.touch_own.ensures.own own) c.touch_own.new.hand bumps
 
 pub returns-clause-none : goal.returns-clause-none
-returns-clause-none g c = λ is. finds_other (setup_of c.args.arena.now) c.args.hash c.args.key.now c.args.hand.now (item_words (view c.get_item.new.hand) c.in-Some.item) (the_item c.args.arena.now c.args.hash c.args.hand.now c.get_item.new.hand c.in_ok-item.field-0 c.in-Some.item c.in-Some.is c.in_ok-item.ensures.item).finds (c.touch_own.ensures.other (same_ok c.touch_own.result false is))
+returns-clause-none g c = λ is. finds_other (setup_of c.args.arena.now) c.args.at.hash c.args.at.key.now c.args.hand.now (item_words (view c.get_item.new.hand) c.in-Some.item) (the_item c.args.arena.now c.args.at.hash c.args.hand.now c.get_item.new.hand c.in_ok-item.field-0 c.in-Some.item c.in-Some.is c.in_ok-item.ensures.item).finds (c.touch_own.ensures.other (same_ok c.touch_own.result false is))

@@ -26,4 +26,4 @@ returns-in-Ok-clause-hands g c =
 
 pub returns-in-Ok-clause-new : goal.returns-in-Ok-clause-new
 returns-in-Ok-clause-new g c =
-    one_arena_more c.args.config.now c.deal.result c.args.arenas.now.items c.push.new.list.items c.in_ok-arena.arena c.in-Ok.ensures.items (record { made = c.in_ok-arena.ensures.made; history = c.in_ok-arena.ensures.history }) c.requires.new
+    one_arena_more c.args.config.now c.deal.result c.args.arenas.now.items c.push.new.list.items c.in_ok-arena.arena c.in-Ok.ensures.items (record { made = c.in_ok-arena.ensures.made; history = c.in_ok-arena.ensures.history }) c.requires.shards.1

@@ -14,12 +14,16 @@ pub returns-in_default-clause-answers : goal.returns-in_default-clause-answers
 returns-in_default-clause-answers c =
     (none_held c.args.key (view c.args.hand.now) c.args.kept.now.items (subst (All (IsToOther c.args.key)) c.deref.ensures.value (c.place_of_last.ensures.none c.in_default.is)), refl, refl)
 
-pub returns-clause-kept : goal.returns-clause-kept
-returns-clause-kept c =
+pub returns-clause-stays : goal.returns-clause-stays
+returns-clause-stays c =
     let there : IsLastAt c.args.key c.args.kept.now.items c.in-Some.place = subst (λ (l : List Ref). IsLastAt c.args.key l c.in-Some.place) c.deref.ensures.value c.in-Some.ensures.last in
-    subst (AreKept (view c.release.new.hand)) (sym c.remove-item.ensures.items)
-    (kept_without (view c.args.hand.now) (view c.read.new.hand) (view c.release.new.hand) c.args.kept.now.items c.in-Some.place c.remove-item.result there.there c.remove-item.ensures.value
-    c.requires.kept c.in-Ok.ensures.keeps c.in-Ok.ensures.holdings c.release.ensures.keeps c.release.ensures.holdings)
+    record {
+      hand_is = (c.release.ensures.arena, c.release.ensures.ready);
+      number = c.release.ensures.number ∙ c.in-Ok.ensures.number;
+      keeps = subst (AreKept (view c.release.new.hand)) (sym c.remove-item.ensures.items)
+          (kept_without (view c.args.hand.now) (view c.read.new.hand) (view c.release.new.hand) c.args.kept.now.items c.in-Some.place c.remove-item.result there.there c.remove-item.ensures.value
+          c.requires.keeping.keeps c.in-Ok.ensures.keeps c.in-Ok.ensures.holdings c.release.ensures.keeps c.release.ensures.holdings);
+    }
 
 pub returns-clause-answers : goal.returns-clause-answers
 returns-clause-answers c =
@@ -30,7 +34,7 @@ returns-clause-answers c =
     let index : c.index.result.now ≡ item = c.index.ensures ∙ (get_or_default kept c.in-Some.place c.index.result.now item there.there ∙ sym c.remove-item.ensures.value) in
     let left = ap (holds_of (view c.release.new.hand)) c.remove-item.ensures.items
     ∙ holds_without before (view c.read.new.hand) (view c.release.new.hand) kept c.in-Some.place item there.there c.remove-item.ensures.value
-    c.requires.kept c.in-Ok.ensures.keeps c.in-Ok.ensures.holdings c.release.ensures.keeps c.release.ensures.holdings in
+    c.requires.keeping.keeps c.in-Ok.ensures.keeps c.in-Ok.ensures.holdings c.release.ensures.keeps c.release.ensures.holdings in
     record {
       last = hold_of before item;
       is = subst (IsLastOf c.args.key (holds_of before kept) (hold_of before item)) (sym left)

@@ -9,14 +9,19 @@ use Rattle.mc_workers.proofs.KeptRefs.{as_often, holds_stay, holds_too, kept_sta
 use Rattle.mc_workers.proofs.keeping.hold.Goals as goal
 
 -- one more is kept
-pub returns-in-Ok-Some-clause-kept : goal.returns-in-Ok-Some-clause-kept
-returns-in-Ok-Some-clause-kept g c =
+pub returns-in-Ok-Some-clause-stays : goal.returns-in-Ok-Some-clause-stays
+returns-in-Ok-Some-clause-stays g c =
     let before = view c.args.hand.now in
     let now = view c.get.new.hand in
     let kept = c.args.kept.now.items in
     let item = c.in-Ok-Some.item in
     let gained = subst (λ (o : Option Ref). HoldsToo o before now) c.in-Ok-Some.field-0-is c.in-Ok-Some.ensures.holdings in
-    subst (AreKept now) (sym (c.push_reserved.ensures.items ∙ ap (λ (l : List Ref). l ++ item ∷ []) c.reserve.ensures.items)) (kept_too before now kept item c.requires.kept c.get.ensures.keeps gained (subst (λ (o : Option Ref). IfSome o (λ item. IsItemRef now item × (item_key item ≡ c.args.key))) c.in-Ok-Some.field-0-is c.in-Ok-Some.ensures.item).0)
+    record {
+      hand_is = (c.get.ensures.arena, c.get.ensures.ready);
+      number = c.get.ensures.number;
+      keeps = subst (AreKept now) (sym (c.push_reserved.ensures.items ∙ ap (λ (l : List Ref). l ++ item ∷ []) c.reserve.ensures.items))
+          (kept_too before now kept item c.requires.keeping.keeps c.get.ensures.keeps gained (subst (λ (o : Option Ref). IfSome o (λ item. IsItemRef now item × (item_key item ≡ c.args.key))) c.in-Ok-Some.field-0-is c.in-Ok-Some.ensures.item).0);
+    }
 
 pub returns-in-Ok-Some-clause-answers : goal.returns-in-Ok-Some-clause-answers
 returns-in-Ok-Some-clause-answers g c =
@@ -27,27 +32,35 @@ returns-in-Ok-Some-clause-answers g c =
     record {
       item = item;
       finds = subst (λ (o : Option Ref). Finds (setup_of c.args.arena.now) c.args.key o c.args.hand.now c.get.new.hand) c.in-Ok-Some.field-0-is (c.in-Ok-Some.ensures.gets, c.in-Ok-Some.ensures.calls);
-      left_is = ap (holds_of now) (c.push_reserved.ensures.items ∙ ap (λ (l : List Ref). l ++ item ∷ []) c.reserve.ensures.items) ∙ holds_too before now kept item c.requires.kept c.get.ensures.keeps;
+      left_is = ap (holds_of now) (c.push_reserved.ensures.items ∙ ap (λ (l : List Ref). l ++ item ∷ []) c.reserve.ensures.items) ∙ holds_too before now kept item c.requires.keeping.keeps c.get.ensures.keeps;
     }
 
 -- nothing more is kept
-pub returns-in-Ok-None-clause-kept : goal.returns-in-Ok-None-clause-kept
-returns-in-Ok-None-clause-kept g c =
+pub returns-in-Ok-None-clause-stays : goal.returns-in-Ok-None-clause-stays
+returns-in-Ok-None-clause-stays g c =
     let before = view c.args.hand.now in
     let now = view c.get.new.hand in
     let same = subst (λ (o : Option Ref). HoldsToo o before now) c.in-Ok-None.field-0-is c.in-Ok-None.ensures.holdings in
-    subst (AreKept now) (sym c.reserve.ensures.items) (kept_stay before now c.args.kept.now.items c.requires.kept c.get.ensures.keeps (as_often before now same))
+    record {
+      hand_is = (c.get.ensures.arena, c.get.ensures.ready);
+      number = c.get.ensures.number;
+      keeps = subst (AreKept now) (sym c.reserve.ensures.items) (kept_stay before now c.args.kept.now.items c.requires.keeping.keeps c.get.ensures.keeps (as_often before now same));
+    }
 
 pub returns-in-Ok-None-clause-answers : goal.returns-in-Ok-None-clause-answers
 returns-in-Ok-None-clause-answers g c =
     let before = view c.args.hand.now in
     let now = view c.get.new.hand in (
       subst (λ (o : Option Ref). Finds (setup_of c.args.arena.now) c.args.key o c.args.hand.now c.get.new.hand) c.in-Ok-None.field-0-is (c.in-Ok-None.ensures.gets, c.in-Ok-None.ensures.calls),
-      ap (holds_of now) c.reserve.ensures.items ∙ holds_stay before now c.args.kept.now.items c.get.ensures.keeps c.requires.kept.items,
+      ap (holds_of now) c.reserve.ensures.items ∙ holds_stay before now c.args.kept.now.items c.get.ensures.keeps c.requires.keeping.keeps.items,
     )
 
-pub returns-in-Err-NoMemory-clause-kept : goal.returns-in-Err-NoMemory-clause-kept
-returns-in-Err-NoMemory-clause-kept g c =
+pub returns-in-Err-NoMemory-clause-stays : goal.returns-in-Err-NoMemory-clause-stays
+returns-in-Err-NoMemory-clause-stays g c =
     let before = view c.args.hand.now in
     let now = view c.get.new.hand in
-    subst (AreKept now) (sym c.reserve.ensures.items) (kept_stay before now c.args.kept.now.items c.requires.kept c.get.ensures.keeps (as_often before now c.in-Err-NoMemory.ensures.no_more))
+    record {
+      hand_is = (c.get.ensures.arena, c.get.ensures.ready);
+      number = c.get.ensures.number;
+      keeps = subst (AreKept now) (sym c.reserve.ensures.items) (kept_stay before now c.args.kept.now.items c.requires.keeping.keeps c.get.ensures.keeps (as_often before now c.in-Err-NoMemory.ensures.no_more));
+    }

@@ -8,21 +8,16 @@ use Rattle.mc_workers.proofs.ServedLines.{SoFar, line_done, line_passed}
 use Rattle.mc_workers.proofs.lines.serve_each.Goals as goal
 use Rattle.mc_workers.proofs.lines.serve_each.Goals.{then-is_line_of+in_ok-serve_gated, else-is_line_of}
 
-pub serve_gated-requires-clause-arena : goal.serve_gated-requires-clause-arena
-serve_gated-requires-clause-arena g c = c.loop-command.invariant.0.hand
-
-pub serve_gated-requires-clause-ready : goal.serve_gated-requires-clause-ready
-serve_gated-requires-clause-ready g c = c.loop-command.invariant.0.ready
-
-pub serve_gated-requires-clause-kept : goal.serve_gated-requires-clause-kept
-serve_gated-requires-clause-kept g c = c.loop-command.invariant.0.kept_are
+pub serve_gated-requires-clause-keeping : goal.serve_gated-requires-clause-keeping
+serve_gated-requires-clause-keeping g c =
+    let so_far = c.loop-command.invariant.0 in record { hand_is = (so_far.hand, so_far.ready); keeps = so_far.kept_are }
 
 pub loop-command-init : goal.loop-command-init
 loop-command-init g c = (
   record {
-    hand = c.requires.arena;
-    ready = c.requires.ready;
-    kept_are = c.requires.kept;
+    hand = c.requires.keeping.hand_is.0;
+    ready = c.requires.keeping.hand_is.1;
+    kept_are = c.requires.keeping.keeps;
     number = refl;
     serves = record { replies = []; serves = (refl, refl); added = sym (append-nil c.args.text.now.items) };
   },
@@ -46,7 +41,7 @@ loop-command-preserved g c =
             (subst (λ (k : List Ref). stands w.serve_gated.new.hand k c.if-is_line_of.text.items) (λ k. (sym w.kept-is k).items)
             (subst (λ (t : List ℕ). stands w.serve_gated.new.hand w.serve_gated.new.kept.items t) (λ k. (sym w.text-is k).items)
             (line_done arena c.args.worker commands i (Set 0 0 0 0) c.loop-command-test.true kept before text c.loop-command.hand c.loop-command.kept.items c.loop-command.text.items c.loop-command.invariant.0
-            w.serve_gated.new.hand w.serve_gated.new.kept.items w.serve_gated.new.text.items (sym c.is_line_of.ensures ∙ w.if-is_line_of.true) w.in_ok-serve_gated.ensures.arena w.in_ok-serve_gated.ensures.ready w.in_ok-serve_gated.ensures.kept w.in_ok-serve_gated.ensures.number w.in_ok-serve_gated.ensures.adds))),
+            w.serve_gated.new.hand w.serve_gated.new.kept.items w.serve_gated.new.text.items (sym c.is_line_of.ensures ∙ w.if-is_line_of.true) w.in_ok-serve_gated.ensures.stays.hand_is.0 w.in_ok-serve_gated.ensures.stays.hand_is.1 w.in_ok-serve_gated.ensures.stays.keeps w.in_ok-serve_gated.ensures.stays.number w.in_ok-serve_gated.ensures.adds))),
         subst counted (sym w.nth-is)
             (line_counted lets_on c.args.worker (is_asked_by c.args.worker) commands i (Set 0 0 0 0) c.loop-command-test.true c.loop-command.nth c.loop-command.invariant.1 (sym c.is_line_of.ensures ∙ w.if-is_line_of.true) w.in_ok-serve_gated.ensures.passed),
       )

@@ -11,8 +11,8 @@ use Rattle.mc_workers.proofs.moves.move_each.Goals.{then-is_line_of_mover+in_ok-
 pub loop-command-init : goal.loop-command-init
 loop-command-init g c = (
   record {
-    hand = c.requires.arena;
-    ready = c.requires.ready;
+    hand = c.requires.ready.0;
+    ready = c.requires.ready.1;
     number = refl;
     holdings = refl;
     moves = record { replies = []; moves = (refl, refl); added = sym (append-nil c.args.text.now.items) };
@@ -20,11 +20,8 @@ loop-command-init g c = (
   none_counted (g.G.Gate.LetsOn c.args.shared.now.gate.now) 0,
 )
 
-pub move_gated-requires-clause-arena : goal.move_gated-requires-clause-arena
-move_gated-requires-clause-arena g c = c.loop-command.invariant.0.hand
-
 pub move_gated-requires-clause-ready : goal.move_gated-requires-clause-ready
-move_gated-requires-clause-ready g c = c.loop-command.invariant.0.ready
+move_gated-requires-clause-ready g c = (c.loop-command.invariant.0.hand, c.loop-command.invariant.0.ready)
 
 pub move_gated-requires-clause-mover : goal.move_gated-requires-clause-mover
 move_gated-requires-clause-mover g c = not_workers _ (sym c.is_line_of_mover.ensures ∙ c.if-is_line_of_mover.true)
@@ -47,7 +44,7 @@ loop-command-preserved g c =
             (subst (λ (t : List ℕ). stands w.move_gated.new.mover w.move_gated.new.hand t) (λ k. (sym w.text-is k).items)
             (move_done arena commands i (Set 0 0 0 0) c.loop-command-test.true mover before text c.loop-command.mover c.loop-command.hand c.loop-command.text.items c.loop-command.invariant.0
             w.move_gated.new.mover w.move_gated.new.hand w.move_gated.new.text.items (sym c.is_line_of_mover.ensures ∙ w.if-is_line_of_mover.true)
-            w.in_ok-move_gated.ensures.arena w.in_ok-move_gated.ensures.ready w.in_ok-move_gated.ensures.number w.in_ok-move_gated.ensures.holdings w.in_ok-move_gated.ensures.adds))),
+            w.in_ok-move_gated.ensures.stays.hand_is.0 w.in_ok-move_gated.ensures.stays.hand_is.1 w.in_ok-move_gated.ensures.stays.number w.in_ok-move_gated.ensures.stays.holdings w.in_ok-move_gated.ensures.adds))),
         subst counted (sym w.nth-is)
             (line_counted lets_on 0 is_movers commands i (Set 0 0 0 0) c.loop-command-test.true c.loop-command.nth c.loop-command.invariant.1 (sym c.is_line_of_mover.ensures ∙ w.if-is_line_of_mover.true) w.in_ok-move_gated.ensures.passed),
       )

@@ -5,7 +5,7 @@ use Rattle.mc_items.specs.declared.refs.Ref.{Ref}
 use Rattle.mc_items.specs.ItemRefs.{item_chunk}
 use Rattle.mc_workers.specs.Serving.{Finds}
 use Rattle.mc_workers.proofs.KeptRefs.{as_often_again, gained, kept_again}
-use Rattle.mc_workers.proofs.getting.get_words.Goals as goal
+use Rattle.mc_workers.proofs.line.get_words.Goals as goal
 
 -- what was got was read and released
 pub returns-in-Ok-clause-answers : goal.returns-in-Ok-clause-answers

@@ -1,0 +1,8 @@
+//! What an item of bytes is found by.
+
+/// A key, and the hash under which its item stands.
+#[derive(Clone, Copy)]
+pub struct Label<'a> {
+    pub hash: u64,
+    pub key: &'a [u8],
+}

@@ -1,0 +1,36 @@
+-- Hands between two calls: what a line asks of its hand, and leaves of it.
+use Rattle.std.specs.Prelude.{◌≡◌, List}
+use Rattle.mc_words.specs.declared.arena.Arena.{Arena}
+use Rattle.mc_words.specs.declared.hand.Hand.{Hand}
+use Rattle.mc_words.specs.hand.Arenas.{IsHandOf, view}
+use Rattle.mc_words.specs.hand.Observers.{number_of}
+use Rattle.mc_words.specs.hand.Ready.{IsReady}
+use Rattle.mc_items.specs.declared.refs.Ref.{Ref}
+use Rattle.mc_items.specs.ItemRefs.{AreKept}
+use Rattle.mc_items.specs.Keeping.{HoldsTheSame}
+
+-- the hand is one of the arena's, and may make any call
+abbrev pub IsReadyHandOf : Arena → Hand → Type 0
+IsReadyHandOf arena hand = IsHandOf arena hand × IsReady (view hand)
+
+-- so is a worker's hand, which holds what these references are to
+pub record IsKeeping (arena : Arena) (hand : Hand) (kept : List Ref) : Type 0 where
+  pub hand_is : IsReadyHandOf arena hand
+  pub keeps : AreKept (view hand) kept
+
+-- behind a call the hand may make any call still, and has the same number
+pub record StaysReady (arena : Arena) (before now : Hand) : Type 0 where
+  pub hand_is : IsReadyHandOf arena now
+  pub number : number_of now ≡ number_of before
+
+-- so has this one, which holds what it held
+pub record StaysHolding (arena : Arena) (before now : Hand) : Type 0 where
+  pub hand_is : IsReadyHandOf arena now
+  pub number : number_of now ≡ number_of before
+  pub holdings : HoldsTheSame (view before) (view now)
+
+-- so has a worker's, which holds what these references are to
+pub record StaysKeeping (arena : Arena) (before now : Hand) (kept : List Ref) : Type 0 where
+  pub hand_is : IsReadyHandOf arena now
+  pub number : number_of now ≡ number_of before
+  pub keeps : AreKept (view now) kept
