@@ -2,8 +2,7 @@
 ghost use Rattle.std.specs.Prelude.{◌≡◌, ◌≤◌, ◌^◌, ◌-◌, [], ◌∷◌, ◌++◌, true, length, min, Some, None, OnOk, OnErr, Err, IsOk, IfSome, is_some, ◌+◌, vec_len, vec_capacity};
 ghost use Rattle.mc_stripe.specs.Entries.{by_key};
 ghost use Rattle.mc_stripe.specs.History.{replay};
-ghost use Rattle.mc_stripe.specs.InOrder.{IsRecorded, calls_of};
-ghost use Rattle.mc_stripe.specs.Recorded.{CanTell, Calls, count_trimmed, left_by_trimmed, recorded, recorded_behind};
+ghost use Rattle.mc_stripe.specs.Recorded.{CanTell, count_trimmed, left_by_trimmed, recorded, recorded_behind};
 ghost use Rattle.mc_stripe.specs.StripeState.{stamps_in, with_aside};
 
 use crate::history::{Call, Key, Stamp};
@@ -33,7 +32,11 @@ pub(crate) struct Recorded {
 }
 
 impl Model for Recorded {
+    ghost use Rattle.mc_stripe.specs.Recorded.{Calls};
+
     ghost Value = { Calls };
+
+    ghost use Rattle.mc_stripe.specs.InOrder.{calls_of, IsRecorded};
 
     ghost view = { calls_of };
 

@@ -1,8 +1,7 @@
 //! The sequential value behind a stripe's lock.
 ghost use Rattle.std.specs.Prelude.{◌≡◌, ◌≢◌, ◌≤◌, ◌^◌, true, length, is_some, None, Some, Err, OnOk, OnErr, IsOk, IsSome, IfSome};
-ghost use Rattle.mc_stripe.specs.StripeState.{ReadyStripe, new_stripe, key_aside, place_of};
+ghost use Rattle.mc_stripe.specs.StripeState.{new_stripe, key_aside, place_of};
 ghost use Rattle.mc_stripe.specs.Changes.{after_link, after_unlink, after_got, after_evict, after_lift, after_rescue, after_trim, after_forget, used_up};
-ghost use Rattle.mc_stripe.specs.InOrder.{IsInOrder, ready_of};
 ghost use Rattle.mc_stripe.specs.Legal.{IsLegal};
 
 mod looks;
@@ -31,7 +30,11 @@ pub struct Stripe {
 }
 
 impl Model for Stripe {
+    ghost use Rattle.mc_stripe.specs.StripeState.{ReadyStripe};
+
     ghost Value = { ReadyStripe };
+
+    ghost use Rattle.mc_stripe.specs.InOrder.{ready_of, IsInOrder};
 
     ghost view = { ready_of };
 
