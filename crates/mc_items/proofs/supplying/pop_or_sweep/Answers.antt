@@ -47,19 +47,19 @@ returns-in-Ok-Some-clause-own c =
 
 -- a dead one that a hint named
 
-pub returns-in-Ok-Some-pop-2-clause-supplied : goal.returns-in-Ok-Some-pop-2-clause-supplied
-returns-in-Ok-Some-pop-2-clause-supplied c =
+pub returns-in-Ok-Some-pop-clause-supplied : goal.returns-in-Ok-Some-pop-clause-supplied
+returns-in-Ok-Some-pop-clause-supplied c =
     let class = c.args.class in
     let swept : View = c.recover.new.hand.seat.me.0 in
     let now : View = c.pop-2.new.hand.seat.me.0 in
     let between = c.recover.new.held.shared in
     let left = c.pop-2.new.held.shared in
-    let popped = subst (λ (o : Option Fresh). IfSome o (λ fresh. PopsFirst swept between class fresh.chunk now × (left ≡ after_pop between class))) c.in-Ok-Some-pop-2.field-0-is c.in-Ok-Some-pop-2.ensures.popped in
+    let popped = subst (λ (o : Option Fresh). IfSome o (λ fresh. PopsFirst swept between class fresh.chunk now × (left ≡ after_pop between class))) c.in-Ok-Some-pop.field-0-is c.in-Ok-Some-pop.ensures.popped in
     by_recover class c.args.hand.now.seat.me.0 c.pop.new.hand.seat.me.0 swept now c.args.held.now.shared c.pop.new.held.shared between left
-    (c.pop.ensures.none (c.in-Ok-None.is ∙ ap (λ o. Ok o) c.in-Ok-None.field-0-is)) c.recover.ensures.recovers c.recover.ensures.view c.in-Ok-Some-pop-2.fresh.chunk popped.0 popped.1
+    (c.pop.ensures.none (c.in-Ok-None.is ∙ ap (λ o. Ok o) c.in-Ok-None.field-0-is)) c.recover.ensures.recovers c.recover.ensures.view c.in-Ok-Some-pop.fresh.chunk popped.0 popped.1
 
-pub returns-in-Ok-Some-pop-2-clause-gains : goal.returns-in-Ok-Some-pop-2-clause-gains
-returns-in-Ok-Some-pop-2-clause-gains c =
+pub returns-in-Ok-Some-pop-clause-gains : goal.returns-in-Ok-Some-pop-clause-gains
+returns-in-Ok-Some-pop-clause-gains c =
     let class = c.args.class in
     let view : View = c.args.hand.now.seat.me.0 in
     let swept : View = c.recover.new.hand.seat.me.0 in
@@ -67,27 +67,27 @@ returns-in-Ok-Some-pop-2-clause-gains c =
     let between = c.recover.new.held.shared in
     let left = c.pop-2.new.held.shared in
     let seen = seen_recovered class view c.pop.new.hand.seat.me.0 swept now c.args.held.now.shared c.pop.new.held.shared between left (c.pop.ensures.none (c.in-Ok-None.is ∙ ap (λ o. Ok o) c.in-Ok-None.field-0-is)) c.recover.ensures.recovers c.recover.ensures.view in
-    let popped = subst (λ (o : Option Fresh). IfSome o (λ fresh. PopsFirst swept between class fresh.chunk now × (left ≡ after_pop between class))) c.in-Ok-Some-pop-2.field-0-is c.in-Ok-Some-pop-2.ensures.popped in
-    let fresh = subst (λ (o : Option Fresh). IfSome o (λ fresh. (fresh.room ≡ room_in c.args.arena.now.table.shared.key.table class) × IsFreshOf now fresh.chunk fresh.room)) c.in-Ok-Some-pop-2.field-0-is c.in-Ok-Some-pop-2.ensures.fresh in
-    gains_fresh class view swept now between c.in-Ok-Some-pop-2.fresh.chunk c.in-Ok-Some-pop-2.fresh.room seen popped.0 (fresh.0 ∙ ap (λ (s : Setup). room_in s.table class) (sym c.requires.arena.setup))
+    let popped = subst (λ (o : Option Fresh). IfSome o (λ fresh. PopsFirst swept between class fresh.chunk now × (left ≡ after_pop between class))) c.in-Ok-Some-pop.field-0-is c.in-Ok-Some-pop.ensures.popped in
+    let fresh = subst (λ (o : Option Fresh). IfSome o (λ fresh. (fresh.room ≡ room_in c.args.arena.now.table.shared.key.table class) × IsFreshOf now fresh.chunk fresh.room)) c.in-Ok-Some-pop.field-0-is c.in-Ok-Some-pop.ensures.fresh in
+    gains_fresh class view swept now between c.in-Ok-Some-pop.fresh.chunk c.in-Ok-Some-pop.fresh.room seen popped.0 (fresh.0 ∙ ap (λ (s : Setup). room_in s.table class) (sym c.requires.arena.setup))
 
-pub returns-in-Err-pop-2-clause-worn : goal.returns-in-Err-pop-2-clause-worn
-returns-in-Err-pop-2-clause-worn c =
+pub returns-in-Err-pop-clause-worn : goal.returns-in-Err-pop-clause-worn
+returns-in-Err-pop-clause-worn c =
     worn_by_recover c.args.class c.args.hand.now.seat.me.0 c.pop.new.hand.seat.me.0 c.recover.new.hand.seat.me.0 c.pop-2.new.hand.seat.me.0 c.args.held.now.shared c.pop.new.held.shared c.recover.new.held.shared c.pop-2.new.held.shared
-    (c.pop.ensures.none (c.in-Ok-None.is ∙ ap (λ o. Ok o) c.in-Ok-None.field-0-is)) c.recover.ensures.recovers c.recover.ensures.view c.in-Err-pop-2.ensures.worn.0 c.in-Err-pop-2.ensures.worn.1
+    (c.pop.ensures.none (c.in-Ok-None.is ∙ ap (λ o. Ok o) c.in-Ok-None.field-0-is)) c.recover.ensures.recovers c.recover.ensures.view c.in-Err-pop.ensures.worn.0 c.in-Err-pop.ensures.worn.1
 
-pub returns-in-Ok-Some-pop-2-clause-own : goal.returns-in-Ok-Some-pop-2-clause-own
-returns-in-Ok-Some-pop-2-clause-own c =
+pub returns-in-Ok-Some-pop-clause-own : goal.returns-in-Ok-Some-pop-clause-own
+returns-in-Ok-Some-pop-clause-own c =
     let class = c.args.class in
     let swept : View = c.recover.new.hand.seat.me.0 in
     let now : View = c.pop-2.new.hand.seat.me.0 in
     let between = c.recover.new.held.shared in
     let left = c.pop-2.new.held.shared in
-    let popped = subst (λ (o : Option Fresh). IfSome o (λ fresh. PopsFirst swept between class fresh.chunk now × (left ≡ after_pop between class))) c.in-Ok-Some-pop-2.field-0-is c.in-Ok-Some-pop-2.ensures.popped in
-    popped_own swept now between class c.in-Ok-Some-pop-2.fresh.chunk c.recover.ensures.arena.lawful c.recover.ensures.held (ap (λ (s : Setup). is_class s.table class) c.recover.ensures.arena.setup ∙ c.requires.class) popped.0
+    let popped = subst (λ (o : Option Fresh). IfSome o (λ fresh. PopsFirst swept between class fresh.chunk now × (left ≡ after_pop between class))) c.in-Ok-Some-pop.field-0-is c.in-Ok-Some-pop.ensures.popped in
+    popped_own swept now between class c.in-Ok-Some-pop.fresh.chunk c.recover.ensures.arena.lawful c.recover.ensures.held (ap (λ (s : Setup). is_class s.table class) c.recover.ensures.arena.setup ∙ c.requires.class) popped.0
 
-pub returns-in-Ok-Some-pop-2-clause-uncut : goal.returns-in-Ok-Some-pop-2-clause-uncut
-returns-in-Ok-Some-pop-2-clause-uncut c =
+pub returns-in-Ok-Some-pop-clause-uncut : goal.returns-in-Ok-Some-pop-clause-uncut
+returns-in-Ok-Some-pop-clause-uncut c =
     let class = c.args.class in
     let swept : View = c.recover.new.hand.seat.me.0 in
     let between = c.recover.new.held.shared in
@@ -96,8 +96,8 @@ returns-in-Ok-Some-pop-2-clause-uncut c =
     ∙ (recovers_uncut (class_at before class).order c.pop.new.hand.seat.me.0 before swept between c.recover.ensures.recovers
     ∙ ap (λ (s : SlabState). s.uncut) (c.pop.ensures.none (c.in-Ok-None.is ∙ ap (λ o. Ok o) c.in-Ok-None.field-0-is)).1)
 
-pub returns-in-Err-pop-2-clause-uncut : goal.returns-in-Err-pop-2-clause-uncut
-returns-in-Err-pop-2-clause-uncut c =
+pub returns-in-Err-pop-clause-uncut : goal.returns-in-Err-pop-clause-uncut
+returns-in-Err-pop-clause-uncut c =
     let class = c.args.class in
     let swept : View = c.recover.new.hand.seat.me.0 in
     let between = c.recover.new.held.shared in
@@ -118,7 +118,7 @@ returns-clause-supplied c =
     let between = c.sweep.new.held.shared in
     let left = c.pop-3.new.held.shared in
     let none = none_dead view c.requires.arena.lawful slabs c.requires.held class (ap (λ (s : Setup). is_class s.table class) c.requires.arena.setup ∙ c.requires.class) c.pop.new.hand.seat.me.0 c.recover.new.hand.seat.me.0 c.pop-2.new.hand.seat.me.0 c.pop.new.held.shared c.recover.new.held.shared c.pop-2.new.held.shared
-                    (c.pop.ensures.none (c.in-Ok-None.is ∙ ap (λ o. Ok o) c.in-Ok-None.field-0-is)) c.recover.ensures.recovers c.recover.ensures.view (c.pop-2.ensures.none (c.in-Ok-None-pop-2.is ∙ ap (λ o. Ok o) c.in-Ok-None-pop-2.field-0-is)) in
+    (c.pop.ensures.none (c.in-Ok-None.is ∙ ap (λ o. Ok o) c.in-Ok-None.field-0-is)) c.recover.ensures.recovers c.recover.ensures.view (c.pop-2.ensures.none (c.in-Ok-None-pop.is ∙ ap (λ o. Ok o) c.in-Ok-None-pop.field-0-is)) in
     if_some (λ (fresh : Fresh). PopsFirst swept between class fresh.chunk now × (left ≡ after_pop between class)) (λ (fresh : Fresh). SuppliesFree class fresh.chunk view slabs now left) c.pop-3.result
     (λ fresh popped. by_sweep class view c.pop-2.new.hand.seat.me.0 swept now slabs c.pop-2.new.held.shared between left none c.sweep.ensures.swept c.sweep.ensures.view fresh.chunk popped.0 popped.1)
     c.pop-3.ensures.popped
@@ -133,7 +133,7 @@ returns-clause-gains c =
     let between = c.sweep.new.held.shared in
     let left = c.pop-3.new.held.shared in
     let none = none_dead view c.requires.arena.lawful slabs c.requires.held class (ap (λ (s : Setup). is_class s.table class) c.requires.arena.setup ∙ c.requires.class) c.pop.new.hand.seat.me.0 c.recover.new.hand.seat.me.0 c.pop-2.new.hand.seat.me.0 c.pop.new.held.shared c.recover.new.held.shared c.pop-2.new.held.shared
-                    (c.pop.ensures.none (c.in-Ok-None.is ∙ ap (λ o. Ok o) c.in-Ok-None.field-0-is)) c.recover.ensures.recovers c.recover.ensures.view (c.pop-2.ensures.none (c.in-Ok-None-pop-2.is ∙ ap (λ o. Ok o) c.in-Ok-None-pop-2.field-0-is)) in
+    (c.pop.ensures.none (c.in-Ok-None.is ∙ ap (λ o. Ok o) c.in-Ok-None.field-0-is)) c.recover.ensures.recovers c.recover.ensures.view (c.pop-2.ensures.none (c.in-Ok-None-pop.is ∙ ap (λ o. Ok o) c.in-Ok-None-pop.field-0-is)) in
     let seen = seen_here class view c.pop-2.new.hand.seat.me.0 swept now slabs c.pop-2.new.held.shared between left none c.sweep.ensures.swept c.sweep.ensures.view in
     if_some (λ (fresh : Fresh). (PopsFirst swept between class fresh.chunk now × (left ≡ after_pop between class)) × ((fresh.room ≡ room_in c.args.arena.now.table.shared.key.table class) × IsFreshOf now fresh.chunk fresh.room)) (λ (fresh : Fresh). GainsFresh view fresh.chunk fresh.room now) c.pop-3.result
     (λ fresh all. gains_fresh class view swept now between fresh.chunk fresh.room seen all.0.0 (all.1.0 ∙ ap (λ (s : Setup). room_in s.table class) (sym c.requires.arena.setup)))
@@ -145,7 +145,7 @@ returns-clause-none c is =
     let view : View = c.args.hand.now.seat.me.0 in
     let slabs = c.args.held.now.shared in
     let none = none_dead view c.requires.arena.lawful slabs c.requires.held class (ap (λ (s : Setup). is_class s.table class) c.requires.arena.setup ∙ c.requires.class) c.pop.new.hand.seat.me.0 c.recover.new.hand.seat.me.0 c.pop-2.new.hand.seat.me.0 c.pop.new.held.shared c.recover.new.held.shared c.pop-2.new.held.shared
-                    (c.pop.ensures.none (c.in-Ok-None.is ∙ ap (λ o. Ok o) c.in-Ok-None.field-0-is)) c.recover.ensures.recovers c.recover.ensures.view (c.pop-2.ensures.none (c.in-Ok-None-pop-2.is ∙ ap (λ o. Ok o) c.in-Ok-None-pop-2.field-0-is)) in
+    (c.pop.ensures.none (c.in-Ok-None.is ∙ ap (λ o. Ok o) c.in-Ok-None.field-0-is)) c.recover.ensures.recovers c.recover.ensures.view (c.pop-2.ensures.none (c.in-Ok-None-pop.is ∙ ap (λ o. Ok o) c.in-Ok-None-pop.field-0-is)) in
     none_by_sweep class view c.pop-2.new.hand.seat.me.0 c.sweep.new.hand.seat.me.0 c.pop-3.new.hand.seat.me.0 slabs c.pop-2.new.held.shared c.sweep.new.held.shared c.pop-3.new.held.shared
     none c.sweep.ensures.swept c.sweep.ensures.view c.sweep.ensures.alive (c.pop-3.ensures.none is)
 
@@ -155,7 +155,7 @@ returns-clause-worn c =
     let view : View = c.args.hand.now.seat.me.0 in
     let slabs = c.args.held.now.shared in
     let none = none_dead view c.requires.arena.lawful slabs c.requires.held class (ap (λ (s : Setup). is_class s.table class) c.requires.arena.setup ∙ c.requires.class) c.pop.new.hand.seat.me.0 c.recover.new.hand.seat.me.0 c.pop-2.new.hand.seat.me.0 c.pop.new.held.shared c.recover.new.held.shared c.pop-2.new.held.shared
-                    (c.pop.ensures.none (c.in-Ok-None.is ∙ ap (λ o. Ok o) c.in-Ok-None.field-0-is)) c.recover.ensures.recovers c.recover.ensures.view (c.pop-2.ensures.none (c.in-Ok-None-pop-2.is ∙ ap (λ o. Ok o) c.in-Ok-None-pop-2.field-0-is)) in
+    (c.pop.ensures.none (c.in-Ok-None.is ∙ ap (λ o. Ok o) c.in-Ok-None.field-0-is)) c.recover.ensures.recovers c.recover.ensures.view (c.pop-2.ensures.none (c.in-Ok-None-pop.is ∙ ap (λ o. Ok o) c.in-Ok-None-pop.field-0-is)) in
     if_error c.pop-3.result
     (λ worn. worn_by_sweep class view c.pop-2.new.hand.seat.me.0 c.sweep.new.hand.seat.me.0 c.pop-3.new.hand.seat.me.0 slabs c.pop-2.new.held.shared c.sweep.new.held.shared c.pop-3.new.held.shared
     none c.sweep.ensures.swept c.sweep.ensures.view worn.0 worn.1)
@@ -180,7 +180,7 @@ returns-clause-uncut c =
     let between = c.sweep.new.held.shared in
     let before = c.pop-2.new.held.shared in
     let none = none_dead view c.requires.arena.lawful slabs c.requires.held class (ap (λ (s : Setup). is_class s.table class) c.requires.arena.setup ∙ c.requires.class) c.pop.new.hand.seat.me.0 c.recover.new.hand.seat.me.0 c.pop-2.new.hand.seat.me.0 c.pop.new.held.shared c.recover.new.held.shared c.pop-2.new.held.shared
-                    (c.pop.ensures.none (c.in-Ok-None.is ∙ ap (λ o. Ok o) c.in-Ok-None.field-0-is)) c.recover.ensures.recovers c.recover.ensures.view (c.pop-2.ensures.none (c.in-Ok-None-pop-2.is ∙ ap (λ o. Ok o) c.in-Ok-None-pop-2.field-0-is)) in
+    (c.pop.ensures.none (c.in-Ok-None.is ∙ ap (λ o. Ok o) c.in-Ok-None.field-0-is)) c.recover.ensures.recovers c.recover.ensures.view (c.pop-2.ensures.none (c.in-Ok-None-pop.is ∙ ap (λ o. Ok o) c.in-Ok-None-pop.field-0-is)) in
     pop_uncut c.pop-3.result (λ (fresh : Fresh). PopsFirst swept between class fresh.chunk c.pop-3.new.hand.seat.me.0) _ between c.pop-3.new.held.shared class (λ is. (c.pop-3.ensures.none is).1) c.pop-3.ensures.popped c.pop-3.ensures.worn
     ∙ (recovers_uncut (class_at before class).order c.pop-2.new.hand.seat.me.0 before swept between c.sweep.ensures.swept.recovers
     ∙ ap (λ (s : SlabState). s.uncut) none.same)
