@@ -17,14 +17,13 @@ use mc_driver::{
     run_serial, run_threads,
 };
 use mc_memory::push;
-use std::env;
 use std::env::Env;
-use std::io;
 use std::marker::Brand;
 use std::process::ExitCode;
 use std::sync::Wait;
 use std::sync::ledger::{Blank, Ledger};
 use std::thread::Threads;
+use std::{env, io};
 
 /// Why the program wasn't done.
 #[derive(Drop)]
