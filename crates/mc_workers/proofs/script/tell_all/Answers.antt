@@ -10,10 +10,11 @@ use Rattle.mc_workers.proofs.Tellable.{survey_told, survey_whole}
 use Rattle.mc_workers.proofs.script.tell_all.Goals as goal
 
 -- what was surveyed can be told
-pub push_statistics-requires-clause-tellable : goal.push_statistics-requires-clause-tellable
-push_statistics-requires-clause-tellable g c =
-    subst (λ (table : Classes). AreTellable table c.in_ok-survey.survey) (sym c.classes.ensures.classes)
-    (survey_told c.args.arena.now c.args.joined.hand c.survey.new.hand true c.in_ok-survey.survey c.requires.ready.0 c.in_ok-survey.ensures.surveys)
+pub push_statistics-requires : goal.push_statistics-requires
+push_statistics-requires g c = record {
+  tellable = subst (λ (table : Classes). AreTellable table c.in_ok-survey.survey) (sym c.classes.ensures.classes)
+      (survey_told c.args.arena.now c.args.joined.hand c.survey.new.hand true c.in_ok-survey.survey c.requires.ready.0 c.in_ok-survey.ensures.surveys);
+}
 
 pub returns : goal.returns
 returns g c =
