@@ -2,3 +2,4 @@ pub mod Idle
 pub mod Found
 pub mod WordsRead
 pub mod Appended
+pub mod Slabs

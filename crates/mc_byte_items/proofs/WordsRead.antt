@@ -18,7 +18,7 @@ use Rattle.mc_byte_items.specs.Finding.{PutsValue}
 use Rattle.mc_byte_items.specs.Reading.{OnlyReads, RefersTo}
 
 pub reads_none : (arena : Arena) (item : Ref) (hand : Hand) → RefersTo arena item hand → OnlyReads arena item hand hand
-reads_none arena item hand refers = record { hand = refers; number = refl; words = refl; holdings = refl; unsaid = refl }
+reads_none arena item hand refers = record { hand = refers; number = refl; words = refl; holdings = refl; unsaid = refl; slabs = refl }
 
 pub reads_on : (arena : Arena) (item : Ref) (before next now : Hand) → OnlyReads arena item before next → OnlyReads arena item next now → OnlyReads arena item before now
 reads_on arena item before next now first second = record {
@@ -27,6 +27,7 @@ reads_on arena item before next now first second = record {
   words = second.words ∙ first.words;
   holdings = second.holdings ∙ first.holdings;
   unsaid = second.unsaid ∙ first.unsaid;
+  slabs = second.slabs ∙ first.slabs;
 }
 
 -- a word that was read behind other reads is the same

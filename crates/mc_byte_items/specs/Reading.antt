@@ -5,6 +5,7 @@ use Rattle.mc_words.specs.declared.hand.Hand.{Hand}
 use Rattle.mc_words.specs.hand.Arenas.{IsHandOf, view}
 use Rattle.mc_words.specs.hand.Observers.{number_of}
 use Rattle.mc_words.specs.hand.Ready.{IsReady}
+use Rattle.mc_words.specs.hand.View.{View}
 use Rattle.mc_items.specs.declared.refs.Ref.{Ref}
 use Rattle.mc_items.specs.ItemRefs.{IsItemRef, item_words}
 use Rattle.mc_items.specs.Keeping.{HoldsTheSame, SaysNothing}
@@ -15,6 +16,10 @@ pub record RefersTo (arena : Arena) (item : Ref) (hand : Hand) : Type 0 where
   pub ready : IsReady (view hand)
   pub refers : IsItemRef (view hand) item
 
+-- it took the lock of the slabs no more often than it had: no item became newer or older in its class
+abbrev pub LeavesSlabs : View → View → Type 0
+LeavesSlabs before now = now.row.knows.hold.count ≡ before.row.knows.hold.count
+
 -- it read words of the item, or none, and did nothing else
 pub record OnlyReads (arena : Arena) (item : Ref) (before now : Hand) : Type 0 where
   pub hand : RefersTo arena item now
@@ -22,3 +27,4 @@ pub record OnlyReads (arena : Arena) (item : Ref) (before now : Hand) : Type 0 w
   pub words : item_words (view now) item ≡ item_words (view before) item
   pub holdings : HoldsTheSame (view before) (view now)
   pub unsaid : SaysNothing (view before) (view now)
+  pub slabs : LeavesSlabs (view before) (view now)

@@ -9,7 +9,7 @@ ghost use Rattle.mc_items.specs.OnKeys.{FindsStripeHeld};
 ghost use Rattle.mc_byte_items.specs.Finding.{FindsKey, FindsOther, GivesValue, PutsValue};
 ghost use Rattle.mc_byte_items.specs.declared.finding.TryGetError.TheVariants as try_error;
 ghost use Rattle.mc_byte_items.specs.Hands.{IsIdleHandOf};
-ghost use Rattle.mc_byte_items.specs.Reading.{RefersTo};
+ghost use Rattle.mc_byte_items.specs.Reading.{LeavesSlabs, RefersTo};
 
 use crate::getting::get_item;
 use crate::label::Label;
@@ -31,7 +31,7 @@ pub enum TryGetError {
     Held,
 }
 
-/// The same as `get`, but refused where another hand has the lock of the hash's stripe. It doesn't wait. (own)
+/// The same as `get` with no touch, but refused where another hand has the lock of the hash's stripe. It doesn't wait. (own)
 pub fn try_get(
     arena: &Arena,
     hand: &mut Hand,
@@ -46,6 +46,7 @@ pub fn try_get(
     ensures kept { (result ≡ Ok true → ⊥) → into.new.items ≡ into.old.items }
     ensures held { result ≡ Err try_error.Held → FindsStripeHeld (setup_of arena.now) at.entry.hash hand.old hand.new }
     ensures unsaid { SaysNothing (view hand.old) (view hand.new) }
+    ensures slabs { LeavesSlabs (view hand.old) (view hand.new) }
 {
     match mc_items::try_get(arena, hand, at.hash) {
         Ok(Some(item)) => match give_value(arena, hand, item, at.key, into) {
@@ -67,6 +68,7 @@ pub fn contains<R: Wait>(rt: &R, arena: &Arena, hand: &mut Hand, at: Label) -> R
     ensures key { result ≡ Ok true → FindsKey (setup_of arena.now) at.entry.hash at.entry.key.now hand.old }
     ensures other { result ≡ Ok false → FindsOther (setup_of arena.now) at.entry.hash at.entry.key.now hand.old }
     ensures unsaid { SaysNothing (view hand.old) (view hand.new) }
+    ensures slabs { LeavesSlabs (view hand.old) (view hand.new) }
 {
     let Some(item) = get_item(rt, arena, hand, at.hash)? else {
         return Ok(false);
@@ -91,6 +93,7 @@ pub(crate) fn give_value(
     ensures other { result ≡ Ok false → ¬ IsPackingOf key.now (item_words (view hand.old) item) }
     ensures kept { (result ≡ Ok true → ⊥) → into.new.items ≡ into.old.items }
     ensures unsaid { SaysNothing (view hand.old) (view hand.new) }
+    ensures slabs { LeavesSlabs (view hand.old) (view hand.new) }
 {
     let given = push_value(arena, hand, &item, key, into);
     release(arena, hand, item);
@@ -106,6 +109,7 @@ fn tell_key(arena: &Arena, hand: &mut Hand, item: Ref, key: &[u8]) -> bool
     ensures own { result ≡ true → IsPackingOf key.now (item_words (view hand.old) item) }
     ensures other { result ≡ false → ¬ IsPackingOf key.now (item_words (view hand.old) item) }
     ensures unsaid { SaysNothing (view hand.old) (view hand.new) }
+    ensures slabs { LeavesSlabs (view hand.old) (view hand.new) }
 {
     let own = is_of(arena, hand, &item, key);
     release(arena, hand, item);

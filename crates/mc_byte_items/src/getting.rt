@@ -5,6 +5,7 @@ ghost use Rattle.mc_words.specs.hand.Observers.{number_of};
 ghost use Rattle.mc_items.specs.Keeping.{SaysNothing};
 ghost use Rattle.mc_byte_items.specs.Finding.{FindsItem, FindsWords};
 ghost use Rattle.mc_byte_items.specs.Hands.{IsIdleHandOf};
+ghost use Rattle.mc_byte_items.specs.Reading.{LeavesSlabs};
 
 use mc_items::{GetError, Ref};
 use mc_memory::Refused;
@@ -26,6 +27,7 @@ pub(crate) fn get_item<R: Wait>(
     ensures refused { OnErr result (IsIdleHandOf arena.now hand.new) }
     ensures number { number_of hand.new ≡ number_of hand.old }
     ensures unsaid { SaysNothing (view hand.old) (view hand.new) }
+    ensures slabs { LeavesSlabs (view hand.old) (view hand.new) }
 {
     match mc_items::get(rt, arena, hand, hash) {
         Ok(found) => Ok(found),

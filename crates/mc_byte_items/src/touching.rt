@@ -7,7 +7,7 @@ ghost use Rattle.mc_items.specs.ItemRefs.{item_words};
 ghost use Rattle.mc_items.specs.Keeping.{SaysNothing, holding_by};
 ghost use Rattle.mc_byte_items.specs.Finding.{BumpsItem, FindsOther, GivesTouchedIf, PutsValue, TouchesKey};
 ghost use Rattle.mc_byte_items.specs.Hands.{IsIdleHandOf};
-ghost use Rattle.mc_byte_items.specs.Reading.{RefersTo};
+ghost use Rattle.mc_byte_items.specs.Reading.{LeavesSlabs, RefersTo};
 
 use crate::finding::give_value;
 use crate::getting::get_item;
@@ -39,6 +39,7 @@ pub fn get<R: Wait>(
     ensures other { result ≡ Ok false → FindsOther (setup_of arena.now) at.entry.hash at.entry.key.now hand.old }
     ensures kept { (result ≡ Ok true → ⊥) → into.new.items ≡ into.old.items }
     ensures unsaid { SaysNothing (view hand.old) (view hand.new) }
+    ensures unasked { touches ≡ false → LeavesSlabs (view hand.old) (view hand.new) }
 {
     let Some(item) = get_item(rt, arena, hand, at.hash)? else {
         return Ok(false);
@@ -82,6 +83,7 @@ fn give_and_touch<R: Wait>(
     ensures other { result ≡ Ok false → ¬ IsPackingOf key.now (item_words (view hand.old) item) }
     ensures kept { (result ≡ Ok true → ⊥) → into.new.items ≡ into.old.items }
     ensures unsaid { SaysNothing (view hand.old) (view hand.new) }
+    ensures unasked { touches ≡ false → LeavesSlabs (view hand.old) (view hand.new) }
 {
     if !touches {
         return give_value(arena, hand, item, key, into);

@@ -11,6 +11,7 @@ use Rattle.mc_items.specs.OnKeys.{FindsStripeHeld}
 use Rattle.mc_items.specs.declared.setting.SetError.{SetError}
 use Rattle.mc_byte_items.specs.Finding.{DeletesKey, FindsKey, FindsOther, FindsValue, TouchesKey, TouchesValue}
 use Rattle.mc_byte_items.specs.Hands.{IsIdleHandOf}
+use Rattle.mc_byte_items.specs.Reading.{LeavesSlabs}
 use Rattle.mc_byte_items.specs.Setting.{RefusesBytes}
 use Rattle.mc_cache.specs.Pairs.{ArePaired}
 
@@ -67,6 +68,10 @@ TouchesThere hash key arena hand now = TouchesKey (setup_of arena) hash key hand
 -- it said nothing
 abbrev pub SaysNoMore : Arena → Hand → Hand → Type 0
 SaysNoMore arena hand now = SaysNothing (view hand) (view now)
+
+-- it touched nothing: it didn't take the lock of the slabs
+abbrev pub TouchesNothing : Arena → Hand → Hand → Type 0
+TouchesNothing arena hand now = LeavesSlabs (view hand) (view now)
 
 -- it found the lock of the hash's stripe with another hand
 abbrev pub FindsHeld : ℕ → Arena → Hand → Hand → Type 0

@@ -53,7 +53,7 @@ impl Worker {
     ghost use Rattle.std.specs.Prelude.{◌≡◌, ◌<◌, ◌↔◌, ◌⊎◌, Err, Ok, OnErr, OnOk, false, length, true};
     ghost use Rattle.mc_items.specs.declared.setting.SetError as items;
     ghost use Rattle.mc_cache.specs.Belonging.{ActsOnKey, BelongsTo, CountsAsk, DeletesNoneOf, GivesAndTouches, GivesValueOf, KeepsHands, NotesHashOf, RefusesValueOf, hash_in};
-    ghost use Rattle.mc_cache.specs.Shards.{DeletesThere, FindsHeld, IsKey, ReadsKey, ReadsOther, SaysNoMore, StoresValue, TouchesThere};
+    ghost use Rattle.mc_cache.specs.Shards.{DeletesThere, FindsHeld, IsKey, ReadsKey, ReadsOther, SaysNoMore, StoresValue, TouchesNothing, TouchesThere};
     ghost use Rattle.mc_cache.specs.declared.working.CallError.TheVariants as call_error;
     ghost use Rattle.mc_cache.specs.declared.working.SetError.TheVariants as set_error;
     ghost use Rattle.mc_cache.specs.declared.working.TryGetError.TheVariants as try_error;
@@ -108,6 +108,7 @@ impl Worker {
         ensures none { result ≡ Ok false → ActsOnKey cache.now key.now (ReadsOther (hash_in cache.now key.now) key.now) self.old self.new }
         ensures kept { (result ≡ Ok true → ⊥) → into.new.items ≡ into.old.items }
         ensures refused { OnErr result (IsKey key.now → ActsOnKey cache.now key.now SaysNoMore self.old self.new) }
+        ensures untouched { IsKey key.now → ActsOnKey cache.now key.now TouchesNothing self.old self.new }
     {
         let Some(at) = cache.place_of(key) else {
             return Err(CallError::KeyLength);
@@ -174,6 +175,7 @@ impl Worker {
         ensures kept { (result ≡ Ok true → ⊥) → into.new.items ≡ into.old.items }
         ensures held { result ≡ Err try_error.Held → ActsOnKey cache.now key.now (FindsHeld (hash_in cache.now key.now)) self.old self.new }
         ensures refused { OnErr result (IsKey key.now → ActsOnKey cache.now key.now SaysNoMore self.old self.new) }
+        ensures untouched { IsKey key.now → ActsOnKey cache.now key.now TouchesNothing self.old self.new }
     {
         let Some(at) = cache.place_of(key) else {
             return Err(TryGetError::KeyLength);
@@ -204,6 +206,7 @@ impl Worker {
         ensures there { result ≡ Ok true → ActsOnKey cache.now key.now (ReadsKey (hash_in cache.now key.now) key.now) self.old self.new }
         ensures none { result ≡ Ok false → ActsOnKey cache.now key.now (ReadsOther (hash_in cache.now key.now) key.now) self.old self.new }
         ensures refused { OnErr result (IsKey key.now → ActsOnKey cache.now key.now SaysNoMore self.old self.new) }
+        ensures untouched { IsKey key.now → ActsOnKey cache.now key.now TouchesNothing self.old self.new }
     {
         let Some(at) = cache.place_of(key) else {
             return Err(CallError::KeyLength);

@@ -1,7 +1,8 @@
-use Rattle.std.proofs.Common.{Ok, ap, false, true}
+use Rattle.std.proofs.Common.{Err, Ok, ap, false, true}
 use Rattle.mc_words.specs.hand.Arenas.{setup_of, view}
 use Rattle.mc_items.specs.ItemRefs.{item_words}
 use Rattle.mc_byte_items.proofs.Found.{finds_item, finds_none, finds_other, gives_value, same_ok}
+use Rattle.mc_byte_items.proofs.Slabs.{got_leaves, held_leaves, no_room_leaves, still_left}
 use Rattle.mc_byte_items.proofs.finding.try_get.Goals as goal
 
 pub returns-in-Ok-clause-value : goal.returns-in-Ok-clause-value
@@ -19,3 +20,22 @@ returns-in-Ok-None-clause-other c = λ is. finds_none (setup_of c.args.arena.now
 
 pub returns-in-Ok-clause-kept : goal.returns-in-Ok-clause-kept
 returns-in-Ok-clause-kept c = λ isnt. c.in-Ok.ensures.kept (λ is. isnt (ap Ok (same_ok c.in-Ok.there true is)))
+
+pub returns-in-Ok-clause-slabs : goal.returns-in-Ok-clause-slabs
+returns-in-Ok-clause-slabs c =
+    let got = got_leaves (setup_of c.args.arena.now) c.args.at.hash _ c.args.hand.now c.try_get.new.hand c.in-Ok-Some.ensures.gets in
+    still_left (view c.args.hand.now) (view c.try_get.new.hand) (view c.give_value.new.hand) got c.give_value.ensures.slabs
+
+pub returns-in-Err-clause-slabs : goal.returns-in-Err-clause-slabs
+returns-in-Err-clause-slabs c =
+    let got = got_leaves (setup_of c.args.arena.now) c.args.at.hash _ c.args.hand.now c.try_get.new.hand c.in-Ok-Some.ensures.gets in
+    still_left (view c.args.hand.now) (view c.try_get.new.hand) (view c.give_value.new.hand) got c.give_value.ensures.slabs
+
+pub returns-in-Ok-None-clause-slabs : goal.returns-in-Ok-None-clause-slabs
+returns-in-Ok-None-clause-slabs c = got_leaves (setup_of c.args.arena.now) c.args.at.hash _ c.args.hand.now c.try_get.new.hand c.in-Ok-None.ensures.gets
+
+pub returns-in-Err-NoMemory-clause-slabs : goal.returns-in-Err-NoMemory-clause-slabs
+returns-in-Err-NoMemory-clause-slabs c = no_room_leaves (setup_of c.args.arena.now) c.args.at.hash c.args.hand.now c.try_get.new.hand (c.in-Err-NoMemory.ensures.no_memory (ap Err c.in-Err-NoMemory.field-0-is))
+
+pub returns-in-Err-Held-clause-slabs : goal.returns-in-Err-Held-clause-slabs
+returns-in-Err-Held-clause-slabs c = held_leaves (setup_of c.args.arena.now) c.args.at.hash c.args.hand.now c.try_get.new.hand (c.in-Err-Held.ensures.held (ap Err c.in-Err-Held.field-0-is))

@@ -1,5 +1,5 @@
 use Rattle.std.proofs.Common.{ℕ, Err, Ok, ap, false, true}
-use Rattle.mc_cache.specs.Shards.{FindsHeld, ReadsOther, ReadsValue, SaysNoMore}
+use Rattle.mc_cache.specs.Shards.{FindsHeld, ReadsOther, ReadsValue, SaysNoMore, TouchesNothing}
 use Rattle.mc_cache.proofs.Acts.{acted, idle_after, same_ok}
 use Rattle.mc_cache.proofs.cache.Worker.try_get.Goals as goal
 
@@ -29,3 +29,12 @@ returns-in-Err-Held-clause-held c = λ is. acted c.args.cache.now c.args.key.now
 
 pub returns-in-Ok-clause-kept : goal.returns-in-Ok-clause-kept
 returns-in-Ok-clause-kept c = λ isnt. c.in-Ok.ensures.kept (λ is. isnt (ap Ok (same_ok c.in-Ok.found true is)))
+
+pub returns-in-Ok-clause-untouched : goal.returns-in-Ok-clause-untouched
+returns-in-Ok-clause-untouched c = λ is_key. acted c.args.cache.now c.args.key.now c.args.self.now.hands.items c.in-Some.at c.index-arena.result.now c.index_mut-hand.result.now c.try_get.new.hand (λ (hash : ℕ). TouchesNothing) c.requires c.in-Some.ensures.hash c.in-Some.ensures.shard c.in-Some.ensures.near c.index-arena.ensures c.index_mut-hand.ensures.value c.try_get.ensures.slabs
+
+pub returns-in-Err-NoMemory-clause-untouched : goal.returns-in-Err-NoMemory-clause-untouched
+returns-in-Err-NoMemory-clause-untouched c = λ is_key. acted c.args.cache.now c.args.key.now c.args.self.now.hands.items c.in-Some.at c.index-arena.result.now c.index_mut-hand.result.now c.try_get.new.hand (λ (hash : ℕ). TouchesNothing) c.requires c.in-Some.ensures.hash c.in-Some.ensures.shard c.in-Some.ensures.near c.index-arena.ensures c.index_mut-hand.ensures.value c.try_get.ensures.slabs
+
+pub returns-in-Err-Held-clause-untouched : goal.returns-in-Err-Held-clause-untouched
+returns-in-Err-Held-clause-untouched c = λ is_key. acted c.args.cache.now c.args.key.now c.args.self.now.hands.items c.in-Some.at c.index-arena.result.now c.index_mut-hand.result.now c.try_get.new.hand (λ (hash : ℕ). TouchesNothing) c.requires c.in-Some.ensures.hash c.in-Some.ensures.shard c.in-Some.ensures.near c.index-arena.ensures c.index_mut-hand.ensures.value c.try_get.ensures.slabs
