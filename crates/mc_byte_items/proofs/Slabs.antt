@@ -10,7 +10,7 @@ use Rattle.mc_words.specs.hand.Views.{chunk_released, word_seen}
 use Rattle.mc_words.specs.lock.Wait.{WaitsForStripe}
 use Rattle.mc_stripe.specs.StripeState.{ReadyStripe}
 use Rattle.mc_items.specs.declared.refs.Ref.{Ref}
-use Rattle.mc_items.specs.Calls.{CallsOn, LooksUp, OnlyWaits}
+use Rattle.mc_items.specs.Calls.{CallsOn, LooksUp}
 use Rattle.mc_items.specs.ItemRefs.{item_chunk, item_reference}
 use Rattle.mc_items.specs.OnKeys.{FindsNoRoomFor, FindsStripeHeld, Gets, stripe_of_key}
 use Rattle.mc_items.specs.Reading.{AndReads}

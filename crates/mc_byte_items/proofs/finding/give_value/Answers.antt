@@ -5,5 +5,5 @@ use Rattle.mc_byte_items.proofs.finding.give_value.Goals as goal
 
 pub returns-clause-slabs : goal.returns-clause-slabs
 returns-clause-slabs c =
-    still_left (view c.args.hand.now) (view c.push_value.new.hand) (view c.release.new.hand) c.push_value.ensures.reads.slabs
-    (released_leaves (item_chunk c.args.item) (view c.push_value.new.hand) (view c.release.new.hand) c.release.ensures.dropped)
+    still_left (view c.args.hand.now) (view c.push_value-given.new.hand) (view c.release.new.hand) c.push_value-given.ensures.reads.slabs
+    (released_leaves (item_chunk c.args.item) (view c.push_value-given.new.hand) (view c.release.new.hand) c.release.ensures.dropped)

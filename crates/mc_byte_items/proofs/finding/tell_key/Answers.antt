@@ -5,5 +5,5 @@ use Rattle.mc_byte_items.proofs.finding.tell_key.Goals as goal
 
 pub returns-clause-slabs : goal.returns-clause-slabs
 returns-clause-slabs c =
-    still_left (view c.args.hand.now) (view c.is_of.new.hand) (view c.release.new.hand) c.is_of.ensures.reads.slabs
-    (released_leaves (item_chunk c.args.item) (view c.is_of.new.hand) (view c.release.new.hand) c.release.ensures.dropped)
+    still_left (view c.args.hand.now) (view c.is_of-own.new.hand) (view c.release.new.hand) c.is_of-own.ensures.reads.slabs
+    (released_leaves (item_chunk c.args.item) (view c.is_of-own.new.hand) (view c.release.new.hand) c.release.ensures.dropped)
