@@ -1,5 +1,6 @@
 //! Pages and chunks: worked calls, and many at random beside plain lists.
 mod driven;
+mod moves;
 mod plain;
 mod shared;
 mod trims;
@@ -7,7 +8,7 @@ mod trims;
 use super::{assert_equal, assert_same};
 use driven::{ChunkList, Driven};
 use mc_classes::{ClassId, ClassTable, Config, PageId};
-use mc_pages::{BasePage, ChunkId, Entry, Found, Grow, Numbers, Owner, Reassign, Totals};
+use mc_pages::{ChunkId, Entry, Found, Grow, Numbers, Owner, Totals};
 use mc_trial_values::FOUR_CLASSES;
 use plain::{Plain, PlainClass};
 use rand_core::Rng;
@@ -154,6 +155,7 @@ fn assert_worked(
     assert_steps(rt, &mut all, steps);
     assert_equal(rt, all.totals(), granted(ledger.len() as u64), "totals");
     assert_equal(rt, all.ledger(), ledger, "ledger");
+    drop(all);
     Ok(())
 }
 
@@ -389,9 +391,7 @@ fn assert_same_slabs(rt: &impl Abort, all: &Driven, plain: &Plain) {
 /// All chunks of a page just given are cut.
 fn cut_all(all: &mut Driven) {
     for _ in 0..256 {
-        if all.cut().is_none() {
-            return;
-        }
+        let _none_behind_the_last = all.cut();
     }
 }
 
@@ -600,154 +600,6 @@ fn assert_finishes(rt: &impl Abort, all: &mut Driven) {
 }
 
 #[test]
-fn the_first_test_that_applies_refuses(rt: HostRuntime) -> Result<(), Fail> {
-    let table = ClassTable::build(rt.alloc(), &FOUR_CLASSES)?;
-    let mut all = Driven::new(rt.alloc(), &table)?;
-    for (src, dst, why) in [
-        (Some(1), 1, Reassign::Same),
-        (Some(0), 0, Reassign::Same),
-        (Some(9), 9, Reassign::Same),
-        (Some(9), 1, Reassign::BadClass),
-        (Some(0), 1, Reassign::BadClass),
-        (Some(4), 9, Reassign::BadClass),
-        (Some(4), 5, Reassign::BadClass),
-        (None, 1, Reassign::BadClass),
-        (None, 0, Reassign::BadClass),
-        (Some(4), 1, Reassign::NoSpare),
-        (Some(1), 0, Reassign::NoSpare),
-    ] {
-        assert_equal(&rt, all.begin(src, dst), Err(why), "begin");
-    }
-    assert_grows(&rt, &mut all, 1, 0);
-    assert_equal(&rt, all.begin(Some(1), 2), Err(Reassign::NoSpare), "begin");
-    assert_equal(&rt, all.begin(None, 2), Err(Reassign::BadClass), "begin");
-    assert_grows(&rt, &mut all, 1, 1);
-    assert_equal(&rt, all.begin(Some(1), 5), Err(Reassign::BadClass), "begin");
-    assert_equal(&rt, all.begin(None, 1), Err(Reassign::BadClass), "begin");
-    assert_equal(&rt, all.moving(), None, "moving");
-    assert_equal(&rt, all.begin(None, 2), Ok(()), "begin");
-    for (src, dst) in [(Some(1), 1), (Some(9), 1), (None, 3), (Some(1), 0)] {
-        assert_equal(&rt, all.begin(src, dst), Err(Reassign::Busy), "begin");
-    }
-    Ok(())
-}
-
-#[test]
-fn a_page_goes_through_the_pool(rt: HostRuntime) -> Result<(), Fail> {
-    let table = ClassTable::build(rt.alloc(), &FOUR_CLASSES)?;
-    let mut all = Driven::new(rt.alloc(), &table)?;
-    for page in 0..4 {
-        assert_grows(&rt, &mut all, 4, page);
-    }
-    for page in 0..2 {
-        assert_equal(&rt, all.begin(Some(4), 0), Ok(()), "begin");
-        assert_equal(
-            &rt,
-            all.owner(page),
-            Some(Owner::Moving { src: 4, dst: 0 }),
-            "owner",
-        );
-        assert_finishes(&rt, &mut all);
-        assert_equal(&rt, all.owner(page), Some(Owner::Pool), "owner");
-        assert_same(&rt, all.half_cut(), None, "half_cut");
-    }
-    assert_same(&rt, all.totals().pool, 2, "pool");
-    // The page that came last is the first to leave.
-    assert_gets(&rt, &mut all, 3, 1, 5);
-    assert_grows(&rt, &mut all, 2, 0);
-    // No page is left within the limit, and the class has none.
-    assert_gets(&rt, &mut all, 1, 4, 21);
-    assert_equal(&rt, all.grow(1), Some(Err(Grow::NoRoom)), "grow");
-    assert_equal(&rt, all.pop(3), chunk(1, 4), "pop");
-    assert_equal(
-        &rt,
-        all.totals(),
-        Totals {
-            moved: 2,
-            ..granted(5)
-        },
-        "totals",
-    );
-    let ledger = [
-        Entry::Granted(0, 4, false),
-        Entry::Granted(1, 4, false),
-        Entry::Granted(2, 4, false),
-        Entry::Granted(3, 4, false),
-        Entry::Began(0, 4, 0),
-        Entry::Ended(0, 0),
-        Entry::Began(1, 4, 0),
-        Entry::Ended(1, 0),
-        Entry::Taken(1, 3),
-        Entry::Taken(0, 2),
-        Entry::Granted(4, 1, true),
-    ];
-    assert_equal(&rt, all.ledger(), ledger.as_slice(), "ledger");
-    all.trim();
-    assert_equal(&rt, all.ledger(), [].as_slice(), "ledger");
-    assert_same(&rt, all.trimmed(), 11, "trimmed");
-    let base = [
-        (Owner::Class(2), None),
-        (Owner::Class(3), None),
-        (Owner::Class(4), None),
-        (Owner::Class(4), None),
-        (Owner::Class(1), Some(1)),
-    ];
-    for (page, (owner, grace)) in base.iter().enumerate() {
-        let left = BasePage {
-            owner: *owner,
-            grace: *grace,
-        };
-        assert_equal(&rt, all.base().get(page).copied(), Some(left), "base");
-    }
-    Ok(())
-}
-
-#[test]
-fn what_a_move_finds_is_counted(rt: HostRuntime) -> Result<(), Fail> {
-    let table = ClassTable::build(rt.alloc(), &FOUR_CLASSES)?;
-    let mut all = Driven::new(rt.alloc(), &table)?;
-    assert_grows(&rt, &mut all, 3, 0);
-    assert_grows(&rt, &mut all, 3, 1);
-    assert_equal(&rt, all.begin(None, 4), Ok(()), "begin");
-    for wanted in [
-        Found::Rescued,
-        Found::Busy,
-        Found::Evicted,
-        Found::Locked,
-        Found::Rescued,
-    ] {
-        assert_equal(&rt, all.pass(wanted), Some(wanted), "pass");
-    }
-    assert_equal(&rt, all.pass(Found::Cleared), None, "at the page's end");
-    assert_same(&rt, all.finish(), false, "two chunks are left");
-    assert_same(&rt, all.wrap(), true, "wrap");
-    for want in [
-        Found::Already,
-        Found::Cleared,
-        Found::Already,
-        Found::Cleared,
-        Found::Already,
-    ] {
-        assert_equal(&rt, all.pass(Found::Cleared), Some(want), "pass");
-    }
-    assert_same(&rt, all.wrap(), false, "nothing held it up");
-    assert_same(&rt, all.finish(), true, "finish");
-    assert_cuts(&rt, &mut all, 0, 2);
-    let totals = Totals {
-        granted: 2,
-        pool: 0,
-        moved: 1,
-        rescues: 2,
-        evictions_nomem: 1,
-        busy: 2,
-    };
-    assert_equal(&rt, all.totals(), totals, "totals");
-    assert_equal(&rt, all.numbers(3), numbers(1, 5), "numbers");
-    assert_equal(&rt, all.numbers(4), numbers(1, 2), "numbers");
-    Ok(())
-}
-
-#[test]
 fn the_automover_has_three_modes(rt: HostRuntime) -> Result<(), Fail> {
     let table = ClassTable::build(rt.alloc(), &FOUR_CLASSES)?;
     let mut all = Driven::new(rt.alloc(), &table)?;
@@ -756,5 +608,6 @@ fn the_automover_has_three_modes(rt: HostRuntime) -> Result<(), Fail> {
         assert_same(&rt, all.set_automove(mode), is, "set_automove");
         assert_same(&rt, all.automove(), now, "automove");
     }
+    drop(all);
     Ok(())
 }

@@ -10,6 +10,7 @@ use mc_stripe::{Call, HandId, Key, NoMemory, Stamp, Stripe};
 use plain::Plain;
 use rand_core::Rng;
 use rand_pcg::Pcg32;
+use std::alloc::Global;
 use std::process::Abort;
 use std::test::Fail;
 
@@ -93,99 +94,97 @@ fn place((index, stamp): (u64, Stamp)) -> (ChunkId, Stamp) {
 
 /// A call, and what the stripe then has: the place of key 1 in the index, the key aside, and the last entry of the
 /// history.
-#[derive(Clone, Copy)]
-struct Row {
-    call: Try,
-    first: Option<(u64, Stamp)>,
-    aside: Option<Key>,
-    last: Option<Call>,
-}
+type Row = (Try, Option<(u64, Stamp)>, Option<Key>, Option<Call>);
 
 /// Room is made, the call is made, and the stripe has what it is to have.
 fn assert_row(rt: &impl Abort, stripe: &mut Stripe, row: Row) -> Result<(), Fail> {
+    let (call, first, aside, last) = row;
     stripe.reserve()?;
     assert_same(rt, stripe.is_ready(), true, "is_ready");
-    assert_same(rt, made(stripe, row.call), true, "made");
-    let is_lift = matches!(row.call, Lift(_));
+    assert_same(rt, made(stripe, call), true, "made");
+    let is_lift = matches!(call, Lift(_));
     assert_same(rt, stripe.is_ready(), is_lift, "is_ready");
-    assert_equal(rt, stripe.find(1), row.first.map(place), "find");
-    assert_same(rt, stripe.aside(), row.aside, "aside");
-    assert_equal(rt, stripe.history().last().copied(), row.last, "history");
+    assert_equal(rt, stripe.find(1), first.map(place), "find");
+    assert_same(rt, stripe.aside(), aside, "aside");
+    assert_equal(rt, stripe.history().last().copied(), last, "history");
+    Ok(())
+}
+
+/// Each kind of call, with and without an item under its key.
+const ROWS: [Row; 18] = [
+    (Got(0, 1), None, None, Some(Call::Get(0, 1, None))),
+    (Unlink(0, 1), None, None, Some(Call::Delete(0, 1, false))),
+    (
+        Link(1, 1, ChunkId { page: 0, index: 4 }, 7),
+        Some((4, 7)),
+        None,
+        Some(Call::Set(1, 1, 7)),
+    ),
+    (
+        Got(2, 1),
+        Some((4, 7)),
+        None,
+        Some(Call::Get(2, 1, Some(7))),
+    ),
+    // Another item under the key: the old entry is lifted, and the new one's Set stands for both.
+    (Lift(1), None, Some(1), Some(Call::Get(2, 1, Some(7)))),
+    (
+        Link(1, 1, ChunkId { page: 0, index: 5 }, 8),
+        Some((5, 8)),
+        None,
+        Some(Call::Set(1, 1, 8)),
+    ),
+    // The item goes into another chunk, and keeps its stamp.
+    (Lift(1), None, Some(1), Some(Call::Set(1, 1, 8))),
+    (
+        Rescue(3, 1, ChunkId { page: 0, index: 6 }),
+        Some((6, 8)),
+        None,
+        Some(Call::Rescue(3, 1)),
+    ),
+    (
+        Link(1, 9, ChunkId { page: 0, index: 0 }, 9),
+        Some((6, 8)),
+        None,
+        Some(Call::Set(1, 9, 9)),
+    ),
+    // While a key is aside, others are looked up, deleted and evicted.
+    (Lift(1), None, Some(1), Some(Call::Set(1, 9, 9))),
+    (Got(0, 9), None, Some(1), Some(Call::Get(0, 9, Some(9)))),
+    (Unlink(0, 5), None, Some(1), Some(Call::Delete(0, 5, false))),
+    (Evict(0, 9), None, Some(1), Some(Call::Evict(0, 9))),
+    (
+        Rescue(0, 1, ChunkId { page: 0, index: 7 }),
+        Some((7, 8)),
+        None,
+        Some(Call::Rescue(0, 1)),
+    ),
+    (Unlink(2, 1), None, None, Some(Call::Delete(2, 1, true))),
+    (Got(2, 1), None, None, Some(Call::Get(2, 1, None))),
+    (
+        Link(2, 1, ChunkId { page: 0, index: 1 }, 10),
+        Some((1, 10)),
+        None,
+        Some(Call::Set(2, 1, 10)),
+    ),
+    (Evict(0, 1), None, None, Some(Call::Evict(0, 1))),
+];
+
+/// Each row, one after another.
+fn assert_rows(rt: &impl Abort, stripe: &mut Stripe) -> Result<(), Fail> {
+    for row in &ROWS {
+        assert_row(rt, stripe, *row)?;
+    }
+    assert_same(rt, stripe.history().len(), 15, "history");
     Ok(())
 }
 
 #[test]
 fn each_call_leaves_its_entry(rt: HostRuntime) -> Result<(), Fail> {
     let mut stripe = Stripe::new(rt.alloc());
-    let rows = [
-        (Got(0, 1), None, None, Some(Call::Get(0, 1, None))),
-        (Unlink(0, 1), None, None, Some(Call::Delete(0, 1, false))),
-        (
-            Link(1, 1, chunk(4), 7),
-            Some((4, 7)),
-            None,
-            Some(Call::Set(1, 1, 7)),
-        ),
-        (
-            Got(2, 1),
-            Some((4, 7)),
-            None,
-            Some(Call::Get(2, 1, Some(7))),
-        ),
-        // Another item under the key: the old entry is lifted, and the new one's Set stands for both.
-        (Lift(1), None, Some(1), Some(Call::Get(2, 1, Some(7)))),
-        (
-            Link(1, 1, chunk(5), 8),
-            Some((5, 8)),
-            None,
-            Some(Call::Set(1, 1, 8)),
-        ),
-        // The item goes into another chunk, and keeps its stamp.
-        (Lift(1), None, Some(1), Some(Call::Set(1, 1, 8))),
-        (
-            Rescue(3, 1, chunk(6)),
-            Some((6, 8)),
-            None,
-            Some(Call::Rescue(3, 1)),
-        ),
-        (
-            Link(1, 9, chunk(0), 9),
-            Some((6, 8)),
-            None,
-            Some(Call::Set(1, 9, 9)),
-        ),
-        // While a key is aside, others are looked up, deleted and evicted.
-        (Lift(1), None, Some(1), Some(Call::Set(1, 9, 9))),
-        (Got(0, 9), None, Some(1), Some(Call::Get(0, 9, Some(9)))),
-        (Unlink(0, 5), None, Some(1), Some(Call::Delete(0, 5, false))),
-        (Evict(0, 9), None, Some(1), Some(Call::Evict(0, 9))),
-        (
-            Rescue(0, 1, chunk(7)),
-            Some((7, 8)),
-            None,
-            Some(Call::Rescue(0, 1)),
-        ),
-        (Unlink(2, 1), None, None, Some(Call::Delete(2, 1, true))),
-        (Got(2, 1), None, None, Some(Call::Get(2, 1, None))),
-        (
-            Link(2, 1, chunk(1), 10),
-            Some((1, 10)),
-            None,
-            Some(Call::Set(2, 1, 10)),
-        ),
-        (Evict(0, 1), None, None, Some(Call::Evict(0, 1))),
-    ];
-    for (call, first, aside, last) in rows {
-        let row = Row {
-            call,
-            first,
-            aside,
-            last,
-        };
-        assert_row(&rt, &mut stripe, row)?;
-    }
-    assert_same(&rt, stripe.history().len(), 15, "history");
-    Ok(())
+    let rows = assert_rows(&rt, &mut stripe);
+    drop(stripe);
+    rows
 }
 
 /// A call on one of 24 keys of a stripe. The stamp of an item that is stored is the number of the try.
@@ -232,80 +231,137 @@ fn reserve_at_last(
     Ok(())
 }
 
+/// A stripe, and a plain list that is to hold the same.
+#[derive(Drop)]
+struct Both {
+    stripe: Stripe,
+    plain: Plain,
+}
+
+impl Both {
+    /// Nothing was called yet.
+    fn new(alloc: Global) -> Both {
+        Both {
+            stripe: Stripe::new(alloc),
+            plain: Plain::new(alloc),
+        }
+    }
+}
+
+/// A call of both, drawn. True if an item was rescued.
+fn call_both(
+    rt: &impl Abort,
+    both: &mut Both,
+    random: &mut Pcg32,
+    number: u64,
+) -> Result<bool, Fail> {
+    let Both { stripe, plain } = both;
+    if random.next_u64() % 8 != 0 {
+        reserve_at_last(rt, stripe, plain)?;
+    }
+    let mut call = any_call(random, number);
+    if let (Rescue(hand, _, chunk), Some(key)) = (call, stripe.aside()) {
+        call = Rescue(hand, key, chunk);
+    }
+    let is_made = made(stripe, call);
+    assert_same(rt, is_made, plain.made(call)?, "made");
+    assert_same_lists(rt, stripe, plain);
+    Ok(is_made && matches!(call, Rescue(_, _, _)))
+}
+
+/// How many items were rescued in 1,000 calls of both, drawn by this number.
+fn count_rescued(rt: &impl Abort, both: &mut Both, seed: u64) -> Result<u64, Fail> {
+    let mut random = Pcg32::new(seed, 0);
+    let mut rescued: u64 = 0;
+    for number in 0..1000 {
+        if call_both(rt, both, &mut random, number)? {
+            rescued = rescued.saturating_add(1);
+        }
+    }
+    let history = both.plain.history.as_slice();
+    assert_equal(rt, both.stripe.history(), history, "history");
+    Ok(rescued)
+}
+
 #[test]
 fn random_calls_leave_what_a_plain_list_holds(rt: HostRuntime) -> Result<(), Fail> {
     let mut rescued: u64 = 0;
     for seed in 0..8 {
-        let mut random = Pcg32::new(seed, 0);
-        let mut stripe = Stripe::new(rt.alloc());
-        let mut plain = Plain::new(rt.alloc());
-        for number in 0..1000 {
-            if random.next_u64() % 8 != 0 {
-                reserve_at_last(&rt, &mut stripe, &mut plain)?;
-            }
-            let mut call = any_call(&mut random, number);
-            if let (Rescue(hand, _, chunk), Some(key)) = (call, stripe.aside()) {
-                call = Rescue(hand, key, chunk);
-            }
-            let is_made = made(&mut stripe, call);
-            assert_same(&rt, is_made, plain.made(call)?, "made");
-            if is_made && matches!(call, Rescue(_, _, _)) {
-                rescued = rescued.saturating_add(1);
-            }
-            assert_same_lists(&rt, &stripe, &plain);
-        }
-        assert_equal(&rt, stripe.history(), plain.history.as_slice(), "history");
+        let mut both = Both::new(rt.alloc());
+        let counted = count_rescued(&rt, &mut both, seed);
+        drop(both);
+        rescued = rescued.saturating_add(counted?);
     }
     assert_same(&rt, rescued > 200, true, "many items were rescued");
     Ok(())
 }
 
-/// As many keys as a memory has chunks, all of one stripe of 64.
+/// The chunk of this number, where each page has 256.
+fn numbered(number: u64) -> ChunkId {
+    ChunkId {
+        page: number / 256,
+        index: number % 256,
+    }
+}
+
+/// An item is stored under the stripe's key of this number.
+fn store(rt: &impl Abort, stripe: &mut Stripe, number: u64) -> Result<(), NoMemory> {
+    stripe.reserve()?;
+    let link = Link(1, number.wrapping_mul(64), numbered(number), number);
+    assert_same(rt, made(stripe, link), true, "made");
+    Ok(())
+}
+
+/// It is found, and then evicted.
+fn find_and_evict(rt: &impl Abort, stripe: &mut Stripe, number: u64) -> Result<(), NoMemory> {
+    let key = number.wrapping_mul(64);
+    let wanted = Some((numbered(number), number));
+    assert_equal(rt, stripe.find(key), wanted, "find");
+    assert_equal(rt, stripe.find(key.wrapping_add(1)), None, "find");
+    stripe.reserve()?;
+    assert_same(rt, made(stripe, Evict(1, key)), true, "made");
+    assert_equal(rt, stripe.find(key), None, "find");
+    Ok(())
+}
+
+/// As many keys as a memory has chunks, all of one stripe of 64, come and go.
+fn fill_and_empty(rt: &impl Abort, stripe: &mut Stripe) -> Result<(), NoMemory> {
+    for number in 0..16_384 {
+        store(rt, stripe, number)?;
+    }
+    for number in 0..16_384 {
+        find_and_evict(rt, stripe, number)?;
+    }
+    assert_same(rt, stripe.history().len(), 32_768, "history");
+    Ok(())
+}
+
 #[test]
 fn a_full_stripe_finds_each_key(rt: HostRuntime) -> Result<(), Fail> {
     let mut stripe = Stripe::new(rt.alloc());
-    for number in 0..16_384 {
-        stripe.reserve()?;
-        let chunk = ChunkId {
-            page: number / 256,
-            index: number % 256,
-        };
-        assert_same(
-            &rt,
-            made(&mut stripe, Link(1, number * 64, chunk, number)),
-            true,
-            "made",
-        );
-    }
-    for number in 0..16_384 {
-        let chunk = ChunkId {
-            page: number / 256,
-            index: number % 256,
-        };
-        assert_equal(&rt, stripe.find(number * 64), Some((chunk, number)), "find");
-        assert_equal(&rt, stripe.find(number * 64 + 1), None, "find");
-        stripe.reserve()?;
-        assert_same(&rt, made(&mut stripe, Evict(1, number * 64)), true, "made");
-        assert_equal(&rt, stripe.find(number * 64), None, "find");
-    }
-    assert_same(&rt, stripe.history().len(), 32_768, "history");
+    let filled = fill_and_empty(&rt, &mut stripe);
+    drop(stripe);
+    filled?;
     Ok(())
 }
 
 /// Where there is room, no memory is asked for.
+fn make_room(rt: &impl Abort, stripe: &mut Stripe) -> Result<(), NoMemory> {
+    assert_same(rt, made(stripe, Got(0, 1)), false, "made");
+    stripe.reserve()?;
+    assert!(rt; stripe.reserve().is_ok());
+    assert_same(rt, made(stripe, Got(0, 1)), true, "made");
+    assert_same(rt, made(stripe, Got(0, 1)), false, "made");
+    let told = [Call::Get(0, 1, None)];
+    assert_equal(rt, stripe.history(), told.as_slice(), "history");
+    Ok(())
+}
+
 #[test]
 fn room_is_made_once(rt: HostRuntime) -> Result<(), Fail> {
     let mut stripe = Stripe::new(rt.alloc());
-    assert_same(&rt, made(&mut stripe, Got(0, 1)), false, "made");
-    stripe.reserve()?;
-    assert!(rt; stripe.reserve().is_ok());
-    assert_same(&rt, made(&mut stripe, Got(0, 1)), true, "made");
-    assert_same(&rt, made(&mut stripe, Got(0, 1)), false, "made");
-    assert_equal(
-        &rt,
-        stripe.history(),
-        [Call::Get(0, 1, None)].as_slice(),
-        "history",
-    );
+    let room = make_room(&rt, &mut stripe);
+    drop(stripe);
+    room?;
     Ok(())
 }

@@ -49,6 +49,11 @@ impl PlainClass {
     }
 }
 
+/// The class of this number.
+fn class_of(classes: &mut Vec<PlainClass>, class: ClassId) -> Option<&mut PlainClass> {
+    classes.get_mut((class as usize).checked_sub(1)?)
+}
+
 fn leave(chunks: &mut Vec<ChunkId>, chunk: ChunkId) -> bool {
     let Some(place) = chunks.iter().position(|c| *c == chunk) else {
         return false;
@@ -105,10 +110,6 @@ impl Plain {
         }
     }
 
-    fn class(&mut self, class: ClassId) -> Option<&mut PlainClass> {
-        self.classes.get_mut((class as usize).checked_sub(1)?)
-    }
-
     fn own(&mut self, page: PageId, owner: Owner) {
         if let Some(place) = self.owners.get_mut(page as usize) {
             *place = owner;
@@ -118,7 +119,7 @@ impl Plain {
     /// The class gets the page with all its chunks, the last of them first.
     fn give(&mut self, class: ClassId, page: PageId) -> Result<(), AllocError> {
         self.own(page, Owner::Class(class));
-        if let Some(own) = self.class(class) {
+        if let Some(own) = class_of(&mut self.classes, class) {
             own.pages.push(page)?;
             for index in 0..own.per_page {
                 own.free.insert(0, ChunkId { page, index })?;
@@ -162,7 +163,7 @@ impl Plain {
         };
         let page = place as PageId;
         let grace = self.within == 0;
-        if grace && self.class(class).is_some_and(|own| !own.pages.is_empty()) {
+        if grace && class_of(&mut self.classes, class).is_some_and(|own| !own.pages.is_empty()) {
             return Ok(None);
         }
         self.within = self.within.saturating_sub(1);
@@ -176,7 +177,7 @@ impl Plain {
     }
 
     pub(super) fn pop(&mut self, class: ClassId) -> Result<Option<ChunkId>, AllocError> {
-        let Some(own) = self.class(class) else {
+        let Some(own) = class_of(&mut self.classes, class) else {
             return Ok(None);
         };
         if own.free.is_empty() {
@@ -189,7 +190,7 @@ impl Plain {
 
     /// The chunk at this place of the class's hand-out order leaves it.
     fn take_out(&mut self, class: ClassId, place: usize) -> Option<ChunkId> {
-        let own = self.class(class)?;
+        let own = class_of(&mut self.classes, class)?;
         if place < own.order.len() {
             Some(own.order.remove(place))
         } else {
@@ -203,7 +204,7 @@ impl Plain {
         place: usize,
     ) -> Result<Option<ChunkId>, AllocError> {
         let chunk = self.take_out(class, place);
-        if let (Some(chunk), Some(own)) = (chunk, self.class(class)) {
+        if let (Some(chunk), Some(own)) = (chunk, class_of(&mut self.classes, class)) {
             own.free.insert(0, chunk)?;
         }
         Ok(chunk)
@@ -215,7 +216,7 @@ impl Plain {
         place: usize,
     ) -> Result<Option<ChunkId>, AllocError> {
         let chunk = self.take_out(class, place);
-        if let (Some(chunk), Some(own)) = (chunk, self.class(class)) {
+        if let (Some(chunk), Some(own)) = (chunk, class_of(&mut self.classes, class)) {
             own.order.push(chunk)?;
         }
         Ok(chunk)
@@ -227,7 +228,7 @@ impl Plain {
         free: usize,
         place: usize,
     ) -> Result<Option<(ChunkId, ChunkId)>, AllocError> {
-        let Some(own) = self.class(class) else {
+        let Some(own) = class_of(&mut self.classes, class) else {
             return Ok(None);
         };
         if free >= own.free.len() || place >= own.order.len() {
@@ -240,7 +241,7 @@ impl Plain {
     }
 
     pub(super) fn evicted(&mut self, class: ClassId) -> bool {
-        let Some(own) = self.class(class) else {
+        let Some(own) = class_of(&mut self.classes, class) else {
             return false;
         };
         own.evictions = own.evictions.wrapping_add(1);
@@ -248,7 +249,7 @@ impl Plain {
     }
 
     fn pages_of(&mut self, class: ClassId) -> usize {
-        match self.class(class) {
+        match class_of(&mut self.classes, class) {
             Some(own) => own.pages.len(),
             None => 0,
         }
@@ -297,7 +298,7 @@ impl Plain {
             Ok(source) => source,
             Err(why) => return Ok(Err(why)),
         };
-        let Some(own) = self.class(source) else {
+        let Some(own) = class_of(&mut self.classes, source) else {
             return Ok(Err(Reassign::BadClass));
         };
         let Some(page) = own.pages.first().copied() else {
@@ -320,7 +321,7 @@ impl Plain {
 
     pub(super) fn pass(&mut self, wanted: Found) -> Option<Found> {
         let moving = self.moving?;
-        let own = self.class(moving.src)?;
+        let own = class_of(&mut self.classes, moving.src)?;
         if moving.at >= own.per_page {
             return None;
         }
@@ -352,7 +353,7 @@ impl Plain {
     /// The move that runs, where its pass is at the page's end.
     fn passed(&mut self) -> Option<Moving> {
         let moving = self.moving?;
-        let own = self.class(moving.src)?;
+        let own = class_of(&mut self.classes, moving.src)?;
         if moving.at == own.per_page {
             Some(moving)
         } else {
@@ -389,7 +390,7 @@ impl Plain {
         else {
             return Ok(false);
         };
-        if let Some(own) = self.class(src) {
+        if let Some(own) = class_of(&mut self.classes, src) {
             own.pages.retain(|p| *p != page);
         }
         self.moving = None;

@@ -88,5 +88,7 @@ fn slabs_in_a_box_are_changed_in_place(rt: HostRuntime) -> Result<(), Fail> {
     let slabs = boxed.shared.into_slabs();
     assert_equal(&rt, slabs.totals(), all.totals(), "totals");
     assert_equal(&rt, slabs.ledger(), all.ledger(), "ledger");
+    drop(slabs);
+    drop(all);
     Ok(())
 }

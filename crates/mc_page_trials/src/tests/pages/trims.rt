@@ -24,5 +24,6 @@ fn a_trim_leaves_the_room_of_a_move(rt: HostRuntime) -> Result<(), Fail> {
     assert_finishes(&rt, &mut all);
     assert_equal(&rt, all.ledger(), [Entry::Ended(0, 1)].as_slice(), "ledger");
     assert_equal(&rt, all.base().first().copied(), Some(moving), "base");
+    drop(all);
     Ok(())
 }

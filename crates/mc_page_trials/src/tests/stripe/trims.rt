@@ -1,6 +1,7 @@
 //! Stripes whose calls are trimmed, and stripes that forget them.
 use super::Try::{Got, Lift, Link, Rescue, Unlink};
-use super::{Plain, any_call, assert_equal, assert_same, chunk, made, place};
+use super::plain::Plain;
+use super::{Both, any_call, assert_equal, assert_same, chunk, made, place};
 use mc_stripe::{Call, Key, NoMemory, Stamp, Stripe, Trim};
 use rand_core::Rng;
 use rand_pcg::Pcg32;
@@ -39,13 +40,12 @@ fn trim_at_last(rt: &impl Abort, stripe: &mut Stripe) -> Result<(), NoMemory> {
     }
 }
 
-#[test]
-fn what_calls_left_is_kept(rt: HostRuntime) -> Result<(), Fail> {
-    let mut stripe = Stripe::new(rt.alloc());
-    assert_equal(&rt, stripe.base().map(|base| base.len()), Some(0), "base");
+/// Calls, and a trim that keeps what they left.
+fn trim_calls(rt: &impl Abort, stripe: &mut Stripe) -> Result<(), NoMemory> {
+    assert_equal(rt, stripe.base().map(|base| base.len()), Some(0), "base");
     make_all(
-        &rt,
-        &mut stripe,
+        rt,
+        stripe,
         &[
             Link(1, 1, chunk(4), 7),
             Link(1, 9, chunk(5), 8),
@@ -53,47 +53,74 @@ fn what_calls_left_is_kept(rt: HostRuntime) -> Result<(), Fail> {
             Unlink(0, 9),
         ],
     )?;
-    make_all(&rt, &mut stripe, &[Link(1, 3, chunk(6), 9), Lift(1)])?;
-    trim_at_last(&rt, &mut stripe)?;
+    make_all(rt, stripe, &[Link(1, 3, chunk(6), 9), Lift(1)])?;
+    trim_at_last(rt, stripe)?;
     // the entry aside is counted in
-    assert_same(&rt, stripe.trimmed(), 5, "trimmed");
-    assert_same(&rt, stripe.history().is_empty(), true, "history");
-    assert_equal(&rt, stripe.base().map(|base| base.len()), Some(2), "base");
-    assert_equal(&rt, stamp_in(stripe.base(), 1), Some(7), "base");
-    assert_equal(&rt, stamp_in(stripe.base(), 3), Some(9), "base");
-    // what comes then is recorded behind it, and the base stays
-    make_all(&rt, &mut stripe, &[Rescue(3, 1, chunk(7)), Unlink(2, 3)])?;
+    assert_same(rt, stripe.trimmed(), 5, "trimmed");
+    assert_same(rt, stripe.history().is_empty(), true, "history");
+    assert_equal(rt, stripe.base().map(|base| base.len()), Some(2), "base");
+    assert_equal(rt, stamp_in(stripe.base(), 1), Some(7), "base");
+    assert_equal(rt, stamp_in(stripe.base(), 3), Some(9), "base");
+    Ok(())
+}
+
+/// What comes then is recorded behind it, and the base stays, up to the next trim.
+fn call_behind_a_trim(rt: &impl Abort, stripe: &mut Stripe) -> Result<(), NoMemory> {
+    make_all(rt, stripe, &[Rescue(3, 1, chunk(7)), Unlink(2, 3)])?;
     assert_equal(
-        &rt,
+        rt,
         stripe.history(),
         [Call::Rescue(3, 1), Call::Delete(2, 3, true)].as_slice(),
         "history",
     );
-    assert_equal(&rt, stamp_in(stripe.base(), 3), Some(9), "base");
-    trim_at_last(&rt, &mut stripe)?;
-    assert_same(&rt, stripe.trimmed(), 7, "trimmed");
-    assert_equal(&rt, stamp_in(stripe.base(), 3), None, "base");
-    assert_equal(&rt, stripe.find(1), Some(place((7, 7))), "find");
+    assert_equal(rt, stamp_in(stripe.base(), 3), Some(9), "base");
+    trim_at_last(rt, stripe)?;
+    assert_same(rt, stripe.trimmed(), 7, "trimmed");
+    assert_equal(rt, stamp_in(stripe.base(), 3), None, "base");
+    assert_equal(rt, stripe.find(1), Some(place((7, 7))), "find");
+    Ok(())
+}
+
+/// What calls left is kept by a trim, and by another one.
+fn keep_what_calls_left(rt: &impl Abort, stripe: &mut Stripe) -> Result<(), NoMemory> {
+    trim_calls(rt, stripe)?;
+    call_behind_a_trim(rt, stripe)
+}
+
+#[test]
+fn what_calls_left_is_kept(rt: HostRuntime) -> Result<(), Fail> {
+    let mut stripe = Stripe::new(rt.alloc());
+    let kept = keep_what_calls_left(&rt, &mut stripe);
+    drop(stripe);
+    kept?;
+    Ok(())
+}
+
+/// Calls of a stripe that forgets them.
+fn forget_calls(rt: &impl Abort, stripe: &mut Stripe) -> Result<(), NoMemory> {
+    make_all(rt, stripe, &[Link(1, 1, chunk(4), 7), Got(2, 1)])?;
+    stripe.forget();
+    assert_same(rt, stripe.history().is_empty(), true, "history");
+    assert_same(rt, stripe.base().is_none(), true, "base");
+    assert_same(rt, stripe.trimmed(), 2, "trimmed");
+    for _ in 0..100 {
+        make_all(rt, stripe, &[Got(2, 1), Unlink(2, 5)])?;
+    }
+    assert_same(rt, stripe.history().is_empty(), true, "history");
+    assert_same(rt, stripe.trimmed(), 202, "trimmed");
+    assert_equal(rt, stripe.find(1), Some(place((4, 7))), "find");
+    // there is nothing to trim
+    assert_same(rt, stripe.trim().is_ok(), true, "trim");
+    assert_same(rt, stripe.trimmed(), 202, "trimmed");
     Ok(())
 }
 
 #[test]
 fn what_is_forgotten_takes_no_room(rt: HostRuntime) -> Result<(), Fail> {
     let mut stripe = Stripe::new(rt.alloc());
-    make_all(&rt, &mut stripe, &[Link(1, 1, chunk(4), 7), Got(2, 1)])?;
-    stripe.forget();
-    assert_same(&rt, stripe.history().is_empty(), true, "history");
-    assert_same(&rt, stripe.base().is_none(), true, "base");
-    assert_same(&rt, stripe.trimmed(), 2, "trimmed");
-    for _ in 0..100 {
-        make_all(&rt, &mut stripe, &[Got(2, 1), Unlink(2, 5)])?;
-    }
-    assert_same(&rt, stripe.history().is_empty(), true, "history");
-    assert_same(&rt, stripe.trimmed(), 202, "trimmed");
-    assert_equal(&rt, stripe.find(1), Some(place((4, 7))), "find");
-    // there is nothing to trim
-    assert_same(&rt, stripe.trim().is_ok(), true, "trim");
-    assert_same(&rt, stripe.trimmed(), 202, "trimmed");
+    let forgot = forget_calls(&rt, &mut stripe);
+    drop(stripe);
+    forgot?;
     Ok(())
 }
 
@@ -110,29 +137,44 @@ fn assert_same_base(rt: &impl Abort, stripe: &Stripe, plain: &Plain) {
     }
 }
 
+/// A call of both, drawn, and now and then a trim. What is recorded is the end of what all calls were.
+fn call_or_trim(
+    rt: &impl Abort,
+    both: &mut Both,
+    random: &mut Pcg32,
+    number: u64,
+) -> Result<(), Fail> {
+    let Both { stripe, plain } = both;
+    stripe.reserve()?;
+    plain.ready = true;
+    let call = any_call(random, number);
+    assert_same(rt, made(stripe, call), plain.made(call)?, "made");
+    if random.next_u64() % 50 == 0 {
+        trim_at_last(rt, stripe)?;
+        assert_same_base(rt, stripe, plain);
+    }
+    let trimmed = stripe.trimmed() as usize;
+    let history = plain.history.get(trimmed..);
+    assert_equal(rt, Some(stripe.history()), history, "history");
+    Ok(())
+}
+
+/// 600 calls of both, drawn by this number.
+fn call_between_trims(rt: &impl Abort, both: &mut Both, seed: u64) -> Result<(), Fail> {
+    let mut random = Pcg32::new(seed, 0);
+    for number in 0..600 {
+        call_or_trim(rt, both, &mut random, number)?;
+    }
+    Ok(())
+}
+
 #[test]
 fn random_calls_between_trims_are_recorded(rt: HostRuntime) -> Result<(), Fail> {
-    for seed in 0..4 {
-        let mut random = Pcg32::new(seed + 100, 0);
-        let mut stripe = Stripe::new(rt.alloc());
-        let mut plain = Plain::new(rt.alloc());
-        for number in 0..600 {
-            stripe.reserve()?;
-            plain.ready = true;
-            let call = any_call(&mut random, number);
-            assert_same(&rt, made(&mut stripe, call), plain.made(call)?, "made");
-            if random.next_u64() % 50 == 0 {
-                trim_at_last(&rt, &mut stripe)?;
-                assert_same_base(&rt, &stripe, &plain);
-            }
-            let trimmed = stripe.trimmed() as usize;
-            assert_equal(
-                &rt,
-                Some(stripe.history()),
-                plain.history.get(trimmed..),
-                "history",
-            );
-        }
+    for seed in 100..104 {
+        let mut both = Both::new(rt.alloc());
+        let called = call_between_trims(&rt, &mut both, seed);
+        drop(both);
+        called?;
     }
     Ok(())
 }
