@@ -79,8 +79,7 @@ pub fn one_of(arena: &Arena, hand: Hand, other: Hand) -> Hand
     arena.join_hands(hand, other)
 }
 
-/// An arena and two of its hands. How it is dropped is proved at each place where it goes out of scope, so a test drops it by one call,
-/// behind all that may fail.
+/// An arena and two of its hands. A test gives it to `drop_two` at its end, behind all that may fail.
 #[derive(Drop)]
 pub struct Two {
     pub arena: Arena,

@@ -1,6 +1,7 @@
 //! Lists of calls, each with what it is to give. A list is one call of a test, so that it is checked fast.
 ghost use Rattle.mc_calls.specs.Hands.{IsReadyHandOf};
 
+use crate::drops::drop_two;
 use crate::hands::opened_two;
 use mc_classes::Config;
 use mc_memory::Refused;
@@ -59,7 +60,7 @@ pub fn run<R: Wait, S: Step>(
 ) -> Result<(), Fail> {
     let mut two = opened_two(alloc, config)?;
     let played = play_all(rt, alloc, &two.arena, &mut two.hand, steps);
-    drop(two);
+    drop_two(two);
     played?;
     Ok(())
 }
@@ -71,7 +72,7 @@ macro_rules! play_two {
     ($rt:expr, $play:ident $(, $argument:expr)*) => {{
         let mut two = $crate::opened_two($rt.alloc(), &$crate::FOUR_CLASSES)?;
         let played = $play(&$rt, $rt.alloc(), &mut two $(, $argument)*);
-        drop(two);
+        $crate::drop_two(two);
         played
     }};
 }
