@@ -82,32 +82,34 @@ fn three_pages(alloc: Global, deleted: u64) -> Result<(Vec<u8>, Vec<u8>), AllocE
     Ok((script, replies))
 }
 
+/// How many items of three pages are deleted, the lines behind that, and their replies.
+const TO_SPARE: [(u64, &str, &str); 3] = [
+    (
+        53,
+        "window\nturn 1\nstats\n",
+        "WINDOW 1 0 OK\r\nTURN FINISHED 21 0 0 0 0\r\nSTAT slab_global_page_pool 1\r\nSTAT slab_reassign_running 0\r\nSTAT slabs_moved 1\r\nSTAT slab_reassign_rescues 0\r\nSTAT slab_reassign_evictions_nomem 0\r\nSTAT slab_reassign_busy_items 0\r\nEND\r\n",
+    ),
+    (
+        52,
+        "window\nturn 1\n",
+        "WINDOW none\r\nTURN IDLE 0 0 0 0 0\r\n",
+    ),
+    (
+        53,
+        "automove 0\nwindow\nautomove 2\nwindow\nautomove 1\nwindow\nwindow\n",
+        "OK\r\nWINDOW none\r\nOK\r\nWINDOW none\r\nOK\r\nWINDOW 1 0 OK\r\nWINDOW 1 0 BUSY\r\n",
+    ),
+];
+
 /// More free chunks than two and a half pages have: a page goes to the pool. One chunk fewer, and none does.
 #[test]
 fn a_page_to_spare_goes_to_the_pool(rt: HostRuntime) -> Result<(), Fail> {
-    let rows = [
-        (
-            53,
-            "window\nturn 1\nstats\n",
-            "WINDOW 1 0 OK\r\nTURN FINISHED 21 0 0 0 0\r\nSTAT slab_global_page_pool 1\r\nSTAT slab_reassign_running 0\r\nSTAT slabs_moved 1\r\nSTAT slab_reassign_rescues 0\r\nSTAT slab_reassign_evictions_nomem 0\r\nSTAT slab_reassign_busy_items 0\r\nEND\r\n",
-        ),
-        (
-            52,
-            "window\nturn 1\n",
-            "WINDOW none\r\nTURN IDLE 0 0 0 0 0\r\n",
-        ),
-        (
-            53,
-            "automove 0\nwindow\nautomove 2\nwindow\nautomove 1\nwindow\nwindow\n",
-            "OK\r\nWINDOW none\r\nOK\r\nWINDOW none\r\nOK\r\nWINDOW 1 0 OK\r\nWINDOW 1 0 BUSY\r\n",
-        ),
-    ];
     let run = Run {
         config: FOUR_CLASSES,
         automove: 1,
     };
-    for (deleted, more, more_replies) in rows {
-        let (mut script, mut replies) = three_pages(rt.alloc(), deleted)?;
+    for (deleted, more, more_replies) in &TO_SPARE {
+        let (mut script, mut replies) = three_pages(rt.alloc(), *deleted)?;
         script.extend_from_slice(more.as_bytes())?;
         replies.extend_from_slice(more_replies.as_bytes())?;
         plays(&rt, rt.alloc(), run, &script, &replies, &Ok(()), more)?;

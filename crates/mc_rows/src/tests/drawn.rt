@@ -245,7 +245,7 @@ fn drawn_scripts_are_the_same_on_hands(rt: HostRuntime) -> Result<(), Fail> {
         assert!(rt; run.automove <= 2, "the mode of a drawn script");
         play_drawn(&rt, rt.alloc(), run, number, &mut texts)?;
     }
-    for words in SEEN {
+    for words in &SEEN {
         assert!(rt; is_told(&texts, words), "{words} comes up");
     }
     Ok(())

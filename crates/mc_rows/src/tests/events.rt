@@ -2,6 +2,7 @@
 ghost use Rattle.std.specs.Prelude.{◌≡◌, ◌<◌, ◌≤◌};
 
 use super::assert_same;
+use mc_calls::drop_state;
 use mc_core::{Change, Event, Series, State, Step, Stop, StripeChange, replay};
 use mc_memory::{Refused, push, with_capacity};
 use mc_pages::{ChunkId, Entry};
@@ -59,6 +60,13 @@ fn go_on(alloc: Global, events: &mut Vec<Event>, steps: &[Step]) -> Result<(), R
     Ok(())
 }
 
+/// The same of so many chunks, and the lock is given.
+fn cut_and_given(alloc: Global, chunks: u64) -> Result<Vec<Event>, Refused> {
+    let mut events = cut(alloc, chunks)?;
+    push(&mut events, does(alloc, 0, Step::GiveSlabs))?;
+    Ok(events)
+}
+
 /// Plays the events with two hands.
 fn play(alloc: Global, events: &[Event]) -> Result<State, Stop> {
     replay(alloc, &FOUR_CLASSES, 2, events)
@@ -68,7 +76,11 @@ fn play(alloc: Global, events: &[Event]) -> Result<State, Stop> {
 fn stop_of(alloc: Global, events: &[Event]) -> Option<u64> {
     match play(alloc, events) {
         Err(Stop::NotAllowed(place)) => Some(place),
-        _ => None,
+        Err(_) => None,
+        Ok(state) => {
+            drop_state(state);
+            None
+        }
     }
 }
 
@@ -87,22 +99,30 @@ fn assert_word(
     what: &str,
 ) -> Result<(), Stop> {
     let state = play(alloc, events)?;
-    assert_same(rt, state.head(LAST).word(), wanted, what);
+    let word = state.head(LAST).word();
+    drop_state(state);
+    assert_same(rt, word, wanted, what);
     Ok(())
 }
 
-#[test]
-fn a_page_is_cut_whole_before_its_lock_is_given(rt: HostRuntime) -> Result<(), Fail> {
-    let mut whole = cut(rt.alloc(), 21)?;
-    whole.push(does(rt.alloc(), 0, Step::GiveSlabs))?;
-    let state = play(rt.alloc(), &whole)?;
+/// The lock of the slabs is free, and class 1 has page 0.
+fn assert_granted(rt: &impl Abort, state: &State) -> Result<(), Fail> {
     let slabs = state.slabs().ok_or("the slabs lock is not free")?;
     assert!(rt;
         slabs.ledger() == [Entry::Granted(0, 1, false)].as_slice(),
         "the ledger"
     );
-    let mut short = cut(rt.alloc(), 20)?;
-    short.push(does(rt.alloc(), 0, Step::GiveSlabs))?;
+    Ok(())
+}
+
+#[test]
+fn a_page_is_cut_whole_before_its_lock_is_given(rt: HostRuntime) -> Result<(), Fail> {
+    let whole = cut_and_given(rt.alloc(), 21)?;
+    let state = play(rt.alloc(), &whole)?;
+    let granted = assert_granted(&rt, &state);
+    drop_state(state);
+    granted?;
+    let short = cut_and_given(rt.alloc(), 20)?;
     assert_stops(&rt, rt.alloc(), &short, 21);
     Ok(())
 }
@@ -115,34 +135,39 @@ fn a_class_without_a_page_hands_out_nothing(rt: HostRuntime) -> Result<(), Fail>
     Ok(())
 }
 
+/// Steps, and the header that each leaves.
+const HEADERS: [(Step, u64, &str); 4] = [
+    (Step::Pop(1), 393_217, "handed out"),
+    (Step::Discard(LAST), 393_216, "dead"),
+    (Step::PutBack(LAST), 327_680, "free again"),
+    (Step::Pop(1), 655_361, "handed out again"),
+];
+
 #[test]
 fn a_header_tells_issue_tag_and_count(rt: HostRuntime) -> Result<(), Fail> {
     let mut events = cut(rt.alloc(), 21)?;
-    for (step, word, what) in [
-        (Step::Pop(1), 393_217, "handed out"),
-        (Step::Discard(LAST), 393_216, "dead"),
-        (Step::PutBack(LAST), 327_680, "free again"),
-        (Step::Pop(1), 655_361, "handed out again"),
-    ] {
-        events.push(does(rt.alloc(), 0, step))?;
-        assert_word(&rt, rt.alloc(), &events, word, what)?;
+    for (step, word, what) in &HEADERS {
+        events.push(does(rt.alloc(), 0, *step))?;
+        assert_word(&rt, rt.alloc(), &events, *word, what)?;
     }
     Ok(())
 }
 
+/// A chunk is handed out and has the words of an item, and the stripe of its key is locked.
+const FILLED: [Step; 7] = [
+    Step::Pop(1),
+    Step::GiveSlabs,
+    Step::Fill(LAST, 0, KEY),
+    Step::Fill(LAST, 1, STAMP),
+    Step::Fill(LAST, 2, 1),
+    Step::Fill(LAST, 3, 100),
+    Step::TakeStripe(3),
+];
+
 /// An item of one word is stored in the chunk that is handed out first.
 fn store(alloc: Global) -> Result<Vec<Event>, Refused> {
     let mut events = cut(alloc, 21)?;
-    let steps = [
-        Step::Pop(1),
-        Step::GiveSlabs,
-        Step::Fill(LAST, 0, KEY),
-        Step::Fill(LAST, 1, STAMP),
-        Step::Fill(LAST, 2, 1),
-        Step::Fill(LAST, 3, 100),
-        Step::TakeStripe(3),
-    ];
-    go_on(alloc, &mut events, &steps)?;
+    go_on(alloc, &mut events, &FILLED)?;
     push(
         &mut events,
         does_after(
@@ -152,6 +177,16 @@ fn store(alloc: Global) -> Result<Vec<Event>, Refused> {
         )?,
     )?;
     Ok(events)
+}
+
+/// Each of two hands holds the chunk 255 times.
+fn push_holdings(alloc: Global, events: &mut Vec<Event>) -> Result<(), Refused> {
+    for hand in 0..2 {
+        for _ in 0..255 {
+            push(events, does(alloc, hand, Step::Again(LAST, 1)))?;
+        }
+    }
+    Ok(())
 }
 
 #[test]
@@ -170,11 +205,7 @@ fn the_link_and_each_holding_count(rt: HostRuntime) -> Result<(), Fail> {
         &[Step::GiveStripe(3), Step::Release(LAST)],
     )?;
     assert_word(&rt, rt.alloc(), &events, 458_753, "linked")?;
-    for hand in 0..2 {
-        for _ in 0..255 {
-            events.push(does(rt.alloc(), hand, Step::Again(LAST, 1)))?;
-        }
-    }
+    push_holdings(rt.alloc(), &mut events)?;
     assert_word(
         &rt,
         rt.alloc(),

@@ -169,12 +169,12 @@ fn an_idle_turn_counts(rt: HostRuntime) -> Result<(), Fail> {
 
 #[test]
 fn rules_hold_of_runs_with_options(rt: HostRuntime) -> Result<(), Fail> {
-    for (name, run, script, replies) in STARTED_ROWS {
+    for (name, run, script, replies) in &STARTED_ROWS {
         assert!(rt; run.automove <= 2, "the mode of: {name}");
         plays(
             &rt,
             rt.alloc(),
-            run,
+            *run,
             script.as_bytes(),
             replies.as_bytes(),
             &Ok(()),

@@ -52,7 +52,7 @@ const SPENT: Row<'static> = (
 
 #[test]
 fn refused_lines(rt: HostRuntime) -> Result<(), Fail> {
-    for script in REFUSED {
+    for script in &REFUSED {
         let played = play(rt.alloc(), FOUR_CLASSES, script.as_bytes(), WHOLE)?;
         assert_played(&rt, &played, &Err(RunFault::Script(1)), b"", script);
     }

@@ -6,6 +6,7 @@ ghost use Rattle.mc_workers.specs.Hands.{IsKeeping, IsReadyHandOf};
 
 use super::Played;
 use super::seats::{MoverSeat, Seat, asked_by, mover_seat, seats_of, serve_mover, serve_worker};
+use mc_calls::drop_arena;
 use mc_driver::{Run, RunFault};
 use mc_script::Command;
 use mc_words::{Arena, Hand};
@@ -76,7 +77,7 @@ fn play_commands<R: Wait>(
 {
     let (arena, hands) = Arena::new(alloc, &run.config, 64)?;
     let played = play_on_arena(rt, alloc, run.automove, &arena, hands, commands, text);
-    drop(arena);
+    drop_arena(arena);
     played
 }
 
@@ -98,20 +99,36 @@ fn play_on_arena<R: Wait>(
     let Some(hand) = first_hand(arena, 0, &mut hands) else {
         return Err(Fail::new("there is a hand"));
     };
-    let mut seat = mover_seat(alloc, arena, hand)?;
+    let mut mover = mover_seat(alloc, arena, hand)?;
     let mut seats = seats_of(alloc, arena, hands)?;
-    let mut told = Vec::new(alloc);
-    let set = serve_mover(
-        rt,
-        alloc,
-        arena,
-        &mut seat,
-        Command::Automove { mode },
-        &mut told,
+    let played = play_seated(
+        rt, alloc, mode, arena, &mut seats, &mut mover, commands, text,
     );
-    let played = play_lines(rt, alloc, arena, &mut seats, &mut seat, commands, text);
     drop(seats);
-    drop(seat);
+    drop(mover);
+    played
+}
+
+/// The mover sets the mode, and then each line is done at its seat.
+fn play_seated<R: Wait>(
+    rt: &R,
+    alloc: Global,
+    mode: u64,
+    arena: &Arena,
+    seats: &mut Vec<Seat>,
+    mover: &mut MoverSeat,
+    commands: &[Command],
+    text: &mut Vec<u8>,
+) -> Result<Result<(), Ended>, Fail>
+    requires seats { All (λ seat. IsKeeping arena.now seat.hand seat.kept.items) seats.old.items }
+    requires mover { IsReadyHandOf arena.now mover.old.hand }
+    requires mode { mode ≤ 2 }
+    requires valid { All IsValid commands.now }
+{
+    let mut told = Vec::new(alloc);
+    let sets = Command::Automove { mode };
+    let set = serve_mover(rt, alloc, arena, mover, sets, &mut told);
+    let played = play_lines(rt, alloc, arena, seats, mover, commands, text);
     match set {
         Ok(()) => Ok(played),
         Err(_) => Err(Fail::new("the mode is set")),

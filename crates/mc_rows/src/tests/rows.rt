@@ -3,6 +3,7 @@ use super::{Row, WHOLE, assert_played, assert_same, play};
 use mc_classes::Config;
 use mc_driver::RunFault;
 use mc_trial_values::{FOUR_CLASSES, too_much};
+use std::process::Abort;
 use std::test::Fail;
 
 pub(super) const ROWS: [Row<'static>; 17] = [
@@ -100,70 +101,72 @@ pub(super) const ROWS: [Row<'static>; 17] = [
     ),
 ];
 
+/// Configurations that are refused, each with the number of the test that refuses it.
+const REFUSED: [(u64, Config); 8] = [
+    (
+        1,
+        Config {
+            page: 7,
+            ..FOUR_CLASSES
+        },
+    ),
+    (
+        2,
+        Config {
+            first: 23,
+            ..FOUR_CLASSES
+        },
+    ),
+    (
+        3,
+        Config {
+            den: 0,
+            ..FOUR_CLASSES
+        },
+    ),
+    (
+        4,
+        Config {
+            max: 520 - 1,
+            ..FOUR_CLASSES
+        },
+    ),
+    (
+        5,
+        Config {
+            limit: 1023,
+            ..FOUR_CLASSES
+        },
+    ),
+    (
+        6,
+        Config {
+            stripes: 65,
+            ..FOUR_CLASSES
+        },
+    ),
+    (
+        7,
+        Config {
+            page: 16384,
+            limit: 65536,
+            ..FOUR_CLASSES
+        },
+    ),
+    (
+        8,
+        Config {
+            bulk: 0,
+            ..FOUR_CLASSES
+        },
+    ),
+];
+
 #[test]
 fn a_refused_configuration_comes_first(rt: HostRuntime) -> Result<(), Fail> {
-    let refused = [
-        (
-            1,
-            Config {
-                page: 7,
-                ..FOUR_CLASSES
-            },
-        ),
-        (
-            2,
-            Config {
-                first: 23,
-                ..FOUR_CLASSES
-            },
-        ),
-        (
-            3,
-            Config {
-                den: 0,
-                ..FOUR_CLASSES
-            },
-        ),
-        (
-            4,
-            Config {
-                max: 520 - 1,
-                ..FOUR_CLASSES
-            },
-        ),
-        (
-            5,
-            Config {
-                limit: 1023,
-                ..FOUR_CLASSES
-            },
-        ),
-        (
-            6,
-            Config {
-                stripes: 65,
-                ..FOUR_CLASSES
-            },
-        ),
-        (
-            7,
-            Config {
-                page: 16384,
-                limit: 65536,
-                ..FOUR_CLASSES
-            },
-        ),
-        (
-            8,
-            Config {
-                bulk: 0,
-                ..FOUR_CLASSES
-            },
-        ),
-    ];
-    for (number, config) in refused {
-        let played = play(rt.alloc(), config, b"frob\n", WHOLE)?;
-        let end = Err(RunFault::Config(number));
+    for (number, config) in &REFUSED {
+        let played = play(rt.alloc(), *config, b"frob\n", WHOLE)?;
+        let end = Err(RunFault::Config(*number));
         assert_played(&rt, &played, &end, b"", "a refused configuration");
     }
     Ok(())
@@ -179,19 +182,20 @@ fn scripts_of_the_greatest_length(rt: HostRuntime) -> Result<(), Fail> {
     Ok(())
 }
 
+/// The fault's status is this.
+fn assert_status(rt: &impl Abort, fault: RunFault, status: u8) {
+    assert_same(rt, fault.status(), status, "the status");
+}
+
 #[test]
 fn statuses(rt: HostRuntime) -> Result<(), Fail> {
-    let rows = [
-        (RunFault::Config(7), 1),
-        (RunFault::Script(2), 2),
-        (RunFault::TooLong, 2),
-        (RunFault::Read, 3),
-        (RunFault::Write, 3),
-        (RunFault::Memory(too_much(rt.alloc())?), 4),
-        (RunFault::Turns, 5),
-    ];
-    for (fault, status) in rows {
-        assert_same(&rt, fault.status(), status, "the status");
-    }
+    let refused = too_much(rt.alloc())?;
+    assert_status(&rt, RunFault::Memory(refused), 4);
+    assert_status(&rt, RunFault::Config(7), 1);
+    assert_status(&rt, RunFault::Script(2), 2);
+    assert_status(&rt, RunFault::TooLong, 2);
+    assert_status(&rt, RunFault::Read, 3);
+    assert_status(&rt, RunFault::Write, 3);
+    assert_status(&rt, RunFault::Turns, 5);
     Ok(())
 }
