@@ -57,15 +57,52 @@ pub enum Answer {
 /// A turn that finds that no page moves.
 pub const IDLE: Answer = Answer::Turned(Turn::Idle);
 
-/// A turn that goes on: so many chunks were cleared, rescued, evicted, busy.
-pub fn went(cleared: u64, rescued: u64, evicted: u64, busy: u64) -> Answer {
-    Answer::Turned(Turn::Went(counts(cleared, rescued, evicted, busy)))
-}
+/// What a turn counts that found no chunk.
+const NO_COUNTS: Counts = Counts {
+    cleared: 0,
+    rescued: 0,
+    evicted: 0,
+    busy: 0,
+    locked: 0,
+};
 
-/// A turn that ends the move, with the same counts.
-pub fn finished(cleared: u64, rescued: u64, evicted: u64, busy: u64) -> Answer {
-    Answer::Turned(Turn::Finished(counts(cleared, rescued, evicted, busy)))
-}
+/// A turn that goes on: of two items one is evicted, and one is held.
+pub const ONE_HELD: Answer = Answer::Turned(Turn::Went(Counts {
+    cleared: 1,
+    evicted: 1,
+    busy: 1,
+    ..NO_COUNTS
+}));
+
+/// A turn that ends the move: one item was left, which is evicted.
+pub const ONE_EVICTED: Answer = Answer::Turned(Turn::Finished(Counts {
+    cleared: 1,
+    evicted: 1,
+    ..NO_COUNTS
+}));
+
+/// Two are evicted.
+pub const TWO_EVICTED: Answer = Answer::Turned(Turn::Finished(Counts {
+    cleared: 2,
+    evicted: 2,
+    ..NO_COUNTS
+}));
+
+/// One is rescued, and one evicted.
+pub const ONE_RESCUED: Answer = Answer::Turned(Turn::Finished(Counts {
+    cleared: 2,
+    rescued: 1,
+    evicted: 1,
+    ..NO_COUNTS
+}));
+
+/// Four are rescued, and one is evicted.
+pub const FOUR_RESCUED: Answer = Answer::Turned(Turn::Finished(Counts {
+    cleared: 5,
+    rescued: 4,
+    evicted: 1,
+    ..NO_COUNTS
+}));
 
 /// What a turn counts that found no lock held.
 pub fn counts(cleared: u64, rescued: u64, evicted: u64, busy: u64) -> Counts {

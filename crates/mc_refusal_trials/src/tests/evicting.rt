@@ -1,6 +1,6 @@
 //! Sets that evict: the room for the eviction's call may be refused, and then the room for their own, once the item is gone.
-use super::calls::{Answer, Call, finished};
-use super::rows::{TWO_CLASSES, run_each, stores, surveys, touches};
+use super::calls::{Answer, Call, FOUR_RESCUED};
+use super::rows::{MODE_TWO, TWO_CLASSES, run_each};
 use super::steps::Step;
 use std::alloc::Global;
 use std::process::Abort;
@@ -20,48 +20,60 @@ fn evict<R: Abort + Wait + Print>(
     run_each(rt, alloc, &[before, &TWO_CLASSES, behind])
 }
 
+/// Two gets leave no room for the call of the eviction.
+const REFUSED_ITS_CALL: [Step; 5] = [
+    GETS,
+    GETS,
+    (Call::Set(5, 61), Answer::Done),
+    (Call::Touch(1), Answer::There(false)),
+    (Call::Touch(5), Answer::There(true)),
+];
+
 #[test]
 fn the_eviction_is_refused_its_call(rt: HostRuntime) -> Result<(), Fail> {
-    let steps = [
-        GETS,
-        GETS,
-        stores(5, 61),
-        touches(1, false),
-        touches(5, true),
-    ];
-    evict(&rt, rt.alloc(), &[], &steps)
+    evict(&rt, rt.alloc(), &[], &REFUSED_ITS_CALL)
 }
+
+/// One leaves room for that call alone.
+const REFUSED_ITS_OWN: [Step; 4] = [
+    GETS,
+    (Call::Set(5, 61), Answer::Done),
+    (Call::Touch(1), Answer::There(false)),
+    (Call::Touch(5), Answer::There(true)),
+];
 
 #[test]
 fn the_set_is_refused_its_own_behind_the_eviction(rt: HostRuntime) -> Result<(), Fail> {
-    let steps = [GETS, stores(5, 61), touches(1, false), touches(5, true)];
-    evict(&rt, rt.alloc(), &[], &steps)
+    evict(&rt, rt.alloc(), &[], &REFUSED_ITS_OWN)
 }
+
+/// The same, where the eviction begins a move.
+const REFUSED_BEHIND_A_MOVE: [Step; 6] = [
+    GETS,
+    (Call::SetAndMove(5, 61), Answer::Done),
+    (Call::Survey(true), Answer::Surveyed(true, [0, 0, 0, 0])),
+    (Call::Turn, FOUR_RESCUED),
+    (Call::Set(6, 61), Answer::Done),
+    (Call::Touch(2), Answer::There(true)),
+];
 
 #[test]
 fn the_set_is_refused_its_own_behind_the_move(rt: HostRuntime) -> Result<(), Fail> {
-    let mode = [(Call::ModeTwo, Answer::Done)];
-    let steps = [
-        GETS,
-        (Call::SetAndMove(5, 61), Answer::Done),
-        surveys(true, [0, 0, 0, 0]),
-        (Call::Turn, finished(5, 4, 1, 0)),
-        stores(6, 61),
-        touches(2, true),
-    ];
-    evict(&rt, rt.alloc(), &mode, &steps)
+    evict(&rt, rt.alloc(), &MODE_TWO, &REFUSED_BEHIND_A_MOVE)
 }
+
+/// Two items die, and two are stored.
+const DEAD: [Step; 5] = [
+    (Call::Delete(1), Answer::There(true)),
+    (Call::Delete(2), Answer::There(true)),
+    GET_OF_NONE,
+    (Call::Set(9, 61), Answer::Done),
+    (Call::Set(17, 61), Answer::Done),
+];
 
 #[test]
 fn dead_chunks_are_put_back_and_one_is_left(rt: HostRuntime) -> Result<(), Fail> {
-    let steps = [
-        (Call::Delete(1), Answer::There(true)),
-        (Call::Delete(2), Answer::There(true)),
-        GET_OF_NONE,
-        stores(9, 61),
-        stores(17, 61),
-    ];
-    evict(&rt, rt.alloc(), &[], &steps)
+    evict(&rt, rt.alloc(), &[], &DEAD)
 }
 
 /// A get of a key that leads nowhere fills the history, too.

@@ -2,9 +2,9 @@
 use super::assert_same;
 use super::calls::{Answer, Call};
 use super::marks::{tell_call, tell_done, tell_refused};
-use super::opening::opened_from;
-use super::rows::stores;
-use super::steps::play_all;
+use super::opening::{drop_three, opened_from};
+use super::steps::{Step as CallStep, play_all};
+use mc_calls::drop_state;
 use mc_core::{Change, Event, Series, State, Step, Stop, StripeChange, replay};
 use mc_memory::{Refused, push};
 use mc_pages::ChunkId;
@@ -18,19 +18,21 @@ const WORN: u64 = 70_368_744_177_662;
 /// The chunk of class 1 that is handed out first.
 const LAST: ChunkId = ChunkId { page: 0, index: 20 };
 
-// The keys are one stripe's, and the first of them makes room for all calls.
+/// Two items are stored, each in a chunk that is then worn out, and a third finds none. The keys are one stripe's, and the first of them makes room for all
+/// calls.
+const ON_WORN: [CallStep; 5] = [
+    (Call::Set(1, 61), Answer::Done),
+    (Call::Delete(1), Answer::There(true)),
+    (Call::Set(5, 61), Answer::Done),
+    (Call::Delete(5), Answer::There(true)),
+    (Call::Set(9, 61), Answer::Refused),
+];
+
 #[test]
 fn an_arena_is_made_of_worn_chunks(rt: HostRuntime) -> Result<(), Fail> {
     let mut all = opened_from(&rt, rt.alloc(), &FOUR_CLASSES, Some(WORN))?;
-    let steps = [
-        stores(1, 61),
-        (Call::Delete(1), Answer::There(true)),
-        stores(5, 61),
-        (Call::Delete(5), Answer::There(true)),
-        (Call::Set(9, 61), Answer::Refused),
-    ];
-    play_all(&rt, &mut all, &steps);
-    drop(all);
+    play_all(&rt, &mut all, &ON_WORN);
+    drop_three(all);
     Ok(())
 }
 
@@ -47,6 +49,17 @@ fn does(alloc: Global, change: Option<Change>, step: Step) -> Result<Event, Refu
     })
 }
 
+/// A chunk is handed out and has the words of an item, and the stripe of its key is locked.
+const FILLED: [Step; 7] = [
+    Step::Pop(1),
+    Step::GiveSlabs,
+    Step::Fill(LAST, 0, 7),
+    Step::Fill(LAST, 1, 1),
+    Step::Fill(LAST, 2, 1),
+    Step::Fill(LAST, 3, 100),
+    Step::TakeStripe(3),
+];
+
 /// Class 1 gets a page, all of whose chunks are cut, and hands one out. An item is stored there.
 fn events(alloc: Global) -> Result<Vec<Event>, Refused> {
     let mut events = Vec::new(alloc);
@@ -58,16 +71,8 @@ fn events(alloc: Global) -> Result<Vec<Event>, Refused> {
     for index in 1..21 {
         push(&mut events, does(alloc, None, Step::Cut(0, index))?)?;
     }
-    for step in [
-        Step::Pop(1),
-        Step::GiveSlabs,
-        Step::Fill(LAST, 0, 7),
-        Step::Fill(LAST, 1, 1),
-        Step::Fill(LAST, 2, 1),
-        Step::Fill(LAST, 3, 100),
-        Step::TakeStripe(3),
-    ] {
-        push(&mut events, does(alloc, None, step)?)?;
+    for step in &FILLED {
+        push(&mut events, does(alloc, None, *step)?)?;
     }
     let reserve = Some(Change::OfStripe(3, StripeChange::Reserve));
     push(&mut events, does(alloc, reserve, Step::Link(LAST))?)?;
@@ -79,13 +84,17 @@ fn events(alloc: Global) -> Result<Vec<Event>, Refused> {
 fn play<R: Print>(rt: &R, alloc: Global, events: &[Event]) -> Result<State, Stop> {
     tell_call(rt, "replay");
     match replay(alloc, &FOUR_CLASSES, 2, events) {
-        Err(Stop::NoMemory(_)) => {
+        Ok(state) => {
+            tell_done(rt, "replay");
+            Ok(state)
+        }
+        Err(Stop::NotAllowed(place)) => {
+            tell_done(rt, "replay");
+            Err(Stop::NotAllowed(place))
+        }
+        Err(Stop::NoMemory(_refused)) => {
             tell_refused(rt, "replay");
             replay(alloc, &FOUR_CLASSES, 2, events)
-        }
-        played => {
-            tell_done(rt, "replay");
-            played
         }
     }
 }
@@ -104,7 +113,9 @@ fn events_are_played_again(rt: HostRuntime) -> Result<(), Fail> {
     };
     let state = play(&rt, rt.alloc(), &events)?;
     let head = state.head(LAST).word();
+    let stamp = stamp_in(&state);
+    drop_state(state);
     assert_same(&rt, head, 458_754, "linked, and held by its hand");
-    assert_same(&rt, stamp_in(&state), Some(1), "the key's stamp");
+    assert_same(&rt, stamp, Some(1), "the key's stamp");
     Ok(())
 }

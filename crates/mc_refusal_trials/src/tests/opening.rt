@@ -6,7 +6,7 @@ ghost use Rattle.mc_refusal_trials.specs.Threes.{AreReadyOf};
 use super::looking::{Looker, room};
 use super::marks::{tell_call, tell_done, tell_refused};
 use super::snapshot::LENGTH;
-use mc_calls::three_of;
+use mc_calls::{drop_arena, three_of};
 use mc_classes::Config;
 use mc_words::{Arena, Hand, NewError};
 use std::alloc::Global;
@@ -65,15 +65,26 @@ fn words_of(alloc: Global) -> Result<Vec<u64>, Fail> {
     Ok(words)
 }
 
-/// An arena, a hand of it that acts, one that reads, and one that looks, and what gives memory. How it is dropped is proved at each place where it goes out of
-/// scope, so a test drops it by one call, behind all that may fail.
-#[derive(Drop)]
+/// An arena, a hand of it that acts, one that reads, and one that looks, and what gives memory. A test gives it to `drop_three` at its end, behind all that may
+/// fail, as it can't go out of scope.
 pub struct Three {
     pub alloc: Global,
     pub arena: Arena,
     pub hand: Hand,
     pub reader: Hand,
     pub looker: Looker,
+}
+
+/// Drops an arena, its three hands, and what was seen of it.
+pub fn drop_three(all: Three) {
+    let Three {
+        alloc: _,
+        arena,
+        hand: _hand,
+        reader: _reader,
+        looker: _looker,
+    } = all;
+    drop_arena(arena);
 }
 
 /// A new arena, and its three hands.
@@ -97,6 +108,7 @@ pub fn opened_from<R: Print>(
     let words = words_of(alloc)?;
     let (arena, mut hands) = new_again(rt, alloc, config, start)?;
     let Some((hand, reader, other)) = three_of(&arena, &mut hands) else {
+        drop_arena(arena);
         return Err(Fail::new("there are three hands"));
     };
     let looker = Looker {

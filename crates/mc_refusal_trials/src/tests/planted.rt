@@ -9,7 +9,7 @@ ghost use Rattle.mc_refusal_trials.specs.Threes.{AreReadyOf};
 use super::assert_same;
 use super::calls::{Answer, Call};
 use super::looking::{look_after, look_before};
-use super::opening::{Three, opened};
+use super::opening::{Three, drop_three, opened};
 use super::snapshot::LENGTH;
 use super::steps::{Row, Step, behind_refusal, play_all};
 use mc_calls::hint_of;
@@ -124,6 +124,6 @@ fn look_around_a_fault<R: Abort + Wait + Print>(rt: &R, all: &mut Three) -> Resu
 fn what_may_not_be_left_is_found(rt: HostRuntime) -> Result<(), Fail> {
     let mut all = opened(&rt, rt.alloc(), &FOUR_CLASSES)?;
     let looked = look_around_a_fault(&rt, &mut all);
-    drop(all);
+    drop_three(all);
     looked
 }

@@ -7,7 +7,7 @@ use super::calls::{Answer, Call, answer_of};
 use super::left::{has_died, is_left, turned};
 use super::looking::{Looker, look_after, look_before};
 use super::marks::{tell_call, tell_done, tell_ignored, tell_refused};
-use super::opening::{Three, opened};
+use super::opening::{Three, drop_three, opened};
 use super::snapshot::{MOVING, at};
 use super::told::entries_told;
 use mc_classes::Config;
@@ -163,6 +163,6 @@ pub fn run<R: Abort + Wait + Print>(
 ) -> Result<(), Fail> {
     let mut all = opened(rt, alloc, config)?;
     play_all(rt, &mut all, steps);
-    drop(all);
+    drop_three(all);
     Ok(())
 }
