@@ -68,7 +68,7 @@ impl Driven<'_> {
     }
 
     /// None where there is no such class, or a page isn't cut yet.
-    #[tactic(auto, using(crate::proofs::Sized::changes))]
+    #[tactic(auto, using(crate::proofs::Sized::sized_grow))]
     pub(super) fn grow(&mut self, class: ClassId) -> Option<Result<PageId, Grow>> {
         if !self.is_class(class) || self.slabs.next_uncut().is_some() {
             return None;
@@ -77,21 +77,21 @@ impl Driven<'_> {
     }
 
     /// Cuts the next chunk, if there is one.
-    #[tactic(auto, using(crate::proofs::Sized::changes))]
+    #[tactic(auto, using(crate::proofs::Sized::sized_cut))]
     pub(super) fn cut(&mut self) -> Option<ChunkId> {
         let chunk = self.slabs.next_uncut()?;
         self.slabs.cut(chunk.page, chunk.index);
         Some(chunk)
     }
 
-    #[tactic(auto, using(crate::proofs::Sized::changes))]
+    #[tactic(auto, using(crate::proofs::Sized::sized_pop))]
     pub(super) fn pop(&mut self, class: ClassId) -> Option<ChunkId> {
         let class = self.find_class(class)?;
         self.slabs.pop(class)
     }
 
     /// Gives back the chunk at this place of the class's hand-out order.
-    #[tactic(auto, using(crate::proofs::Sized::changes, crate::proofs::Looked::handed_out_at))]
+    #[tactic(auto, using(crate::proofs::Sized::sized_back, crate::proofs::Looked::handed_out_at))]
     pub(super) fn back(&mut self, class: ClassId, place: u64) -> Option<ChunkId> {
         let class = self.find_class(class)?;
         let chunk = self.slabs.order_at(class, place)?;
@@ -100,7 +100,7 @@ impl Driven<'_> {
     }
 
     /// Takes the chunk at this place of the class's hand-out order to its back.
-    #[tactic(auto, using(crate::proofs::Sized::changes, crate::proofs::Looked::handed_out_at))]
+    #[tactic(auto, using(crate::proofs::Sized::sized_touch, crate::proofs::Looked::handed_out_at))]
     pub(super) fn touch(&mut self, class: ClassId, place: u64) -> Option<ChunkId> {
         let class = self.find_class(class)?;
         let chunk = self.slabs.order_at(class, place)?;
@@ -109,7 +109,7 @@ impl Driven<'_> {
     }
 
     /// Puts the chunk at one place of the class's free list before the one at the other place of its hand-out order.
-    #[tactic(auto, using(crate::proofs::Sized::changes, crate::proofs::Looked::handed_out_at, crate::proofs::Looked::free_beside))]
+    #[tactic(auto, using(crate::proofs::Sized::sized_replace, crate::proofs::Looked::handed_out_at, crate::proofs::Looked::free_beside))]
     pub(super) fn replace(
         &mut self,
         class: ClassId,
@@ -124,7 +124,7 @@ impl Driven<'_> {
     }
 
     /// Counts an eviction, where there is such a class.
-    #[tactic(auto, using(crate::proofs::Sized::changes))]
+    #[tactic(auto, using(crate::proofs::Sized::sized_evicted))]
     pub(super) fn evicted(&mut self, class: ClassId) -> bool {
         let is = self.is_class(class);
         if is {
@@ -133,14 +133,14 @@ impl Driven<'_> {
         is
     }
 
-    #[tactic(auto, using(crate::proofs::Sized::changes))]
+    #[tactic(auto, using(crate::proofs::Sized::sized_begin))]
     pub(super) fn begin(&mut self, src: Option<u64>, dst: u64) -> Result<(), Reassign> {
         self.slabs.begin_move(src, dst)
     }
 
     /// The mover finds this at its position, or `Already` where the chunk is cleared and nothing holds it up. It clears
     /// the chunk unless it is held up, and the position goes on. None at the page's end, or where no page moves.
-    #[tactic(auto, using(crate::proofs::Sized::changes))]
+    #[tactic(auto, using(crate::proofs::Sized::sized_passed))]
     pub(super) fn pass(&mut self, wanted: Found) -> Option<Found> {
         let found = if holds_up(wanted) {
             wanted
@@ -155,7 +155,7 @@ impl Driven<'_> {
     }
 
     /// Clears the chunk at the move's position.
-    #[tactic(auto, using(crate::proofs::Sized::changes, crate::proofs::Looked::moving_class, crate::proofs::Looked::placed_looked))]
+    #[tactic(auto, using(crate::proofs::Sized::sized_clear, crate::proofs::Looked::moving_class, crate::proofs::Looked::placed_looked))]
     fn clear(&mut self, wanted: Found) -> Option<Found> {
         let moving = self.slabs.moving()?;
         let chunk = chunk_at(moving);
@@ -199,7 +199,7 @@ impl Driven<'_> {
     }
 
     /// Whether the pass began anew: it was at the page's end, and something held it up.
-    #[tactic(auto, using(crate::proofs::Sized::changes))]
+    #[tactic(auto, using(crate::proofs::Sized::sized_wrap))]
     pub(super) fn wrap(&mut self) -> bool {
         let can = self.can_wrap();
         if can {
@@ -219,7 +219,7 @@ impl Driven<'_> {
     }
 
     /// Whether the move ended: the pass was at the page's end, and nothing held it up.
-    #[tactic(auto, using(crate::proofs::Sized::changes))]
+    #[tactic(auto, using(crate::proofs::Sized::sized_finish))]
     pub(super) fn finish(&mut self) -> bool {
         let can = self.can_finish();
         if can {
@@ -242,7 +242,7 @@ impl Driven<'_> {
     }
 
     /// Whether the mode was set: it is one of three.
-    #[tactic(auto, using(crate::proofs::Sized::changes))]
+    #[tactic(auto, using(crate::proofs::Sized::sized_mode))]
     pub(super) fn set_automove(&mut self, mode: u64) -> bool {
         let is = mode <= 2;
         if is {

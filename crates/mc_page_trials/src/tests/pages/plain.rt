@@ -47,6 +47,40 @@ impl PlainClass {
     fn leave(&mut self, chunk: ChunkId) -> bool {
         leave(&mut self.free, chunk) || leave(&mut self.order, chunk)
     }
+
+    /// The head of the free list goes out.
+    fn pop(&mut self) -> Result<Option<ChunkId>, AllocError> {
+        if self.free.is_empty() {
+            return Ok(None);
+        }
+        let chunk = self.free.remove(0);
+        self.order.push(chunk)?;
+        Ok(Some(chunk))
+    }
+
+    /// The chunk at this place of the hand-out order leaves it.
+    fn take_out(&mut self, place: usize) -> Option<ChunkId> {
+        if place < self.order.len() {
+            Some(self.order.remove(place))
+        } else {
+            None
+        }
+    }
+
+    /// The chunk at one place of the free list goes before the one at the other of the hand-out order.
+    fn replace(
+        &mut self,
+        free: usize,
+        place: usize,
+    ) -> Result<Option<(ChunkId, ChunkId)>, AllocError> {
+        if free >= self.free.len() || place >= self.order.len() {
+            return Ok(None);
+        }
+        let old = self.order[place];
+        let new = self.free.remove(free);
+        self.order.insert(place, new)?;
+        Ok(Some((new, old)))
+    }
 }
 
 /// The class of this number.
@@ -62,6 +96,18 @@ fn leave(chunks: &mut Vec<ChunkId>, chunk: ChunkId) -> bool {
         chunks.remove(place);
     }
     true
+}
+
+/// Of each page its owner is noted, and which class got it beyond the limit.
+fn note_base(base: &mut Vec<BasePage>, owners: &[Owner], graces: &[Option<ClassId>]) {
+    for (page, owner) in owners.iter().enumerate() {
+        if let Some(place) = base.get_mut(page) {
+            *place = BasePage {
+                owner: *owner,
+                grace: graces.get(page).copied().unwrap_or(None),
+            };
+        }
+    }
 }
 
 impl Plain {
@@ -136,18 +182,7 @@ impl Plain {
 
     /// What was told so far isn't kept. Of each page its owner is, and which class got it beyond the limit.
     pub(super) fn trim(&mut self) {
-        for (page, owner) in self.owners.iter().enumerate() {
-            let grace = match self.graces.get(page) {
-                Some(grace) => *grace,
-                None => None,
-            };
-            if let Some(place) = self.base.get_mut(page) {
-                *place = BasePage {
-                    owner: *owner,
-                    grace,
-                };
-            }
-        }
+        note_base(&mut self.base, &self.owners, &self.graces);
         self.trimmed = self.trimmed.wrapping_add(self.ledger.len() as u64);
         self.ledger.clear();
     }
@@ -177,25 +212,15 @@ impl Plain {
     }
 
     pub(super) fn pop(&mut self, class: ClassId) -> Result<Option<ChunkId>, AllocError> {
-        let Some(own) = class_of(&mut self.classes, class) else {
-            return Ok(None);
-        };
-        if own.free.is_empty() {
-            return Ok(None);
+        match class_of(&mut self.classes, class) {
+            Some(own) => own.pop(),
+            None => Ok(None),
         }
-        let chunk = own.free.remove(0);
-        own.order.push(chunk)?;
-        Ok(Some(chunk))
     }
 
     /// The chunk at this place of the class's hand-out order leaves it.
     fn take_out(&mut self, class: ClassId, place: usize) -> Option<ChunkId> {
-        let own = class_of(&mut self.classes, class)?;
-        if place < own.order.len() {
-            Some(own.order.remove(place))
-        } else {
-            None
-        }
+        class_of(&mut self.classes, class)?.take_out(place)
     }
 
     pub(super) fn back(
@@ -228,16 +253,10 @@ impl Plain {
         free: usize,
         place: usize,
     ) -> Result<Option<(ChunkId, ChunkId)>, AllocError> {
-        let Some(own) = class_of(&mut self.classes, class) else {
-            return Ok(None);
-        };
-        if free >= own.free.len() || place >= own.order.len() {
-            return Ok(None);
+        match class_of(&mut self.classes, class) {
+            Some(own) => own.replace(free, place),
+            None => Ok(None),
         }
-        let old = own.order[place];
-        let new = own.free.remove(free);
-        own.order.insert(place, new)?;
-        Ok(Some((new, old)))
     }
 
     pub(super) fn evicted(&mut self, class: ClassId) -> bool {

@@ -36,7 +36,7 @@ impl Boxed<'_> {
     }
 
     /// None where there is no such class, or a page isn't cut yet.
-    #[tactic(auto, using(crate::proofs::Sized::changes))]
+    #[tactic(auto, using(crate::proofs::Sized::sized_grow))]
     fn grow(&mut self, class: ClassId) -> Option<Result<PageId, Grow>> {
         if !self.is_class(class) || self.shared.slabs().next_uncut().is_some() {
             return None;
@@ -45,7 +45,7 @@ impl Boxed<'_> {
     }
 
     /// Cuts the next chunk, if there is one.
-    #[tactic(auto, using(crate::proofs::Sized::changes))]
+    #[tactic(auto, using(crate::proofs::Sized::sized_cut))]
     fn cut(&mut self) -> Option<ChunkId> {
         let chunk = self.shared.slabs().next_uncut()?;
         self.shared.slabs_mut().cut(chunk.page, chunk.index);
