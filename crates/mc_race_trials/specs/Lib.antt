@@ -1,2 +1,1 @@
 pub mod Keepers
-pub mod Locked

@@ -2,3 +2,4 @@ mod Fronts
 mod Keys
 mod Played
 mod Ranges
+mod Taken

@@ -4,3 +4,4 @@ pub mod Changes
 pub mod Events
 pub mod Heads
 pub mod Written
+pub mod Reading

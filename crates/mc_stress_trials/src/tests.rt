@@ -27,21 +27,6 @@ fn lost_hands_cost_what_they_had(rt: HostRuntime) -> Result<(), Fail> {
 }
 
 #[test]
-fn what_is_had_again_is_not_evicted(rt: HostRuntime) -> Result<(), Fail> {
-    mc_race_trials::what_is_had_again_is_not_evicted(&rt, rt.alloc())
-}
-
-#[test]
-fn what_is_had_again_is_not_rescued(rt: HostRuntime) -> Result<(), Fail> {
-    mc_race_trials::what_is_had_again_is_not_rescued(&rt, rt.alloc())
-}
-
-#[test]
 fn what_is_kept_is_read_beside_two_movers(rt: HostRuntime) -> Result<(), Fail> {
     mc_race_trials::what_is_kept_is_read_beside_two_movers(&rt, rt.alloc())
-}
-
-#[test]
-fn what_was_evicted_is_not_had_again(rt: HostRuntime) -> Result<(), Fail> {
-    mc_race_trials::what_was_evicted_is_not_had_again(&rt, rt.alloc())
 }

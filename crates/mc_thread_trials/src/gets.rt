@@ -2,12 +2,11 @@
 ghost use Rattle.std.specs.Prelude.{IfSome};
 ghost use Rattle.mc_calls.specs.Hands.{AreHandsOf, IsIdleHandOf};
 
-use crate::same::assert_same;
+use crate::checks::check;
 use mc_calls::{FOUR_CLASSES, Getter, Job, Worked, is_there, next_hand, opened, work_four};
 use mc_stripe::{Call, Key};
 use mc_words::{Arena, Final, Hand};
 use std::alloc::Global;
-use std::process::Abort;
 use std::sync::Wait;
 use std::test::Fail;
 use std::thread::Threads;
@@ -75,18 +74,16 @@ fn is_missed(call: &Call) -> bool {
 }
 
 /// Each get of four threads is an entry of the stripe's history.
-pub fn each_get_is_noted<R: Abort + Threads + Wait + Sync>(
-    rt: &R,
-    alloc: Global,
-) -> Result<(), Fail> {
+pub fn each_get_is_noted<R: Threads + Wait + Sync>(rt: &R, alloc: Global) -> Result<(), Fail> {
     let (arena, mut hands) = opened(alloc, &FOUR_CLASSES, 4)?;
     let Some((low, high)) = four_searchers(&arena, &mut hands) else {
         return Err(Fail::new("there are four hands"));
     };
     let Worked { hand, told } = work_four(rt, alloc, &arena, low, high);
-    let nothing = ((false, false), (false, false));
-    assert_same(rt, told, nothing, "what was found");
     let left = arena.close(hand);
-    assert_same(rt, count_gets(&left, 2), Some(4 * GETS), "gets");
-    Ok(())
+    let gets = count_gets(&left, 2);
+    drop(left);
+    let nothing = ((false, false), (false, false));
+    check(told == nothing, "the key leads nowhere")?;
+    check(gets == Some(4 * GETS), "each get is noted")
 }

@@ -4,7 +4,7 @@ ghost use Rattle.std.specs.Prelude.{IfSome};
 ghost use Rattle.mc_calls.specs.Hands.{AreHandsOf};
 ghost use Rattle.mc_calls.specs.Pairs.{AreIdle};
 
-use crate::same::assert_same;
+use crate::checks::check;
 use mc_calls::{
     FOUR_CLASSES, Getter, Job, Pair, Worked, class_sums, count_keys, delete_key, get_by, is_own,
     one_of, opened, pair_of, release_own, store_own, work_four,
@@ -15,7 +15,6 @@ use mc_stripe::Key;
 use mc_trial_values::draw;
 use mc_words::{Arena, Final, Hand};
 use std::alloc::Global;
-use std::process::Abort;
 use std::sync::Wait;
 use std::test::Fail;
 use std::thread::Threads;
@@ -132,29 +131,24 @@ fn listed(left: &Final) -> Option<(u64, bool)> {
 }
 
 /// Each chunk of the closed arena is free, dead or an item's, and its lists and stripes tell the same.
-fn assert_left(rt: &impl Abort, left: &Final) -> Result<(), Fail> {
+fn check_left(left: &Final) -> Result<(), Fail> {
     let Some(sums) = class_sums(left, 1) else {
         return Err(Fail::new("nobody holds a chunk"));
     };
     let Some((free, are_owned)) = listed(left) else {
         return Err(Fail::new("pages and lists are there"));
     };
-    assert_same(rt, are_owned, true, "pages of the class");
-    assert_same(rt, free, sums.free, "free chunks");
-    assert_same(rt, count_keys(left, KEYS), Some(sums.linked), "items");
-    assert_same(
-        rt,
-        sums.free
-            .saturating_add(sums.dead)
-            .saturating_add(sums.linked),
-        2 * CHUNKS,
-        "chunks",
-    );
-    Ok(())
+    check(are_owned, "both pages are the class's")?;
+    check(free == sums.free, "the list has the free chunks")?;
+    let keys = count_keys(left, KEYS);
+    check(keys == Some(sums.linked), "each item has its key")?;
+    let chunks = sums.free.saturating_add(sums.dead);
+    let all = chunks.saturating_add(sums.linked);
+    check(all == 2 * CHUNKS, "each chunk is accounted for")
 }
 
 /// No read of four threads shows a word of another item, and each chunk is accounted for behind them.
-pub fn no_read_shows_another_item<R: Abort + Threads + Wait + Sync>(
+pub fn no_read_shows_another_item<R: Threads + Wait + Sync>(
     rt: &R,
     alloc: Global,
 ) -> Result<(), Fail> {
@@ -163,10 +157,10 @@ pub fn no_read_shows_another_item<R: Abort + Threads + Wait + Sync>(
         return Err(Fail::new("there are eight hands"));
     };
     let Worked { hand, told } = work_four(rt, alloc, &arena, low, high);
-    let none = ((0, 0), (0, 0));
-    assert_same(rt, told, none, "words of other items");
     let left = arena.close(hand);
-    let accounted = assert_left(rt, &left);
+    let accounted = check_left(&left);
     drop(left);
+    let none = ((0, 0), (0, 0));
+    check(told == none, "no read shows words of another item")?;
     accounted
 }

@@ -2,11 +2,11 @@
 //! and `mc_words` alone. The tests of `mc_stress_trials` run them.
 #![tactic(auto)]
 
+mod checks;
 mod driver;
 mod gets;
 mod items;
 mod pages;
-mod same;
 mod workers;
 
 pub use gets::each_get_is_noted;

@@ -2,8 +2,8 @@
 ghost use Rattle.std.specs.Prelude.{IfSome};
 ghost use Rattle.mc_calls.specs.Hands.{AreHandsOf, IsIdleHandOf};
 
+use crate::checks::check;
 use crate::driver::{Mover, end_if};
-use crate::same::assert_same;
 use crate::workers::{KEYS, Worker, store_each};
 use mc_calls::{
     FOUR_CLASSES, NO_SUMS, Stats, Sums, Turns, Worked, all_sums, class_sums, count_keys,
@@ -12,7 +12,6 @@ use mc_calls::{
 use mc_classes::{ClassId, Config};
 use mc_words::{Arena, Final, Hand};
 use std::alloc::Global;
-use std::process::Abort;
 use std::sync::Wait;
 use std::test::Fail;
 use std::thread::Threads;
@@ -52,65 +51,69 @@ fn stress<R: Threads + Wait + Sync>(
     Some(work_four(rt, alloc, arena, low, (second, third)))
 }
 
-/// The class's chunks are those of its pages, and what is used is linked, or cleared on a moving page.
-fn assert_class<R: Abort>(rt: &R, left: &Final, stats: &Stats, class: ClassId) -> Option<Sums> {
-    let sums = class_sums(left, class)?;
-    let chunks = stats.class(left.classes(), class)?;
-    assert_same(rt, sums.free, chunks.free, "free chunks");
-    assert_same(rt, sums.dead, 0, "dead chunks, behind a sweep");
+/// The class's chunks are those of its pages, and what is used is linked, or cleared on a moving page. How many they are.
+fn check_class(left: &Final, stats: &Stats, class: ClassId) -> Result<Sums, Fail> {
+    let Some(sums) = class_sums(left, class) else {
+        return Err(Fail::new("nobody holds a chunk"));
+    };
+    let Some(chunks) = stats.class(left.classes(), class) else {
+        return Err(Fail::new("the survey has the class"));
+    };
+    check(sums.free == chunks.free, "the survey tells the free chunks")?;
+    check(sums.dead == 0, "no chunk is dead behind a sweep")?;
     let used = sums.linked.saturating_add(sums.out);
-    assert_same(rt, used, chunks.used, "used chunks");
-    Some(sums)
+    check(used == chunks.used, "the survey tells the used chunks")?;
+    Ok(sums)
 }
 
 /// The pages of all classes and of the pool and those that were never granted are all, and at most one of them moves.
-fn assert_pages<R: Abort>(rt: &R, left: &Final, stats: &Stats) -> Result<(), Fail> {
+fn check_pages(left: &Final, stats: &Stats) -> Result<(), Fail> {
     let Some(pages) = count_pages(left) else {
         return Err(Fail::new("nobody has pages and lists"));
     };
-    assert_same(rt, pages.pool, stats.totals.pool, "pages of the pool");
-    assert_same(rt, pages.moving, stats.running as u64, "moving pages");
-    let granted = pages
-        .owned
-        .saturating_add(pages.moving)
-        .saturating_add(pages.pool);
-    assert_same(rt, granted, stats.totals.granted, "granted pages");
+    let running = stats.running as u64;
+    check(pages.pool == stats.totals.pool, "the pool is told")?;
+    check(pages.moving == running, "the moving page is told")?;
+    let here = pages.owned.saturating_add(pages.moving);
+    let granted = here.saturating_add(pages.pool);
+    let told = stats.totals.granted;
+    check(granted == told, "the granted pages are told")?;
     let all = granted.saturating_add(pages.untouched);
-    assert_same(rt, all, left.classes().arena_pages(), "all pages");
-    Ok(())
+    let wanted = left.classes().arena_pages();
+    check(all == wanted, "each page is accounted for")
 }
 
 /// Each chunk that is free or linked is one of a class's pages, and each linked one has a key.
-fn assert_chunks<R: Abort>(rt: &R, left: &Final, stats: &Stats) -> Result<(), Fail> {
+fn check_chunks(left: &Final, stats: &Stats) -> Result<(), Fail> {
     let mut sums = NO_SUMS;
     for class in 1..5 {
-        let Some(found) = assert_class(rt, left, stats, class) else {
-            return Err(Fail::new("nobody holds a chunk"));
-        };
+        let found = check_class(left, stats, class)?;
         sums = sums.and(found);
     }
     let Some(all) = all_sums(left) else {
         return Err(Fail::new("nobody holds a chunk"));
     };
     let found = (all.free, all.dead, all.linked);
-    assert_same(rt, found, (sums.free, 0, sums.linked), "chunks of classes");
-    assert_same(rt, count_keys(left, KEYS), Some(all.linked), "items");
-    Ok(())
+    let wanted = (sums.free, 0, sums.linked);
+    check(found == wanted, "the chunks are those of the classes")?;
+    let keys = count_keys(left, KEYS);
+    check(keys == Some(all.linked), "each item has its key")
 }
 
 /// The statistics of moves are what the turns told. What held up a pass is counted at its end.
-fn assert_tally<R: Abort>(rt: &R, stats: &Stats, tally: Turns, ends: bool) {
+fn check_tally(stats: &Stats, tally: Turns, ends: bool) -> Result<(), Fail> {
     let totals = stats.totals;
     let found = (totals.moved, totals.rescues, totals.evictions_nomem);
     let told = (tally.moved, tally.rescued, tally.evicted);
-    assert_same(rt, found, told, "moved, rescues, evictions_nomem");
-    assert_same(rt, totals.busy <= tally.held_up, true, "busy at most");
-    assert_same(rt, !ends || totals.busy == tally.held_up, true, "busy");
+    check(found == told, "moves are told as the turns told them")?;
+    let is_most = totals.busy <= tally.held_up;
+    check(is_most, "no more held up a pass than was told")?;
+    let is_all = !ends || totals.busy == tally.held_up;
+    check(is_all, "all that held up a pass was counted at its end")
 }
 
 /// The closed arena is as the survey and the turns tell.
-fn assert_final<R: Abort>(
-    rt: &R,
+fn check_final(
     left: &Final,
     surveyed: Option<Stats>,
     tally: Turns,
@@ -119,13 +122,13 @@ fn assert_final<R: Abort>(
     let Some(stats) = surveyed else {
         return Err(Fail::new("there is memory for a survey"));
     };
-    assert_tally(rt, &stats, tally, ends);
-    assert_pages(rt, left, &stats)?;
-    assert_chunks(rt, left, &stats)
+    check_tally(&stats, tally, ends)?;
+    check_pages(left, &stats)?;
+    check_chunks(left, &stats)
 }
 
 /// What the threads left is as it is to be. The move that runs is ended first, where that is asked for.
-fn assert_left<R: Abort + Wait>(
+fn check_left<R: Wait>(
     rt: &R,
     alloc: Global,
     arena: Arena,
@@ -136,19 +139,19 @@ fn assert_left<R: Abort + Wait>(
 {
     let Worked { mut hand, told } = worked;
     let ((mut tally, first), (second, third)) = told;
-    let wrong = (first, second, third);
-    assert_same(rt, wrong, (0, 0, 0), "words of other items");
     let ended = end_if(rt, &arena, &mut hand, &mut tally, ends);
-    assert_same(rt, ended, true, "the last move ends");
     let surveyed = stats_of(rt, alloc, &arena, &mut hand, true);
     let left = arena.close(hand);
-    let accounted = assert_final(rt, &left, surveyed, tally, ends);
+    let accounted = check_final(&left, surveyed, tally, ends);
     drop(left);
+    let wrong = (first, second, third);
+    check(wrong == (0, 0, 0), "no read shows words of another item")?;
+    check(ended, "the last move ends")?;
     accounted
 }
 
 /// All threads' work in this mode, and then what is left.
-fn account<R: Abort + Threads + Wait + Sync>(
+fn account<R: Threads + Wait + Sync>(
     rt: &R,
     alloc: Global,
     mode: u64,
@@ -156,13 +159,13 @@ fn account<R: Abort + Threads + Wait + Sync>(
 ) -> Result<(), Fail> {
     let (arena, mut hands) = opened(alloc, &EIGHT_PAGES, 7)?;
     match stress(rt, alloc, &arena, &mut hands, mode) {
-        Some(worked) => assert_left(rt, alloc, arena, worked, ends),
+        Some(worked) => check_left(rt, alloc, arena, worked, ends),
         None => Err(Fail::new("there are seven hands, and memory for items")),
     }
 }
 
 /// Readers read what they stored, while pages move between the classes; a move may be under way at the end.
-pub fn readers_keep_their_words_beside_a_mover<R: Abort + Threads + Wait + Sync>(
+pub fn readers_keep_their_words_beside_a_mover<R: Threads + Wait + Sync>(
     rt: &R,
     alloc: Global,
 ) -> Result<(), Fail> {
@@ -170,7 +173,7 @@ pub fn readers_keep_their_words_beside_a_mover<R: Abort + Threads + Wait + Sync>
 }
 
 /// The same with evictions in place of rescues, and with turns at the end until no page moves.
-pub fn the_last_move_ends_once_nobody_holds_an_item<R: Abort + Threads + Wait + Sync>(
+pub fn the_last_move_ends_once_nobody_holds_an_item<R: Threads + Wait + Sync>(
     rt: &R,
     alloc: Global,
 ) -> Result<(), Fail> {

@@ -8,15 +8,13 @@ ghost use Rattle.mc_calls.specs.Hands.{IsReadyHandOf};
 ghost use Rattle.mc_calls.specs.Pairs.{AreReady};
 ghost use Rattle.mc_race_trials.specs.Keepers.{IsNear};
 
-use crate::calls::set_key;
-use crate::ends::check;
-use crate::races::{Fate, look_and_lock, take_away};
-use crate::words::len_of;
-use mc_calls::{FOUR_CLASSES, Two, has_chunk, hint_of, opened_two, release_own};
+use super::races::{Fate, look_and_lock, take_away};
+use mc_calls::{FOUR_CLASSES, Two, drop_two, has_chunk, hint_of, opened_two, release_own};
 use mc_classes::Config;
 use mc_items::{Ref, again, get};
 use mc_mover::{Counts, Turn, reassign, turn};
 use mc_pages::ChunkId;
+use mc_race_trials::{check, len_of, set_key};
 use mc_stripe::Key;
 use mc_words::{Arena, Hand, Hint, SlabsHeld};
 use std::alloc::Global;
@@ -207,24 +205,18 @@ fn again_first<R: Abort + Wait>(
 ) -> Result<(), Fail> {
     let mut two = opened_two(alloc, &TWO_PAGES)?;
     let raced = race_again_first(rt, alloc, &mut two, count, went);
-    drop(two);
+    drop_two(two);
     raced
 }
 
-/// A reader has an item again by its hint, before the mover's exchange: the item isn't rescued until it is released.
-pub fn what_is_had_again_is_not_rescued<R: Abort + Wait>(
-    rt: &R,
-    alloc: Global,
-) -> Result<(), Fail> {
-    again_first(rt, alloc, 3, counts(1, 1, 0, 1))
+#[test]
+fn what_is_had_again_is_not_rescued(rt: HostRuntime) -> Result<(), Fail> {
+    again_first(&rt, rt.alloc(), 3, counts(1, 1, 0, 1))
 }
 
-/// The same where there is no room for a copy: the item isn't evicted until it is released.
-pub fn what_is_had_again_is_not_evicted<R: Abort + Wait>(
-    rt: &R,
-    alloc: Global,
-) -> Result<(), Fail> {
-    again_first(rt, alloc, 4, counts(1, 0, 1, 1))
+#[test]
+fn what_is_had_again_is_not_evicted(rt: HostRuntime) -> Result<(), Fail> {
+    again_first(&rt, rt.alloc(), 4, counts(1, 0, 1, 1))
 }
 
 /// The first of four items is evicted before its hint is followed.
@@ -247,13 +239,10 @@ fn race_eviction_first<R: Abort + Wait>(rt: &R, alloc: Global, two: &mut Two) ->
     check(turns(rt, arena, hand, ended), "the page goes at once")
 }
 
-/// The mover's exchange comes first: the hint leads nowhere then.
-pub fn what_was_evicted_is_not_had_again<R: Abort + Wait>(
-    rt: &R,
-    alloc: Global,
-) -> Result<(), Fail> {
-    let mut two = opened_two(alloc, &TWO_PAGES)?;
-    let raced = race_eviction_first(rt, alloc, &mut two);
-    drop(two);
+#[test]
+fn what_was_evicted_is_not_had_again(rt: HostRuntime) -> Result<(), Fail> {
+    let mut two = opened_two(rt.alloc(), &TWO_PAGES)?;
+    let raced = race_eviction_first(&rt, rt.alloc(), &mut two);
+    drop_two(two);
     raced
 }

@@ -1,0 +1,3 @@
+//! The tests, and what they have in common.
+mod orders;
+mod races;
