@@ -160,7 +160,7 @@ pub fn no_read_shows_another_item<R: Threads + Wait + Sync>(
     let left = arena.close(hand);
     let accounted = check_left(&left);
     drop(left);
+    accounted?;
     let none = ((0, 0), (0, 0));
-    check(told == none, "no read shows words of another item")?;
-    accounted
+    check(told == none, "no read shows words of another item")
 }

@@ -144,10 +144,10 @@ fn check_left<R: Wait>(
     let left = arena.close(hand);
     let accounted = check_final(&left, surveyed, tally, ends);
     drop(left);
+    accounted?;
     let wrong = (first, second, third);
     check(wrong == (0, 0, 0), "no read shows words of another item")?;
-    check(ended, "the last move ends")?;
-    accounted
+    check(ended, "the last move ends")
 }
 
 /// All threads' work in this mode, and then what is left.
