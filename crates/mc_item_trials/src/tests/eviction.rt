@@ -1,7 +1,7 @@
 //! Which item is evicted: the oldest of five that nobody holds.
 use super::MOST_WORDS;
 use super::steps::Step;
-use mc_calls::{FOUR_CLASSES, GETTERS, Getter, opened_two, play_all, run};
+use mc_calls::{FOUR_CLASSES, GETTERS, Getter, drop_two, opened_two, play_all, run};
 use mc_items::SetError;
 use std::alloc::Global;
 use std::sync::Wait;
@@ -35,7 +35,7 @@ fn store_ninth<R: Wait>(rt: &R, alloc: Global, held: Step, behind: &[Step]) -> R
     let stored = play_all(rt, alloc, &two.arena, &mut two.hand, &[EIGHT]);
     let held = play_all(rt, alloc, &two.arena, &mut two.other, &[held]);
     let played = play_all(rt, alloc, &two.arena, &mut two.hand, behind);
-    drop(two);
+    drop_two(two);
     stored?;
     held?;
     played?;

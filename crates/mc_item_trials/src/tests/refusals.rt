@@ -5,7 +5,7 @@ ghost use Rattle.mc_calls.specs.Pairs.{AreReady};
 use super::hints::hint_behind;
 use super::steps::Step;
 use super::{MOST_WORDS, assert_equal};
-use mc_calls::{FOUR_CLASSES, Two, follow, opened_two, play_all, play_two};
+use mc_calls::{FOUR_CLASSES, Two, drop_arena, drop_two, follow, opened_two, play_all, play_two};
 use mc_items::{GetError, SetError, TryGetError, get, try_get};
 use mc_stripe::Key;
 use mc_words::{Again, Arena, Hand};
@@ -82,7 +82,7 @@ fn try_beside_stripe<R: Abort + Wait>(rt: &R, two: &mut Two) -> Result<(), Fail>
 fn who_does_not_wait_is_told_of_another_hand(rt: HostRuntime) -> Result<(), Fail> {
     let mut two = opened_two(rt.alloc(), &FOUR_CLASSES)?;
     let played = try_beside_stripe(&rt, &mut two);
-    drop(two);
+    drop_two(two);
     played
 }
 
@@ -99,7 +99,7 @@ fn a_worn_chunk_holds_no_item(rt: HostRuntime) -> Result<(), Fail> {
     ];
     let played = play_all(&rt, rt.alloc(), &arena, &mut hand, &steps);
     drop(hand);
-    drop(arena);
+    drop_arena(arena);
     played?;
     Ok(())
 }
