@@ -4,7 +4,7 @@ ghost use Rattle.mc_calls.specs.Pairs.{AreReady};
 
 use super::steps::Step;
 use super::{assert_equal, assert_same};
-use mc_calls::{FOUR_CLASSES, Two, get_key, header, play_all, play_two, touch_key};
+use mc_calls::{FOUR_CLASSES, Two, drop_arena, get_key, header, play_all, play_two, touch_key};
 use mc_items::{GetError, get};
 use mc_pages::ChunkId;
 use mc_stripe::Key;
@@ -107,7 +107,7 @@ fn move_beside_dead<R: Wait>(
     ];
     let played = play_all(rt, alloc, &arena, &mut hand, &steps);
     drop(hand);
-    drop(arena);
+    drop_arena(arena);
     played?;
     Ok(())
 }
