@@ -16,7 +16,7 @@ pub record RefersTo (arena : Arena) (item : Ref) (hand : Hand) : Type 0 where
   pub ready : IsReady (view hand)
   pub refers : IsItemRef (view hand) item
 
--- it took the lock of the slabs no more often than it had: no item became newer or older in its class
+-- the hand took the lock of the slabs no more often than it had, so it made no item newer or older in its class
 abbrev pub LeavesSlabs : View → View → Type 0
 LeavesSlabs before now = now.row.knows.hold.count ≡ before.row.knows.hold.count
 

@@ -127,6 +127,3 @@ sized_finished slabs table (Some move) sized =
 
 pub sized_finish : (slabs new : SlabState) (table : Classes) (moving : Option Moving) → IsSized slabs table → new ≡ after_finish slabs moving → IsSized new table
 sized_finish slabs new table moving sized is = now new (after_finish slabs moving) table is (sized_finished slabs table moving sized)
-
--- for calls that change something
-pub ruleset changes = (sized_pop, sized_back, sized_touch, sized_replace, sized_clear, sized_evicted, sized_cut, sized_grow, sized_begin, sized_passed, sized_wrap, sized_mode, sized_finish)
