@@ -1,1 +1,2 @@
 pub mod PlayedMore
+pub mod NoFloat

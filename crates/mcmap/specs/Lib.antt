@@ -1,2 +1,4 @@
 pub mod Status
 pub mod Played
+pub mod Checked
+pub mod Json

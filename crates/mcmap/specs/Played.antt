@@ -1,5 +1,5 @@
 -- What a script makes of a machine and its books, and what is shown of it.
-use Rattle.std.specs.Prelude.{◌≡◌, ℕ, List, [], ◌∷◌, length, Some}
+use Rattle.std.specs.Prelude.{◌≡◌, ℕ, List, [], ◌∷◌, ◌++◌, codes, length, max, min, slice_range, Some}
 use Rattle.std.specs.Option.{option_map}
 use Rattle.mc_script.specs.declared.command.Command.{Command}
 use Rattle.mc_machine.specs.Lines.{serve}
@@ -10,7 +10,12 @@ use Rattle.mc_options.specs.declared.settings.Run.{Run}
 use Rattle.mc_map.specs.Books.{Book, fresh_books}
 use Rattle.mc_map.specs.declared.map.Map.{Map}
 use Rattle.mc_map.specs.Map.{IsMap, books_after}
+use Rattle.mc_map.specs.declared.script.Mark.{Mark}
 use Rattle.mc_picture.specs.Charts.{IsChart, IsMapText}
+use Rattle.serde_json.specs.Written.{compact_text}
+use Rattle.mcmap.specs.Json.{map_json}
+use Rattle.mcmap.specs.declared.show.Form.{Form}
+use Rattle.mcmap.specs.declared.show.Form.TheVariants.{Text, Json}
 
 -- these commands lead from a machine and its books to others: each is done as the plain machine does it, and noted in the books
 abbrev pub LeadTo : List Command → Machine → Book → Machine → Book → Type 0
@@ -27,9 +32,39 @@ pub record IsChartOf (run : Run) (commands : List Command) (old new : List ℕ) 
   pub played : LeadTo commands (fresh_machine table run.config.bulk run.automove) (fresh_books table) machine books
   pub chart : IsChart (length books.owners) books.ledger old new
 
--- behind the old text stands that of a map of this machine and these books
-pub record IsShown (m : Machine) (books : Book) (old new : List ℕ) : Type 0 where
+-- behind the old text stands the map in this form: as JSON a line with that of its mark, or with 0 at the end
+abbrev pub IsMapIn : Form → ℕ → Map → List ℕ → List ℕ → Type 0
+IsMapIn Text line map old new = IsMapText map old new
+IsMapIn Json line map old new = new ≡ old ++ (compact_text (map_json line map) ++ codes "\n")
+
+-- behind the old text stands a map of this machine and these books in this form
+pub record IsShown (form : Form) (line : ℕ) (m : Machine) (books : Book) (old new : List ℕ) : Type 0 where
   pub keys : List ℕ
   pub map : Map
   pub is_map : IsMap m books keys map
-  pub text : IsMapText map old new
+  pub text : IsMapIn form line map old new
+
+-- these commands lead from a machine and its books to others, of which a map stands behind the old text then
+pub record PlaysAndShows (form : Form) (line : ℕ) (commands : List Command) (m : Machine) (book : Book) (old : List ℕ) (after : Machine) (later : Book) (new : List ℕ) : Type 0 where
+  pub played : LeadTo commands m book after later
+  pub shown : IsShown form line after later old new
+
+-- how many of so many commands are done at a mark: those above it, or as many as were done already
+abbrev pub done_at : ℕ → ℕ → Mark → ℕ
+done_at count done mark = max (min mark.done count) done
+
+-- where so many commands were done, maps stand behind the old text: one at each of these marks, of what the commands above it lead to, and one at
+-- the end
+abbrev pub ShowsMaps : Form → List Command → ℕ → List Mark → Machine → Book → List ℕ → List ℕ → Type 0
+ShowsMaps form commands done [] m book old new =
+    (after : Machine) × (later : Book) × PlaysAndShows form 0 (slice_range commands done (length commands)) m book old after later new
+ShowsMaps form commands done (mark ∷ marks) m book old new =
+    (after : Machine) × (later : Book) × (text : List ℕ)
+    × PlaysAndShows form mark.line (slice_range commands done (done_at (length commands) done mark)) m book old after later text
+    × ShowsMaps form commands (done_at (length commands) done mark) marks after later text new
+
+-- behind the old text stand the maps of these commands and marks, from a memory as the run configures it
+pub record AreMapsOf (form : Form) (run : Run) (commands : List Command) (marks : List Mark) (old new : List ℕ) : Type 0 where
+  pub table : Classes
+  pub is_table : IsTableOf run.config table
+  pub shown : ShowsMaps form commands 0 marks (fresh_machine table run.config.bulk run.automove) (fresh_books table) old new

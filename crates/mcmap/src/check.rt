@@ -1,8 +1,8 @@
 //! What is wrong with the options and the script, in words, and what would be right.
-ghost use Rattle.std.specs.Prelude.{◌≡◌, ◌<◌, ◌^◌, List, None, Ok, IfSome, OnOk};
+ghost use Rattle.std.specs.Prelude.{◌≡◌, ℕ, ◌<◌, ◌^◌, Err, None, IfErr, IfOk, IfSome, OnOk};
+ghost use Rattle.std.specs.Str.Lines.{lines};
 ghost use Rattle.mc_classes.specs.Refusals.{refusal_of};
-ghost use Rattle.mc_script.specs.declared.command.Command.{Command};
-ghost use Rattle.mc_script.specs.Script.{script_of};
+ghost use Rattle.mcmap.specs.Checked.{IsScript, wrong_count};
 
 use crate::fault::Fault;
 use crate::lines::reason_of;
@@ -134,7 +134,8 @@ fn divided(num: u64, den: u64, by: u64) -> (u64, u64)
 
 /// Adds what is wrong with each line of the script, by its number, or that nothing is.
 pub fn check_script(alloc: Global, bytes: &[u8], text: &mut String) -> Result<(), Fault>
-    ensures accepted { OnOk result ((commands : List Command) × (script_of bytes.now ≡ Ok commands)) }
+    ensures accepted { OnOk result (IsScript bytes.now) }
+    ensures wrong { (count : ℕ) → result ≡ Err (Fault.WrongLines count) → count ≡ wrong_count (lines bytes.now) }
 {
     match read_script(alloc, bytes) {
         Ok(_script) => Ok(text.push_str("nothing is wrong\n")?),
@@ -147,14 +148,17 @@ pub fn check_script(alloc: Global, bytes: &[u8], text: &mut String) -> Result<()
 }
 
 /// Adds what is wrong with each line, and says with how many something is.
-fn write_lines(alloc: Global, bytes: &[u8], text: &mut String) -> Result<u64, Fault> {
+fn write_lines(alloc: Global, bytes: &[u8], text: &mut String) -> Result<u64, Fault>
+    ensures count { IfOk result (λ wrong. wrong ≡ wrong_count (lines bytes.now)) }
+    ensures memory { IfErr result (λ fault. fault ≡ Fault.Memory) }
+{
     let mut number: u64 = 0;
     let mut wrong: u64 = 0;
     for line in Lines::new(bytes) {
-        number = number.saturating_add(1);
+        number += 1;
         if let Some(reason) = reason_of(alloc, line)? {
             writeln!(text, "line {number}: {reason}")?;
-            wrong = wrong.saturating_add(1);
+            wrong += 1;
         }
     }
     Ok(wrong)

@@ -83,12 +83,20 @@ impl From<CommandLineError> for Fault {
 }
 
 impl From<Refused> for Fault {
+    ghost use Rattle.mcmap.specs.declared.fault.Fault.TheVariants.{Memory};
+
+    ghost from_gives = { λ refused fault. fault ≡ Memory };
+
     fn from(_refused: Refused) -> Fault {
         Fault::Memory
     }
 }
 
 impl From<AllocError> for Fault {
+    ghost use Rattle.mcmap.specs.declared.fault.Fault.TheVariants.{Memory};
+
+    ghost from_gives = { λ error fault. fault ≡ Memory };
+
     fn from(_error: AllocError) -> Fault {
         Fault::Memory
     }

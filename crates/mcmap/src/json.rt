@@ -1,11 +1,32 @@
 //! A map as JSON: an object in a line.
+ghost use Rattle.std.specs.Prelude.{◌≡◌, ◌++◌, IfOk, OnOk, codes, map, string_bytes};
+ghost use Rattle.serde_json.specs.View.{members_view, view};
+ghost use Rattle.serde_json.specs.Written.{compact_text};
+ghost use Rattle.mcmap.specs.Json.{
+  blocker_json,
+  class_json,
+  count,
+  counts,
+  entry_json,
+  hang_json,
+  map_json,
+  map_members,
+  moving_json,
+  owner_json,
+  row_of,
+  totals_json,
+  with_all,
+};
+
 use crate::fault::Fault;
 use mc_map::{Blocker, ClassLine, Entry, Hang, Map, Moving, Owner, Totals};
 use serde_json::{Map as Object, Value, put};
 use std::alloc::{AllocError, Global};
 
 /// Adds a map as a line of JSON. `line` is that of its mark, or 0 at the end.
-pub fn write_json(alloc: Global, map: &Map, line: u64, text: &mut String) -> Result<(), Fault> {
+pub fn write_json(alloc: Global, map: &Map, line: u64, text: &mut String) -> Result<(), Fault>
+    ensures json { OnOk result (string_bytes text.new ≡ string_bytes text.old ++ (compact_text (map_json line map.now) ++ codes "\n")) }
+{
     let value = map_value(alloc, map, line)?;
     let written = value.to_string(alloc);
     drop(value);
@@ -15,7 +36,9 @@ pub fn write_json(alloc: Global, map: &Map, line: u64, text: &mut String) -> Res
 }
 
 /// The map.
-fn map_value(alloc: Global, map: &Map, line: u64) -> Result<Value, AllocError> {
+fn map_value(alloc: Global, map: &Map, line: u64) -> Result<Value, AllocError>
+    ensures { IfOk result (λ value. view value ≡ map_json line map.now) }
+{
     let mut object = Object::new(alloc);
     let built = put_map(alloc, map, line, &mut object);
     match built {
@@ -30,7 +53,9 @@ fn put_map(
     map: &Map,
     line: u64,
     object: &mut Object<String, Value>,
-) -> Result<(), AllocError> {
+) -> Result<(), AllocError>
+    ensures { OnOk result (members_view object.new.entries ≡ with_all (members_view object.old.entries) (map_members line map.now)) }
+{
     put(object, alloc, "line", Value::from(line))?;
     put(object, alloc, "done", Value::from(map.done))?;
     put(object, alloc, "page", Value::from(map.page))?;
@@ -50,7 +75,9 @@ fn put_map(
 }
 
 /// These numbers by their names.
-fn named(alloc: Global, pairs: &[(&str, u64)]) -> Result<Value, AllocError> {
+fn named(alloc: Global, pairs: &[(&str, u64)]) -> Result<Value, AllocError>
+    ensures { IfOk result (λ value. view value ≡ counts (map (λ pair. (pair.0.now, pair.1)) pairs.now)) }
+{
     let mut object = Object::new(alloc);
     for (name, number) in pairs {
         put(&mut object, alloc, name, Value::from(*number))?;
@@ -59,7 +86,9 @@ fn named(alloc: Global, pairs: &[(&str, u64)]) -> Result<Value, AllocError> {
 }
 
 /// These numbers in a row.
-fn numbers(alloc: Global, numbers: &[u64]) -> Result<Value, AllocError> {
+fn numbers(alloc: Global, numbers: &[u64]) -> Result<Value, AllocError>
+    ensures { IfOk result (λ value. view value ≡ row_of count numbers.now) }
+{
     let mut list = Vec::new(alloc);
     for number in numbers {
         list.push(Value::from(*number))?;
@@ -68,7 +97,9 @@ fn numbers(alloc: Global, numbers: &[u64]) -> Result<Value, AllocError> {
 }
 
 /// Who owns each page: null where nobody was given it, 0 for the pool, or a class; two of these where it moves.
-fn owners_value(alloc: Global, owners: &[Owner]) -> Result<Value, AllocError> {
+fn owners_value(alloc: Global, owners: &[Owner]) -> Result<Value, AllocError>
+    ensures { IfOk result (λ value. view value ≡ row_of owner_json owners.now) }
+{
     let mut list = Vec::new(alloc);
     for owner in owners {
         list.push(owner_value(alloc, *owner)?)?;
@@ -77,7 +108,9 @@ fn owners_value(alloc: Global, owners: &[Owner]) -> Result<Value, AllocError> {
 }
 
 /// Who owns a page.
-fn owner_value(alloc: Global, owner: Owner) -> Result<Value, AllocError> {
+fn owner_value(alloc: Global, owner: Owner) -> Result<Value, AllocError>
+    ensures { IfOk result (λ value. view value ≡ owner_json owner) }
+{
     match owner {
         Owner::Untouched => Ok(Value::Null),
         Owner::Pool => Ok(Value::from(0u64)),
@@ -87,7 +120,9 @@ fn owner_value(alloc: Global, owner: Owner) -> Result<Value, AllocError> {
 }
 
 /// The lines of the classes.
-fn classes_value(alloc: Global, lines: &[ClassLine]) -> Result<Value, AllocError> {
+fn classes_value(alloc: Global, lines: &[ClassLine]) -> Result<Value, AllocError>
+    ensures { IfOk result (λ value. view value ≡ row_of class_json lines.now) }
+{
     let mut list = Vec::new(alloc);
     for line in lines {
         list.push(class_value(alloc, line)?)?;
@@ -96,7 +131,9 @@ fn classes_value(alloc: Global, lines: &[ClassLine]) -> Result<Value, AllocError
 }
 
 /// The line of a class.
-fn class_value(alloc: Global, line: &ClassLine) -> Result<Value, AllocError> {
+fn class_value(alloc: Global, line: &ClassLine) -> Result<Value, AllocError>
+    ensures { IfOk result (λ value. view value ≡ class_json line.now) }
+{
     let pairs = [
         ("class", line.class),
         ("size", line.size),
@@ -116,7 +153,9 @@ fn class_value(alloc: Global, line: &ClassLine) -> Result<Value, AllocError> {
 }
 
 /// The numbers of the whole.
-fn totals_value(alloc: Global, totals: Totals) -> Result<Value, AllocError> {
+fn totals_value(alloc: Global, totals: Totals) -> Result<Value, AllocError>
+    ensures { IfOk result (λ value. view value ≡ totals_json totals) }
+{
     let pairs = [
         ("granted", totals.granted),
         ("pool", totals.pool),
@@ -129,7 +168,9 @@ fn totals_value(alloc: Global, totals: Totals) -> Result<Value, AllocError> {
 }
 
 /// How pages changed hands.
-fn ledger_value(alloc: Global, ledger: &[Entry]) -> Result<Value, AllocError> {
+fn ledger_value(alloc: Global, ledger: &[Entry]) -> Result<Value, AllocError>
+    ensures { IfOk result (λ value. view value ≡ row_of entry_json ledger.now) }
+{
     let mut list = Vec::new(alloc);
     for entry in ledger {
         list.push(entry_value(alloc, *entry)?)?;
@@ -138,7 +179,9 @@ fn ledger_value(alloc: Global, ledger: &[Entry]) -> Result<Value, AllocError> {
 }
 
 /// How a page changed hands: what was done to it, and with which classes, of which 0 is the pool.
-fn entry_value(alloc: Global, entry: Entry) -> Result<Value, AllocError> {
+fn entry_value(alloc: Global, entry: Entry) -> Result<Value, AllocError>
+    ensures { IfOk result (λ value. view value ≡ entry_json entry) }
+{
     match entry {
         Entry::Granted(page, class, grace) => granted_value(alloc, page, class, grace),
         Entry::Taken(page, class) => named(alloc, &[("taken", page), ("class", class)]),
@@ -150,7 +193,9 @@ fn entry_value(alloc: Global, entry: Entry) -> Result<Value, AllocError> {
 }
 
 /// An untouched page that was given to a class, and whether that was beyond the limit.
-fn granted_value(alloc: Global, page: u64, class: u64, grace: bool) -> Result<Value, AllocError> {
+fn granted_value(alloc: Global, page: u64, class: u64, grace: bool) -> Result<Value, AllocError>
+    ensures { IfOk result (λ value. view value ≡ entry_json (Entry.Granted page class grace)) }
+{
     let mut object = Object::new(alloc);
     put(&mut object, alloc, "granted", Value::from(page))?;
     put(&mut object, alloc, "class", Value::from(class))?;
@@ -159,7 +204,9 @@ fn granted_value(alloc: Global, page: u64, class: u64, grace: bool) -> Result<Va
 }
 
 /// The page on the move, or null.
-fn moving_value(alloc: Global, moving: Option<Moving>) -> Result<Value, AllocError> {
+fn moving_value(alloc: Global, moving: Option<Moving>) -> Result<Value, AllocError>
+    ensures { IfOk result (λ value. view value ≡ moving_json moving) }
+{
     match moving {
         Some(moving) => named(
             alloc,
@@ -176,7 +223,9 @@ fn moving_value(alloc: Global, moving: Option<Moving>) -> Result<Value, AllocErr
 }
 
 /// The chunks that hold a move up. It is null where no page moves, or where to find them takes too many looks.
-fn hang_value(alloc: Global, hang: &Hang) -> Result<Value, AllocError> {
+fn hang_value(alloc: Global, hang: &Hang) -> Result<Value, AllocError>
+    ensures { IfOk result (λ value. view value ≡ hang_json hang.now) }
+{
     match hang {
         Hang::Idle | Hang::Unknown => Ok(Value::Null),
         Hang::Found(blockers) => blockers_value(alloc, blockers),
@@ -184,7 +233,9 @@ fn hang_value(alloc: Global, hang: &Hang) -> Result<Value, AllocError> {
 }
 
 /// The chunks that hold a move up.
-fn blockers_value(alloc: Global, blockers: &[Blocker]) -> Result<Value, AllocError> {
+fn blockers_value(alloc: Global, blockers: &[Blocker]) -> Result<Value, AllocError>
+    ensures { IfOk result (λ value. view value ≡ row_of blocker_json blockers.now) }
+{
     let mut list = Vec::new(alloc);
     for blocker in blockers {
         list.push(blocker_value(alloc, blocker)?)?;
@@ -193,7 +244,9 @@ fn blockers_value(alloc: Global, blockers: &[Blocker]) -> Result<Value, AllocErr
 }
 
 /// A chunk that holds a move up.
-fn blocker_value(alloc: Global, blocker: &Blocker) -> Result<Value, AllocError> {
+fn blocker_value(alloc: Global, blocker: &Blocker) -> Result<Value, AllocError>
+    ensures { IfOk result (λ value. view value ≡ blocker_json blocker.now) }
+{
     let mut object = Object::new(alloc);
     put(&mut object, alloc, "chunk", Value::from(blocker.chunk))?;
     put(&mut object, alloc, "key", Value::from(blocker.key))?;

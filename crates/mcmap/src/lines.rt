@@ -1,5 +1,6 @@
 //! Why a line of a script is no command, in words.
-ghost use Rattle.std.specs.Prelude.{◌≡◌, IfOk, Some, None};
+ghost use Rattle.std.specs.Prelude.{◌≡◌, IfErr, IfOk, is_err, is_some};
+ghost use Rattle.mc_script.specs.Script.{script_of};
 
 use crate::fault::Fault;
 use mc_map::{ScriptError, read_script};
@@ -8,7 +9,10 @@ use mc_script::number::number;
 use std::alloc::Global;
 
 /// Why the line is no command, and what would be right. None where it is a command, or is skipped.
-pub fn reason_of(alloc: Global, line: &[u8]) -> Result<Option<&'static str>, Fault> {
+pub fn reason_of(alloc: Global, line: &[u8]) -> Result<Option<&'static str>, Fault>
+    ensures reason { IfOk result (λ reason. is_some reason ≡ is_err (script_of line.now)) }
+    ensures memory { IfErr result (λ fault. fault ≡ Fault.Memory) }
+{
     match read_script(alloc, line) {
         Ok(_script) => Ok(None),
         Err(ScriptError::Line(_)) => Ok(Some(reason(&words(alloc, line)?))),

@@ -1,12 +1,12 @@
 //! What is shown: maps, pages over time, and the class table.
-ghost use Rattle.std.specs.Prelude.{◌≤◌, All, OnOk, length, string_bytes};
+ghost use Rattle.std.specs.Prelude.{◌≡◌, ℕ, ◌≤◌, All, OnOk, length, string_bytes};
 ghost use Rattle.mc_picture.specs.Charts.{IsChart};
-ghost use Rattle.mcmap.specs.Played.{IsChartOf, IsShown, LeadTo};
+ghost use Rattle.mcmap.specs.Played.{AreMapsOf, IsChartOf, IsShown, LeadTo, ShowsMaps, done_at};
 ghost use Rattle.mc_script.specs.Command.{IsValid};
 
 use crate::fault::Fault;
 use crate::json::write_json;
-use mc_map::{ClassTable, Command, Player, Script};
+use mc_map::{ClassTable, Command, Mark, Player, Script};
 use mc_options::Run;
 use mc_picture::{class_rows, write_chart, write_classes, write_map};
 use std::alloc::Global;
@@ -36,6 +36,7 @@ pub fn show_maps(
 ) -> Result<(), Fault>
     requires mode { run.now.automove ≤ 2 }
     requires valid { All IsValid script.now.commands.items }
+    ensures maps { OnOk result (AreMapsOf form run.now script.now.commands.items script.now.marks.items (string_bytes text.old) (string_bytes text.new)) }
 {
     let mut player = Player::new(alloc, run)?;
     let done = play_maps(alloc, form, &mut player, run, script, text);
@@ -54,17 +55,25 @@ fn play_maps(
 ) -> Result<(), Fault>
     requires mode { run.now.automove ≤ 2 }
     requires valid { All IsValid script.now.commands.items }
+    ensures maps { OnOk result (ShowsMaps form script.now.commands.items 0 script.now.marks.items player.old.keeper player.old.books (string_bytes text.old) (string_bytes text.new)) }
 {
     let commands = script.commands.as_slice();
     let mut done = 0;
     for mark in &script.marks {
-        let place = (mark.done as usize).min(commands.len()).max(done);
+        let place = place_of(*mark, commands.len(), done);
         play_all(player, &commands[done..place])?;
         done = place;
         show_form(alloc, form, player, run, &commands[..done], mark.line, text)?;
     }
     play_all(player, &commands[done..])?;
     show_form(alloc, form, player, run, commands, 0, text)
+}
+
+/// How many of so many commands are done at a mark: those above it, or as many as were done already.
+fn place_of(mark: Mark, count: usize, done: usize) -> usize
+    ensures { result ≡ done_at count done mark }
+{
+    (mark.done as usize).min(count).max(done)
 }
 
 /// Shows a map in this form. `commands` are those that were done; `line` is that of the mark, or 0 at the end.
@@ -79,13 +88,47 @@ fn show_form(
 ) -> Result<(), Fault>
     requires mode { run.now.automove ≤ 2 }
     requires valid { All IsValid commands.now }
+    ensures shown { OnOk result (IsShown form line player.now.keeper player.now.books (string_bytes text.old) (string_bytes text.new)) }
 {
-    if form == Form::Json {
-        let map = player.map(run, commands)?;
-        let written = write_json(alloc, &map, line, text);
-        drop(map);
-        return written;
+    match form {
+        Form::Text => show_text(alloc, player, run, commands, line, text),
+        Form::Json => show_json(alloc, player, run, commands, line, text),
     }
+}
+
+/// Shows a map as JSON.
+fn show_json(
+    alloc: Global,
+    player: &Player,
+    run: &Run,
+    commands: &[Command],
+    line: u64,
+    text: &mut String,
+) -> Result<(), Fault>
+    requires mode { run.now.automove ≤ 2 }
+    requires valid { All IsValid commands.now }
+    ensures shown { OnOk result (IsShown Form.Json line player.now.keeper player.now.books (string_bytes text.old) (string_bytes text.new)) }
+{
+    let map = player.map(run, commands)?;
+    let written = write_json(alloc, &map, line, text);
+    drop(map);
+    written?;
+    Ok(())
+}
+
+/// Shows a map as text, under a heading that says where in the script.
+fn show_text(
+    alloc: Global,
+    player: &Player,
+    run: &Run,
+    commands: &[Command],
+    line: u64,
+    text: &mut String,
+) -> Result<(), Fault>
+    requires mode { run.now.automove ≤ 2 }
+    requires valid { All IsValid commands.now }
+    ensures shown { OnOk result (IsShown Form.Text line player.now.keeper player.now.books (string_bytes text.old) (string_bytes text.new)) }
+{
     if line == 0 {
         return show_map(player, run, commands, "at the end", text);
     }
@@ -103,7 +146,7 @@ fn show_map(
 ) -> Result<(), Fault>
     requires mode { run.now.automove ≤ 2 }
     requires valid { All IsValid commands.now }
-    ensures shown { OnOk result (IsShown player.now.keeper player.now.books (string_bytes text.old) (string_bytes text.new)) }
+    ensures shown { OnOk result ((line : ℕ) → IsShown Form.Text line player.now.keeper player.now.books (string_bytes text.old) (string_bytes text.new)) }
 {
     let map = player.map(run, commands)?;
     let written = write_map(&map, heading, text);

@@ -1,6 +1,12 @@
-use Rattle.std.proofs.Common.{◌≤◌, length}
+use Rattle.std.proofs.Common.{◌≤◌, ℕ, List, drop, length, string_bytes}
+use Rattle.mcmap.specs.Played.{ShowsMaps}
 use Rattle.mcmap.proofs.show.play_maps.Given as goal
 
--- no more commands are done than there are
+-- no more commands are done than there are, and with the maps of the marks that are left all maps are shown
 abbrev pub invariant-loop-mark : goal.invariant-loop-mark
-invariant-loop-mark l = l.done ≤ length l.commands
+invariant-loop-mark l =
+    record {
+      few : l.done ≤ length l.commands;
+      shown : (new : List ℕ) → ShowsMaps l.form l.commands l.done (drop l.mark-index l.script.marks.items) l.player.keeper l.player.books (string_bytes l.text) new
+          → ShowsMaps l.form l.commands 0 l.script.marks.items l.initial.player.keeper l.initial.player.books (string_bytes l.initial.text) new;
+    }

@@ -1,0 +1,17 @@
+-- What is wrong with a script.
+use Rattle.std.specs.Prelude.{◌≡◌, ℕ, ◌+◌, if◌then◌else◌, List, [], ◌∷◌, is_err, Ok}
+use Rattle.mc_script.specs.declared.command.Command.{Command}
+use Rattle.mc_script.specs.Script.{script_of}
+
+-- these bytes are a script
+abbrev pub IsScript : List ℕ → Type 0
+IsScript bytes = (commands : List Command) × (script_of bytes ≡ Ok commands)
+
+-- 1 for a line that is no command and isn't skipped, and 0 for another
+abbrev pub wrong_on : List ℕ → ℕ
+wrong_on line = if is_err (script_of line) then 1 else 0
+
+-- how many of these lines are no commands and aren't skipped
+abbrev pub wrong_count : List (List ℕ) → ℕ
+wrong_count [] = 0
+wrong_count (line ∷ rest) = wrong_on line + wrong_count rest

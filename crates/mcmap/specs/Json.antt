@@ -1,0 +1,112 @@
+-- A map as JSON.
+use Rattle.std.specs.Prelude.{ℕ, List, [], ◌∷◌, codes, map, Option, Some, None}
+use Rattle.serde_json.specs.Data.{Data, null, boolean, number, array, object, unsigned, Members, no_members, put}
+use Rattle.serde_json.specs.View.{items_of}
+use Rattle.mc_pages.specs.declared.ids.Moving.{Moving}
+use Rattle.mc_pages.specs.declared.ledger.Entry.{Entry}
+use Rattle.mc_pages.specs.declared.ledger.Entry.TheVariants.{Granted, Taken, Began, Ended}
+use Rattle.mc_pages.specs.declared.ledger.Owner.{Owner}
+use Rattle.mc_pages.specs.declared.ledger.Owner.TheVariants as owner
+use Rattle.mc_pages.specs.declared.numbers.Totals.{Totals}
+use Rattle.mc_map.specs.declared.hang.Blocker.{Blocker}
+use Rattle.mc_map.specs.declared.hang.Hang.{Hang}
+use Rattle.mc_map.specs.declared.hang.Hang.TheVariants.{Idle, Found, Unknown}
+use Rattle.mc_map.specs.declared.kept.ClassLine.{ClassLine}
+use Rattle.mc_map.specs.declared.map.Map.{Map}
+
+-- a number
+abbrev pub count : ℕ → Data
+count n = number (unsigned n)
+
+-- a row of what each of these is
+abbrev pub row_of : {X : Type 0} → (X → Data) → List X → Data
+row_of json xs = array (items_of (map json xs))
+
+-- members, and then these by their names
+abbrev pub with_all : Members → List (List ℕ × Data) → Members
+with_all members [] = members
+with_all members (pair ∷ pairs) = with_all (put pair.0 pair.1 members) pairs
+
+-- these by their names
+abbrev pub named : List (List ℕ × Data) → Data
+named pairs = object (with_all no_members pairs)
+
+-- these numbers by their names
+abbrev pub counts : List (List ℕ × ℕ) → Data
+counts pairs = named (map (λ pair. (pair.0, count pair.1)) pairs)
+
+-- who owns a page: null where nobody was given it, 0 for the pool, or a class; source and goal where it moves
+abbrev pub owner_json : Owner → Data
+owner_json owner.Untouched = null
+owner_json owner.Pool = count 0
+owner_json (owner.Class class) = count class
+owner_json (owner.Moving src dst) = row_of count (src ∷ dst ∷ [])
+
+-- the chunks of a class's line, by what they are
+abbrev pub chunk_counts : ClassLine → List (List ℕ × ℕ)
+chunk_counts line =
+    (codes "linked", line.linked) ∷ (codes "held", line.held) ∷ (codes "unlinked", line.unlinked) ∷ (codes "dead", line.dead)
+    ∷ (codes "free", line.free) ∷ (codes "cleared", line.cleared) ∷ (codes "asked", line.asked) ∷ (codes "bytes", line.bytes)
+    ∷ (codes "evictions", line.evictions) ∷ []
+
+-- what the line of a class says
+abbrev pub class_counts : ClassLine → List (List ℕ × ℕ)
+class_counts line = (codes "class", line.class) ∷ (codes "size", line.size) ∷ (codes "per_page", line.per_page) ∷ (codes "pages", line.pages) ∷ chunk_counts line
+
+-- the line of a class
+abbrev pub class_json : ClassLine → Data
+class_json line = counts (class_counts line)
+
+-- the numbers of the whole, by what they count
+abbrev pub total_counts : Totals → List (List ℕ × ℕ)
+total_counts totals =
+    (codes "granted", totals.granted) ∷ (codes "pool", totals.pool) ∷ (codes "moved", totals.moved) ∷ (codes "rescues", totals.rescues)
+    ∷ (codes "evictions_nomem", totals.evictions_nomem) ∷ (codes "busy", totals.busy) ∷ []
+
+-- the numbers of the whole
+abbrev pub totals_json : Totals → Data
+totals_json totals = counts (total_counts totals)
+
+-- how a page changed hands; class 0 is the pool
+abbrev pub entry_json : Entry → Data
+entry_json (Granted page class grace) = named ((codes "granted", count page) ∷ (codes "class", count class) ∷ (codes "grace", boolean grace) ∷ [])
+entry_json (Taken page class) = counts ((codes "taken", page) ∷ (codes "class", class) ∷ [])
+entry_json (Began page src dst) = counts ((codes "began", page) ∷ (codes "src", src) ∷ (codes "dst", dst) ∷ [])
+entry_json (Ended page dst) = counts ((codes "ended", page) ∷ (codes "dst", dst) ∷ [])
+
+-- where a page is on its move
+abbrev pub moving_counts : Moving → List (List ℕ × ℕ)
+moving_counts moving = (codes "page", moving.page) ∷ (codes "src", moving.src) ∷ (codes "dst", moving.dst) ∷ (codes "at", moving.at) ∷ (codes "busy", moving.busy) ∷ []
+
+-- the page on the move, or null
+abbrev pub moving_json : Option Moving → Data
+moving_json None = null
+moving_json (Some moving) = counts (moving_counts moving)
+
+-- what is told of a chunk that holds a move up, by its names
+abbrev pub blocker_members : Blocker → List (List ℕ × Data)
+blocker_members blocker =
+    (codes "chunk", count blocker.chunk) ∷ (codes "key", count blocker.key) ∷ (codes "linked", boolean blocker.linked)
+    ∷ (codes "workers", row_of count blocker.workers.items) ∷ []
+
+-- a chunk that holds a move up
+abbrev pub blocker_json : Blocker → Data
+blocker_json blocker = named (blocker_members blocker)
+
+-- what holds a move up; null where no page moves, or it takes too many looks to find
+abbrev pub hang_json : Hang → Data
+hang_json Idle = null
+hang_json (Found blockers) = row_of blocker_json blockers.items
+hang_json Unknown = null
+
+-- what a map has, by its names, behind the line of its mark, which is 0 at the end
+abbrev pub map_members : ℕ → Map → List (List ℕ × Data)
+map_members line map =
+    (codes "line", count line) ∷ (codes "done", count map.done) ∷ (codes "page", count map.page) ∷ (codes "chunks", count map.chunks)
+    ∷ (codes "owners", row_of owner_json map.owners.items) ∷ (codes "pool", row_of count map.pool.items)
+    ∷ (codes "classes", row_of class_json map.classes.items) ∷ (codes "totals", totals_json map.totals)
+    ∷ (codes "ledger", row_of entry_json map.ledger.items) ∷ (codes "moving", moving_json map.moving) ∷ (codes "blockers", hang_json map.hang) ∷ []
+
+-- a map as an object
+abbrev pub map_json : ℕ → Map → Data
+map_json line map = named (map_members line map)
