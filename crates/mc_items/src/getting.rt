@@ -36,6 +36,7 @@ pub enum GetError {
 
 /// Gets a reference to the key's item, if it has one, and waits for the lock of its stripe. At 255 chunks of the hand it is refused
 /// first, and at want of memory next: no entry is written then. (memcached's `item_get`, whose `do_item_get` counts the reference)
+#[inline(always)]
 pub fn get<R: Wait>(
     rt: &R,
     arena: &Arena,

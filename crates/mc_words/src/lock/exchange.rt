@@ -14,6 +14,7 @@ use crate::lock::locks::Lock;
 use crate::lock::slot::Slot;
 use crate::rule::HandSeat;
 use std::marker::Brand;
+use std::mem::forget;
 
 impl Arena {
     // Takes the lock, if its word is 0, and the value behind it out of its slot.
@@ -62,10 +63,8 @@ impl Arena {
         let word = lock.word();
         let slot = lock.slot();
         let shared = &self.table.shared;
-        match shared.exchange(seat, slot, value) {
-            Slot::Empty => {}
-            lost => drop(lost),
-        }
+        // the slot has been empty since the lock was taken, so nothing is lost
+        forget(shared.exchange(seat, slot, value));
         shared.store::<Brand>(seat, word, 0);
     }
 }

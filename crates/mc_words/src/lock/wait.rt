@@ -81,8 +81,26 @@ impl Arena {
         ensures waits { WaitsForStripe stripe (view hand.old) result.stripe (view hand.new) }
         ensures whole { IsLentStripe (view hand.new) stripe result.stripe }
     {
+        match self.try_stripe(hand, stripe) {
+            Ok(held) => held,
+            Err(_held) => self.wait_for_stripe(rt, hand, stripe),
+        }
+    }
+
+    // The same behind a try that missed it: the word is read first.
+    #[inline(never)]
+    fn wait_for_stripe<R: Wait>(&self, rt: &R, hand: &mut Hand, stripe: u64) -> StripeHeld
+        requires arena { IsHandOf self.now hand.old }
+        requires near { stripe < (setup_of self.now).config.stripes }
+        requires unlocked { is_unlocked (view hand.old) ≡ true }
+        ensures arena { IsHandOf self.now hand.new }
+        ensures number { result.number ≡ stripe }
+        ensures locks { hand.new.locks ≡ with_stripe stripe hand.old.locks }
+        ensures waits { WaitsForStripe stripe (view hand.old) result.stripe (view hand.new) }
+        ensures whole { IsLentStripe (view hand.new) stripe result.stripe }
+    {
         let backoff = Backoff::new();
-        let mut free = true;
+        let mut free = false;
         for _ in rt.forever() {
             if free {
                 if let Ok(held) = self.try_stripe(hand, stripe) {

@@ -2,7 +2,7 @@ use Rattle.std.proofs.Common.{◌≡◌, ◌≢◌, ℕ, false, List}
 use Rattle.mc_words.specs.hand.Arenas.{IsHandOf, view}
 use Rattle.mc_words.specs.lock.Wait.{MissesStripe}
 use Rattle.mc_words.proofs.Locks.Waits.{last_or}
-use Rattle.mc_words.proofs.arena.Arena.lock_stripe.Given as goal
+use Rattle.mc_words.proofs.arena.Arena.wait_for_stripe.Given as goal
 
 abbrev pub invariant-loop : goal.invariant-loop
 invariant-loop g l = IsHandOf l.fn.self l.hand × (l.hand.locks ≡ l.fn.hand.locks) × ((words : List ℕ) × MissesStripe l.fn.stripe words (view l.fn.hand) (view l.hand) × (l.free ≡ false → last_or words 1 ≢ 0))
