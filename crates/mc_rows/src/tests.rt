@@ -146,7 +146,8 @@ fn plays<R: Abort + Wait>(
     assert_alike(rt, alloc, run, script, &played, name)
 }
 
-/// Each row's script has the replies and the end of the row, in a serial run and on hands.
+/// Each row's script has the replies and the end of the row, in a serial run and on hands. Each table has a test of its own: a proof takes
+/// as long as the square of the texts that its function names.
 fn plays_rows<R: Abort + Wait>(rt: &R, alloc: Global, rows: &[Row]) -> Result<(), Fail> {
     for (name, script, replies, end) in rows {
         plays(
@@ -160,14 +161,4 @@ fn plays_rows<R: Abort + Wait>(rt: &R, alloc: Global, rows: &[Row]) -> Result<()
         )?;
     }
     Ok(())
-}
-
-#[test]
-fn rows_are_played(rt: HostRuntime) -> Result<(), Fail> {
-    plays_rows(&rt, rt.alloc(), &rows::ROWS)?;
-    plays_rows(&rt, rt.alloc(), &hostile::TAKEN)?;
-    plays_rows(&rt, rt.alloc(), &guards::ROWS)?;
-    plays_rows(&rt, rt.alloc(), &holds::ROWS)?;
-    plays_rows(&rt, rt.alloc(), &moves::ROWS)?;
-    plays_rows(&rt, rt.alloc(), &automove::ROWS)
 }

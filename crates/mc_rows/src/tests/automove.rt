@@ -1,11 +1,19 @@
 //! Runs in which pages move by themselves.
-use super::{FROM_MODE_0, Row, plays};
+use super::{FROM_MODE_0, Row, plays, plays_rows};
 use mc_driver::Run;
 use mc_trial_values::FOUR_CLASSES;
 use std::alloc::{AllocError, Global};
 use std::test::Fail;
 
-pub(super) const ROWS: [Row<'static>; 5] = [
+/// A run whose script puts the automover into mode 2 first.
+const IN_MODE_2: Row<'static> = (
+    "in mode 2 a set without an eviction asks for none, and a page that can't be had is no fault of the set",
+    "automove 2\n1 set 1 61 0\n1 set 2 61 0\n1 set 3 61 0\n1 set 4 61 0\n1 set 5 61 0\n1 set 6 61 0\n1 set 7 61 0\n1 set 8 61 0\nturn 1\n1 set 9 61 0\nturn 1\n1 get 1\n",
+    "OK\r\nSTORED 1\r\nSTORED 2\r\nSTORED 3\r\nSTORED 4\r\nSTORED 5\r\nSTORED 6\r\nSTORED 7\r\nSTORED 8\r\nTURN IDLE 0 0 0 0 0\r\nSTORED 9\r\nTURN IDLE 0 0 0 0 0\r\nNOT_FOUND 1\r\n",
+    Ok(()),
+);
+
+const ROWS: [Row<'static>; 5] = [
     (
         "in mode 2 an eviction asks for a page, and where it comes from another class there is room again",
         "1 set 1 61 0\n1 set 2 61 0\n1 set 3 61 0\n1 set 4 61 0\n1 set 11 20 0\n1 set 12 20 0\n1 set 13 20 0\n1 set 14 20 0\n1 set 15 20 0\n1 set 16 20 0\nautomove 2\n1 set 5 61 0\nstats\nturn 1\n1 set 6 61 0\n1 touch 2\n",
@@ -18,12 +26,7 @@ pub(super) const ROWS: [Row<'static>; 5] = [
         "STORED 1\r\nSTORED 2\r\nSTORED 3\r\nSTORED 4\r\nSTORED 11\r\nSTORED 12\r\nSTORED 13\r\nSTORED 14\r\nSTORED 15\r\nSTORED 16\r\nSTORED 5\r\nTURN IDLE 0 0 0 0 0\r\nOK\r\nSTORED 6\r\nTURN IDLE 0 0 0 0 0\r\n",
         Ok(()),
     ),
-    (
-        "in mode 2 a set without an eviction asks for none, and a page that can't be had is no fault of the set",
-        "automove 2\n1 set 1 61 0\n1 set 2 61 0\n1 set 3 61 0\n1 set 4 61 0\n1 set 5 61 0\n1 set 6 61 0\n1 set 7 61 0\n1 set 8 61 0\nturn 1\n1 set 9 61 0\nturn 1\n1 get 1\n",
-        "OK\r\nSTORED 1\r\nSTORED 2\r\nSTORED 3\r\nSTORED 4\r\nSTORED 5\r\nSTORED 6\r\nSTORED 7\r\nSTORED 8\r\nTURN IDLE 0 0 0 0 0\r\nSTORED 9\r\nTURN IDLE 0 0 0 0 0\r\nNOT_FOUND 1\r\n",
-        Ok(()),
-    ),
+    IN_MODE_2,
     (
         "three windows that one class leads, while another is quiet, move a page between them",
         "1 set 11 20 0\n1 set 12 20 0\n1 set 13 20 0\n1 set 14 20 0\n1 set 15 20 0\n1 set 16 20 0\n1 set 17 20 0\n1 set 18 20 0\n1 set 19 20 0\n1 set 20 20 0\n1 set 21 20 0\n1 set 22 20 0\n1 set 23 20 0\n1 set 24 20 0\n1 set 25 20 0\n1 set 1 61 0\n1 set 2 61 0\nautomove 1\n1 set 3 61 0\nwindow\n1 set 4 61 0\nwindow\n1 set 5 61 0\nwindow\nturn 1\n1 set 6 61 0\n1 touch 4\nwindow\n",
@@ -38,6 +41,11 @@ pub(super) const ROWS: [Row<'static>; 5] = [
     ),
 ];
 
+#[test]
+fn rows_are_played(rt: HostRuntime) -> Result<(), Fail> {
+    plays_rows(&rt, rt.alloc(), &ROWS)
+}
+
 /// Adds a line, and its reply.
 fn push_pair(
     alloc: Global,
@@ -47,14 +55,10 @@ fn push_pair(
     reply: &str,
 ) -> Result<(), AllocError> {
     let (before, key, after) = line;
-    let digits = format!(in alloc; "{key}")?;
-    script.extend_from_slice(before.as_bytes())?;
-    script.extend_from_slice(digits.as_bytes())?;
-    script.extend_from_slice(after.as_bytes())?;
-    replies.extend_from_slice(reply.as_bytes())?;
-    replies.extend_from_slice(digits.as_bytes())?;
-    replies.extend_from_slice(b"\r\n")?;
-    Ok(())
+    let line = format!(in alloc; "{before}{key}{after}")?;
+    let reply = format!(in alloc; "{reply}{key}\r\n")?;
+    script.extend_from_slice(line.as_bytes())?;
+    replies.extend_from_slice(reply.as_bytes())
 }
 
 /// Three pages of small items of which so many are deleted, and the replies.
@@ -120,7 +124,7 @@ fn a_page_to_spare_goes_to_the_pool(rt: HostRuntime) -> Result<(), Fail> {
 /// What the options say of the mode is what the line `automove` says.
 #[test]
 fn a_run_is_started_in_a_mode(rt: HostRuntime) -> Result<(), Fail> {
-    let (name, script, replies, _) = &ROWS[2];
+    let (name, script, replies, _) = &IN_MODE_2;
     let run = Run {
         config: FOUR_CLASSES,
         automove: 2,

@@ -2,7 +2,7 @@
 //! it gives other replies.
 ghost use Rattle.std.specs.Prelude.{◌≤◌};
 
-use super::{FROM_MODE_0, Row, plays};
+use super::{FROM_MODE_0, Row, plays, plays_rows};
 use mc_classes::Config;
 use mc_driver::{Run, RunFault};
 use mc_trial_values::FOUR_CLASSES;
@@ -11,7 +11,7 @@ use std::process::Abort;
 use std::sync::Wait;
 use std::test::Fail;
 
-pub(super) const ROWS: [Row<'static>; 13] = [
+const ROWS: [Row<'static>; 13] = [
     (
         "a drop puts nothing back",
         "1 set 1 61 0\n1 set 2 61 0\n1 set 3 61 0\n1 set 4 61 0\n1 set 5 61 0\n1 set 6 61 0\n1 set 7 61 0\n1 set 8 61 0\n1 hold 1\n1 del 1\n1 drop 1\n1 del 8\n1 set 9 61 0\nreassign 4 1\nturn 1\n",
@@ -91,6 +91,11 @@ pub(super) const ROWS: [Row<'static>; 13] = [
         Ok(()),
     ),
 ];
+
+#[test]
+fn rows_are_played(rt: HostRuntime) -> Result<(), Fail> {
+    plays_rows(&rt, rt.alloc(), &ROWS)
+}
 
 /// A name, how the run is started, a script and what is written. The run ends well.
 type StartedRow<'a> = (&'a str, Run, &'a str, &'a str);

@@ -1,9 +1,9 @@
 //! Runs that read, hold, give back and touch items.
-use super::{FROM_MODE_0, Row, plays};
+use super::{FROM_MODE_0, Row, plays, plays_rows};
 use std::alloc::AllocError;
 use std::test::Fail;
 
-pub(super) const ROWS: [Row<'static>; 6] = [
+const ROWS: [Row<'static>; 6] = [
     (
         "an item that was touched is not the oldest any more",
         "1 set 1 61 0\n1 set 2 61 0\n1 set 3 61 0\n1 set 4 61 0\n1 set 5 61 0\n1 set 6 61 0\n1 set 7 61 0\n1 set 8 61 0\n1 touch 1\n1 set 9 61 0\n1 get 2\n1 touch 1\n",
@@ -41,6 +41,11 @@ pub(super) const ROWS: [Row<'static>; 6] = [
         Ok(()),
     ),
 ];
+
+#[test]
+fn rows_are_played(rt: HostRuntime) -> Result<(), Fail> {
+    plays_rows(&rt, rt.alloc(), &ROWS)
+}
 
 /// Adds the text so often.
 fn push_times(text: &mut Vec<u8>, more: &[u8], count: usize) -> Result<(), AllocError> {

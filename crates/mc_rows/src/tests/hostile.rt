@@ -1,5 +1,5 @@
 //! Scripts that are refused, and scripts at the edge of what is taken.
-use super::{FROM_MODE_0, Row, WHOLE, assert_played, assert_same, moves, play, plays};
+use super::{FROM_MODE_0, Row, WHOLE, assert_played, assert_same, moves, play, plays, plays_rows};
 use mc_driver::RunFault;
 use mc_trial_values::FOUR_CLASSES;
 use std::test::Fail;
@@ -22,7 +22,7 @@ const REFUSED: [&str; 14] = [
     "1 window\n",
 ];
 
-pub(super) const TAKEN: [Row<'static>; 3] = [
+const TAKEN: [Row<'static>; 3] = [
     (
         "the most words",
         "1 set 1 4096 0\n",
@@ -42,6 +42,11 @@ pub(super) const TAKEN: [Row<'static>; 3] = [
         Ok(()),
     ),
 ];
+
+#[test]
+fn rows_are_played(rt: HostRuntime) -> Result<(), Fail> {
+    plays_rows(&rt, rt.alloc(), &TAKEN)
+}
 
 const SPENT: Row<'static> = (
     "a held item holds up a move until the turns of the run are spent",
@@ -80,7 +85,7 @@ fn spent_turns(rt: HostRuntime) -> Result<(), Fail> {
 /// last one answer what they answer alone.
 #[test]
 fn truncated_scripts(rt: HostRuntime) -> Result<(), Fail> {
-    let (_, script, _, _) = &moves::ROWS[5];
+    let (_, script, _, _) = &moves::TWO_MOVES;
     let script = script.as_bytes();
     let mut before = Vec::new(rt.alloc());
     for (length, byte) in script.iter().enumerate() {

@@ -1,12 +1,12 @@
 //! Runs whose streams hold.
-use super::{Row, WHOLE, assert_played, assert_same, play};
+use super::{Row, WHOLE, assert_played, assert_same, play, plays_rows};
 use mc_classes::Config;
 use mc_driver::RunFault;
 use mc_trial_values::{FOUR_CLASSES, too_much};
 use std::process::Abort;
 use std::test::Fail;
 
-pub(super) const ROWS: [Row<'static>; 17] = [
+const ROWS: [Row<'static>; 17] = [
     (
         "first path",
         "1 set 1 3 7\n1 set 2 3 9\n1 del 2\nstats slabs\n",
@@ -100,6 +100,11 @@ pub(super) const ROWS: [Row<'static>; 17] = [
         Err(RunFault::Script(1)),
     ),
 ];
+
+#[test]
+fn rows_are_played(rt: HostRuntime) -> Result<(), Fail> {
+    plays_rows(&rt, rt.alloc(), &ROWS)
+}
 
 /// Configurations that are refused, each with the number of the test that refuses it.
 const REFUSED: [(u64, Config); 8] = [

@@ -63,7 +63,7 @@ fn a_writer_that_fails_ends_the_run(rt: HostRuntime) -> Result<(), Fail> {
 /// A held item holds up a move: no read and no write of that run may fail and be overlooked.
 #[test]
 fn a_reader_that_fails_in_a_long_script(rt: HostRuntime) -> Result<(), Fail> {
-    let (_, script, _, _) = &moves::ROWS[2];
+    let (_, script, _, _) = &moves::HELD_UP;
     for good_bytes in 0..=script.len() {
         let limits = StreamLimits {
             good_bytes,
@@ -78,7 +78,7 @@ fn a_reader_that_fails_in_a_long_script(rt: HostRuntime) -> Result<(), Fail> {
 /// What was written begins the whole text, and nothing is written after a fault.
 #[test]
 fn a_writer_that_fails_in_a_long_script(rt: HostRuntime) -> Result<(), Fail> {
-    let (_, script, replies, _) = &moves::ROWS[2];
+    let (_, script, replies, _) = &moves::HELD_UP;
     let mut whole = None;
     for good_writes in 0..32 {
         let limits = StreamLimits {
