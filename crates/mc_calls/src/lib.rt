@@ -3,6 +3,7 @@
 #![tactic(auto)]
 
 mod accounts;
+mod checks;
 mod drops;
 mod getters;
 mod hands;
@@ -17,6 +18,7 @@ mod turns;
 mod words;
 
 pub use accounts::{NO_SUMS, Pages, Sums, all_sums, class_sums, count_keys, count_pages, head};
+pub use checks::check;
 pub use drops::{drop_arena, drop_state, drop_two};
 pub use getters::{GETTERS, Getter, get_by, is_there};
 pub use hands::{Pair, Two, next_hand, one_of, opened, opened_two, pair_of, three_of};

@@ -5,22 +5,13 @@ use crate::driver::Tally;
 use crate::replays::{Calls, are_first_stamps, are_legal, calls_of, is_ledger_right};
 use crate::words::KEYS;
 use crate::workers::Told;
-use mc_calls::{NO_SUMS, Sums, Turns, all_sums, class_sums, count_keys, count_pages};
+use mc_calls::{NO_SUMS, Sums, Turns, all_sums, check, class_sums, count_keys, count_pages};
 use mc_mover::{Survey, survey};
 use mc_stripe::HandId;
 use mc_words::{Arena, Final, Hand};
 use std::alloc::Global;
 use std::sync::Wait;
 use std::test::Fail;
-
-/// Fails where something isn't right, and says what was to be so.
-pub fn check(is_right: bool, what: &'static str) -> Result<(), Fail> {
-    if is_right {
-        Ok(())
-    } else {
-        Err(Fail::new(what))
-    }
-}
 
 /// The chunks of each class are those of its pages: free, linked, or cleared on a moving page. How many are free, and linked.
 fn sum_classes(left: &Final, found: &Survey) -> Option<Sums> {

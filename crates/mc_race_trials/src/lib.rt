@@ -13,7 +13,6 @@ mod words;
 mod workers;
 
 pub use calls::set_key;
-pub use ends::check;
 pub use lost::lost_hands_cost_what_they_had;
 pub use stress::what_is_kept_is_read_beside_two_movers;
 pub use words::len_of;

@@ -5,7 +5,6 @@ ghost use Rattle.mc_race_trials.specs.Keepers.{AreNear, IsKeeperOf};
 
 use crate::calls::set_key;
 use crate::driver::Driver;
-use crate::ends::check;
 use crate::holding::give_all_back;
 use crate::replays::is_stripe_legal;
 use crate::stress::TWELVE_PAGES;
@@ -13,7 +12,7 @@ use crate::words::{KEYS, draw};
 use crate::workers::{
     Keeper, NOTHING, give_one_back, keep_and_read, make_room, no_hints, place_in, read_one,
 };
-use mc_calls::{Job, Worked, head, next_hand, opened, three_of, work_three};
+use mc_calls::{Job, Worked, check, head, next_hand, opened, three_of, work_three};
 use mc_pages::ChunkId;
 use mc_words::{Arena, Final, Hand};
 use std::alloc::Global;

@@ -2,8 +2,7 @@
 ghost use Rattle.std.specs.Prelude.{IfSome};
 ghost use Rattle.mc_calls.specs.Hands.{AreHandsOf, IsIdleHandOf};
 
-use crate::checks::check;
-use mc_calls::{FOUR_CLASSES, Getter, Job, Worked, is_there, next_hand, opened, work_four};
+use mc_calls::{FOUR_CLASSES, Getter, Job, Worked, check, is_there, next_hand, opened, work_four};
 use mc_stripe::{Call, Key};
 use mc_words::{Arena, Final, Hand};
 use std::alloc::Global;

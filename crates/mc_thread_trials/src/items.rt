@@ -4,10 +4,9 @@ ghost use Rattle.std.specs.Prelude.{IfSome};
 ghost use Rattle.mc_calls.specs.Hands.{AreHandsOf};
 ghost use Rattle.mc_calls.specs.Pairs.{AreIdle};
 
-use crate::checks::check;
 use mc_calls::{
-    FOUR_CLASSES, Getter, Job, Pair, Worked, class_sums, count_keys, delete_key, get_by, is_own,
-    one_of, opened, pair_of, release_own, store_own, work_four,
+    FOUR_CLASSES, Getter, Job, Pair, Worked, check, class_sums, count_keys, delete_key, get_by,
+    is_own, one_of, opened, pair_of, release_own, store_own, work_four,
 };
 use mc_classes::Config;
 use mc_pages::Owner;

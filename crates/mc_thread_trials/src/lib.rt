@@ -2,7 +2,6 @@
 //! and `mc_words` alone. The tests of `mc_stress_trials` run them.
 #![tactic(auto)]
 
-mod checks;
 mod driver;
 mod gets;
 mod items;

@@ -2,11 +2,10 @@
 ghost use Rattle.std.specs.Prelude.{IfSome};
 ghost use Rattle.mc_calls.specs.Hands.{AreHandsOf, IsIdleHandOf};
 
-use crate::checks::check;
 use crate::driver::{Mover, end_if};
 use crate::workers::{KEYS, Worker, store_each};
 use mc_calls::{
-    FOUR_CLASSES, NO_SUMS, Stats, Sums, Turns, Worked, all_sums, class_sums, count_keys,
+    FOUR_CLASSES, NO_SUMS, Stats, Sums, Turns, Worked, all_sums, check, class_sums, count_keys,
     count_pages, next_hand, opened, pair_of, set_mode_by, stats_of, work_four,
 };
 use mc_classes::{ClassId, Config};

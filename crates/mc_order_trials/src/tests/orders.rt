@@ -9,12 +9,12 @@ ghost use Rattle.mc_calls.specs.Pairs.{AreReady};
 ghost use Rattle.mc_race_trials.specs.Keepers.{IsNear};
 
 use super::races::{Fate, look_and_lock, take_away};
-use mc_calls::{FOUR_CLASSES, Two, drop_two, has_chunk, hint_of, opened_two, release_own};
+use mc_calls::{FOUR_CLASSES, Two, check, drop_two, has_chunk, hint_of, opened_two, release_own};
 use mc_classes::Config;
 use mc_items::{Ref, again, get};
 use mc_mover::{Counts, Turn, reassign, turn};
 use mc_pages::ChunkId;
-use mc_race_trials::{check, len_of, set_key};
+use mc_race_trials::{len_of, set_key};
 use mc_stripe::Key;
 use mc_words::{Arena, Hand, Hint, SlabsHeld};
 use std::alloc::Global;

@@ -1,0 +1,15 @@
+//! What is to be so.
+ghost use Rattle.std.specs.Prelude.{◌≡◌, ◌↔◌, IsOk, true};
+
+use std::test::Fail;
+
+/// Fails where something isn't right, and says what was to be so.
+pub fn check(is_right: bool, what: &'static str) -> Result<(), Fail>
+    ensures { IsOk result ↔ (is_right ≡ true) }
+{
+    if is_right {
+        Ok(())
+    } else {
+        Err(Fail::new(what))
+    }
+}
