@@ -15,7 +15,7 @@ use Rattle.mc_map.specs.declared.hang.Hang.{Hang}
 use Rattle.mc_map.specs.declared.hang.Hang.TheVariants.{Idle, Found, Unknown}
 use Rattle.mc_map.specs.declared.kept.ClassLine.{ClassLine}
 use Rattle.mc_map.specs.declared.map.Map.{Map}
-use Rattle.mcmap.specs.Json.{blocker_json, blocker_members, class_counts, class_json, count, counts, entry_json, hang_json, map_json, map_members, moving_counts, moving_json, named, owner_json, row_of, total_counts, with_all}
+use Rattle.mcmap.specs.Json.{blocker_json, blocker_members, class_counts, class_json, number_json, pairs_json, entry_json, hang_json, map_json, map_members, moving_counts, moving_json, object_json, owner_json, row_json, total_counts, with_members}
 
 -- neither is so
 both_false : (a b : Bool) → a ≡ false → b ≡ false → (a || b) ≡ false
@@ -47,28 +47,28 @@ abbrev any_float : List (List ℕ × Data) → Bool
 any_float [] = false
 any_float (pair ∷ pairs) = has_float pair.1 || any_float pairs
 
-no_float_all : (pairs : List (List ℕ × Data)) (ms : Members) → any_float pairs ≡ false → members_have_float ms ≡ false → members_have_float (with_all ms pairs) ≡ false
+no_float_all : (pairs : List (List ℕ × Data)) (ms : Members) → any_float pairs ≡ false → members_have_float ms ≡ false → members_have_float (with_members ms pairs) ≡ false
 no_float_all [] ms none ms_none = ms_none
 no_float_all (pair ∷ pairs) ms none ms_none =
     no_float_all pairs (put pair.0 pair.1 ms) (second_false (has_float pair.1) (any_float pairs) none)
     (no_float_put pair.0 pair.1 ms (first_false (has_float pair.1) (any_float pairs) none) ms_none)
 
-no_float_named : (pairs : List (List ℕ × Data)) → any_float pairs ≡ false → has_float (named pairs) ≡ false
+no_float_named : (pairs : List (List ℕ × Data)) → any_float pairs ≡ false → has_float (object_json pairs) ≡ false
 no_float_named pairs none = no_float_all pairs no_members none refl
 
-any_count : (pairs : List (List ℕ × ℕ)) → any_float (map (λ pair. (pair.0, count pair.1)) pairs) ≡ false
+any_count : (pairs : List (List ℕ × ℕ)) → any_float (map (λ pair. (pair.0, number_json pair.1)) pairs) ≡ false
 any_count [] = refl
 any_count (pair ∷ pairs) = any_count pairs
 
-no_float_counts : (pairs : List (List ℕ × ℕ)) → has_float (counts pairs) ≡ false
-no_float_counts pairs = no_float_named (map (λ pair. (pair.0, count pair.1)) pairs) (any_count pairs)
+no_float_counts : (pairs : List (List ℕ × ℕ)) → has_float (pairs_json pairs) ≡ false
+no_float_counts pairs = no_float_named (map (λ pair. (pair.0, number_json pair.1)) pairs) (any_count pairs)
 
-no_float_row : {X : Type 0} (json : X → Data) (xs : List X) → ((x : X) → has_float (json x) ≡ false) → has_float (row_of json xs) ≡ false
+no_float_row : {X : Type 0} (json : X → Data) (xs : List X) → ((x : X) → has_float (json x) ≡ false) → has_float (row_json json xs) ≡ false
 no_float_row json [] none = refl
 no_float_row json (x ∷ xs) none = both_false _ _ (none x) (no_float_row json xs none)
 
-no_float_numbers : (ns : List ℕ) → has_float (row_of count ns) ≡ false
-no_float_numbers ns = no_float_row count ns (λ n. refl)
+no_float_numbers : (ns : List ℕ) → has_float (row_json number_json ns) ≡ false
+no_float_numbers ns = no_float_row number_json ns (λ n. refl)
 
 no_float_owner : (o : Owner) → has_float (owner_json o) ≡ false
 no_float_owner owner.Untouched = refl
@@ -77,7 +77,7 @@ no_float_owner (owner.Class class) = refl
 no_float_owner (owner.Moving src dst) = refl
 
 no_float_entry : (entry : Entry) → has_float (entry_json entry) ≡ false
-no_float_entry (Granted page class grace) = no_float_named ((codes "granted", count page) ∷ (codes "class", count class) ∷ (codes "grace", boolean grace) ∷ []) refl
+no_float_entry (Granted page class grace) = no_float_named ((codes "granted", number_json page) ∷ (codes "class", number_json class) ∷ (codes "grace", boolean grace) ∷ []) refl
 no_float_entry (Taken page class) = no_float_counts ((codes "taken", page) ∷ (codes "class", class) ∷ [])
 no_float_entry (Began page src dst) = no_float_counts ((codes "began", page) ∷ (codes "src", src) ∷ (codes "dst", dst) ∷ [])
 no_float_entry (Ended page dst) = no_float_counts ((codes "ended", page) ∷ (codes "dst", dst) ∷ [])
@@ -90,7 +90,7 @@ no_float_moving None = refl
 no_float_moving (Some moving) = no_float_counts (moving_counts moving)
 
 no_float_blocker : (blocker : Blocker) → has_float (blocker_json blocker) ≡ false
-no_float_blocker blocker = no_float_named (blocker_members blocker) (both_false (has_float (row_of count blocker.workers.items)) false (no_float_numbers blocker.workers.items) refl)
+no_float_blocker blocker = no_float_named (blocker_members blocker) (both_false (has_float (row_json number_json blocker.workers.items)) false (no_float_numbers blocker.workers.items) refl)
 
 no_float_hang : (hang : Hang) → has_float (hang_json hang) ≡ false
 no_float_hang Idle = refl

@@ -3,9 +3,9 @@ use Rattle.std.specs.Prelude.{◌≡◌, ℕ, ◌+◌, if◌then◌else◌, List
 use Rattle.mc_script.specs.declared.command.Command.{Command}
 use Rattle.mc_script.specs.Script.{script_of}
 
--- these bytes are a script
-abbrev pub IsScript : List ℕ → Type 0
-IsScript bytes = (commands : List Command) × (script_of bytes ≡ Ok commands)
+-- these bytes are a script: each line is a command, or is skipped
+abbrev pub IsAcceptedScript : List ℕ → Type 0
+IsAcceptedScript bytes = (commands : List Command) × (script_of bytes ≡ Ok commands)
 
 -- 1 for a line that is no command and isn't skipped, and 0 for another
 abbrev pub wrong_on : List ℕ → ℕ

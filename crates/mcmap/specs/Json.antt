@@ -15,32 +15,32 @@ use Rattle.mc_map.specs.declared.kept.ClassLine.{ClassLine}
 use Rattle.mc_map.specs.declared.map.Map.{Map}
 
 -- a number
-abbrev pub count : ℕ → Data
-count n = number (unsigned n)
+abbrev pub number_json : ℕ → Data
+number_json n = number (unsigned n)
 
 -- a row of what each of these is
-abbrev pub row_of : {X : Type 0} → (X → Data) → List X → Data
-row_of json xs = array (items_of (map json xs))
+abbrev pub row_json : {X : Type 0} → (X → Data) → List X → Data
+row_json json xs = array (items_of (map json xs))
 
 -- members, and then these by their names
-abbrev pub with_all : Members → List (List ℕ × Data) → Members
-with_all members [] = members
-with_all members (pair ∷ pairs) = with_all (put pair.0 pair.1 members) pairs
+abbrev pub with_members : Members → List (List ℕ × Data) → Members
+with_members members [] = members
+with_members members (pair ∷ pairs) = with_members (put pair.0 pair.1 members) pairs
 
 -- these by their names
-abbrev pub named : List (List ℕ × Data) → Data
-named pairs = object (with_all no_members pairs)
+abbrev pub object_json : List (List ℕ × Data) → Data
+object_json pairs = object (with_members no_members pairs)
 
 -- these numbers by their names
-abbrev pub counts : List (List ℕ × ℕ) → Data
-counts pairs = named (map (λ pair. (pair.0, count pair.1)) pairs)
+abbrev pub pairs_json : List (List ℕ × ℕ) → Data
+pairs_json pairs = object_json (map (λ pair. (pair.0, number_json pair.1)) pairs)
 
 -- who owns a page: null where nobody was given it, 0 for the pool, or a class; source and goal where it moves
 abbrev pub owner_json : Owner → Data
 owner_json owner.Untouched = null
-owner_json owner.Pool = count 0
-owner_json (owner.Class class) = count class
-owner_json (owner.Moving src dst) = row_of count (src ∷ dst ∷ [])
+owner_json owner.Pool = number_json 0
+owner_json (owner.Class class) = number_json class
+owner_json (owner.Moving src dst) = row_json number_json (src ∷ dst ∷ [])
 
 -- the chunks of a class's line, by what they are
 abbrev pub chunk_counts : ClassLine → List (List ℕ × ℕ)
@@ -55,7 +55,7 @@ class_counts line = (codes "class", line.class) ∷ (codes "size", line.size) �
 
 -- the line of a class
 abbrev pub class_json : ClassLine → Data
-class_json line = counts (class_counts line)
+class_json line = pairs_json (class_counts line)
 
 -- the numbers of the whole, by what they count
 abbrev pub total_counts : Totals → List (List ℕ × ℕ)
@@ -65,14 +65,14 @@ total_counts totals =
 
 -- the numbers of the whole
 abbrev pub totals_json : Totals → Data
-totals_json totals = counts (total_counts totals)
+totals_json totals = pairs_json (total_counts totals)
 
 -- how a page changed hands; class 0 is the pool
 abbrev pub entry_json : Entry → Data
-entry_json (Granted page class grace) = named ((codes "granted", count page) ∷ (codes "class", count class) ∷ (codes "grace", boolean grace) ∷ [])
-entry_json (Taken page class) = counts ((codes "taken", page) ∷ (codes "class", class) ∷ [])
-entry_json (Began page src dst) = counts ((codes "began", page) ∷ (codes "src", src) ∷ (codes "dst", dst) ∷ [])
-entry_json (Ended page dst) = counts ((codes "ended", page) ∷ (codes "dst", dst) ∷ [])
+entry_json (Granted page class grace) = object_json ((codes "granted", number_json page) ∷ (codes "class", number_json class) ∷ (codes "grace", boolean grace) ∷ [])
+entry_json (Taken page class) = pairs_json ((codes "taken", page) ∷ (codes "class", class) ∷ [])
+entry_json (Began page src dst) = pairs_json ((codes "began", page) ∷ (codes "src", src) ∷ (codes "dst", dst) ∷ [])
+entry_json (Ended page dst) = pairs_json ((codes "ended", page) ∷ (codes "dst", dst) ∷ [])
 
 -- where a page is on its move
 abbrev pub moving_counts : Moving → List (List ℕ × ℕ)
@@ -81,32 +81,32 @@ moving_counts moving = (codes "page", moving.page) ∷ (codes "src", moving.src)
 -- the page on the move, or null
 abbrev pub moving_json : Option Moving → Data
 moving_json None = null
-moving_json (Some moving) = counts (moving_counts moving)
+moving_json (Some moving) = pairs_json (moving_counts moving)
 
 -- what is told of a chunk that holds a move up, by its names
 abbrev pub blocker_members : Blocker → List (List ℕ × Data)
 blocker_members blocker =
-    (codes "chunk", count blocker.chunk) ∷ (codes "key", count blocker.key) ∷ (codes "linked", boolean blocker.linked)
-    ∷ (codes "workers", row_of count blocker.workers.items) ∷ []
+    (codes "chunk", number_json blocker.chunk) ∷ (codes "key", number_json blocker.key) ∷ (codes "linked", boolean blocker.linked)
+    ∷ (codes "workers", row_json number_json blocker.workers.items) ∷ []
 
 -- a chunk that holds a move up
 abbrev pub blocker_json : Blocker → Data
-blocker_json blocker = named (blocker_members blocker)
+blocker_json blocker = object_json (blocker_members blocker)
 
 -- what holds a move up; null where no page moves, or it takes too many looks to find
 abbrev pub hang_json : Hang → Data
 hang_json Idle = null
-hang_json (Found blockers) = row_of blocker_json blockers.items
+hang_json (Found blockers) = row_json blocker_json blockers.items
 hang_json Unknown = null
 
 -- what a map has, by its names, behind the line of its mark, which is 0 at the end
 abbrev pub map_members : ℕ → Map → List (List ℕ × Data)
 map_members line map =
-    (codes "line", count line) ∷ (codes "done", count map.done) ∷ (codes "page", count map.page) ∷ (codes "chunks", count map.chunks)
-    ∷ (codes "owners", row_of owner_json map.owners.items) ∷ (codes "pool", row_of count map.pool.items)
-    ∷ (codes "classes", row_of class_json map.classes.items) ∷ (codes "totals", totals_json map.totals)
-    ∷ (codes "ledger", row_of entry_json map.ledger.items) ∷ (codes "moving", moving_json map.moving) ∷ (codes "blockers", hang_json map.hang) ∷ []
+    (codes "line", number_json line) ∷ (codes "done", number_json map.done) ∷ (codes "page", number_json map.page) ∷ (codes "chunks", number_json map.chunks)
+    ∷ (codes "owners", row_json owner_json map.owners.items) ∷ (codes "pool", row_json number_json map.pool.items)
+    ∷ (codes "classes", row_json class_json map.classes.items) ∷ (codes "totals", totals_json map.totals)
+    ∷ (codes "ledger", row_json entry_json map.ledger.items) ∷ (codes "moving", moving_json map.moving) ∷ (codes "blockers", hang_json map.hang) ∷ []
 
 -- a map as an object
 abbrev pub map_json : ℕ → Map → Data
-map_json line map = named (map_members line map)
+map_json line map = object_json (map_members line map)

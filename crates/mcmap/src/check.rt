@@ -2,7 +2,7 @@
 ghost use Rattle.std.specs.Prelude.{◌≡◌, ℕ, ◌<◌, ◌^◌, Err, None, IfErr, IfOk, IfSome, OnOk};
 ghost use Rattle.std.specs.Str.Lines.{lines};
 ghost use Rattle.mc_classes.specs.Refusals.{refusal_of};
-ghost use Rattle.mcmap.specs.Checked.{IsScript, wrong_count};
+ghost use Rattle.mcmap.specs.Checked.{IsAcceptedScript, wrong_count};
 
 use crate::fault::Fault;
 use crate::lines::reason_of;
@@ -134,7 +134,7 @@ fn divided(num: u64, den: u64, by: u64) -> (u64, u64)
 
 /// Adds what is wrong with each line of the script, by its number, or that nothing is.
 pub fn check_script(alloc: Global, bytes: &[u8], text: &mut String) -> Result<(), Fault>
-    ensures accepted { OnOk result (IsScript bytes.now) }
+    ensures accepted { OnOk result (IsAcceptedScript bytes.now) }
     ensures wrong { (count : ℕ) → result ≡ Err (Fault.WrongLines count) → count ≡ wrong_count (lines bytes.now) }
 {
     match read_script(alloc, bytes) {

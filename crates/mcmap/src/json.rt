@@ -5,17 +5,17 @@ ghost use Rattle.serde_json.specs.Written.{compact_text};
 ghost use Rattle.mcmap.specs.Json.{
   blocker_json,
   class_json,
-  count,
-  counts,
+  number_json,
+  pairs_json,
   entry_json,
   hang_json,
   map_json,
   map_members,
   moving_json,
   owner_json,
-  row_of,
+  row_json,
   totals_json,
-  with_all,
+  with_members,
 };
 
 use crate::fault::Fault;
@@ -54,14 +54,14 @@ fn put_map(
     line: u64,
     object: &mut Object<String, Value>,
 ) -> Result<(), AllocError>
-    ensures { OnOk result (members_view object.new.entries ≡ with_all (members_view object.old.entries) (map_members line map.now)) }
+    ensures { OnOk result (members_view object.new.entries ≡ with_members (members_view object.old.entries) (map_members line map.now)) }
 {
     put(object, alloc, "line", Value::from(line))?;
     put(object, alloc, "done", Value::from(map.done))?;
     put(object, alloc, "page", Value::from(map.page))?;
     put(object, alloc, "chunks", Value::from(map.chunks))?;
     put(object, alloc, "owners", owners_value(alloc, &map.owners)?)?;
-    put(object, alloc, "pool", numbers(alloc, &map.pool)?)?;
+    put(object, alloc, "pool", numbers_value(alloc, &map.pool)?)?;
     put(
         object,
         alloc,
@@ -75,8 +75,8 @@ fn put_map(
 }
 
 /// These numbers by their names.
-fn named(alloc: Global, pairs: &[(&str, u64)]) -> Result<Value, AllocError>
-    ensures { IfOk result (λ value. view value ≡ counts (map (λ pair. (pair.0.now, pair.1)) pairs.now)) }
+fn pairs_value(alloc: Global, pairs: &[(&str, u64)]) -> Result<Value, AllocError>
+    ensures { IfOk result (λ value. view value ≡ pairs_json (map (λ pair. (pair.0.now, pair.1)) pairs.now)) }
 {
     let mut object = Object::new(alloc);
     for (name, number) in pairs {
@@ -86,8 +86,8 @@ fn named(alloc: Global, pairs: &[(&str, u64)]) -> Result<Value, AllocError>
 }
 
 /// These numbers in a row.
-fn numbers(alloc: Global, numbers: &[u64]) -> Result<Value, AllocError>
-    ensures { IfOk result (λ value. view value ≡ row_of count numbers.now) }
+fn numbers_value(alloc: Global, numbers: &[u64]) -> Result<Value, AllocError>
+    ensures { IfOk result (λ value. view value ≡ row_json number_json numbers.now) }
 {
     let mut list = Vec::new(alloc);
     for number in numbers {
@@ -98,7 +98,7 @@ fn numbers(alloc: Global, numbers: &[u64]) -> Result<Value, AllocError>
 
 /// Who owns each page: null where nobody was given it, 0 for the pool, or a class; two of these where it moves.
 fn owners_value(alloc: Global, owners: &[Owner]) -> Result<Value, AllocError>
-    ensures { IfOk result (λ value. view value ≡ row_of owner_json owners.now) }
+    ensures { IfOk result (λ value. view value ≡ row_json owner_json owners.now) }
 {
     let mut list = Vec::new(alloc);
     for owner in owners {
@@ -115,13 +115,13 @@ fn owner_value(alloc: Global, owner: Owner) -> Result<Value, AllocError>
         Owner::Untouched => Ok(Value::Null),
         Owner::Pool => Ok(Value::from(0u64)),
         Owner::Class(class) => Ok(Value::from(class)),
-        Owner::Moving { src, dst } => numbers(alloc, &[src, dst]),
+        Owner::Moving { src, dst } => numbers_value(alloc, &[src, dst]),
     }
 }
 
 /// The lines of the classes.
 fn classes_value(alloc: Global, lines: &[ClassLine]) -> Result<Value, AllocError>
-    ensures { IfOk result (λ value. view value ≡ row_of class_json lines.now) }
+    ensures { IfOk result (λ value. view value ≡ row_json class_json lines.now) }
 {
     let mut list = Vec::new(alloc);
     for line in lines {
@@ -149,7 +149,7 @@ fn class_value(alloc: Global, line: &ClassLine) -> Result<Value, AllocError>
         ("bytes", line.bytes),
         ("evictions", line.evictions),
     ];
-    named(alloc, &pairs)
+    pairs_value(alloc, &pairs)
 }
 
 /// The numbers of the whole.
@@ -164,12 +164,12 @@ fn totals_value(alloc: Global, totals: Totals) -> Result<Value, AllocError>
         ("evictions_nomem", totals.evictions_nomem),
         ("busy", totals.busy),
     ];
-    named(alloc, &pairs)
+    pairs_value(alloc, &pairs)
 }
 
 /// How pages changed hands.
 fn ledger_value(alloc: Global, ledger: &[Entry]) -> Result<Value, AllocError>
-    ensures { IfOk result (λ value. view value ≡ row_of entry_json ledger.now) }
+    ensures { IfOk result (λ value. view value ≡ row_json entry_json ledger.now) }
 {
     let mut list = Vec::new(alloc);
     for entry in ledger {
@@ -184,11 +184,11 @@ fn entry_value(alloc: Global, entry: Entry) -> Result<Value, AllocError>
 {
     match entry {
         Entry::Granted(page, class, grace) => granted_value(alloc, page, class, grace),
-        Entry::Taken(page, class) => named(alloc, &[("taken", page), ("class", class)]),
+        Entry::Taken(page, class) => pairs_value(alloc, &[("taken", page), ("class", class)]),
         Entry::Began(page, src, dst) => {
-            named(alloc, &[("began", page), ("src", src), ("dst", dst)])
+            pairs_value(alloc, &[("began", page), ("src", src), ("dst", dst)])
         }
-        Entry::Ended(page, dst) => named(alloc, &[("ended", page), ("dst", dst)]),
+        Entry::Ended(page, dst) => pairs_value(alloc, &[("ended", page), ("dst", dst)]),
     }
 }
 
@@ -208,7 +208,7 @@ fn moving_value(alloc: Global, moving: Option<Moving>) -> Result<Value, AllocErr
     ensures { IfOk result (λ value. view value ≡ moving_json moving) }
 {
     match moving {
-        Some(moving) => named(
+        Some(moving) => pairs_value(
             alloc,
             &[
                 ("page", moving.page),
@@ -234,7 +234,7 @@ fn hang_value(alloc: Global, hang: &Hang) -> Result<Value, AllocError>
 
 /// The chunks that hold a move up.
 fn blockers_value(alloc: Global, blockers: &[Blocker]) -> Result<Value, AllocError>
-    ensures { IfOk result (λ value. view value ≡ row_of blocker_json blockers.now) }
+    ensures { IfOk result (λ value. view value ≡ row_json blocker_json blockers.now) }
 {
     let mut list = Vec::new(alloc);
     for blocker in blockers {
@@ -255,7 +255,7 @@ fn blocker_value(alloc: Global, blocker: &Blocker) -> Result<Value, AllocError>
         &mut object,
         alloc,
         "workers",
-        numbers(alloc, &blocker.workers)?,
+        numbers_value(alloc, &blocker.workers)?,
     )?;
     Ok(Value::Object(object))
 }

@@ -20,7 +20,7 @@ pub fn show_classes(alloc: Global, run: &Run, text: &mut String) -> Result<(), F
 }
 
 /// How maps are shown.
-#[derive(Clone, Copy, Debug, PartialEq, Eq)]
+#[derive(Clone, Copy)]
 pub enum Form {
     Text,
     Json,
