@@ -36,9 +36,11 @@ state_of stripe = record { index = by_key stripe.index.entries; aside = stripe.a
 abbrev pub ready_of : Inside → ReadyStripe
 ready_of stripe = record { state = state_of stripe; ready = stripe.ready }
 
--- the stripe is legal; and where it is ready there is room for one more entry and one more call
+-- the stripe is legal; and where it is ready there is room for one more entry and one more call. What made room for an entry is kept until one is
+-- put there
 pub record IsInOrder (stripe : Inside) : Type 0 where
   pub legal : IsLegal (state_of stripe)
   -- there is room where it says so
-  pub entry : stripe.ready ≡ true → 0 < spare stripe.index
+  pub entry : stripe.spare_entry ≡ true → 0 < spare stripe.index
+  pub known : stripe.ready ≡ true → stripe.spare_entry ≡ true
   pub call : stripe.ready ≡ true → CanTell stripe.calls

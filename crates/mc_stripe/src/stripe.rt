@@ -25,6 +25,8 @@ pub struct Stripe {
     /// An entry that was lifted out of the index, until its key comes back.
     aside: Option<(Key, (ChunkId, Stamp))>,
     calls: Recorded,
+    /// The index is known to have room for one more entry.
+    spare_entry: bool,
     /// There is room for one more entry of the index and one more call.
     ready: bool,
 }
@@ -51,6 +53,7 @@ impl Stripe {
             index: HashMap::new(alloc),
             aside: None,
             calls: Recorded::new(alloc),
+            spare_entry: false,
             ready: false,
         }
     }
@@ -62,7 +65,10 @@ impl Stripe {
         ensures succeeds { self.old.ready ≡ true → IsOk result }
         ensures legal { IsLegal self.new.state }
     {
-        index::reserve_one(&mut self.index)?;
+        if !self.spare_entry {
+            index::reserve_one(&mut self.index)?;
+            self.spare_entry = true;
+        }
         self.calls.reserve()?;
         self.ready = true;
         Ok(())
@@ -78,6 +84,7 @@ impl Stripe {
     {
         self.aside = None;
         index::put(&mut self.index, key, (chunk, stamp));
+        self.spare_entry = false;
         self.calls.tell(Call::Set(hand, key, stamp));
         self.ready = false;
     }
@@ -162,6 +169,7 @@ impl Stripe {
         if let Some((_, (_, stamp))) = self.aside {
             self.aside = None;
             index::put(&mut self.index, key, (chunk, stamp));
+            self.spare_entry = false;
             self.calls.tell(Call::Rescue(hand, key));
             self.ready = false;
         }

@@ -1,4 +1,4 @@
-use Rattle.std.proofs.Common.{IsSome, refl, sym, subst}
+use Rattle.std.proofs.Common.{IsSome, arith, refl, sym, subst}
 use Rattle.mc_stripe.specs.StripeState.{ReadyStripe, place_of}
 use Rattle.mc_stripe.specs.Changes.{after_evict}
 use Rattle.mc_stripe.specs.InOrder.{state_of}
@@ -12,7 +12,8 @@ invariant_of-self c =
     let there = subst (λ (s : ReadyStripe). IsSome (place_of s.state c.args.key)) (sym c.self.view_is) c.requires.there in
     record {
       legal = IsLegal-fields (after_evict stripe c.args.hand c.args.key) _ _ _ _ c.take.ensures.entries refl c.tell.ensures.all c.tell.ensures.from (IsLegal-after_evict stripe c.args.hand c.args.key c.self.invariant.legal there);
-      entry = λ is. absurd cc;
+      entry = λ is. omega (arith, c.self.invariant.entry is);
+      known = λ is. absurd cc;
       call = λ is. absurd cc;
     }
 

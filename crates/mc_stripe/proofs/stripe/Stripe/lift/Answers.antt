@@ -14,6 +14,7 @@ invariant_of-self c =
     record {
       legal = IsLegal-fields (after_lift stripe c.args.key) _ _ _ _ c.take_entry-self-inside.ensures.entries c.take_entry-self-inside.ensures.entry refl refl (IsLegal-after_lift stripe c.args.key c.self.invariant.legal there none);
       entry = λ is. omega (arith, c.self.invariant.entry is);
+      known = c.self.invariant.known;
       call = c.self.invariant.call;
     }
 

@@ -13,6 +13,7 @@ invariant_of-self c =
     record {
       legal = IsLegal-fields (after_link stripe c.args.hand c.args.key c.args.chunk c.args.stamp) _ _ _ _ c.put.ensures refl c.tell.ensures.all c.tell.ensures.from (IsLegal-after_link stripe c.args.hand c.args.key c.args.chunk c.args.stamp c.self.invariant.legal same);
       entry = λ is. absurd cc;
+      known = λ is. absurd cc;
       call = λ is. absurd cc;
     }
 

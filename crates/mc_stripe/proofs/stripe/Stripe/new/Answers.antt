@@ -9,6 +9,7 @@ pub invariant_of-result : goal.invariant_of-result
 invariant_of-result c = record {
   legal = IsLegal-fields new_stripe.state _ _ _ _ (ap by_key c.new.ensures.empty) refl c.new-2.ensures.all c.new-2.ensures.from IsLegal-new;
   entry = λ is. absurd cc;
+  known = λ is. absurd cc;
   call = λ is. absurd cc;
 }
 

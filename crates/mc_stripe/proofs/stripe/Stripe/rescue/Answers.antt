@@ -21,6 +21,7 @@ invariant_of-self c =
     record {
       legal = IsLegal-fields (after_rescue stripe c.args.hand c.args.key c.args.chunk) _ _ _ _ (c.put.ensures ∙ chunk_put stripe.index _ _ c.args.key c.args.chunk c.in-Some.is) refl c.tell.ensures.all c.tell.ensures.from (IsLegal-after_rescue stripe c.args.hand c.args.key c.args.chunk c.self.invariant.legal is);
       entry = λ is. absurd cc;
+      known = λ is. absurd cc;
       call = λ is. absurd cc;
     }
 
