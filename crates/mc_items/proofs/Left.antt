@@ -20,7 +20,8 @@ use Rattle.mc_items.specs.declared.refs.Ref.{Ref}
 use Rattle.mc_items.specs.Calls.{Bumps, CallsOn, Deletes, Finds, FindsNone, OnlyWaits}
 use Rattle.mc_items.specs.ItemRefs.{item_chunk, item_issue}
 use Rattle.mc_items.specs.Keeping.{HoldsToo}
-use Rattle.mc_items.specs.Reading.{AndReads, item_seen}
+use Rattle.mc_words.specs.hand.Views.{fields_seen}
+use Rattle.mc_items.specs.Reading.{AndReads}
 use Rattle.mc_items.proofs.Locks.{waits_keep, waits_slabs_keep}
 
 -- what is held, known and said, and the numbers
@@ -92,7 +93,7 @@ pub again_one : (chunk : ChunkId) (issue room : ℕ) (view now : View) → GetsA
 again_one chunk issue room view now gets = record { item = gets.refers.item; held = gets.refers.held; kept = ap kept_of gets.refers.is }
 
 -- reading what is said of it leaves all
-pub read_one : (chunk : ChunkId) (issue room : ℕ) (view got now : View) → now ≡ item_seen chunk got → GotOne chunk issue room view got → GotOne chunk issue room view now
+pub read_one : (chunk : ChunkId) (issue room : ℕ) (view got now : View) → now ≡ fields_seen chunk got → GotOne chunk issue room view got → GotOne chunk issue room view now
 read_one chunk issue room view got now is one = record { item = one.item; held = ap (λ (v : View). held_item v chunk) is ∙ one.held; kept = ap kept_of is ∙ one.kept }
 
 -- the hand holds one more

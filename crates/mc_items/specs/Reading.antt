@@ -3,7 +3,7 @@ use Rattle.std.specs.Prelude.{◌≡◌, ℕ, zero, suc, ◌+◌, List, [], ◌�
 use Rattle.mc_pages.specs.declared.ids.ChunkId.{ChunkId}
 use Rattle.mc_core.specs.declared.event.Step.TheVariants as step
 use Rattle.mc_words.specs.hand.View.{OwnEvent, View, made}
-use Rattle.mc_words.specs.hand.Views.{word_seen}
+use Rattle.mc_words.specs.hand.Views.{fields_seen}
 
 -- reads of so many words of the chunk, from this place on
 abbrev pub reads_of : ChunkId → ℕ → ℕ → List OwnEvent
@@ -14,11 +14,7 @@ reads_of chunk place (suc count) = made [] (step.Word chunk place) ∷ reads_of 
 abbrev pub words_seen : ChunkId → ℕ → ℕ → View → View
 words_seen chunk place count view = record view { events = view.events ++ reads_of chunk place count }
 
--- it read key, stamp and length of the item in the chunk
-abbrev pub item_seen : ChunkId → View → View
-item_seen chunk view = word_seen chunk 2 (word_seen chunk 1 (word_seen chunk 0 view))
-
 -- this was done, and then key, stamp and length of the item were read that was got, if one was
 abbrev pub AndReads : Option ChunkId → (View → View → Type 0) → View → View → Type 0
 AndReads None Does view now = Does view now
-AndReads (Some chunk) Does view now = (got : View) × Does view got × (now ≡ item_seen chunk got)
+AndReads (Some chunk) Does view now = (got : View) × Does view got × (now ≡ fields_seen chunk got)

@@ -177,9 +177,15 @@ pub(crate) fn refer_at(
         arena.give_stripe(hand, held);
         return Err(error);
     }
-    let Ok(found) = arena.refer(hand, &mut held, key) else {
-        unreachable!();
-    };
-    arena.give_stripe(hand, held);
-    Ok(found)
+    // the lock is given in both arms, so that what was found isn't tested once more behind it
+    match arena.refer_within(hand, &mut held, key) {
+        Some(reference) => {
+            arena.give_stripe(hand, held);
+            Ok(Some(reference))
+        }
+        None => {
+            arena.give_stripe(hand, held);
+            Ok(None)
+        }
+    }
 }

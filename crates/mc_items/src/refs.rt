@@ -4,9 +4,9 @@ ghost use Rattle.mc_words.specs.hand.Arenas.{IsHandOf, view};
 ghost use Rattle.mc_words.specs.hand.Observers.{locks_of, ref_chunk, ref_issue, ref_room};
 ghost use Rattle.mc_words.specs.item.Refs.{IsIssueOf, IsRefOf};
 ghost use Rattle.mc_items.specs.ItemRefs.{IsItemRef, item_key, item_len, item_stamp};
-ghost use Rattle.mc_items.specs.Reading.{item_seen};
+ghost use Rattle.mc_words.specs.hand.Views.{fields_seen};
 
-use mc_words::{Arena, Hand};
+use mc_words::{Arena, Hand, ItemFields};
 
 /// A reference to an item, which counts until it is released. Where it is dropped, it counts for good.
 #[derive(Drop)]
@@ -47,13 +47,11 @@ pub(crate) fn look_at(arena: &Arena, hand: &mut Hand, reference: mc_words::Ref) 
     requires issue { IsIssueOf (view hand.old) (ref_chunk reference) (ref_issue reference) }
     ensures arena { IsHandOf arena.now hand.new }
     ensures locks { locks_of hand.new ≡ locks_of hand.old }
-    ensures view { view hand.new ≡ item_seen (ref_chunk reference) (view hand.old) }
+    ensures view { view hand.new ≡ fields_seen (ref_chunk reference) (view hand.old) }
     ensures chunk { result.reference ≡ reference }
     ensures item { IsItemRef (view hand.new) result }
 {
-    let key = arena.word(hand, &reference, 0);
-    let stamp = arena.word(hand, &reference, 1);
-    let len = arena.word(hand, &reference, 2);
+    let ItemFields { key, stamp, len } = arena.fields(hand, &reference);
     Ref {
         reference,
         key,

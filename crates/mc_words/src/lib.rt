@@ -17,3 +17,4 @@ pub use arena::refusal::NewError;
 pub use hand::Hand;
 pub use hand::held::{Fresh, Held, Moved, SlabsHeld, StripeHeld, TooManyRefs, WornOut};
 pub use item::refs::{Again, Hint, Ref};
+pub use item::words::ItemFields;

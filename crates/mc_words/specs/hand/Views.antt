@@ -109,6 +109,10 @@ held_word_seen chunk place word view = with_event [] (step.WordHeld chunk place)
 abbrev pub word_seen : ChunkId → ℕ → View → View
 word_seen chunk place view = with_event [] (step.Word chunk place) view
 
+-- key, stamp and length of an item were read so, one after another
+abbrev pub fields_seen : ChunkId → View → View
+fields_seen chunk view = word_seen chunk 2 (word_seen chunk 1 (word_seen chunk 0 view))
+
 -- a word of a fresh chunk was written
 abbrev pub word_filled : ChunkId → ℕ → ℕ → View → View
 word_filled chunk place word view = with_event [] (step.Fill chunk place word) (with_holdings (change_each (is_of chunk) (filled place word) view.row.holdings) view)

@@ -23,7 +23,6 @@ use mc_stripe::Key;
 impl Arena {
     /// Looks a key up once, whose stripe the hand has, and gets a reference to its item. None where the key has no item. Either is
     /// told to the stripe, which has room for a call. A hand that holds 256 chunks is refused. (memcached's `do_item_get`)
-    #[inline(always)]
     pub fn refer(
         &self,
         hand: &mut Hand,
@@ -50,15 +49,37 @@ impl Arena {
         if hand.chunks >= 256 {
             return Err(TooManyRefs);
         }
+        Ok(self.refer_within(hand, held, key))
+    }
+
+    /// The same for a hand that holds fewer than 256 chunks.
+    #[inline(always)]
+    pub fn refer_within(&self, hand: &mut Hand, held: &mut StripeHeld, key: Key) -> Option<Ref>
+        requires arena { IsHandOf self.now hand.old }
+        requires of_key { key % (setup_of self.now).config.stripes ≡ held.old.number }
+        requires held { slice_index_or (view hand.old).stripes held.old.number None ≡ Some held.old.stripe }
+        requires ready { held.old.stripe.ready ≡ true }
+        requires inside { is_aside held.old.stripe.state key ≡ false }
+        requires few { length (view hand.old).row.holdings < 256 }
+        ensures arena { IsHandOf self.now hand.new }
+        ensures locks { hand.new.locks ≡ hand.old.locks }
+        ensures number { held.new.number ≡ held.old.number }
+        ensures held { slice_index_or (view hand.new).stripes held.new.number None ≡ Some held.new.stripe }
+        ensures told { held.new.stripe ≡ used_up (after_got held.old.stripe.state hand.old.number key) }
+        ensures gets { IfSome result (λ r. GetsItem (view hand.old) hand.old.number held.old.number held.old.stripe key r.chunk r.issue r.room (view hand.new)) }
+        ensures reference { IfSome result (λ r. IsRefOf (view hand.new) r.chunk r.room × IsIssueOf (view hand.new) r.chunk r.issue) }
+        ensures none { result ≡ None → (place_of held.old.stripe.state key ≡ None) × Happens (view hand.old) (change.GotNone key ∷ []) (step.MissStripe held.old.number) (view hand.new) }
+        ensures view { result ≡ None → view hand.new ≡ key_missed hand.old.number held.old.number held.old.stripe key (view hand.old) }
+    {
         let place = held.stripe().find(key);
         let Some((chunk, _)) = place else {
             self.tell_none(hand, held, key, Change::GotNone(key));
             held.stripe.stripe_mut().got(hand.number, key, None);
-            return Ok(None);
+            return None;
         };
         let reference = self.refer_to(hand, held, key, chunk);
         held.stripe.stripe_mut().got(hand.number, key, place);
-        Ok(Some(reference))
+        Some(reference)
     }
 
     // A reference to the item of a key that leads to this chunk.

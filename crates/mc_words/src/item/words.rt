@@ -1,6 +1,7 @@
 //! Words of items that are read.
 ghost use Rattle.std.specs.Prelude.{◌≡◌, ◌+◌, ◌<◌, ◌≤◌, [], true, length, slice_index, Some, IfSome};
 ghost use Rattle.mc_pages.specs.SlabState.{class_of_page};
+ghost use Rattle.mc_core.specs.Holdings.{key_of, stamp_of};
 ghost use Rattle.mc_core.specs.Looks.{was_linked};
 ghost use Rattle.mc_core.specs.State.{has_chunk, room_in};
 ghost use Rattle.mc_core.specs.declared.event.Step.TheVariants as step;
@@ -8,7 +9,8 @@ ghost use Rattle.mc_words.specs.hand.Arenas.{IsHandOf, setup_of, view};
 ghost use Rattle.mc_words.specs.rule.Happens.{Happens, LawfulView};
 ghost use Rattle.mc_words.specs.item.Items.{IsWordOfItem, held_item, word_read};
 ghost use Rattle.mc_words.specs.item.Refs.{IsRefOf};
-ghost use Rattle.mc_words.specs.hand.Views.{held_word_seen, word_seen};
+ghost use Rattle.mc_words.specs.hand.Views.{fields_seen, held_word_seen, word_seen};
+ghost use Rattle.mc_words.specs.rule.Layout.{data_word};
 
 use crate::arena::Arena;
 use crate::hand::Hand;
@@ -16,6 +18,16 @@ use crate::hand::held::SlabsHeld;
 use crate::item::refs::Ref;
 use mc_core::Step;
 use mc_pages::ChunkId;
+
+/// What an item says of itself before its words.
+#[derive(Clone, Copy)]
+pub struct ItemFields {
+    pub key: u64,
+    /// The stamp with which it was stored.
+    pub stamp: u64,
+    /// How many words come after these three.
+    pub len: u64,
+}
 
 impl Arena {
     /// A word of the item: 0 is its key, 1 its stamp, 2 how many words come after these three.
@@ -32,6 +44,44 @@ impl Arena {
         ensures reference { IsRefOf (view hand.new) reference.now.chunk reference.now.room }
     {
         let at = self.data_word(reference.room, reference.chunk, place);
+        self.word_at(hand, reference, place, at)
+    }
+
+    /// Key, stamp and length of the item: its first three words, one after another.
+    #[inline(always)]
+    pub fn fields(&self, hand: &mut Hand, reference: &Ref) -> ItemFields
+        requires arena { IsHandOf self.now hand.old }
+        requires reference { IsRefOf (view hand.old) reference.now.chunk reference.now.room }
+        ensures arena { IsHandOf self.now hand.new }
+        ensures locks { hand.new.locks ≡ hand.old.locks }
+        ensures view { view hand.new ≡ fields_seen reference.now.chunk (view hand.old) }
+        ensures key { result.key ≡ key_of (held_item (view hand.old) reference.now.chunk) }
+        ensures stamp { result.stamp ≡ stamp_of (held_item (view hand.old) reference.now.chunk) }
+        ensures len { length (held_item (view hand.old) reference.now.chunk) ≡ 3 + result.len }
+        ensures reference { IsRefOf (view hand.new) reference.now.chunk reference.now.room }
+    {
+        let at = self.data_word(reference.room, reference.chunk, 0);
+        let key = self.word_at(hand, reference, 0, at);
+        let stamp = self.word_at(hand, reference, 1, at + 1);
+        let len = self.word_at(hand, reference, 2, at + 2);
+        ItemFields { key, stamp, len }
+    }
+
+    // A word of the item, which stands at this place of the table.
+    #[inline(always)]
+    fn word_at(&self, hand: &mut Hand, reference: &Ref, place: u64, at: usize) -> u64
+        requires arena { IsHandOf self.now hand.old }
+        requires reference { IsRefOf (view hand.old) reference.now.chunk reference.now.room }
+        requires near { place < length (held_item (view hand.old) reference.now.chunk) }
+        requires at { at ≡ data_word (setup_of self.now) reference.now.room reference.now.chunk place }
+        requires inside { at < self.now.table.shared.table_id.words }
+        ensures arena { IsHandOf self.now hand.new }
+        ensures locks { hand.new.locks ≡ hand.old.locks }
+        ensures happens { Happens (view hand.old) [] (step.Word reference.now.chunk place) (view hand.new) }
+        ensures word { result ≡ slice_index (held_item (view hand.old) reference.now.chunk) place }
+        ensures view { view hand.new ≡ word_seen reference.now.chunk place (view hand.old) }
+        ensures reference { IsRefOf (view hand.new) reference.now.chunk reference.now.room }
+    {
         let step = Step::Word(reference.chunk, place);
         self.look(&mut hand.seat, at, step)
     }

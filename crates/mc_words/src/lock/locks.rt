@@ -95,25 +95,49 @@ impl Locks {
         }
     }
 
-    /// With the lock of this stripe, too.
-    pub(crate) fn with_stripe(self, stripe: u64) -> Locks
-        ensures locks { result ≡ with_stripe stripe self }
+    /// The lock of this stripe is had, too. Most hands have no other, and one test tells it.
+    #[inline(always)]
+    pub(crate) fn add_stripe(&mut self, stripe: u64)
+        ensures locks { self.new ≡ with_stripe stripe self.old }
     {
         match self {
-            Locks::Neither => Locks::Stripe(stripe),
-            Locks::Slabs => Locks::StripeLast(stripe),
-            other => other,
+            Locks::Neither => *self = Locks::Stripe(stripe),
+            _ => self.add_beside(stripe),
         }
     }
 
-    /// Without the stripe's lock.
-    pub(crate) fn without_stripe(self) -> Locks
-        ensures locks { result ≡ without_stripe self }
+    // The same beside others.
+    #[inline(never)]
+    fn add_beside(&mut self, stripe: u64)
+        ensures locks { self.new ≡ with_stripe stripe self.old }
+    {
+        *self = match *self {
+            Locks::Neither => Locks::Stripe(stripe),
+            Locks::Slabs => Locks::StripeLast(stripe),
+            other => other,
+        };
+    }
+
+    /// The stripe's lock is had no more. Most hands have no other then, and one test tells it.
+    #[inline(always)]
+    pub(crate) fn remove_stripe(&mut self)
+        ensures locks { self.new ≡ without_stripe self.old }
     {
         match self {
+            Locks::Stripe(_) => *self = Locks::Neither,
+            _ => self.remove_beside(),
+        }
+    }
+
+    // The same beside others.
+    #[inline(never)]
+    fn remove_beside(&mut self)
+        ensures locks { self.new ≡ without_stripe self.old }
+    {
+        *self = match *self {
             Locks::Neither | Locks::Stripe(_) => Locks::Neither,
             Locks::Slabs | Locks::SlabsLast(_) | Locks::StripeLast(_) => Locks::Slabs,
-        }
+        };
     }
 
     /// Whether there is none.

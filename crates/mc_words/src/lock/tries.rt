@@ -56,7 +56,7 @@ impl Arena {
     {
         match self.take(&mut hand.seat, hand.number, Lock::StripeLock(stripe)) {
             Some(Slot::OfStripe(value)) => {
-                hand.locks = hand.locks.with_stripe(stripe);
+                hand.locks.add_stripe(stripe);
                 Ok(StripeHeld {
                     number: stripe,
                     stripe: value,
@@ -101,6 +101,6 @@ impl Arena {
             Lock::StripeLock(number),
             Slot::OfStripe(stripe),
         );
-        hand.locks = hand.locks.without_stripe();
+        hand.locks.remove_stripe();
     }
 }

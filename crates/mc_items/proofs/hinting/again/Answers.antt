@@ -10,7 +10,7 @@ use Rattle.mc_words.specs.item.Items.{held_item}
 use Rattle.mc_pages.specs.declared.ids.ChunkId.{ChunkId}
 use Rattle.mc_core.specs.Past.{known_by}
 use Rattle.mc_words.specs.item.References.{reference_to}
-use Rattle.mc_items.specs.Reading.{item_seen}
+use Rattle.mc_words.specs.hand.Views.{fields_seen}
 use Rattle.std.proofs.Math.Nat.{lt_of_not-le}
 use Rattle.mc_items.proofs.Chains.{item_said, ready_more, ready_still, refs_and_more, refs_stay}
 use Rattle.mc_items.proofs.Left.{GotOne, Kept, again_one, read_one}
@@ -37,7 +37,7 @@ returns-in-Ok-clause-keeps c =
     let now : View = c.look_at.new.hand.seat.me.0 in
     let hint = c.args.hint in
     let room = c.in-Ok.reference.room in
-    let is = c.look_at.ensures.view ∙ ap (λ (chunk : ChunkId). item_seen chunk got) c.in-Ok.ensures.hinted.0 in
+    let is = c.look_at.ensures.view ∙ ap (λ (chunk : ChunkId). fields_seen chunk got) c.in-Ok.ensures.hinted.0 in
     let one : GotOne hint.chunk hint.issue room view now = read_one hint.chunk hint.issue room view got now is (again_one hint.chunk hint.issue room view got c.in-Ok.ensures.gets) in
     let holding = reference_to hint.chunk hint.issue one.item in
     refs_and_more view now holding (known_by room holding ∷ []) (ap (λ (k : Kept). k.0) one.kept) (ap (λ (k : Kept). k.1) one.kept)
@@ -49,7 +49,7 @@ returns-in-Ok-clause-ready c =
     let now : View = c.look_at.new.hand.seat.me.0 in
     let hint = c.args.hint in
     let room = c.in-Ok.reference.room in
-    let is = c.look_at.ensures.view ∙ ap (λ (chunk : ChunkId). item_seen chunk got) c.in-Ok.ensures.hinted.0 in
+    let is = c.look_at.ensures.view ∙ ap (λ (chunk : ChunkId). fields_seen chunk got) c.in-Ok.ensures.hinted.0 in
     let one : GotOne hint.chunk hint.issue room view now = read_one hint.chunk hint.issue room view got now is (again_one hint.chunk hint.issue room view got c.in-Ok.ensures.gets) in
     let holding = reference_to hint.chunk hint.issue one.item in
     ready_more c.args.hand.now c.look_at.new.hand holding (c.look_at.ensures.locks ∙ c.again.ensures.locks) (ap (λ (k : Kept). k.0) one.kept) refl (lt_of_not-le (λ many. let e = c.in-Ok.ensures.many.1 many in absurd (cc))) c.requires.ready

@@ -22,7 +22,7 @@ invariant_of-hand c =
     let a = c.args.hand.now in
     let near : c.args.stripe < a.seat.me.0.setup.config.stripes = let same = ap (λ (s : Setup). s.config.stripes) c.requires.arena.setup in let near = c.requires.near in omega arith in
     let noted = noted_stripe a.seat.me c.take.new.seat.me a.number a.chunks c.args.stripe a.locks (no_stripe_from a.seat.me.0 a.locks a.noted.4 c.requires.one) (lt-ltb c.args.stripe a.seat.me.0.setup.config.stripes near) a.noted c.take.ensures.hand told.gains told.out (ap (λ (v : View). v.row.holdings) is) in
-    record { noted = subst (IsNoted c.take.new.seat.me a.number a.chunks) (sym c.with_stripe-hand.ensures.locks) noted; tallied = tallied_same a.seat.me c.take.new.seat.me a.stamps a.fresh a.tallied (ap (λ (v : View). v.row.ids) is) (ap (λ (v : View). v.row.holdings) is) }
+    record { noted = subst (IsNoted c.take.new.seat.me a.number a.chunks) (sym c.add_stripe.ensures.locks) noted; tallied = tallied_same a.seat.me c.take.new.seat.me a.stamps a.fresh a.tallied (ap (λ (v : View). v.row.ids) is) (ap (λ (v : View). v.row.holdings) is) }
 
 pub invariant_of-hand-in-None : goal.invariant_of-hand-in-None
 invariant_of-hand-in-None c =

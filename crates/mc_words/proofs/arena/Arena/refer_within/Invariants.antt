@@ -1,5 +1,5 @@
 use Rattle.std.specs.Prelude.{false}
-use Rattle.mc_words.proofs.arena.Arena.refer.Given as goal
+use Rattle.mc_words.proofs.arena.Arena.refer_within.Given as goal
 
 abbrev pub ghost-tell_none : goal.ghost-tell_none
 ghost-tell_none a = false
