@@ -1,7 +1,10 @@
 -- What is wrong with a script.
-use Rattle.std.specs.Prelude.{◌≡◌, ℕ, ◌+◌, if◌then◌else◌, List, [], ◌∷◌, is_err, Ok}
+use Rattle.std.specs.Prelude.{◌≡◌, ℕ, ◌+◌, true, if◌then◌else◌, List, [], ◌∷◌, is_err, Ok}
+use Rattle.std.specs.Str.Lines.{lines}
 use Rattle.mc_script.specs.declared.command.Command.{Command}
 use Rattle.mc_script.specs.Script.{script_of}
+use Rattle.mcmap.specs.declared.fault.Fault.{Fault}
+use Rattle.mcmap.specs.declared.fault.Fault.TheVariants.{WrongLines}
 
 -- these bytes are a script: each line is a command, or is skipped
 abbrev pub IsAcceptedScript : List ℕ → Type 0
@@ -15,3 +18,7 @@ wrong_on line = if is_err (script_of line) then 1 else 0
 abbrev pub wrong_count : List (List ℕ) → ℕ
 wrong_count [] = 0
 wrong_count (line ∷ rest) = wrong_on line + wrong_count rest
+
+-- these bytes are no script, and the fault tells how many of their lines are wrong
+abbrev pub IsRefusalOf : List ℕ → Fault → Type 0
+IsRefusalOf bytes fault = (is_err (script_of bytes) ≡ true) × (fault ≡ WrongLines (wrong_count (lines bytes)))

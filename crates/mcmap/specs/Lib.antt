@@ -2,3 +2,4 @@ pub mod Status
 pub mod Played
 pub mod Checked
 pub mod Json
+pub mod Rows

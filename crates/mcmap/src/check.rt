@@ -1,8 +1,8 @@
 //! What is wrong with the options and the script, in words, and what would be right.
-ghost use Rattle.std.specs.Prelude.{◌≡◌, ℕ, ◌<◌, ◌^◌, Err, None, IfErr, IfOk, IfSome, OnOk};
+ghost use Rattle.std.specs.Prelude.{◌≡◌, ◌≢◌, ◌<◌, ◌^◌, None, IfErr, IfOk, IfSome, OnOk};
 ghost use Rattle.std.specs.Str.Lines.{lines};
 ghost use Rattle.mc_classes.specs.Refusals.{refusal_of};
-ghost use Rattle.mcmap.specs.Checked.{IsAcceptedScript, wrong_count};
+ghost use Rattle.mcmap.specs.Checked.{IsAcceptedScript, IsRefusalOf, wrong_count};
 
 use crate::fault::Fault;
 use crate::lines::reason_of;
@@ -135,7 +135,7 @@ fn divided(num: u64, den: u64, by: u64) -> (u64, u64)
 /// Adds what is wrong with each line of the script, by its number, or that nothing is.
 pub fn check_script(alloc: Global, bytes: &[u8], text: &mut String) -> Result<(), Fault>
     ensures accepted { OnOk result (IsAcceptedScript bytes.now) }
-    ensures wrong { (count : ℕ) → result ≡ Err (Fault.WrongLines count) → count ≡ wrong_count (lines bytes.now) }
+    ensures refused { IfErr result (λ fault. fault ≢ Fault.Memory → IsRefusalOf bytes.now fault) }
 {
     match read_script(alloc, bytes) {
         Ok(_script) => Ok(text.push_str("nothing is wrong\n")?),

@@ -14,6 +14,7 @@ mod check;
 mod fault;
 mod help;
 mod json;
+mod laws;
 mod lines;
 mod show;
 

@@ -1,0 +1,20 @@
+//! Worked examples of what is shown, computed by the prover: each the contract of a function with nothing to do.
+ghost use Rattle.mcmap.specs.Rows.{ClassShown, GrantShown, MapNames, MarksReached, MovesShown, MovingShown, NothingShown, OwnersShown, TotalsShown, WrongLinesCounted};
+
+/// What the parts of a map are as JSON.
+pub fn worked_maps()
+    ensures owners { OwnersShown }
+    ensures grant { GrantShown }
+    ensures moves { MovesShown }
+    ensures class { ClassShown }
+    ensures totals { TotalsShown }
+    ensures moving { MovingShown }
+    ensures nothing { NothingShown }
+    ensures names { MapNames }
+{}
+
+/// How many commands are done at a mark, and how many lines of a script are wrong.
+pub fn worked_scripts()
+    ensures marks { MarksReached }
+    ensures wrong { WrongLinesCounted }
+{}
