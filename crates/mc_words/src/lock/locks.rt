@@ -95,7 +95,7 @@ impl Locks {
         }
     }
 
-    /// The lock of this stripe is had, too. Most hands have no other, and one test tells it.
+    /// The lock of this stripe is had, too. Most hands have no other, and are told by one test.
     #[inline(always)]
     pub(crate) fn add_stripe(&mut self, stripe: u64)
         ensures locks { self.new ≡ with_stripe stripe self.old }
@@ -106,7 +106,7 @@ impl Locks {
         }
     }
 
-    // The same beside others.
+    // The same beside others. It isn't inlined, so that the compiler doesn't make one test of all cases.
     #[inline(never)]
     fn add_beside(&mut self, stripe: u64)
         ensures locks { self.new ≡ with_stripe stripe self.old }
@@ -118,26 +118,14 @@ impl Locks {
         };
     }
 
-    /// The stripe's lock is had no more. Most hands have no other then, and one test tells it.
-    #[inline(always)]
-    pub(crate) fn remove_stripe(&mut self)
-        ensures locks { self.new ≡ without_stripe self.old }
+    /// Without the stripe's lock.
+    pub(crate) fn without_stripe(self) -> Locks
+        ensures locks { result ≡ without_stripe self }
     {
         match self {
-            Locks::Stripe(_) => *self = Locks::Neither,
-            _ => self.remove_beside(),
-        }
-    }
-
-    // The same beside others.
-    #[inline(never)]
-    fn remove_beside(&mut self)
-        ensures locks { self.new ≡ without_stripe self.old }
-    {
-        *self = match *self {
             Locks::Neither | Locks::Stripe(_) => Locks::Neither,
             Locks::Slabs | Locks::SlabsLast(_) | Locks::StripeLast(_) => Locks::Slabs,
-        };
+        }
     }
 
     /// Whether there is none.

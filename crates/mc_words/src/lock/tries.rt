@@ -101,6 +101,6 @@ impl Arena {
             Lock::StripeLock(number),
             Slot::OfStripe(stripe),
         );
-        hand.locks.remove_stripe();
+        hand.locks = hand.locks.without_stripe();
     }
 }

@@ -32,7 +32,7 @@ invariant_of-hand c =
     let had : HasLocks b.seat.me.0 a.locks = subst (λ (v : View). HasLocks v a.locks) (sym view) a.noted.4 in
     let is = given_stripe b.seat.me.0 c.give.new.seat.me.0 c.args.held.number c.args.held.stripe (subst (λ (v : View). c.args.held.number < v.setup.config.stripes) (sym c.bring_forward.ensures.view) near) c.give.ensures.given (ap (λ (v : View). slice_index_or v.stripes c.args.held.number None) c.bring_forward.ensures.view ∙ c.requires.held) in
     let left = noted_gave_stripe b.seat.me c.give.new.seat.me b.number b.chunks a.locks c.give.ensures.hand (ap (λ (v : View). v.row.holdings) is) c.args.held.number noted had has c.give.ensures.loses c.give.ensures.out in
-    record { noted = subst (IsNoted c.give.new.seat.me b.number b.chunks) (sym (c.remove_stripe.ensures.locks ∙ (ap without_stripe c.bring_forward.ensures.locks ∙ left_stripe a.locks c.args.held.number))) left; tallied = tallied_same b.seat.me c.give.new.seat.me b.stamps b.fresh b.tallied (ap (λ (v : View). v.row.ids) is) (ap (λ (v : View). v.row.holdings) is) }
+    record { noted = subst (IsNoted c.give.new.seat.me b.number b.chunks) (sym (c.without_stripe-hand.ensures.locks ∙ (ap without_stripe c.bring_forward.ensures.locks ∙ left_stripe a.locks c.args.held.number))) left; tallied = tallied_same b.seat.me c.give.new.seat.me b.stamps b.fresh b.tallied (ap (λ (v : View). v.row.ids) is) (ap (λ (v : View). v.row.holdings) is) }
 
 pub returns-clause-given : goal.returns-clause-given
 returns-clause-given c = subst (λ (v : View). Happens v [] (core.GiveStripe c.args.held.number) c.give.new.seat.me.0) c.bring_forward.ensures.view c.give.ensures.given
@@ -46,4 +46,4 @@ returns-clause-left c =
     given_stripe b.seat.me.0 c.give.new.seat.me.0 c.args.held.number c.args.held.stripe (subst (λ (v : View). c.args.held.number < v.setup.config.stripes) (sym c.bring_forward.ensures.view) near) c.give.ensures.given (ap (λ (v : View). slice_index_or v.stripes c.args.held.number None) c.bring_forward.ensures.view ∙ c.requires.held) ∙ ap (stripe_given c.args.held.number c.args.held.stripe) c.bring_forward.ensures.view
 
 pub returns-clause-locks : goal.returns-clause-locks
-returns-clause-locks c = c.remove_stripe.ensures.locks ∙ (ap without_stripe c.bring_forward.ensures.locks ∙ left_stripe c.args.hand.now.locks c.args.held.number)
+returns-clause-locks c = c.without_stripe-hand.ensures.locks ∙ (ap without_stripe c.bring_forward.ensures.locks ∙ left_stripe c.args.hand.now.locks c.args.held.number)
