@@ -42,5 +42,6 @@ pub record IsInOrder (stripe : Inside) : Type 0 where
   pub legal : IsLegal (state_of stripe)
   -- there is room where it says so
   pub entry : stripe.spare_entry ≡ true → 0 < spare stripe.index
+  -- what is ready has it
   pub known : stripe.ready ≡ true → stripe.spare_entry ≡ true
   pub call : stripe.ready ≡ true → CanTell stripe.calls
