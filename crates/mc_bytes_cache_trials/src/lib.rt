@@ -1,4 +1,4 @@
-//! Tests of items of bytes and of a cache of bytes, over public calls alone.
+//! Tests of packed bytes, of items of bytes and of a cache of bytes, over public calls alone.
 #![tactic(auto)]
 
 #[cfg(test)]

@@ -1,9 +1,10 @@
-//! Keys and values that are drawn, threads among them.
+//! Packings of bytes; keys and values that are drawn, threads among them.
 mod collided;
 mod drawn;
 mod eight;
 mod made;
 mod messages;
+mod packing;
 mod tended;
 mod threads;
 mod touching;

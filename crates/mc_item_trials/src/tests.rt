@@ -4,6 +4,8 @@ mod eviction;
 mod gets;
 mod hints;
 mod holds;
+mod orders;
+mod races;
 mod refusals;
 mod steps;
 

@@ -35,7 +35,7 @@ fn is_item(
     ensures arena { IsReadyHandOf arena.now hand.new }
     ensures item { IsItemRef (view hand.new) item.now }
 {
-    let is_named = (item.key(), item.stamp(), item.len()) == (key, stamp, 3);
+    let is_named = item.key() == key && item.stamp() == stamp && item.len() == 3;
     let words = read(alloc, arena, hand, item)?;
     Ok(is_named && are_from(&words, first, 3))
 }

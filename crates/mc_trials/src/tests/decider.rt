@@ -7,9 +7,17 @@ use std::alloc::Global;
 use std::process::Abort;
 use std::test::Fail;
 
-const fn moves(src: u64, dst: u64) -> Option<Decision> {
-    Some(Decision { src, dst })
-}
+const FROM_1_TO_0: Option<Decision> = Some(Decision { src: 1, dst: 0 });
+
+const FROM_1_TO_4: Option<Decision> = Some(Decision { src: 1, dst: 4 });
+
+const FROM_2_TO_0: Option<Decision> = Some(Decision { src: 2, dst: 0 });
+
+const FROM_2_TO_3: Option<Decision> = Some(Decision { src: 2, dst: 3 });
+
+const FROM_4_TO_0: Option<Decision> = Some(Decision { src: 4, dst: 0 });
+
+const FROM_4_TO_1: Option<Decision> = Some(Decision { src: 4, dst: 1 });
 
 /// Windows that are fed one after another, each with its evictions so far, its pages, its free chunks and what is decided.
 type Windows<'a> = &'a [([u64; 4], [u64; 4], [u64; 4], Option<Decision>)];
@@ -34,93 +42,95 @@ fn assert_decisions(
     Ok(())
 }
 
+/// A name, and what is decided window by window.
+const DECISIONS: [(&str, Windows<'static>); 9] = [
+    (
+        "three windows, and a decision resets nothing",
+        &[
+            ([0, 0, 0, 5], PAGES, NONE, None),
+            ([0, 0, 0, 6], PAGES, NONE, None),
+            ([0, 0, 0, 9], PAGES, NONE, FROM_1_TO_4),
+            ([0, 0, 0, 10], PAGES, NONE, FROM_1_TO_4),
+            ([0, 0, 0, 10], PAGES, NONE, None),
+        ],
+    ),
+    (
+        "three windows running",
+        &[
+            ([0, 0, 0, 5], PAGES, NONE, None),
+            ([0, 7, 0, 6], PAGES, NONE, None),
+            ([0, 7, 0, 9], PAGES, NONE, None),
+            ([0, 7, 0, 10], PAGES, NONE, None),
+            ([0, 7, 0, 11], PAGES, NONE, FROM_1_TO_4),
+        ],
+    ),
+    (
+        "the source is quiet in each window",
+        &[
+            ([0, 0, 0, 5], PAGES, NONE, None),
+            ([1, 0, 0, 9], PAGES, NONE, None),
+            ([1, 0, 0, 13], PAGES, NONE, None),
+            ([1, 0, 0, 17], PAGES, NONE, None),
+            ([1, 0, 0, 21], PAGES, NONE, FROM_1_TO_4),
+        ],
+    ),
+    (
+        "a class with 2 pages isn't quiet",
+        &[
+            ([0, 0, 0, 5], [2, 2, 1, 2], NONE, None),
+            ([0, 0, 0, 6], [2, 2, 1, 2], NONE, None),
+            ([0, 0, 0, 9], [2, 2, 1, 2], NONE, None),
+        ],
+    ),
+    (
+        "the lowest of two sources and of two that rose alike",
+        &[
+            ([0, 0, 4, 4], [1, 4, 4, 4], NONE, None),
+            ([0, 0, 8, 8], [1, 4, 4, 4], NONE, None),
+            ([0, 0, 12, 12], [1, 4, 4, 4], NONE, FROM_2_TO_3),
+        ],
+    ),
+    (
+        "the greatest numbers",
+        &[
+            ([u64::MAX - 2, 0, 0, 0], [0, 0, 0, u64::MAX], NONE, None),
+            ([u64::MAX - 1, 0, 0, 0], [0, 0, 0, u64::MAX], NONE, None),
+            ([u64::MAX, 0, 0, 0], [0, 0, 0, u64::MAX], NONE, FROM_4_TO_1),
+            ([u64::MAX, 0, 0, 0], PAGES, [u64::MAX; 4], FROM_1_TO_0),
+        ],
+    ),
+    (
+        "free pages go to the pool",
+        &[
+            (NONE, [3, 0, 0, 0], [53, 0, 0, 0], FROM_1_TO_0),
+            (NONE, [3, 0, 0, 0], [52, 0, 0, 0], None),
+            // 25 chunks are two and a half pages, and no more
+            (NONE, [0, 2, 0, 0], [0, 25, 0, 0], None),
+            (NONE, [0, 2, 0, 0], [0, 26, 0, 0], FROM_2_TO_0),
+            (NONE, [0, 1, 0, 3], [0, 26, 0, 6], FROM_4_TO_0),
+        ],
+    ),
+    (
+        "evictions go before free pages",
+        &[
+            ([0, 0, 0, 5], PAGES, [63, 0, 0, 0], FROM_1_TO_0),
+            ([0, 0, 0, 6], PAGES, [63, 0, 0, 0], FROM_1_TO_0),
+            ([0, 0, 0, 9], PAGES, [63, 0, 0, 0], FROM_1_TO_4),
+        ],
+    ),
+    (
+        "without a leader",
+        &[
+            (NONE, PAGES, NONE, None),
+            (NONE, PAGES, NONE, None),
+            (NONE, PAGES, NONE, None),
+        ],
+    ),
+];
+
 #[test]
 fn decisions(rt: HostRuntime) -> Result<(), Fail> {
-    let rows: [(&str, Windows<'_>); 9] = [
-        (
-            "three windows, and a decision resets nothing",
-            &[
-                ([0, 0, 0, 5], PAGES, NONE, None),
-                ([0, 0, 0, 6], PAGES, NONE, None),
-                ([0, 0, 0, 9], PAGES, NONE, moves(1, 4)),
-                ([0, 0, 0, 10], PAGES, NONE, moves(1, 4)),
-                ([0, 0, 0, 10], PAGES, NONE, None),
-            ],
-        ),
-        (
-            "three windows running",
-            &[
-                ([0, 0, 0, 5], PAGES, NONE, None),
-                ([0, 7, 0, 6], PAGES, NONE, None),
-                ([0, 7, 0, 9], PAGES, NONE, None),
-                ([0, 7, 0, 10], PAGES, NONE, None),
-                ([0, 7, 0, 11], PAGES, NONE, moves(1, 4)),
-            ],
-        ),
-        (
-            "the source is quiet in each window",
-            &[
-                ([0, 0, 0, 5], PAGES, NONE, None),
-                ([1, 0, 0, 9], PAGES, NONE, None),
-                ([1, 0, 0, 13], PAGES, NONE, None),
-                ([1, 0, 0, 17], PAGES, NONE, None),
-                ([1, 0, 0, 21], PAGES, NONE, moves(1, 4)),
-            ],
-        ),
-        (
-            "a class with 2 pages isn't quiet",
-            &[
-                ([0, 0, 0, 5], [2, 2, 1, 2], NONE, None),
-                ([0, 0, 0, 6], [2, 2, 1, 2], NONE, None),
-                ([0, 0, 0, 9], [2, 2, 1, 2], NONE, None),
-            ],
-        ),
-        (
-            "the lowest of two sources and of two that rose alike",
-            &[
-                ([0, 0, 4, 4], [1, 4, 4, 4], NONE, None),
-                ([0, 0, 8, 8], [1, 4, 4, 4], NONE, None),
-                ([0, 0, 12, 12], [1, 4, 4, 4], NONE, moves(2, 3)),
-            ],
-        ),
-        (
-            "the greatest numbers",
-            &[
-                ([u64::MAX - 2, 0, 0, 0], [0, 0, 0, u64::MAX], NONE, None),
-                ([u64::MAX - 1, 0, 0, 0], [0, 0, 0, u64::MAX], NONE, None),
-                ([u64::MAX, 0, 0, 0], [0, 0, 0, u64::MAX], NONE, moves(4, 1)),
-                ([u64::MAX, 0, 0, 0], PAGES, [u64::MAX; 4], moves(1, 0)),
-            ],
-        ),
-        (
-            "free pages go to the pool",
-            &[
-                (NONE, [3, 0, 0, 0], [53, 0, 0, 0], moves(1, 0)),
-                (NONE, [3, 0, 0, 0], [52, 0, 0, 0], None),
-                // 25 chunks are two and a half pages, and no more
-                (NONE, [0, 2, 0, 0], [0, 25, 0, 0], None),
-                (NONE, [0, 2, 0, 0], [0, 26, 0, 0], moves(2, 0)),
-                (NONE, [0, 1, 0, 3], [0, 26, 0, 6], moves(4, 0)),
-            ],
-        ),
-        (
-            "evictions go before free pages",
-            &[
-                ([0, 0, 0, 5], PAGES, [63, 0, 0, 0], moves(1, 0)),
-                ([0, 0, 0, 6], PAGES, [63, 0, 0, 0], moves(1, 0)),
-                ([0, 0, 0, 9], PAGES, [63, 0, 0, 0], moves(1, 4)),
-            ],
-        ),
-        (
-            "without a leader",
-            &[
-                (NONE, PAGES, NONE, None),
-                (NONE, PAGES, NONE, None),
-                (NONE, PAGES, NONE, None),
-            ],
-        ),
-    ];
-    for (name, windows) in rows {
+    for (name, windows) in &DECISIONS {
         assert_decisions(&rt, rt.alloc(), name, windows)?;
     }
     Ok(())
@@ -166,7 +176,7 @@ fn refusals_leave_the_decider_alone(rt: HostRuntime) -> Result<(), Fail> {
         let fed = decider.feed(evictions, pages, free);
         assert_equal(&rt, fed, Err(*refusal), "the refusal");
     }
-    assert_decides(&rt, &mut decider, &[0, 0, 0, 9], moves(1, 4));
+    assert_decides(&rt, &mut decider, &[0, 0, 0, 9], FROM_1_TO_4);
     Ok(())
 }
 
@@ -187,7 +197,7 @@ fn made_at_the_second_try(rt: HostRuntime) -> Result<(), Fail> {
     assert_equal(
         &rt,
         decider.feed(&NONE, &PAGES, &[53, 0, 0, 0]),
-        Ok(moves(1, 0)),
+        Ok(FROM_1_TO_0),
         "the decision",
     );
     Ok(())

@@ -26,8 +26,10 @@ fn config_of(rt: &(impl Abort + AllocGlobal), words: &[&str]) -> Result<Config, 
     Ok(config)
 }
 
-/// An option in two words and in one, and what is configured.
-const EACH_OPTION: [([&str; 2], &str, Config); 7] = [
+/// An option and its value as two words, the two joined, and what is configured.
+type OptionRow<'a> = ([&'a str; 2], &'a str, Config);
+
+const EACH_OPTION: [OptionRow<'static>; 7] = [
     (
         ["--page", "2048"],
         "--page=2048",
@@ -88,10 +90,7 @@ const EACH_OPTION: [([&str; 2], &str, Config); 7] = [
 ];
 
 /// Both forms of a row are read so.
-fn assert_both_forms(
-    rt: &(impl Abort + AllocGlobal),
-    row: &([&str; 2], &str, Config),
-) -> Result<(), Fail> {
+fn assert_both_forms(rt: &(impl Abort + AllocGlobal), row: &OptionRow) -> Result<(), Fail> {
     let ([name, value], joined, config) = row;
     let found = config_of(rt, &["mcslab", name, value])?;
     assert_equal(rt, found, *config, joined);
@@ -100,15 +99,25 @@ fn assert_both_forms(
     Ok(())
 }
 
+/// Each row's option is read in both of its forms.
+fn assert_each(rt: &(impl Abort + AllocGlobal), rows: &[OptionRow]) -> Result<(), Fail> {
+    for row in rows {
+        assert_both_forms(rt, row)?;
+    }
+    Ok(())
+}
+
 #[test]
 fn reads_each_option(rt: HostRuntime) -> Result<(), Fail> {
+    assert_each(&rt, &EACH_OPTION)
+}
+
+#[test]
+fn reads_no_option(rt: HostRuntime) -> Result<(), Fail> {
     let plain = config_of(&rt, &["mcslab"])?;
     assert_equal(&rt, plain, FOUR_CLASSES, "the options");
     let plain = config_of(&rt, &["mcslab", "--"])?;
     assert_equal(&rt, plain, FOUR_CLASSES, "the options");
-    for row in &EACH_OPTION {
-        assert_both_forms(&rt, row)?;
-    }
     Ok(())
 }
 

@@ -1,5 +1,0 @@
-//! Tests of keys and values of bytes, over public calls alone.
-#![tactic(auto)]
-
-#[cfg(test)]
-mod tests;

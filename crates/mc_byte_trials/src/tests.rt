@@ -1,2 +1,0 @@
-//! Bytes in words.
-mod packing;

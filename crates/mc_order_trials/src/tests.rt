@@ -1,3 +1,0 @@
-//! The tests, and what they have in common.
-mod orders;
-mod races;
