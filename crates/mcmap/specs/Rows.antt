@@ -9,7 +9,10 @@ use Rattle.mc_map.specs.declared.map.Map.{Map}
 use Rattle.mc_map.specs.declared.script.Mark.{Mark}
 use Rattle.mcmap.specs.Checked.{wrong_count}
 use Rattle.mcmap.specs.Json.{class_json, entry_json, hang_json, map_members, moving_json, owner_json, totals_json}
-use Rattle.mcmap.specs.Played.{done_at}
+use Rattle.mc_machine.specs.Machine.{Machine}
+use Rattle.mc_map.specs.Books.{Book}
+use Rattle.mcmap.specs.Played.{IsShown, ShowsMaps, done_at}
+use Rattle.mcmap.specs.declared.show.Form.{Form}
 
 -- these in this order, of which the names rise
 abbrev pub in_order : List (List ℕ × Data) → Members
@@ -90,3 +93,9 @@ MarksReached = map (λ (pair : ℕ × Mark). done_at 5 pair.0 pair.1) ((0, recor
 -- two wrong lines, and one between them that isn't
 abbrev pub WrongLinesCounted : Type 0
 WrongLinesCounted = (right wrong : List ℕ) → script_of right ≡ Ok [] → script_of wrong ≡ Err 1 → wrong_count (wrong ∷ right ∷ wrong ∷ []) ≡ 2
+
+-- where there is no command, and a mark in line 3, it's that mark's map of the machine as it stands, and behind it that of the end
+abbrev pub OneMarkShown : Type 0
+OneMarkShown =
+    (form : Form) (m : Machine) (book : Book) (old new : List ℕ) → ShowsMaps form [] 0 (record { done = 0; line = 3 } ∷ []) m book old new
+    → (text : List ℕ) × IsShown form 3 m book old text × IsShown form 0 m book text new

@@ -1,0 +1,17 @@
+use Rattle.std.proofs.Common.{◌≡◌, ℕ, List, subst}
+use Rattle.mc_machine.specs.Machine.{Machine}
+use Rattle.mc_map.specs.Books.{Book}
+use Rattle.mcmap.specs.Played.{IsShown}
+use Rattle.mcmap.specs.declared.show.Form.{Form}
+use Rattle.mcmap.proofs.laws.worked_scripts.Goals as goal
+
+as_it_stood : (form : Form) (line : ℕ) (m after : Machine) (book later : Book) (old new : List ℕ) → after ≡ m → later ≡ book → IsShown form line after later old new → IsShown form line m book old new
+as_it_stood form line m after book later old new same kept shown =
+    subst (λ (b : Book). IsShown form line m b old new) kept (subst (λ (n : Machine). IsShown form line n later old new) same shown)
+
+pub returns-clause-shown : goal.returns-clause-shown
+returns-clause-shown c form m book old new (after, later, text, first, (finally, books, last)) = (
+  text,
+  as_it_stood form 3 m after book later old text first.played.0 first.played.1 first.shown,
+  as_it_stood form 0 m after book later text new first.played.0 first.played.1 (as_it_stood form 0 after finally later books text new last.played.0 last.played.1 last.shown),
+)
