@@ -11,7 +11,9 @@ ghost use Rattle.mc_core.specs.Chunks.{most_issue};
 
 use super::State;
 use crate::head::Head;
+use crate::holding::Holding;
 use crate::ids::Ids;
+use crate::look::Look;
 use crate::series::Series;
 use mc_classes::ClassTable;
 use mc_memory::{Refused, filled, push};
@@ -33,14 +35,10 @@ impl State {
         requires start { start ≤ most_issue }
         ensures { IfOk result (λ state. state ≡ new_state table stripes hands start) }
     {
-        let heads = heads_of(alloc, &table, start)?;
-        let words = zeros(alloc, table.arena_pages() * (table.page() / 8))?;
-        let slabs = slabs_of(alloc, &table)?;
-        let stripe_locks = zeros(alloc, stripes)?;
-        let stripes = stripes_of(alloc, stripes)?;
-        let ids = ids_of(alloc, hands)?;
-        let holdings = rows_of(alloc, hands)?;
-        let looks = rows_of(alloc, hands)?;
+        let count = table.arena_pages() * (table.page() / 8);
+        let (heads, words, slabs) = new_chunks(alloc, &table, start, count)?;
+        let (stripe_locks, stripes) = new_stripes(alloc, stripes)?;
+        let (ids, holdings, looks) = new_hands(alloc, hands)?;
         Ok(State {
             alloc,
             table,
@@ -55,6 +53,49 @@ impl State {
             looks,
         })
     }
+}
+
+/// Headers of all chunks, none of which is cut, so many words, and the pages that they stand on.
+fn new_chunks(
+    alloc: Global,
+    table: &ClassTable,
+    start: u64,
+    count: u64,
+) -> Result<(Vec<Head>, Vec<u64>, Slabs), Refused>
+    ensures heads { IfOk result (λ new. new.0.items ≡ replicate (arena_pages_of table.now * most_of table.now) (uncut_from start)) }
+    ensures words { IfOk result (λ new. new.1.items ≡ replicate count 0) }
+    ensures slabs { IfOk result (λ new. (new.2.state ≡ fresh_slabs table.now) × IsAccounted new.2.state) }
+{
+    let heads = heads_of(alloc, table, start)?;
+    let words = zeros(alloc, count)?;
+    let slabs = slabs_of(alloc, table)?;
+    Ok((heads, words, slabs))
+}
+
+/// So many locks of stripes, which are free, and the stripes behind them.
+fn new_stripes(alloc: Global, count: u64) -> Result<(Vec<u64>, Vec<Stripe>), Refused>
+    ensures locks { IfOk result (λ new. new.0.items ≡ replicate count 0) }
+    ensures stripes { IfOk result (λ new. new.1.items ≡ replicate count new_stripe) }
+{
+    let locks = zeros(alloc, count)?;
+    let stripes = stripes_of(alloc, count)?;
+    Ok((locks, stripes))
+}
+
+/// So many hands, what they hold, and what they saw.
+fn new_hands(
+    alloc: Global,
+    count: u64,
+) -> Result<(Vec<Ids>, Vec<Series<Holding>>, Vec<Series<Look>>), Refused>
+    requires { count ≤ 64 }
+    ensures ids { IfOk result (λ new. new.0.items ≡ map (λ number. record { number = Some number; stamps = 0 }) (range_with_len 0 count)) }
+    ensures holdings { IfOk result (λ new. new.1.items ≡ replicate count []) }
+    ensures looks { IfOk result (λ new. new.2.items ≡ replicate count []) }
+{
+    let ids = ids_of(alloc, count)?;
+    let holdings = rows_of(alloc, count)?;
+    let looks = rows_of(alloc, count)?;
+    Ok((ids, holdings, looks))
 }
 
 /// So many zeros.
