@@ -7,6 +7,7 @@ use std::alloc::Global;
 use std::process::Abort;
 use std::test::Fail;
 
+// What is decided, by the numbers of two classes: a page of the first goes to the second, or to the pool, which is 0.
 const FROM_1_TO_0: Option<Decision> = Some(Decision { src: 1, dst: 0 });
 
 const FROM_1_TO_4: Option<Decision> = Some(Decision { src: 1, dst: 4 });
