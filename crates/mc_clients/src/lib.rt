@@ -1,12 +1,16 @@
-//! Callers of the arena's items, proved from the contracts of its calls alone: how a cache would use them.
+//! Callers of the arena, of its items and of a cache of bytes, proved from the contracts of their calls alone: how a cache and a server
+//! would use them.
 #![tactic(auto)]
 
+pub mod cache;
 mod chained;
+mod first;
 mod held;
 mod own;
 mod trimmed;
 
 pub use chained::call_twice;
+pub use first::{first_header, header_from, pop_worn, worn_out};
 pub use held::{read_after_all, read_after_trims};
 pub use own::{RefusedCall, set_and_read};
 pub use trimmed::{entries_behind_a_trim, join_behind_a_trim, page_behind_a_trim};

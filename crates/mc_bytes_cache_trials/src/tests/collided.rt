@@ -15,30 +15,122 @@ const HASHES: u64 = 3;
 /// How many calls are made.
 const CALLS: u64 = 2000;
 
+/// Stores the call's version of its key. False where that is refused.
+fn is_set<R: Wait>(
+    rt: &R,
+    alloc: Global,
+    arena: &Arena,
+    hand: &mut Hand,
+    at: Label,
+    call: Call,
+) -> Result<bool, Fail>
+    requires { IsIdleHandOf arena.now hand.old }
+    ensures { IsIdleHandOf arena.now hand.new }
+{
+    let value = value_of(alloc, call.number, call.version)?;
+    let mut words = Vec::new(alloc);
+    Ok(set(rt, arena, hand, at, &value, &mut words).is_ok())
+}
+
+/// True if the key is there, and the next key of its hash isn't.
+fn is_alone<R: Wait>(
+    rt: &R,
+    alloc: Global,
+    arena: &Arena,
+    hand: &mut Hand,
+    at: Label,
+    number: u64,
+) -> Result<bool, Fail>
+    requires { IsIdleHandOf arena.now hand.old }
+    ensures { IsIdleHandOf arena.now hand.new }
+{
+    let other = key_of(alloc, number.wrapping_add(HASHES))?;
+    let hash = at.hash;
+    let own = contains(rt, arena, hand, at)?;
+    let others = contains(rt, arena, hand, Label { hash, key: &other })?;
+    Ok(own && !others)
+}
+
 /// Stores the call's version of its key. True if the key is there then, and the next key of its hash isn't.
 fn store<R: Wait>(
     rt: &R,
     alloc: Global,
     arena: &Arena,
     hand: &mut Hand,
+    at: Label,
     call: Call,
 ) -> Result<bool, Fail>
     requires { IsIdleHandOf arena.now hand.old }
     ensures { IsIdleHandOf arena.now hand.new }
 {
-    let hash = call.number % HASHES;
-    let key = key_of(alloc, call.number)?;
-    let other = key_of(alloc, call.number.wrapping_add(HASHES))?;
-    let value = value_of(alloc, call.number, call.version)?;
-    let mut words = Vec::new(alloc);
-    let at = Label { hash, key: &key };
-    let next = Label { hash, key: &other };
-    if set(rt, arena, hand, at, &value, &mut words).is_err() {
+    if !is_set(rt, alloc, arena, hand, at, call)? {
         return Ok(false);
     }
-    let own = contains(rt, arena, hand, at)?;
-    let others = contains(rt, arena, hand, next)?;
-    Ok(own && !others)
+    is_alone(rt, alloc, arena, hand, at, call.number)
+}
+
+/// Deletes the key. True if it isn't there then.
+fn is_deleted<R: Wait>(rt: &R, arena: &Arena, hand: &mut Hand, at: Label) -> Result<bool, Fail>
+    requires { IsIdleHandOf arena.now hand.old }
+    ensures { IsIdleHandOf arena.now hand.new }
+{
+    let _deleted = delete(rt, arena, hand, at)?;
+    Ok(!contains(rt, arena, hand, at)?)
+}
+
+/// Touches the key. True if it is touched where it is there, and nowhere else.
+fn is_touched<R: Wait>(rt: &R, arena: &Arena, hand: &mut Hand, at: Label) -> Result<bool, Fail>
+    requires { IsIdleHandOf arena.now hand.old }
+    ensures { IsIdleHandOf arena.now hand.new }
+{
+    let there = contains(rt, arena, hand, at)?;
+    Ok(touch(rt, arena, hand, at)? == there)
+}
+
+/// Gets the key. True if its bytes are its value, or none where it isn't there.
+fn is_got<R: Wait>(
+    rt: &R,
+    arena: &Arena,
+    hand: &mut Hand,
+    trial: &Trial,
+    at: Label,
+    number: u64,
+) -> Result<bool, Fail>
+    requires { IsIdleHandOf arena.now hand.old }
+    ensures { IsIdleHandOf arena.now hand.new }
+{
+    let mut bytes = Vec::new(trial.alloc);
+    if get(rt, arena, hand, at, &mut bytes, false)? {
+        Ok(trial.is_value(number, &bytes)?)
+    } else {
+        Ok(bytes.is_empty())
+    }
+}
+
+/// The call on its key. True if all that was found was right.
+fn act_at<R: Wait>(
+    rt: &R,
+    arena: &Arena,
+    hand: &mut Hand,
+    trial: &mut Trial,
+    at: Label,
+    call: Call,
+) -> Result<bool, Fail>
+    requires { IsIdleHandOf arena.now hand.old }
+    ensures { IsIdleHandOf arena.now hand.new }
+{
+    match call.kind {
+        0 | 1 | 2 => {
+            trial.note(call.number, Some(call.version));
+            store(rt, trial.alloc, arena, hand, at, call)
+        }
+        3 => {
+            trial.note(call.number, None);
+            is_deleted(rt, arena, hand, at)
+        }
+        4 => is_touched(rt, arena, hand, at),
+        _ => is_got(rt, arena, hand, trial, at, call.number),
+    }
 }
 
 /// One drawn call. True if all that was found was right.
@@ -49,30 +141,20 @@ fn act<R: Wait>(rt: &R, arena: &Arena, hand: &mut Hand, trial: &mut Trial) -> Re
     let call = trial.draw();
     let hash = call.number % HASHES;
     let key = key_of(trial.alloc, call.number)?;
-    let at = Label { hash, key: &key };
-    match call.kind {
-        0 | 1 | 2 => {
-            trial.note(call.number, Some(call.version));
-            store(rt, trial.alloc, arena, hand, call)
-        }
-        3 => {
-            let _deleted = delete(rt, arena, hand, at)?;
-            trial.note(call.number, None);
-            Ok(!contains(rt, arena, hand, at)?)
-        }
-        4 => {
-            let there = contains(rt, arena, hand, at)?;
-            Ok(touch(rt, arena, hand, at)? == there)
-        }
-        _ => {
-            let mut bytes = Vec::new(trial.alloc);
-            if get(rt, arena, hand, at, &mut bytes, false)? {
-                Ok(trial.is_value(call.number, &bytes)?)
-            } else {
-                Ok(bytes.is_empty())
-            }
+    act_at(rt, arena, hand, trial, Label { hash, key: &key }, call)
+}
+
+/// All calls, before one that found what is wrong. True if none did.
+fn act_often<R: Wait>(rt: &R, alloc: Global, arena: &Arena, hand: &mut Hand) -> Result<bool, Fail>
+    requires { IsIdleHandOf arena.now hand.old }
+{
+    let mut trial = Trial::new(alloc, 3)?;
+    for _ in 0..CALLS {
+        if !act(rt, arena, hand, &mut trial)? {
+            return Ok(false);
         }
     }
+    Ok(true)
 }
 
 /// Drawn calls on forty keys of three hashes.
@@ -81,10 +163,7 @@ fn act<R: Wait>(rt: &R, arena: &Arena, hand: &mut Hand, trial: &mut Trial) -> Re
 fn other_keys_of_a_hash_are_missed(rt: HostRuntime) -> Result<(), Fail> {
     let (arena, mut hands) = Arena::new(rt.alloc(), &SMALL, 1)?;
     let mut hand = hands.remove(0);
-    let mut trial = Trial::new(rt.alloc(), 3)?;
-    for _ in 0..CALLS {
-        let right = act(&rt, &arena, &mut hand, &mut trial)?;
-        assert!(rt; right, "a key of another was found, or its own wasn't");
-    }
+    let right = act_often(&rt, rt.alloc(), &arena, &mut hand)?;
+    assert!(rt; right, "a key of another was found, or its own wasn't");
     Ok(())
 }

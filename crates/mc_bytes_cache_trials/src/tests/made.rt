@@ -1,10 +1,12 @@
 //! Caches that are made, and their workers.
-ghost use Rattle.std.specs.Prelude.{◌≡◌, All, IfSome};
+ghost use Rattle.std.specs.Prelude.{◌≡◌, All, IfOk, IfSome};
 ghost use Rattle.mc_cache.specs.Belonging.{BelongsTo};
+ghost use Rattle.mc_cache.specs.Tending.{IsTenderOf};
 
-use mc_cache::{Cache, CacheConfig, HashKey, NewError, Worker};
-use mc_cache_clients::share;
+use mc_cache::{Cache, CacheConfig, HashKey, NewError, Tender, Worker};
 use mc_classes::Config;
+use mc_clients::cache::share;
+use std::alloc::Global;
 use std::sync::Wait;
 use std::test::Fail;
 
@@ -47,6 +49,22 @@ pub fn config_of(shards: u64, workers: u64) -> CacheConfig
         arena: SMALL,
         shards,
         workers,
+    }
+}
+
+/// A cache of so many shards that has one worker.
+pub fn with_one_worker<R: Wait>(
+    rt: &R,
+    alloc: Global,
+    shards: u64,
+) -> Result<(Cache, Worker, Tender), Fail>
+    ensures worker { IfOk result (λ made. BelongsTo made.0 made.1) }
+    ensures tender { IfOk result (λ made. IsTenderOf made.0 made.2) }
+{
+    let (cache, mut workers, tender) = Cache::new(rt, alloc, &config_of(shards, 1), HASH_KEY)?;
+    match next_worker(&cache, &mut workers) {
+        Some(worker) => Ok((cache, worker, tender)),
+        None => Err(Fail::new("there is a worker")),
     }
 }
 

@@ -2,58 +2,89 @@
 use mc_cache::{CallError, NewError, SetError, TryGetError};
 use mc_classes::ConfigError;
 use mc_trial_values::too_much;
+use std::alloc::Global;
+use std::fmt::Display;
+use std::process::Abort;
 use std::test::Fail;
+
+/// The refusal has this text.
+fn assert_told<E: Display + Drop>(
+    rt: &impl Abort,
+    alloc: Global,
+    refusal: E,
+    words: &str,
+) -> Result<(), Fail> {
+    let text = refusal.to_string(alloc)?;
+    assert!(rt; text.as_str() == words, "the text of a refusal");
+    Ok(())
+}
+
+/// Why no cache is made.
+fn assert_new_told(rt: &impl Abort, alloc: Global) -> Result<(), Fail> {
+    assert_told(
+        rt,
+        alloc,
+        NewError::Shards,
+        "the number of shards must be from 1 to 4096",
+    )?;
+    assert_told(
+        rt,
+        alloc,
+        NewError::Workers,
+        "the number of workers must be from 1 to 63",
+    )?;
+    let memory = NewError::NoMemory(too_much(alloc)?);
+    assert_told(rt, alloc, memory, "out of memory")?;
+    let limit = ConfigError::Limit.to_string(alloc)?;
+    let config = NewError::Config(ConfigError::Limit);
+    assert_told(rt, alloc, config, limit.as_str())
+}
+
+/// Why a value isn't stored.
+fn assert_set_told(rt: &impl Abort, alloc: Global) -> Result<(), Fail> {
+    assert_told(
+        rt,
+        alloc,
+        SetError::KeyLength,
+        "a key must have from 1 to 250 bytes; nothing was done",
+    )?;
+    assert_told(
+        rt,
+        alloc,
+        SetError::ValueLength,
+        "a value must have at most 16384 bytes; nothing was done",
+    )?;
+    let memory = mc_items::SetError::NoMemory(too_much(alloc)?);
+    assert_told(
+        rt,
+        alloc,
+        SetError::Item(memory),
+        "the value isn't stored: out of memory",
+    )
+}
+
+/// Why another call isn't done.
+fn assert_calls_told(rt: &impl Abort, alloc: Global) -> Result<(), Fail> {
+    assert_told(
+        rt,
+        alloc,
+        CallError::KeyLength,
+        "a key must have from 1 to 250 bytes; nothing was done",
+    )?;
+    let memory = CallError::NoMemory(too_much(alloc)?);
+    assert_told(rt, alloc, memory, "out of memory; the key has what it had")?;
+    assert_told(
+        rt,
+        alloc,
+        TryGetError::Held,
+        "another worker has the lock of the key's stripe; the key has what it had",
+    )
+}
 
 /// The text of each refusal, and that of another crate in it where there is one.
 #[test]
 fn refusals_in_words(rt: HostRuntime) -> Result<(), Fail> {
-    let alloc = rt.alloc();
-    let memory = mc_items::SetError::NoMemory(too_much(alloc)?);
-    let limit = ConfigError::Limit.to_string(alloc)?;
-    let rows = [
-        (
-            NewError::Shards.to_string(alloc)?,
-            "the number of shards must be from 1 to 4096",
-        ),
-        (
-            NewError::Workers.to_string(alloc)?,
-            "the number of workers must be from 1 to 63",
-        ),
-        (
-            NewError::Config(ConfigError::Limit).to_string(alloc)?,
-            limit.as_str(),
-        ),
-        (
-            NewError::NoMemory(too_much(alloc)?).to_string(alloc)?,
-            "out of memory",
-        ),
-        (
-            SetError::KeyLength.to_string(alloc)?,
-            "a key must have from 1 to 250 bytes; nothing was done",
-        ),
-        (
-            SetError::ValueLength.to_string(alloc)?,
-            "a value must have at most 16384 bytes; nothing was done",
-        ),
-        (
-            SetError::Item(memory).to_string(alloc)?,
-            "the value isn't stored: out of memory",
-        ),
-        (
-            CallError::KeyLength.to_string(alloc)?,
-            "a key must have from 1 to 250 bytes; nothing was done",
-        ),
-        (
-            CallError::NoMemory(too_much(alloc)?).to_string(alloc)?,
-            "out of memory; the key has what it had",
-        ),
-        (
-            TryGetError::Held.to_string(alloc)?,
-            "another worker has the lock of the key's stripe; the key has what it had",
-        ),
-    ];
-    for (text, words) in &rows {
-        assert!(rt; text.as_str() == *words, "the text of a refusal");
-    }
-    Ok(())
+    assert_new_told(&rt, rt.alloc())?;
+    assert_set_told(&rt, rt.alloc())?;
+    assert_calls_told(&rt, rt.alloc())
 }

@@ -2,9 +2,11 @@
 ghost use Rattle.mc_cache.specs.Belonging.{BelongsTo};
 ghost use Rattle.mc_cache.specs.Tending.{IsTenderOf};
 
-use super::made::{HASH_KEY, config_of, next_worker};
-use mc_cache::{Cache, Tended, Tender, Worker};
+use super::made::{config_of, with_one_worker};
+use mc_cache::{Cache, CacheStats, Tended, Tender, Worker};
 use mc_memory::Refused;
+use std::alloc::Global;
+use std::process::Abort;
 use std::sync::Wait;
 use std::test::Fail;
 
@@ -40,30 +42,54 @@ fn want_and_tend<R: Wait>(
     tender.tend(rt, cache)
 }
 
-/// Short values fill all pages but one, and then long ones are wanted: the third window has a move, and short items go.
-#[test]
-fn pages_go_where_they_are_wanted(rt: HostRuntime) -> Result<(), Fail> {
-    let (cache, mut workers, mut tender) = Cache::new(&rt, rt.alloc(), &config_of(1, 1), HASH_KEY)?;
-    let Some(mut worker) = next_worker(&cache, &mut workers) else {
-        return Err(Fail::new("there is a worker"));
-    };
-    set_many(&rt, &cache, &mut worker, 1, &LONG);
-    set_many(&rt, &cache, &mut worker, 300, &SHORT);
-    let first = want_and_tend(&rt, &cache, &mut worker, &mut tender)?;
-    let second = want_and_tend(&rt, &cache, &mut worker, &mut tender)?;
-    let third = want_and_tend(&rt, &cache, &mut worker, &mut tender)?;
-    let fourth = want_and_tend(&rt, &cache, &mut worker, &mut tender)?;
+/// The third window, or the fourth, has a move.
+fn assert_moved(rt: &impl Abort, windows: [Tended; 4]) {
+    let [first, second, third, fourth] = windows;
     assert!(rt;
         first.began == 0 && second.began == 0,
         "two windows decide nothing"
     );
     assert!(rt; third.began >= 1 || fourth.began >= 1, "a move begins");
     assert!(rt; third.ended >= 1 || fourth.ended >= 1, "and ends");
-    let mut bytes = Vec::new(rt.alloc());
-    let found = worker.get(&rt, &cache, &63u64.to_le_bytes(), &mut bytes);
+}
+
+/// The last long value is there.
+fn assert_last<R: Abort + Wait>(rt: &R, alloc: Global, cache: &Cache, worker: &mut Worker)
+    requires { BelongsTo cache.now worker.old }
+{
+    let mut bytes = Vec::new(alloc);
+    let found = worker.get(rt, cache, &63u64.to_le_bytes(), &mut bytes);
     assert!(rt; found == Ok(true), "the last long value is there");
     assert!(rt; bytes.as_slice() == &LONG[..], "and it is right");
+}
+
+/// Short values fill all pages but one, and then long ones are wanted: the third window, or the fourth, has a move.
+fn assert_pages_move<R: Abort + Wait>(
+    rt: &R,
+    alloc: Global,
+    cache: &Cache,
+    worker: &mut Worker,
+    tender: &mut Tender,
+) -> Result<(), Fail>
+    requires worker { BelongsTo cache.now worker.old }
+    requires tender { IsTenderOf cache.now tender.old }
+{
+    set_many(rt, cache, worker, 1, &LONG);
+    set_many(rt, cache, worker, 300, &SHORT);
+    let first = want_and_tend(rt, cache, worker, tender)?;
+    let second = want_and_tend(rt, cache, worker, tender)?;
+    let third = want_and_tend(rt, cache, worker, tender)?;
+    let fourth = want_and_tend(rt, cache, worker, tender)?;
+    assert_moved(rt, [first, second, third, fourth]);
+    assert_last(rt, alloc, cache, worker);
     Ok(())
+}
+
+/// Short values fill all pages but one, and then long ones are wanted: the third window has a move, and short items go.
+#[test]
+fn pages_go_where_they_are_wanted(rt: HostRuntime) -> Result<(), Fail> {
+    let (cache, mut worker, mut tender) = with_one_worker(&rt, rt.alloc(), 1)?;
+    assert_pages_move(&rt, rt.alloc(), &cache, &mut worker, &mut tender)
 }
 
 /// What the words of a cache take is as the configuration tells.
@@ -79,15 +105,8 @@ fn bytes_are_told(rt: HostRuntime) -> Result<(), Fail> {
     Ok(())
 }
 
-/// Thirty short values on three shards: what all have together are their pages, of eight chunks each, and the chunks that are left.
-#[test]
-fn stats_are_sums_over_shards(rt: HostRuntime) -> Result<(), Fail> {
-    let (cache, mut workers, mut tender) = Cache::new(&rt, rt.alloc(), &config_of(3, 1), HASH_KEY)?;
-    let Some(mut worker) = next_worker(&cache, &mut workers) else {
-        return Err(Fail::new("there is a worker"));
-    };
-    set_many(&rt, &cache, &mut worker, 30, &SHORT);
-    let stats = tender.stats(&rt, &cache)?;
+/// The class of thirty short values has pages of eight chunks each, and no other class has any.
+fn assert_thirty(rt: &impl Abort, stats: &CacheStats) -> Result<(), Fail> {
     let Some(class) = stats.classes.get(1) else {
         return Err(Fail::new("there is a class of 128 bytes"));
     };
@@ -97,4 +116,26 @@ fn stats_are_sums_over_shards(rt: HostRuntime) -> Result<(), Fail> {
     assert!(rt; stats.granted == class.pages, "no other class has pages");
     assert!(rt; class.evictions == 0, "nothing was evicted");
     Ok(())
+}
+
+/// Thirty short values are stored.
+fn assert_thirty_counted<R: Abort + Wait>(
+    rt: &R,
+    cache: &Cache,
+    worker: &mut Worker,
+    tender: &mut Tender,
+) -> Result<(), Fail>
+    requires worker { BelongsTo cache.now worker.old }
+    requires tender { IsTenderOf cache.now tender.old }
+{
+    set_many(rt, cache, worker, 30, &SHORT);
+    let stats = tender.stats(rt, cache)?;
+    assert_thirty(rt, &stats)
+}
+
+/// Thirty short values on three shards: what all have together are their pages, of eight chunks each, and the chunks that are left.
+#[test]
+fn stats_are_sums_over_shards(rt: HostRuntime) -> Result<(), Fail> {
+    let (cache, mut worker, mut tender) = with_one_worker(&rt, rt.alloc(), 3)?;
+    assert_thirty_counted(&rt, &cache, &mut worker, &mut tender)
 }

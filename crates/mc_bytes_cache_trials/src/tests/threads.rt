@@ -15,6 +15,55 @@ use std::thread::{Threads, join};
 /// How often each thread acts.
 const ROUNDS: u64 = 2000;
 
+/// Gets the key by the call that waits, or by that which doesn't. True if it was found.
+fn find<R: Wait>(
+    rt: &R,
+    cache: &Cache,
+    worker: &mut Worker,
+    key: &[u8],
+    into: &mut Vec<u8>,
+    waits: bool,
+) -> bool
+    requires { BelongsTo cache.now worker.old }
+    ensures { BelongsTo cache.now worker.new }
+{
+    if waits {
+        worker.get(rt, cache, key, into) == Ok(true)
+    } else {
+        worker.try_get(cache, key, into) == Ok(true)
+    }
+}
+
+/// A call of this kind. False if another value was found than the key's.
+fn act_on<R: Wait>(
+    rt: &R,
+    alloc: Global,
+    cache: &Cache,
+    worker: &mut Worker,
+    kind: u64,
+    key: &[u8],
+    value: &[u8],
+) -> bool
+    requires { BelongsTo cache.now worker.old }
+    ensures { BelongsTo cache.now worker.new }
+{
+    match kind {
+        0 | 1 | 2 => {
+            let _stored = worker.set(rt, cache, key, value);
+            true
+        }
+        3 => {
+            let _deleted = worker.delete(rt, cache, key);
+            true
+        }
+        _ => {
+            let mut bytes = Vec::new(alloc);
+            let found = find(rt, cache, worker, key, &mut bytes, kind != 4);
+            !found || bytes.as_slice() == value
+        }
+    }
+}
+
 /// One drawn call of a thread. False if another value was found than the key's.
 fn act<R: Wait>(
     rt: &R,
@@ -30,26 +79,7 @@ fn act<R: Wait>(
     let number = random.next_u64() % KEYS;
     let key = key_of(alloc, number)?;
     let value = value_of(alloc, number, 0)?;
-    match kind {
-        0 | 1 | 2 => {
-            let _stored = worker.set(rt, cache, &key, &value);
-            Ok(true)
-        }
-        3 => {
-            let _deleted = worker.delete(rt, cache, &key);
-            Ok(true)
-        }
-        4 => {
-            let mut bytes = Vec::new(alloc);
-            let found = worker.try_get(cache, &key, &mut bytes);
-            Ok(found != Ok(true) || bytes.as_slice() == value.as_slice())
-        }
-        _ => {
-            let mut bytes = Vec::new(alloc);
-            let found = worker.get(rt, cache, &key, &mut bytes);
-            Ok(found != Ok(true) || bytes.as_slice() == value.as_slice())
-        }
-    }
+    Ok(act_on(rt, alloc, cache, worker, kind, &key, &value))
 }
 
 /// A thread's rounds: how many found another value, or wanted memory.

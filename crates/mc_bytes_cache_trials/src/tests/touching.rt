@@ -1,10 +1,11 @@
 //! Gets that touch what they find: it is evicted later, and its bytes are right however often it was asked for.
 ghost use Rattle.mc_cache.specs.Belonging.{BelongsTo};
 
-use super::made::{HASH_KEY, config_of, next_worker};
+use super::made::with_one_worker;
 use super::tended::{SHORT, set_many};
 use mc_cache::{Cache, Worker};
 use std::alloc::Global;
+use std::process::Abort;
 use std::sync::Wait;
 use std::test::Fail;
 
@@ -24,31 +25,32 @@ fn finds<R: Wait>(rt: &R, alloc: Global, cache: &Cache, worker: &mut Worker, num
     found == Ok(true) && bytes.as_slice() == &SHORT[..]
 }
 
+/// The oldest value of a full shard is got, and one value more is stored.
+fn assert_next_evicted<R: Abort + Wait>(rt: &R, alloc: Global, cache: &Cache, worker: &mut Worker)
+    requires { BelongsTo cache.now worker.old }
+{
+    let found = finds(rt, alloc, cache, worker, 0);
+    let _stored = worker.set(rt, cache, &ROOM.to_le_bytes(), &SHORT);
+    assert!(rt; found, "the first value is there");
+    let first = worker.contains(rt, cache, &0u64.to_le_bytes());
+    let second = worker.contains(rt, cache, &1u64.to_le_bytes());
+    assert!(rt; first == Ok(true), "what was got stays");
+    assert!(rt; second == Ok(false), "the next one goes");
+}
+
 /// A full shard: the oldest value is got, and so the next one goes for one value more.
 #[test]
 fn what_was_got_is_evicted_later(rt: HostRuntime) -> Result<(), Fail> {
-    let (cache, mut workers, _tender) = Cache::new(&rt, rt.alloc(), &config_of(1, 1), HASH_KEY)?;
-    let Some(mut worker) = next_worker(&cache, &mut workers) else {
-        return Err(Fail::new("there is a worker"));
-    };
+    let (cache, mut worker, _tender) = with_one_worker(&rt, rt.alloc(), 1)?;
     set_many(&rt, &cache, &mut worker, ROOM, &SHORT);
-    let found = finds(&rt, rt.alloc(), &cache, &mut worker, 0);
-    let _stored = worker.set(&rt, &cache, &ROOM.to_le_bytes(), &SHORT);
-    assert!(rt; found, "the first value is there");
-    let first = worker.contains(&rt, &cache, &0u64.to_le_bytes());
-    let second = worker.contains(&rt, &cache, &1u64.to_le_bytes());
-    assert!(rt; first == Ok(true), "what was got stays");
-    assert!(rt; second == Ok(false), "the next one goes");
+    assert_next_evicted(&rt, rt.alloc(), &cache, &mut worker);
     Ok(())
 }
 
 /// One value is got more often than the worker's notes outlast.
 #[test]
 fn a_value_is_found_each_time(rt: HostRuntime) -> Result<(), Fail> {
-    let (cache, mut workers, _tender) = Cache::new(&rt, rt.alloc(), &config_of(1, 1), HASH_KEY)?;
-    let Some(mut worker) = next_worker(&cache, &mut workers) else {
-        return Err(Fail::new("there is a worker"));
-    };
+    let (cache, mut worker, _tender) = with_one_worker(&rt, rt.alloc(), 1)?;
     set_many(&rt, &cache, &mut worker, 1, &SHORT);
     for _ in 0..GETS {
         let found = finds(&rt, rt.alloc(), &cache, &mut worker, 0);

@@ -1,7 +1,0 @@
-//! The tests, and what they have in common.
-mod disjoint;
-mod meeting;
-mod play;
-mod refused;
-mod spent;
-mod truncated;
