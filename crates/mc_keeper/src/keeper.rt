@@ -72,13 +72,14 @@ impl Keeper {
         requires mode { mode ≤ 2 }
         ensures fresh { IfOk result (λ keeper. keeper ≡ fresh_machine table bulk mode) }
     {
-        let mut slabs = Slabs::new(alloc, &table)?;
-        slabs.set_automove(mode);
-        let decider = Decider::new(alloc, &table)?;
+        // the pages last, since a refusal drops what is there by then
         let index = KeyIndex::new(alloc, most_items(&table))?;
         let holds = Holds::new(alloc)?;
         let dead = DeadCounts::new(alloc, table.count())?;
         let hints = DeadHints::new(alloc, table.count())?;
+        let decider = Decider::new(alloc, &table)?;
+        let mut slabs = Slabs::new(alloc, &table)?;
+        slabs.set_automove(mode);
         Ok(Keeper {
             alloc,
             table,
