@@ -12,6 +12,11 @@ mod steps;
 mod surveys;
 mod trims;
 
+ghost use Rattle.mc_calls.specs.Hands.{IsReadyHandOf};
+
+use mc_calls::header;
+use mc_pages::ChunkId;
+use mc_words::{Arena, Hand};
 use std::fmt::Debug;
 use std::process::Abort;
 
@@ -23,4 +28,13 @@ fn assert_same<T: Copy + PartialEq + Debug>(rt: &impl Abort, found: T, wanted: T
 /// The same, of what can't be printed.
 fn assert_equal<T: PartialEq + Drop>(rt: &impl Abort, found: T, wanted: T, what: &str) {
     assert!(rt; found == wanted, "{what}");
+}
+
+/// The chunk of the first page has this header.
+fn assert_head(rt: &impl Abort, arena: &Arena, hand: &mut Hand, index: u64, wanted: u64, what: &str)
+    requires arena { IsReadyHandOf arena.now hand.old }
+    ensures arena { IsReadyHandOf arena.now hand.new }
+{
+    let found = header(arena, hand, ChunkId { page: 0, index });
+    assert_same(rt, found, Some(wanted), what);
 }

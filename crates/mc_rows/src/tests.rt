@@ -146,7 +146,7 @@ fn plays<R: Abort + Wait>(
     assert_alike(rt, alloc, run, script, &played, name)
 }
 
-/// Each row's script has the replies and the end of the row, in a serial run and on hands. Each table has a test of its own: a proof takes
+/// Each row's script has the replies and the end of the row, in a serial run and on hands. Each table has a function of its own: a proof takes
 /// as long as the square of the texts that its function names.
 fn plays_rows<R: Abort + Wait>(rt: &R, alloc: Global, rows: &[Row]) -> Result<(), Fail> {
     for (name, script, replies, end) in rows {

@@ -1,14 +1,18 @@
 //! Refusals of calls on items.
+ghost use Rattle.std.specs.Prelude.{◌≡◌, true};
+ghost use Rattle.mc_core.specs.State.{has_chunk};
+ghost use Rattle.mc_words.specs.hand.Arenas.{setup_of};
+ghost use Rattle.mc_words.specs.hand.Observers.{hint_chunk};
 ghost use Rattle.mc_calls.specs.Hands.{IsReadyHandOf};
 ghost use Rattle.mc_calls.specs.Pairs.{AreReady};
 
 use super::hints::hint_behind;
 use super::steps::Step;
-use super::{MOST_WORDS, assert_equal};
+use super::{MOST_WORDS, assert_equal, assert_same};
 use mc_calls::{FOUR_CLASSES, Two, drop_arena, drop_two, follow, opened_two, play_all, play_two};
 use mc_items::{GetError, SetError, TryGetError, get, try_get};
 use mc_stripe::Key;
-use mc_words::{Again, Arena, Hand};
+use mc_words::{Again, Arena, Hand, Hint};
 use std::alloc::Global;
 use std::process::Abort;
 use std::sync::Wait;
@@ -33,6 +37,18 @@ fn refusal_of_try(arena: &Arena, hand: &mut Hand, key: Key) -> Option<TryGetErro
     try_get(arena, hand, key).err()
 }
 
+/// Whether a get, one that doesn't wait, and one by a hint are refused, as the hand has all references that it may.
+fn are_refused<R: Wait>(rt: &R, arena: &Arena, hand: &mut Hand, hint: Hint) -> (bool, bool, bool)
+    requires arena { IsReadyHandOf arena.now hand.old }
+    requires near { has_chunk (setup_of arena.now).table (hint_chunk hint) ≡ true }
+{
+    (
+        refusal_of_get(rt, arena, hand, 1) == Some(GetError::TooManyRefs),
+        refusal_of_try(arena, hand, 1) == Some(TryGetError::TooManyRefs),
+        follow(arena, hand, hint) == Some(Again::TooManyRefs),
+    )
+}
+
 /// A hand holds one item 255 times; one more is refused by each call.
 fn hold_too_often<R: Abort + Wait>(rt: &R, alloc: Global, two: &mut Two) -> Result<(), Fail>
     requires { AreReady two.old }
@@ -43,12 +59,8 @@ fn hold_too_often<R: Abort + Wait>(rt: &R, alloc: Global, two: &mut Two) -> Resu
     play_all(rt, alloc, arena, hand, &most)?;
     let last = refusal_of_try(arena, hand, 1);
     assert_equal(rt, last, None, "the 255th");
-    let refused = refusal_of_get(rt, arena, hand, 1);
-    assert_equal(rt, refused, Some(GetError::TooManyRefs), "get");
-    let refused = refusal_of_try(arena, hand, 1);
-    assert_equal(rt, refused, Some(TryGetError::TooManyRefs), "try_get");
-    let refused = follow(arena, hand, hint);
-    assert_equal(rt, refused, Some(Again::TooManyRefs), "again");
+    let refused = are_refused(rt, arena, hand, hint);
+    assert_same(rt, refused, (true, true, true), "get, try_get and again");
     Ok(())
 }
 
@@ -57,33 +69,41 @@ fn a_hand_has_at_most_255_references(rt: HostRuntime) -> Result<(), Fail> {
     play_two!(rt, hold_too_often)
 }
 
+/// Whether a get that doesn't wait is refused by the stripe that the holder has, and not by another. None where it didn't get its stripe.
+fn tries_beside(arena: &Arena, hand: &mut Hand, holder: &mut Hand) -> Option<(bool, bool)>
+    requires arena { IsReadyHandOf arena.now hand.old }
+    requires holder { IsReadyHandOf arena.now holder.old }
+    ensures arena { IsReadyHandOf arena.now hand.new }
+{
+    if arena.config().stripes < 2 {
+        return None;
+    }
+    let Ok(held) = arena.try_stripe(holder, 1) else {
+        return None;
+    };
+    let refused = refusal_of_try(arena, hand, 5) == Some(TryGetError::Held);
+    let found = refusal_of_try(arena, hand, 4).is_none();
+    arena.give_stripe(holder, held);
+    Some((refused, found))
+}
+
 /// Gets that don't wait, beside a hand that has a stripe.
-fn try_beside_stripe<R: Abort + Wait>(rt: &R, two: &mut Two) -> Result<(), Fail>
+fn try_beside_stripe(rt: &impl Abort, two: &mut Two)
     requires { AreReady two.old }
 {
     let Two { arena, hand, other } = two;
-    if arena.config().stripes < 2 {
-        return Err(Fail::new("there are four stripes"));
-    }
-    let Ok(held) = arena.try_stripe(other, 1) else {
-        return Err(Fail::new("the stripe is free"));
-    };
-    let refused = refusal_of_try(arena, hand, 5);
-    assert_equal(rt, refused, Some(TryGetError::Held), "its stripe");
-    let found = refusal_of_try(arena, hand, 4);
-    assert_equal(rt, found, None, "another stripe");
-    arena.give_stripe(other, held);
+    let beside = tries_beside(arena, hand, other);
+    assert_same(rt, beside, Some((true, true)), "its stripe, and another");
     let found = refusal_of_try(arena, hand, 5);
     assert_equal(rt, found, None, "its stripe, given back");
-    Ok(())
 }
 
 #[test]
 fn who_does_not_wait_is_told_of_another_hand(rt: HostRuntime) -> Result<(), Fail> {
     let mut two = opened_two(rt.alloc(), &FOUR_CLASSES)?;
-    let played = try_beside_stripe(&rt, &mut two);
+    try_beside_stripe(&rt, &mut two);
     drop_two(two);
-    played
+    Ok(())
 }
 
 #[test]

@@ -3,10 +3,9 @@ ghost use Rattle.mc_calls.specs.Hands.{IsReadyHandOf};
 ghost use Rattle.mc_calls.specs.Pairs.{AreReady};
 
 use super::steps::Step;
-use super::{assert_equal, assert_same};
-use mc_calls::{FOUR_CLASSES, Two, drop_arena, get_key, header, play_all, play_two, touch_key};
+use super::{assert_equal, assert_head, assert_same};
+use mc_calls::{FOUR_CLASSES, Two, drop_arena, get_key, play_all, play_two, touch_key};
 use mc_items::{GetError, get};
-use mc_pages::ChunkId;
 use mc_stripe::Key;
 use mc_words::{Arena, Hand};
 use std::alloc::Global;
@@ -17,8 +16,8 @@ use std::test::Fail;
 /// The greatest issue number.
 const MOST_ISSUE: u64 = 70_368_744_177_663;
 
-/// Where the first item of 61 words is put.
-const FIRST: ChunkId = ChunkId { page: 0, index: 1 };
+/// Where the first item of 61 words is put, in the first page.
+const FIRST: u64 = 1;
 
 /// Holds the key's item so often. False where that is refused.
 fn hold_often<R: Wait>(rt: &R, arena: &Arena, hand: &mut Hand, key: Key, count: u64) -> bool
@@ -65,11 +64,9 @@ fn hold_as_often_as_two_may<R: Abort + Wait>(
     let Two { arena, hand, other } = two;
     play_all(rt, alloc, arena, hand, &[Step::Sets(1, 5, 61)])?;
     fill_up(rt, arena, hand);
-    let head = header(arena, hand, FIRST);
-    assert_same(rt, head, Some(459_008), "linked, and 255 references");
+    assert_head(rt, arena, hand, FIRST, 459_008, "linked, 255 references");
     fill_up(rt, arena, other);
-    let head = header(arena, hand, FIRST);
-    assert_same(rt, head, Some(459_263), "linked, and 510 references");
+    assert_head(rt, arena, hand, FIRST, 459_263, "linked, 510 references");
     let steps = [
         Step::Reassigns(Some(4), 1, Ok(())),
         Step::Goes(1, 0, 1, 1, 0),
@@ -77,8 +74,7 @@ fn hold_as_often_as_two_may<R: Abort + Wait>(
         Step::Goes(0, 0, 0, 1, 0),
     ];
     play_all(rt, alloc, arena, hand, &steps)?;
-    let head = header(arena, hand, FIRST);
-    assert_same(rt, head, Some(393_726), "unlinked, and 510 references");
+    assert_head(rt, arena, hand, FIRST, 393_726, "unlinked, 510 references");
     Ok(())
 }
 

@@ -55,6 +55,26 @@ fn turn_beside_slabs(
     Some(found)
 }
 
+/// A turn that waits for nobody does this.
+fn assert_turn(rt: &impl Abort, arena: &Arena, hand: &mut Hand, wanted: Turn, what: &str)
+    requires arena { IsReadyHandOf arena.now hand.old }
+    ensures arena { IsReadyHandOf arena.now hand.new }
+{
+    let found = try_turn(arena, hand);
+    assert_equal(rt, found, Ok(wanted), what);
+}
+
+/// A turn is refused, as the holder has the slabs.
+fn assert_held(rt: &impl Abort, arena: &Arena, hand: &mut Hand, holder: &mut Hand, what: &str)
+    requires arena { IsReadyHandOf arena.now hand.old }
+    requires holder { IsHandOf arena.now holder.old }
+    ensures arena { IsReadyHandOf arena.now hand.new }
+    ensures holder { IsHandOf arena.now holder.new }
+{
+    let refused = turn_beside_slabs(arena, hand, holder);
+    assert_equal(rt, refused, Some(Err(TryTurn::Held)), what);
+}
+
 /// What a turn counts that evicted so many items, and found so many locked.
 fn evicted(count: u64, locked: u64) -> Counts {
     Counts {
@@ -76,9 +96,8 @@ fn move_beside_stripe<R: Abort + Wait>(rt: &R, alloc: Global, two: &mut Two) -> 
     let went = turn_beside_stripe(arena, hand, other, 1);
     let wanted = Turn::Went(evicted(1, 1));
     assert_equal(rt, went, Some(Ok(wanted)), "beside its stripe");
-    let done = try_turn(arena, hand);
     let wanted = Turn::Finished(evicted(1, 0));
-    assert_equal(rt, done, Ok(wanted), "once it was given");
+    assert_turn(rt, arena, hand, wanted, "once it was given");
     let steps = [Step::Moved(1, 0, 2, 1)];
     play_all(rt, alloc, arena, hand, &steps)?;
     Ok(())
@@ -94,17 +113,13 @@ fn turn_beside_held_slabs<R: Abort + Wait>(rt: &R, alloc: Global, two: &mut Two)
     requires { AreReady two.old }
 {
     let Two { arena, hand, other } = two;
-    let refused = turn_beside_slabs(arena, hand, other);
-    assert_equal(rt, refused, Some(Err(TryTurn::Held)), "no page moves");
+    assert_held(rt, arena, hand, other, "no page moves");
     let steps = [Step::Sets(1, 9, 61), Step::Reassigns(Some(4), 1, Ok(()))];
     play_all(rt, alloc, arena, hand, &steps)?;
-    let refused = turn_beside_slabs(arena, hand, other);
-    assert_equal(rt, refused, Some(Err(TryTurn::Held)), "a page moves");
-    let done = try_turn(arena, hand);
+    assert_held(rt, arena, hand, other, "a page moves");
     let wanted = Turn::Finished(evicted(2, 0));
-    assert_equal(rt, done, Ok(wanted), "once they were given");
-    let idle = try_turn(arena, hand);
-    assert_equal(rt, idle, Ok(Turn::Idle), "when no page moves");
+    assert_turn(rt, arena, hand, wanted, "once they were given");
+    assert_turn(rt, arena, hand, Turn::Idle, "when no page moves");
     Ok(())
 }
 

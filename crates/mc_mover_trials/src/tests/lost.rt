@@ -2,10 +2,10 @@
 ghost use Rattle.std.specs.Prelude.{IfOk};
 ghost use Rattle.mc_calls.specs.Hands.{IsReadyHandOf};
 
-use super::steps::Step;
-use super::{assert_equal, assert_same};
-use mc_calls::{FOUR_CLASSES, Two, are_from, delete_key, get_key, header, opened_two, play_all};
-use mc_items::{TryGetError, read, release};
+use super::steps::{Step, reads_held};
+use super::{assert_equal, assert_head, assert_same};
+use mc_calls::{FOUR_CLASSES, Two, delete_key, get_key, opened_two, play_all};
+use mc_items::TryGetError;
 use mc_mover::{TryTurn, try_turn};
 use mc_pages::{ChunkId, Reassign};
 use mc_stripe::Key;
@@ -48,6 +48,16 @@ fn is_stripe_left(left: &Final, stripe: u64) -> bool {
     stripe < left.config().stripes && left.stripe(stripe).is_some()
 }
 
+/// The same of each of the four stripes.
+fn stripes_left(left: &Final) -> [bool; 4] {
+    [
+        is_stripe_left(left, 0),
+        is_stripe_left(left, 1),
+        is_stripe_left(left, 2),
+        is_stripe_left(left, 3),
+    ]
+}
+
 /// A hand reads and deletes an item while the slabs are out with the other, which is lost. No turn gets them.
 fn read_without_slabs<R: Abort + Wait>(
     rt: &R,
@@ -66,11 +76,16 @@ fn read_without_slabs<R: Abort + Wait>(
     };
     let lost = lose(rt, arena, other, Lost::Slabs);
     assert_same(rt, lost, true, "the lock is free");
-    let words = read(alloc, arena, hand, &item)?;
-    assert_same(rt, are_from(&words, 1, 61), true, "words 1 to 61");
-    release(arena, hand, item);
-    let head = header(arena, hand, FIRST);
-    assert_same(rt, head, Some(458_753), "its header, released");
+    let same = reads_held(alloc, arena, hand, item, (1, 61))?;
+    assert_same(rt, same, true, "words 1 to 61");
+    assert_head(
+        rt,
+        arena,
+        hand,
+        FIRST.index,
+        458_753,
+        "its header, released",
+    );
     let deleted = delete_key(rt, arena, hand, 1);
     assert_same(rt, deleted, Some(true), "a delete takes a stripe alone");
     let refused = try_turn(arena, hand);
@@ -86,9 +101,7 @@ fn assert_slabs_are_out(rt: &impl Abort, arena: Arena, hand: Hand)
     assert_same(rt, arena.try_slabs(&mut hand).is_err(), true, "the slabs");
     let left = arena.close(hand);
     assert_same(rt, left.slabs().is_none(), true, "pages and lists");
-    for stripe in 0..4 {
-        assert_same(rt, is_stripe_left(&left, stripe), true, "each stripe");
-    }
+    assert_same(rt, stripes_left(&left), [true; 4], "each stripe");
 }
 
 #[test]
@@ -147,10 +160,8 @@ fn a_lost_stripe_holds_up_its_items_page_for_ever(rt: HostRuntime) -> Result<(),
     ];
     let left = close_behind_loss(&rt, rt.alloc(), Lost::Stripe(1), &steps)?;
     assert_same(&rt, left.slabs().is_some(), true, "pages and lists");
-    for (stripe, is_there) in [(0, true), (1, false), (2, true), (3, true)] {
-        let found = is_stripe_left(&left, stripe);
-        assert_same(&rt, (stripe, found), (stripe, is_there), "a stripe");
-    }
+    let there = [true, false, true, true];
+    assert_same(&rt, stripes_left(&left), there, "all but the lost one");
     Ok(())
 }
 

@@ -1,12 +1,14 @@
 //! A call with what it is to give.
 ghost use Rattle.mc_calls.specs.Hands.{IsReadyHandOf};
+ghost use Rattle.mc_items.specs.ItemRefs.{IsItemRef};
+ghost use Rattle.mc_words.specs.hand.Arenas.{view};
 
 use mc_calls::{
     Chunks, Played, are_from, delete_key, get_key, header, set_mode_by, stats_of, store_all,
     touch_key, turn_by,
 };
 use mc_classes::ClassId;
-use mc_items::{TryGetError, read, release, try_get};
+use mc_items::{Ref, TryGetError, read, release, try_get};
 use mc_mover::{Counts, Turn, forget, reassign, trim};
 use mc_pages::{ChunkId, Reassign};
 use mc_stripe::Key;
@@ -74,9 +76,24 @@ fn reads<R: Wait>(
     requires arena { IsReadyHandOf arena.now hand.old }
     ensures arena { IsReadyHandOf arena.now hand.new }
 {
-    let Some(item) = get_key(rt, arena, hand, key) else {
-        return Ok(false);
-    };
+    match get_key(rt, arena, hand, key) {
+        Some(item) => reads_held(alloc, arena, hand, item, words),
+        None => Ok(false),
+    }
+}
+
+/// Whether the item that is held has so many words, from the first on. It is released.
+pub fn reads_held(
+    alloc: Global,
+    arena: &Arena,
+    hand: &mut Hand,
+    item: Ref,
+    words: (u64, u64),
+) -> Played
+    requires arena { IsReadyHandOf arena.now hand.old }
+    requires item { IsItemRef (view hand.old) item }
+    ensures arena { IsReadyHandOf arena.now hand.new }
+{
     let found = read(alloc, arena, hand, &item);
     release(arena, hand, item);
     let (first, len) = words;
@@ -206,15 +223,25 @@ fn acts<R: Wait>(rt: &R, arena: &Arena, hand: &mut Hand, step: &Step) -> bool
             forget(rt, arena, hand);
             true
         }
-        Step::Idles => turn_by(rt, arena, hand) == Some(Turn::Idle),
+        _ => match turn_of(step) {
+            Some(wanted) => turn_by(rt, arena, hand) == Some(wanted),
+            None => false,
+        },
+    }
+}
+
+/// What a turn is to do, where the step is one.
+fn turn_of(step: &Step) -> Option<Turn> {
+    match step {
+        Step::Idles => Some(Turn::Idle),
         Step::Goes(cleared, rescued, evicted, busy, locked) => {
-            let wanted = counts(*cleared, *rescued, *evicted, *busy, *locked);
-            turn_by(rt, arena, hand) == Some(Turn::Went(wanted))
+            let went = counts(*cleared, *rescued, *evicted, *busy, *locked);
+            Some(Turn::Went(went))
         }
         Step::Finishes(cleared, rescued, evicted, busy, locked) => {
-            let wanted = counts(*cleared, *rescued, *evicted, *busy, *locked);
-            turn_by(rt, arena, hand) == Some(Turn::Finished(wanted))
+            let finished = counts(*cleared, *rescued, *evicted, *busy, *locked);
+            Some(Turn::Finished(finished))
         }
-        _ => false,
+        _ => None,
     }
 }

@@ -54,6 +54,15 @@ fn count_based(left: &Final) -> Option<usize> {
     Some(keys)
 }
 
+/// How many calls are recorded and how many aren't, the keys of the bases, and what the entries tell.
+type Told = ((usize, u64), Option<usize>, Option<(usize, u64, bool)>);
+
+/// What the arena tells that these calls leave.
+fn told_behind<R: Wait>(rt: &R, alloc: Global, steps: &[Step]) -> Result<Told, Fail> {
+    let left = close_behind(rt, alloc, steps)?;
+    Ok((counts_of(&left), count_based(&left), entries_of(&left)))
+}
+
 /// Four pages that were granted, and the beginning and the end of a move.
 const ENTRIES: u64 = 6;
 
@@ -80,11 +89,10 @@ fn a_trim_after_each_call_changes_no_answer(rt: HostRuntime) -> Result<(), Fail>
         Step::Touches(1, false),
         Step::Trims,
     ];
-    let left = close_behind(&rt, rt.alloc(), &steps)?;
-    assert_same(&rt, counts_of(&left), (0, CALLS), "recorded, and trimmed");
+    let told = told_behind(&rt, rt.alloc(), &steps)?;
     // of eight keys one was deleted, and one evicted
-    assert_same(&rt, count_based(&left), Some(6), "keys of the bases");
-    assert_same(&rt, entries_of(&left), Some((0, ENTRIES, true)), "entries");
+    let wanted = ((0, CALLS), Some(6), Some((0, ENTRIES, true)));
+    assert_same(&rt, told, wanted, "calls, keys and entries");
     Ok(())
 }
 
@@ -99,21 +107,10 @@ fn what_comes_behind_a_trim_is_recorded(rt: HostRuntime) -> Result<(), Fail> {
         Step::Touches(2, true),
         Step::Touches(1, false),
     ];
-    let left = close_behind(&rt, rt.alloc(), &steps)?;
-    assert_same(
-        &rt,
-        counts_of(&left),
-        (5, CALLS - 5),
-        "recorded, and trimmed",
-    );
-    assert_same(&rt, count_based(&left), Some(8), "keys of the bases");
+    let told = told_behind(&rt, rt.alloc(), &steps)?;
     // the move's two entries come behind the trim
-    assert_same(
-        &rt,
-        entries_of(&left),
-        Some((2, ENTRIES - 2, false)),
-        "entries",
-    );
+    let wanted = ((5, CALLS - 5), Some(8), Some((2, ENTRIES - 2, false)));
+    assert_same(&rt, told, wanted, "calls, keys and entries");
     Ok(())
 }
 
@@ -129,9 +126,8 @@ fn what_is_forgotten_is_not_recorded(rt: HostRuntime) -> Result<(), Fail> {
         Step::Touches(1, false),
         Step::Trims,
     ];
-    let left = close_behind(&rt, rt.alloc(), &steps)?;
-    assert_same(&rt, counts_of(&left), (0, CALLS), "recorded, and trimmed");
-    assert_same(&rt, count_based(&left), None, "keys of the bases");
-    assert_same(&rt, entries_of(&left), Some((0, ENTRIES, true)), "entries");
+    let told = told_behind(&rt, rt.alloc(), &steps)?;
+    let wanted = ((0, CALLS), None, Some((0, ENTRIES, true)));
+    assert_same(&rt, told, wanted, "calls, keys and entries");
     Ok(())
 }

@@ -1,5 +1,5 @@
 //! Items that are held while others act.
-ghost use Rattle.std.specs.Prelude.{IfSome};
+ghost use Rattle.std.specs.Prelude.{IfOk, IfSome};
 ghost use Rattle.mc_words.specs.hand.Arenas.{view};
 ghost use Rattle.mc_items.specs.ItemRefs.{IsItemRef};
 ghost use Rattle.mc_calls.specs.Hands.{IsReadyHandOf};
@@ -9,10 +9,24 @@ use super::looking::{Looker, look_after, look_before};
 use super::marks::{tell_call, tell_done, tell_refused};
 use super::opening::Three;
 use mc_calls::get_key;
-use mc_items::{Ref, get, read};
+use mc_items::{GetError, Ref, get, read};
 use mc_stripe::Key;
 use mc_words::{Arena, Hand};
 use std::sync::Wait;
+
+// A reference to the key's item, if it has one.
+fn get_item<R: Wait>(
+    rt: &R,
+    arena: &Arena,
+    reader: &mut Hand,
+    key: Key,
+) -> Result<Option<Ref>, GetError>
+    requires reader { IsReadyHandOf arena.now reader.old }
+    ensures reader { IsReadyHandOf arena.now reader.new }
+    ensures item { IfOk result (λ found. IfSome found (λ item. IsItemRef (view reader.new) item)) }
+{
+    get(rt, arena, reader, key)
+}
 
 /// A reference of the reader's to the key's item. None where it has none, or where a refusal left anything behind.
 pub fn hold<R: Wait + Print>(rt: &R, all: &mut Three, key: Key) -> Option<Ref>
@@ -24,13 +38,22 @@ pub fn hold<R: Wait + Print>(rt: &R, all: &mut Three, key: Key) -> Option<Ref>
         return None;
     }
     tell_call(rt, "get");
-    match get(rt, &all.arena, &mut all.reader, key) {
+    match get_item(rt, &all.arena, &mut all.reader, key) {
         Ok(found) => {
             tell_done(rt, "get");
-            return found;
+            found
         }
-        Err(_) => tell_refused(rt, "get"),
+        Err(_) => hold_again(rt, all, key),
     }
+}
+
+// The same, once a get was refused.
+fn hold_again<R: Wait + Print>(rt: &R, all: &mut Three, key: Key) -> Option<Ref>
+    requires ready { AreReadyOf all.old.arena all.old.hand all.old.reader all.old.looker.hand }
+    ensures ready { AreReadyOf all.new.arena all.new.hand all.new.reader all.new.looker.hand }
+    ensures item { IfSome result (λ item. IsItemRef (view all.new.reader) item) }
+{
+    tell_refused(rt, "get");
     if !left_nothing(&all.arena, &mut all.looker, &all.reader) {
         return None;
     }
@@ -57,18 +80,26 @@ pub fn has_words<R: Print>(rt: &R, all: &mut Three, item: &Ref, len: usize) -> b
         return false;
     }
     tell_call(rt, "read");
-    match read(all.alloc, &all.arena, &mut all.reader, item) {
-        Ok(words) => {
-            tell_done(rt, "read");
-            return all.looker.words.get(..len) == Some(words.as_slice());
-        }
-        Err(_) => tell_refused(rt, "read"),
+    if let Some(same) = are_words(all, item, len) {
+        tell_done(rt, "read");
+        return same;
     }
+    tell_refused(rt, "read");
     if !left_nothing(&all.arena, &mut all.looker, &all.reader) {
         return false;
     }
+    are_words(all, item, len) == Some(true)
+}
+
+// Whether the item has words from 0 on, so many. None where reading them is refused.
+fn are_words(all: &mut Three, item: &Ref, len: usize) -> Option<bool>
+    requires ready { AreReadyOf all.old.arena all.old.hand all.old.reader all.old.looker.hand }
+    requires item { IsItemRef (view all.old.reader) item.now }
+    ensures ready { AreReadyOf all.new.arena all.new.hand all.new.reader all.new.looker.hand }
+    ensures item { IsItemRef (view all.new.reader) item.now }
+{
     match read(all.alloc, &all.arena, &mut all.reader, item) {
-        Ok(words) => all.looker.words.get(..len) == Some(words.as_slice()),
-        Err(_) => false,
+        Ok(words) => Some(all.looker.words.get(..len) == Some(words.as_slice())),
+        Err(_) => None,
     }
 }

@@ -36,17 +36,23 @@ fn an_arena_is_made_of_worn_chunks(rt: HostRuntime) -> Result<(), Fail> {
     Ok(())
 }
 
-/// A step of hand 0, behind a change, if there is one.
-fn does(alloc: Global, change: Option<Change>, step: Step) -> Result<Event, Refused> {
+/// Adds a step of hand 0, behind a change, if there is one.
+fn add(
+    events: &mut Vec<Event>,
+    alloc: Global,
+    change: Option<Change>,
+    step: Step,
+) -> Result<(), Refused> {
     let mut before = Series::new(alloc);
     if let Some(change) = change {
         before.push(change)?;
     }
-    Ok(Event {
+    let event = Event {
         hand: 0,
         before,
         step,
-    })
+    };
+    push(events, event)
 }
 
 /// A chunk is handed out and has the words of an item, and the stripe of its key is locked.
@@ -63,20 +69,17 @@ const FILLED: [Step; 7] = [
 /// Class 1 gets a page, all of whose chunks are cut, and hands one out. An item is stored there.
 fn events(alloc: Global) -> Result<Vec<Event>, Refused> {
     let mut events = Vec::new(alloc);
-    push(&mut events, does(alloc, None, Step::TakeSlabs)?)?;
-    push(
-        &mut events,
-        does(alloc, Some(Change::Grow(1)), Step::Cut(0, 0))?,
-    )?;
+    add(&mut events, alloc, None, Step::TakeSlabs)?;
+    add(&mut events, alloc, Some(Change::Grow(1)), Step::Cut(0, 0))?;
     for index in 1..21 {
-        push(&mut events, does(alloc, None, Step::Cut(0, index))?)?;
+        add(&mut events, alloc, None, Step::Cut(0, index))?;
     }
     for step in &FILLED {
-        push(&mut events, does(alloc, None, *step)?)?;
+        add(&mut events, alloc, None, *step)?;
     }
     let reserve = Some(Change::OfStripe(3, StripeChange::Reserve));
-    push(&mut events, does(alloc, reserve, Step::Link(LAST))?)?;
-    push(&mut events, does(alloc, None, Step::GiveStripe(3))?)?;
+    add(&mut events, alloc, reserve, Step::Link(LAST))?;
+    add(&mut events, alloc, None, Step::GiveStripe(3))?;
     Ok(events)
 }
 

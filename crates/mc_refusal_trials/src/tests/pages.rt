@@ -12,6 +12,7 @@ use mc_classes::{ClassId, ClassTable};
 use mc_pages::{Grow, NoMemory, Reassign, Slabs};
 use mc_trial_values::FOUR_CLASSES;
 use std::alloc::Global;
+use std::process::Abort;
 use std::test::Fail;
 
 /// A call, and what it is to give.
@@ -171,25 +172,47 @@ fn pages_of(alloc: Global, table: &ClassTable) -> Result<Pages<'_>, Fail> {
     }
 }
 
+/// Four pages, two of each class, and then one that begins to move to this class or to the pool; it comes from this one.
+fn play_pages<R: Abort + Print>(
+    rt: &R,
+    pages: &mut Pages<'_>,
+    way: (ClassId, ClassId),
+    before: &mut Vec<u64>,
+    after: &mut Vec<u64>,
+) {
+    for step in [
+        Step::Grows(4),
+        Step::Grows(3),
+        Step::Grows(4),
+        Step::Grows(3),
+        Step::IsFull(4),
+        Step::Begins(None, way.0, way.1),
+    ] {
+        let is_right = play(rt, pages, step, before, after);
+        assert_same(rt, is_right, true, step.name());
+        cut_all(pages);
+    }
+}
+
+/// The same of new pages, once to a class, once to the pool, and once by another source.
+fn play_ways<R: Abort + Print>(
+    rt: &R,
+    alloc: Global,
+    table: &ClassTable,
+    before: &mut Vec<u64>,
+    after: &mut Vec<u64>,
+) -> Result<(), Fail> {
+    for way in [(1, 3), (0, 3), (3, 4)] {
+        let mut pages = pages_of(alloc, table)?;
+        play_pages(rt, &mut pages, way, before, after);
+    }
+    Ok(())
+}
+
 #[test]
 fn pages_are_as_before(rt: HostRuntime) -> Result<(), Fail> {
     let mut before = room(rt.alloc(), LENGTH)?;
     let mut after = room(rt.alloc(), LENGTH)?;
     let table = table(rt.alloc())?;
-    for (dst, source) in [(1, 3), (0, 3), (3, 4)] {
-        let mut pages = pages_of(rt.alloc(), &table)?;
-        for step in [
-            Step::Grows(4),
-            Step::Grows(3),
-            Step::Grows(4),
-            Step::Grows(3),
-            Step::IsFull(4),
-            Step::Begins(None, dst, source),
-        ] {
-            let is_right = play(&rt, &mut pages, step, &mut before, &mut after);
-            assert_same(&rt, is_right, true, step.name());
-            cut_all(&mut pages);
-        }
-    }
-    Ok(())
+    play_ways(&rt, rt.alloc(), &table, &mut before, &mut after)
 }

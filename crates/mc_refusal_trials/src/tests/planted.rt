@@ -8,7 +8,7 @@ ghost use Rattle.mc_refusal_trials.specs.Threes.{AreReadyOf};
 
 use super::assert_same;
 use super::calls::{Answer, Call};
-use super::looking::{look_after, look_before};
+use super::looking::{Looker, look_after, look_before};
 use super::opening::{Three, drop_three, opened};
 use super::snapshot::LENGTH;
 use super::steps::{Row, Step, behind_refusal, play_all};
@@ -88,6 +88,24 @@ const ITEMS: [Step; 2] = [
     (Call::Set(2, 61), Answer::Done),
 ];
 
+/// This is so, and another snapshot lets so many of the calls' rows go on.
+fn assert_right(
+    rt: &impl Abort,
+    arena: &Arena,
+    looker: &mut Looker,
+    acting: &Hand,
+    is_so: bool,
+    wanted: usize,
+    what: &str,
+)
+    requires looker { IsReadyHandOf arena.now looker.old.hand }
+    ensures looker { IsReadyHandOf arena.now looker.new.hand }
+{
+    let again = look_after(arena, looker, acting);
+    let right = count_right(&looker.before, &looker.after);
+    assert_same(rt, (is_so, again, right), (true, true, wanted), what);
+}
+
 /// Snapshots before and behind nothing, and before and behind a call that changes a header and says that it was refused.
 fn look_around_a_fault<R: Abort + Wait + Print>(rt: &R, all: &mut Three) -> Result<(), Fail>
     requires ready { AreReadyOf all.old.arena all.old.hand all.old.reader all.old.looker.hand }
@@ -99,22 +117,24 @@ fn look_around_a_fault<R: Abort + Wait + Print>(rt: &R, all: &mut Three) -> Resu
         return Err(Fail::new("the key has an item"));
     };
     let seen = look_before(&all.arena, &mut all.looker, &all.hand);
-    let again = look_after(&all.arena, &mut all.looker, &all.hand);
-    let right = count_right(&all.looker.before, &all.looker.after);
-    assert_same(
+    assert_right(
         rt,
-        (seen, again, right),
-        (true, true, 10),
+        &all.arena,
+        &mut all.looker,
+        &all.hand,
+        seen,
+        10,
         "nothing is changed",
     );
     assert_found(rt, &all.looker.before, &mut all.looker.after);
     let refused = refused_but_held(&all.arena, &mut all.reader, hint) == Answer::NoMemory;
-    let again = look_after(&all.arena, &mut all.looker, &all.hand);
-    let right = count_right(&all.looker.before, &all.looker.after);
-    assert_same(
+    assert_right(
         rt,
-        (refused, again, right),
-        (true, true, 0),
+        &all.arena,
+        &mut all.looker,
+        &all.hand,
+        refused,
+        0,
         "a header is changed",
     );
     Ok(())

@@ -1,6 +1,6 @@
 //! Runs that read, hold, give back and touch items.
 use super::{FROM_MODE_0, Row, plays, plays_rows};
-use std::alloc::AllocError;
+use std::alloc::{AllocError, Global};
 use std::test::Fail;
 
 const ROWS: [Row<'static>; 6] = [
@@ -47,35 +47,39 @@ fn rows_are_played(rt: HostRuntime) -> Result<(), Fail> {
     plays_rows(&rt, rt.alloc(), &ROWS)
 }
 
-/// Adds the text so often.
-fn push_times(text: &mut Vec<u8>, more: &[u8], count: usize) -> Result<(), AllocError> {
-    for _ in 0..count {
-        text.extend_from_slice(more)?;
+/// Lines of a worker that holds as much as it may, their replies, and how often these stand one after another.
+const MOST_HELD: [(&str, &str, u64); 4] = [
+    ("1 set 1 3 7\n1 set 2 1 5\n", "STORED 1\r\nSTORED 2\r\n", 1),
+    ("1 hold 1\n", "HELD 1\r\n", 254),
+    (
+        "1 get 1\n1 del 1\n1 hold 2\n1 hold 2\n1 get 2\n1 get 9\n1 hold 9\n1 touch 2\n",
+        "VALUE 1 3 7 8 9\r\nDELETED 1\r\nHELD 2\r\nTOO_MANY_REFS 2\r\nTOO_MANY_REFS 2\r\nTOO_MANY_REFS 9\r\nTOO_MANY_REFS 9\r\nTOUCHED 2\r\n",
+        1,
+    ),
+    (
+        "2 hold 2\n2 get 2\n1 drop 9\n1 drop 1\n1 get 2\n1 hold 2\n1 get 1\n1 drop 2\n",
+        "HELD 2\r\nVALUE 2 1 5\r\nNOT_HELD 9\r\nDROPPED 1 3 7 8 9\r\nVALUE 2 1 5\r\nHELD 2\r\nTOO_MANY_REFS 1\r\nDROPPED 2 1 5\r\n",
+        1,
+    ),
+];
+
+/// The script of these lines, and its replies.
+fn most_held(alloc: Global) -> Result<(Vec<u8>, Vec<u8>), AllocError> {
+    let mut script = Vec::new(alloc);
+    let mut replies = Vec::new(alloc);
+    for (line, reply, times) in &MOST_HELD {
+        for _ in 0..*times {
+            script.extend_from_slice(line.as_bytes())?;
+            replies.extend_from_slice(reply.as_bytes())?;
+        }
     }
-    Ok(())
+    Ok((script, replies))
 }
 
 /// With 255 holds a worker is refused whatever the key, and only it. Holds of items without a key count.
 #[test]
 fn a_worker_holds_at_most_255_chunks(rt: HostRuntime) -> Result<(), Fail> {
-    let mut script = Vec::new(rt.alloc());
-    let mut replies = Vec::new(rt.alloc());
-    script.extend_from_slice(b"1 set 1 3 7\n1 set 2 1 5\n")?;
-    replies.extend_from_slice(b"STORED 1\r\nSTORED 2\r\n")?;
-    push_times(&mut script, b"1 hold 1\n", 254)?;
-    push_times(&mut replies, b"HELD 1\r\n", 254)?;
-    script.extend_from_slice(
-        b"1 get 1\n1 del 1\n1 hold 2\n1 hold 2\n1 get 2\n1 get 9\n1 hold 9\n1 touch 2\n",
-    )?;
-    replies.extend_from_slice(
-        b"VALUE 1 3 7 8 9\r\nDELETED 1\r\nHELD 2\r\nTOO_MANY_REFS 2\r\nTOO_MANY_REFS 2\r\nTOO_MANY_REFS 9\r\nTOO_MANY_REFS 9\r\nTOUCHED 2\r\n",
-    )?;
-    script.extend_from_slice(
-        b"2 hold 2\n2 get 2\n1 drop 9\n1 drop 1\n1 get 2\n1 hold 2\n1 get 1\n1 drop 2\n",
-    )?;
-    replies.extend_from_slice(
-        b"HELD 2\r\nVALUE 2 1 5\r\nNOT_HELD 9\r\nDROPPED 1 3 7 8 9\r\nVALUE 2 1 5\r\nHELD 2\r\nTOO_MANY_REFS 1\r\nDROPPED 2 1 5\r\n",
-    )?;
+    let (script, replies) = most_held(rt.alloc())?;
     plays(
         &rt,
         rt.alloc(),

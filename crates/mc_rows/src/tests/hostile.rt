@@ -2,6 +2,8 @@
 use super::{FROM_MODE_0, Row, WHOLE, assert_played, assert_same, moves, play, plays, plays_rows};
 use mc_driver::RunFault;
 use mc_trial_values::FOUR_CLASSES;
+use std::alloc::Global;
+use std::process::Abort;
 use std::test::Fail;
 
 /// Lines that are none. Nothing of their scripts is done.
@@ -81,6 +83,27 @@ fn spent_turns(rt: HostRuntime) -> Result<(), Fail> {
     Ok(())
 }
 
+/// A script that was cut off here is refused by its last line, or its replies are these at first.
+fn assert_cut(rt: &impl Abort, alloc: Global, cut: &[u8], before: &[u8]) -> Result<(), Fail> {
+    let played = play(alloc, FOUR_CLASSES, cut, WHOLE)?;
+    let length = cut.len();
+    if played.end.is_ok() {
+        assert!(rt; played.text.starts_with(before), "{length} bytes");
+    } else {
+        let end = Err(RunFault::Script(last_line(cut)));
+        assert_played(rt, &played, &end, b"", "a script that is cut off");
+    }
+    Ok(())
+}
+
+/// The replies to whole lines.
+fn replies_to(rt: &impl Abort, alloc: Global, lines: &[u8]) -> Result<Vec<u8>, Fail> {
+    let whole = play(alloc, FOUR_CLASSES, lines, WHOLE)?;
+    let length = lines.len();
+    assert!(rt; whole.end.is_ok(), "{length} bytes");
+    Ok(whole.text)
+}
+
 /// A script that is cut off somewhere is refused by its last line, or runs as the shorter script: the lines before the
 /// last one answer what they answer alone.
 #[test]
@@ -89,21 +112,9 @@ fn truncated_scripts(rt: HostRuntime) -> Result<(), Fail> {
     let script = script.as_bytes();
     let mut before = Vec::new(rt.alloc());
     for (length, byte) in script.iter().enumerate() {
-        let cut = &script[..length];
-        let played = play(rt.alloc(), FOUR_CLASSES, cut, WHOLE)?;
-        match &played.end {
-            Ok(()) => {
-                assert!(rt; played.text.starts_with(&before), "{length} bytes");
-            }
-            Err(_) => {
-                let end = Err(RunFault::Script(last_line(cut)));
-                assert_played(&rt, &played, &end, b"", "a script that is cut off");
-            }
-        }
+        assert_cut(&rt, rt.alloc(), &script[..length], &before)?;
         if *byte == b'\n' {
-            let whole = play(rt.alloc(), FOUR_CLASSES, &script[..=length], WHOLE)?;
-            assert!(rt; whole.end.is_ok(), "{length} bytes");
-            before = whole.text;
+            before = replies_to(&rt, rt.alloc(), &script[..=length])?;
         }
     }
     assert!(rt; last_line(script) == 16);

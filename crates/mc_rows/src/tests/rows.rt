@@ -3,10 +3,13 @@ use super::{Row, WHOLE, assert_played, assert_same, play, plays_rows};
 use mc_classes::Config;
 use mc_driver::RunFault;
 use mc_trial_values::{FOUR_CLASSES, too_much};
+use std::alloc::Global;
 use std::process::Abort;
+use std::sync::Wait;
 use std::test::Fail;
 
-const ROWS: [Row<'static>; 17] = [
+/// Scripts of few items.
+const ROWS: [Row<'static>; 6] = [
     (
         "first path",
         "1 set 1 3 7\n1 set 2 3 9\n1 del 2\nstats slabs\n",
@@ -26,6 +29,22 @@ const ROWS: [Row<'static>; 17] = [
         "STORED 1\r\nTOO_LARGE 2\r\nTOO_LARGE 3\r\n",
         Ok(()),
     ),
+    (
+        "a refused set leaves the old item",
+        "1 set 7 3 0\n1 set 7 62 0\n1 del 7\n1 del 7\n",
+        "STORED 7\r\nTOO_LARGE 7\r\nDELETED 7\r\nNOT_FOUND 7\r\n",
+        Ok(()),
+    ),
+    (
+        "two classes",
+        "1 set 1 3 0\n63 set 18446744073709551615 20 18446744073709551615\nstats slabs\n",
+        "STORED 1\r\nSTORED 18446744073709551615\r\nSTAT 1:chunk_size 48\r\nSTAT 1:chunks_per_page 21\r\nSTAT 1:total_pages 1\r\nSTAT 1:total_chunks 21\r\nSTAT 1:used_chunks 1\r\nSTAT 1:free_chunks 20\r\nSTAT 3:chunk_size 192\r\nSTAT 3:chunks_per_page 5\r\nSTAT 3:total_pages 1\r\nSTAT 3:total_chunks 5\r\nSTAT 3:used_chunks 1\r\nSTAT 3:free_chunks 4\r\nSTAT active_slabs 2\r\nSTAT total_malloced 2048\r\nEND\r\n",
+        Ok(()),
+    ),
+];
+
+/// Scripts by which a class is full, or a page is.
+const FULL: [Row<'static>; 6] = [
     (
         "a full class evicts its oldest item, and a class without a page gets its first beyond the limit",
         "1 set 1 61 0\n1 set 2 61 0\n1 set 3 61 0\n1 set 4 61 0\n1 set 5 61 0\n1 set 6 61 0\n1 set 7 61 0\n1 set 8 61 0\n1 set 9 61 0\n1 get 1\n1 touch 2\n1 set 10 3 0\nstats slabs\n1 set 11 9 0\n1 set 12 20 0\nstats slabs\n",
@@ -57,23 +76,15 @@ const ROWS: [Row<'static>; 17] = [
         Ok(()),
     ),
     (
-        "a refused set leaves the old item",
-        "1 set 7 3 0\n1 set 7 62 0\n1 del 7\n1 del 7\n",
-        "STORED 7\r\nTOO_LARGE 7\r\nDELETED 7\r\nNOT_FOUND 7\r\n",
-        Ok(()),
-    ),
-    (
-        "two classes",
-        "1 set 1 3 0\n63 set 18446744073709551615 20 18446744073709551615\nstats slabs\n",
-        "STORED 1\r\nSTORED 18446744073709551615\r\nSTAT 1:chunk_size 48\r\nSTAT 1:chunks_per_page 21\r\nSTAT 1:total_pages 1\r\nSTAT 1:total_chunks 21\r\nSTAT 1:used_chunks 1\r\nSTAT 1:free_chunks 20\r\nSTAT 3:chunk_size 192\r\nSTAT 3:chunks_per_page 5\r\nSTAT 3:total_pages 1\r\nSTAT 3:total_chunks 5\r\nSTAT 3:used_chunks 1\r\nSTAT 3:free_chunks 4\r\nSTAT active_slabs 2\r\nSTAT total_malloced 2048\r\nEND\r\n",
-        Ok(()),
-    ),
-    (
         "a class without a page gets one where all within the limit are granted",
         "1 set 1 61 0\n1 set 2 61 0\n1 set 3 61 0\n1 set 4 61 0\n1 set 5 61 0\n1 set 6 61 0\n1 set 7 61 0\n1 set 10 3 0\n",
         "STORED 1\r\nSTORED 2\r\nSTORED 3\r\nSTORED 4\r\nSTORED 5\r\nSTORED 6\r\nSTORED 7\r\nSTORED 10\r\n",
         Ok(()),
     ),
+];
+
+/// Scripts that are refused.
+const BAD: [Row<'static>; 5] = [
     (
         "bad second line",
         "1 set 1 3 7\n1 frob 3\n",
@@ -101,9 +112,21 @@ const ROWS: [Row<'static>; 17] = [
     ),
 ];
 
+/// Classes and pages that are full.
+fn full_are_played<R: Abort + Wait>(rt: &R, alloc: Global) -> Result<(), Fail> {
+    plays_rows(rt, alloc, &FULL)
+}
+
+/// Scripts of which nothing is done.
+fn bad_are_played<R: Abort + Wait>(rt: &R, alloc: Global) -> Result<(), Fail> {
+    plays_rows(rt, alloc, &BAD)
+}
+
 #[test]
 fn rows_are_played(rt: HostRuntime) -> Result<(), Fail> {
-    plays_rows(&rt, rt.alloc(), &ROWS)
+    plays_rows(&rt, rt.alloc(), &ROWS)?;
+    full_are_played(&rt, rt.alloc())?;
+    bad_are_played(&rt, rt.alloc())
 }
 
 /// Configurations that are refused, each with the number of the test that refuses it.
