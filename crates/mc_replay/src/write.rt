@@ -17,7 +17,7 @@
 //!
 //! The lines from `head` to `history` stand after Ok alone. Those from `owner` to `totals` are `slabs none` where somebody
 //! has the slabs lock, and those of a stripe are `stripe STRIPE none` where somebody has its lock.
-ghost use Rattle.std.specs.Prelude.{◌≡◌, ◌++◌, IfOk, OnOk, codes, string_bytes};
+ghost use Rattle.std.specs.Prelude.{◌≡◌, ◌++◌, IfOk, OnOk, codes, decimal, string_bytes};
 ghost use Rattle.mc_replay.specs.Written.{IsAnswer, free_slabs_text, free_stripe_text, standing_text, stripes_text};
 
 mod heads;
@@ -36,9 +36,7 @@ pub fn answer(alloc: Global, list: &List) -> Result<String, NoMemory>
 {
     match replay(alloc, &list.config, list.hands, list.events.as_slice()) {
         Ok(state) => played(alloc, &state, list.config.stripes),
-        Err(Stop::NotAllowed(place)) => {
-            Ok(format!(in alloc; "answer NotAllowed {place}\nend\n")?)
-        }
+        Err(Stop::NotAllowed(place)) => stop_answer(alloc, place),
         Err(Stop::NoMemory(refused)) => Err(NoMemory::Seen(refused)),
     }
 }
@@ -52,6 +50,13 @@ fn played(alloc: Global, state: &State, stripes: u64) -> Result<String, NoMemory
     standing(alloc, &mut text, state, stripes)?;
     push_str(&mut text, "end\n")?;
     Ok(text)
+}
+
+/// The answer where the event at this place isn't allowed.
+fn stop_answer(alloc: Global, place: u64) -> Result<String, NoMemory>
+    ensures { IfOk result (λ text. string_bytes text ≡ codes "answer NotAllowed " ++ decimal place ++ codes "\nend\n") }
+{
+    Ok(format!(in alloc; "answer NotAllowed {place}\nend\n")?)
 }
 
 /// What stands in a state with so many stripes.

@@ -1,2 +1,3 @@
 pub mod PlayedMore
 pub mod NoFloat
+pub mod RowsMore

@@ -1,5 +1,5 @@
 //! A map as JSON: an object in a line.
-ghost use Rattle.std.specs.Prelude.{◌≡◌, ◌++◌, IfOk, OnOk, codes, map, string_bytes};
+ghost use Rattle.std.specs.Prelude.{◌≡◌, ◌++◌, [], ◌∷◌, IfOk, OnOk, codes, map, string_bytes};
 ghost use Rattle.serde_json.specs.View.{members_view, view};
 ghost use Rattle.serde_json.specs.Written.{compact_text};
 ghost use Rattle.mcmap.specs.Json.{
@@ -56,10 +56,30 @@ fn put_map(
 ) -> Result<(), AllocError>
     ensures { OnOk result (members_view object.new.entries ≡ with_members (members_view object.old.entries) (map_members line map.now)) }
 {
+    put_front(alloc, map, line, object)?;
+    put_pages(alloc, map, object)?;
+    put_moves(alloc, map, object)
+}
+
+/// Puts the line, how many commands are done, and the sizes of a page.
+fn put_front(
+    alloc: Global,
+    map: &Map,
+    line: u64,
+    object: &mut Object<String, Value>,
+) -> Result<(), AllocError>
+    ensures { OnOk result (members_view object.new.entries ≡ with_members (members_view object.old.entries) ((codes "line", number_json line) ∷ (codes "done", number_json map.now.done) ∷ (codes "page", number_json map.now.page) ∷ (codes "chunks", number_json map.now.chunks) ∷ [])) }
+{
     put(object, alloc, "line", Value::from(line))?;
     put(object, alloc, "done", Value::from(map.done))?;
     put(object, alloc, "page", Value::from(map.page))?;
-    put(object, alloc, "chunks", Value::from(map.chunks))?;
+    put(object, alloc, "chunks", Value::from(map.chunks))
+}
+
+/// Puts who owns the pages, the classes, and the numbers of the whole.
+fn put_pages(alloc: Global, map: &Map, object: &mut Object<String, Value>) -> Result<(), AllocError>
+    ensures { OnOk result (members_view object.new.entries ≡ with_members (members_view object.old.entries) ((codes "owners", row_json owner_json map.now.owners.items) ∷ (codes "pool", row_json number_json map.now.pool.items) ∷ (codes "classes", row_json class_json map.now.classes.items) ∷ (codes "totals", totals_json map.now.totals) ∷ [])) }
+{
     put(object, alloc, "owners", owners_value(alloc, &map.owners)?)?;
     put(object, alloc, "pool", numbers_value(alloc, &map.pool)?)?;
     put(
@@ -68,7 +88,13 @@ fn put_map(
         "classes",
         classes_value(alloc, &map.classes)?,
     )?;
-    put(object, alloc, "totals", totals_value(alloc, map.totals)?)?;
+    put(object, alloc, "totals", totals_value(alloc, map.totals)?)
+}
+
+/// Puts how pages changed hands, which one moves, and what holds it up.
+fn put_moves(alloc: Global, map: &Map, object: &mut Object<String, Value>) -> Result<(), AllocError>
+    ensures { OnOk result (members_view object.new.entries ≡ with_members (members_view object.old.entries) ((codes "ledger", row_json entry_json map.now.ledger.items) ∷ (codes "moving", moving_json map.now.moving) ∷ (codes "blockers", hang_json map.now.hang) ∷ [])) }
+{
     put(object, alloc, "ledger", ledger_value(alloc, &map.ledger)?)?;
     put(object, alloc, "moving", moving_value(alloc, map.moving)?)?;
     put(object, alloc, "blockers", hang_value(alloc, &map.hang)?)

@@ -1,5 +1,5 @@
 //! The changes before an event, by their names and arguments.
-ghost use Rattle.std.specs.Prelude.{◌≡◌, ◌==◌, map, Some, None, Err, IfOk};
+ghost use Rattle.std.specs.Prelude.{◌≡◌, ◌==◌, [], ◌∷◌, map, Some, None, Err, IfOk};
 ghost use Rattle.std.specs.List.{slice_split};
 ghost use Rattle.mc_script.specs.Words.{words_of};
 ghost use Rattle.mc_replay.specs.Changes.{change_of, changes_in, changes_of, found_of, number_change};
@@ -59,17 +59,47 @@ fn change(words: &[&[u8]]) -> Option<Change>
     ensures { result ≡ change_of (map (λ word. word.now) words.now) }
 {
     match words {
-        [name] if is(name, b"FinishMove") => Some(Change::FinishMove),
-        [name] if is(name, b"Wrap") => Some(Change::Wrap),
-        [name] if is(name, b"TrimLedger") => Some(Change::TrimLedger),
-        [name, found] if is(name, b"Passed") => Some(Change::Passed(found_of(found)?)),
-        [name, one] => number_change(name, number(one)?),
-        [name, src, dst] if is(name, b"BeginMove") => {
-            Some(Change::BeginMove(source(src)?, number(dst)?))
-        }
-        [name, page, index] if is(name, b"Touch") => Some(Change::Touch(ChunkId {
-            page: number(page)?,
-            index: number(index)?,
+        [name] => bare_change(name),
+        [name, one] => change_of_one(name, one),
+        [name, one, two] => change_of_two(name, one, two),
+        _ => None,
+    }
+}
+
+/// The change of this name without arguments.
+#[tactic(auto, unfolding(crate::specs::Changes::change_of))]
+fn bare_change(name: &[u8]) -> Option<Change>
+    ensures { result ≡ change_of (name.now ∷ []) }
+{
+    match name {
+        _ if is(name, b"FinishMove") => Some(Change::FinishMove),
+        _ if is(name, b"Wrap") => Some(Change::Wrap),
+        _ if is(name, b"TrimLedger") => Some(Change::TrimLedger),
+        _ => None,
+    }
+}
+
+/// The change of this name with one argument.
+#[tactic(auto, unfolding(crate::specs::Changes::change_of))]
+fn change_of_one(name: &[u8], one: &[u8]) -> Option<Change>
+    ensures { result ≡ change_of (name.now ∷ one.now ∷ []) }
+{
+    match name {
+        _ if is(name, b"Passed") => Some(Change::Passed(found_of(one)?)),
+        _ => number_change(name, number(one)?),
+    }
+}
+
+/// The change of this name with two arguments.
+#[tactic(auto, unfolding(crate::specs::Changes::change_of))]
+fn change_of_two(name: &[u8], one: &[u8], two: &[u8]) -> Option<Change>
+    ensures { result ≡ change_of (name.now ∷ one.now ∷ two.now ∷ []) }
+{
+    match name {
+        _ if is(name, b"BeginMove") => Some(Change::BeginMove(source(one)?, number(two)?)),
+        _ if is(name, b"Touch") => Some(Change::Touch(ChunkId {
+            page: number(one)?,
+            index: number(two)?,
         })),
         _ => None,
     }

@@ -1,5 +1,5 @@
 //! The steps of events, by their names and arguments.
-ghost use Rattle.std.specs.Prelude.{◌≡◌, map};
+ghost use Rattle.std.specs.Prelude.{◌≡◌, [], ◌∷◌, map};
 ghost use Rattle.mc_replay.specs.Steps.{bare_step, chunk_step, number_step, place_step, step_of};
 
 use super::word::is;
@@ -15,9 +15,36 @@ pub(super) fn step(name: &[u8], arguments: &[&[u8]]) -> Option<Step>
     match arguments {
         [] => bare_step(name),
         [one] => number_step(name, number(one)?),
-        [page, index] => chunk_step(name, number(page)?, number(index)?),
-        [page, index, place] => place_step(name, number(page)?, number(index)?, number(place)?),
-        [page, index, place, word] if is(name, b"Fill") => Some(Step::Fill(
+        [page, index] => step_of_two(name, page, index),
+        [page, index, place] => step_of_three(name, page, index, place),
+        [page, index, place, word] => step_of_four(name, page, index, place, word),
+        _ => None,
+    }
+}
+
+/// The step of this name with these two arguments.
+#[tactic(auto, unfolding(crate::specs::Steps::step_of))]
+fn step_of_two(name: &[u8], page: &[u8], index: &[u8]) -> Option<Step>
+    ensures { result ≡ step_of name.now (page.now ∷ index.now ∷ []) }
+{
+    chunk_step(name, number(page)?, number(index)?)
+}
+
+/// The step of this name with these three arguments.
+#[tactic(auto, unfolding(crate::specs::Steps::step_of))]
+fn step_of_three(name: &[u8], page: &[u8], index: &[u8], place: &[u8]) -> Option<Step>
+    ensures { result ≡ step_of name.now (page.now ∷ index.now ∷ place.now ∷ []) }
+{
+    place_step(name, number(page)?, number(index)?, number(place)?)
+}
+
+/// The step of this name with these four arguments.
+#[tactic(auto, unfolding(crate::specs::Steps::step_of))]
+fn step_of_four(name: &[u8], page: &[u8], index: &[u8], place: &[u8], word: &[u8]) -> Option<Step>
+    ensures { result ≡ step_of name.now (page.now ∷ index.now ∷ place.now ∷ word.now ∷ []) }
+{
+    match name {
+        _ if is(name, b"Fill") => Some(Step::Fill(
             ChunkId {
                 page: number(page)?,
                 index: number(index)?,

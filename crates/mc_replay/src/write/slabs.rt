@@ -129,16 +129,24 @@ fn classes(
 }
 
 /// The lists of a class, and how often it evicted.
-#[tactic(auto, using(crate::proofs::Ranges::appends_three))]
 fn class(alloc: Global, text: &mut String, slabs: &Slabs, class: ClassId) -> Result<(), NoMemory>
     requires { IsClass slabs.now.state class }
     ensures { OnOk result (string_bytes text.new ≡ string_bytes text.old ++ class_line class (class_at slabs.now.state class)) }
+{
+    lists(alloc, text, slabs, class)?;
+    Ok(evictions(text, slabs.numbers(class).evictions)?)
+}
+
+/// A class, its free list and its hand-out order.
+fn lists(alloc: Global, text: &mut String, slabs: &Slabs, class: ClassId) -> Result<(), NoMemory>
+    requires { IsClass slabs.now.state class }
+    ensures { OnOk result (string_bytes text.new ≡ string_bytes text.old ++ (free_text class (class_at slabs.now.state class).free ++ order_text (class_at slabs.now.state class).order)) }
 {
     let free = free_of(alloc, slabs, class)?;
     let order = order_of(alloc, slabs, class)?;
     free_list(text, class, &free)?;
     hand_out_order(text, &order)?;
-    Ok(evictions(text, slabs.numbers(class).evictions)?)
+    Ok(())
 }
 
 /// A class and its free list.
