@@ -16,7 +16,7 @@ const HASHES: u64 = 3;
 const CALLS: u64 = 2000;
 
 /// Stores the call's version of its key. False where that is refused.
-fn is_set<R: Wait>(
+fn sets<R: Wait>(
     rt: &R,
     alloc: Global,
     arena: &Arena,
@@ -63,14 +63,14 @@ fn store<R: Wait>(
     requires { IsIdleHandOf arena.now hand.old }
     ensures { IsIdleHandOf arena.now hand.new }
 {
-    if !is_set(rt, alloc, arena, hand, at, call)? {
+    if !sets(rt, alloc, arena, hand, at, call)? {
         return Ok(false);
     }
     is_alone(rt, alloc, arena, hand, at, call.number)
 }
 
 /// Deletes the key. True if it isn't there then.
-fn is_deleted<R: Wait>(rt: &R, arena: &Arena, hand: &mut Hand, at: Label) -> Result<bool, Fail>
+fn deletes<R: Wait>(rt: &R, arena: &Arena, hand: &mut Hand, at: Label) -> Result<bool, Fail>
     requires { IsIdleHandOf arena.now hand.old }
     ensures { IsIdleHandOf arena.now hand.new }
 {
@@ -79,7 +79,7 @@ fn is_deleted<R: Wait>(rt: &R, arena: &Arena, hand: &mut Hand, at: Label) -> Res
 }
 
 /// Touches the key. True if it is touched where it is there, and nowhere else.
-fn is_touched<R: Wait>(rt: &R, arena: &Arena, hand: &mut Hand, at: Label) -> Result<bool, Fail>
+fn touches<R: Wait>(rt: &R, arena: &Arena, hand: &mut Hand, at: Label) -> Result<bool, Fail>
     requires { IsIdleHandOf arena.now hand.old }
     ensures { IsIdleHandOf arena.now hand.new }
 {
@@ -88,7 +88,7 @@ fn is_touched<R: Wait>(rt: &R, arena: &Arena, hand: &mut Hand, at: Label) -> Res
 }
 
 /// Gets the key. True if its bytes are its value, or none where it isn't there.
-fn is_got<R: Wait>(
+fn finds<R: Wait>(
     rt: &R,
     arena: &Arena,
     hand: &mut Hand,
@@ -126,10 +126,10 @@ fn act_at<R: Wait>(
         }
         3 => {
             trial.note(call.number, None);
-            is_deleted(rt, arena, hand, at)
+            deletes(rt, arena, hand, at)
         }
-        4 => is_touched(rt, arena, hand, at),
-        _ => is_got(rt, arena, hand, trial, at, call.number),
+        4 => touches(rt, arena, hand, at),
+        _ => finds(rt, arena, hand, trial, at, call.number),
     }
 }
 

@@ -50,7 +50,7 @@ fn store<R: Wait>(
 }
 
 /// Deletes the key. False if it was done, and the key is there then.
-fn is_deleted<R: Wait>(
+fn deletes<R: Wait>(
     rt: &R,
     cache: &Cache,
     worker: &mut Worker,
@@ -69,7 +69,7 @@ fn is_deleted<R: Wait>(
 }
 
 /// Gets the key. True if its bytes are its value, or none where it isn't there.
-fn is_got<R: Wait>(
+fn finds<R: Wait>(
     rt: &R,
     cache: &Cache,
     worker: &mut Worker,
@@ -104,12 +104,12 @@ fn act_on<R: Wait>(
             store(rt, cache, worker, trial, key, call)?;
             Ok(true)
         }
-        3 => Ok(is_deleted(rt, cache, worker, trial, key, call.number)),
+        3 => Ok(deletes(rt, cache, worker, trial, key, call.number)),
         4 => {
             let _touched = worker.touch(rt, cache, key);
             Ok(true)
         }
-        _ => is_got(rt, cache, worker, trial, key, call),
+        _ => finds(rt, cache, worker, trial, key, call),
     }
 }
 
