@@ -1,5 +1,5 @@
 -- A map as JSON.
-use Rattle.std.specs.Prelude.{ℕ, List, [], ◌∷◌, codes, map, Option, Some, None}
+use Rattle.std.specs.Prelude.{ℕ, List, [], ◌∷◌, ◌++◌, codes, map, Option, Some, None}
 use Rattle.serde_json.specs.Data.{Data, null, boolean, number, array, object, unsigned, Members, no_members, put}
 use Rattle.serde_json.specs.View.{items_of}
 use Rattle.mc_pages.specs.declared.ids.Moving.{Moving}
@@ -99,13 +99,23 @@ hang_json Idle = null
 hang_json (Found blockers) = row_json blocker_json blockers.items
 hang_json Unknown = null
 
--- what a map has, by its names, behind the line of its mark, which is 0 at the end
+-- the line of its mark, which is 0 at the end, how many commands are done, and the sizes of a page
+abbrev pub front_members : ℕ → Map → List (List ℕ × Data)
+front_members line map = (codes "line", number_json line) ∷ (codes "done", number_json map.done) ∷ (codes "page", number_json map.page) ∷ (codes "chunks", number_json map.chunks) ∷ []
+
+-- who owns the pages, the classes, and the numbers of the whole
+abbrev pub page_members : Map → List (List ℕ × Data)
+page_members map =
+    (codes "owners", row_json owner_json map.owners.items) ∷ (codes "pool", row_json number_json map.pool.items)
+    ∷ (codes "classes", row_json class_json map.classes.items) ∷ (codes "totals", totals_json map.totals) ∷ []
+
+-- how pages changed hands, which one moves, and what holds it up
+abbrev pub move_members : Map → List (List ℕ × Data)
+move_members map = (codes "ledger", row_json entry_json map.ledger.items) ∷ (codes "moving", moving_json map.moving) ∷ (codes "blockers", hang_json map.hang) ∷ []
+
+-- what a map has, by its names
 abbrev pub map_members : ℕ → Map → List (List ℕ × Data)
-map_members line map =
-    (codes "line", number_json line) ∷ (codes "done", number_json map.done) ∷ (codes "page", number_json map.page) ∷ (codes "chunks", number_json map.chunks)
-    ∷ (codes "owners", row_json owner_json map.owners.items) ∷ (codes "pool", row_json number_json map.pool.items)
-    ∷ (codes "classes", row_json class_json map.classes.items) ∷ (codes "totals", totals_json map.totals)
-    ∷ (codes "ledger", row_json entry_json map.ledger.items) ∷ (codes "moving", moving_json map.moving) ∷ (codes "blockers", hang_json map.hang) ∷ []
+map_members line map = front_members line map ++ (page_members map ++ move_members map)
 
 -- a map as an object
 abbrev pub map_json : ℕ → Map → Data

@@ -1,5 +1,5 @@
 //! A map as JSON: an object in a line.
-ghost use Rattle.std.specs.Prelude.{◌≡◌, ◌++◌, [], ◌∷◌, IfOk, OnOk, codes, map, string_bytes};
+ghost use Rattle.std.specs.Prelude.{◌≡◌, ◌++◌, IfOk, OnOk, codes, map, string_bytes};
 ghost use Rattle.serde_json.specs.View.{members_view, view};
 ghost use Rattle.serde_json.specs.Written.{compact_text};
 ghost use Rattle.mcmap.specs.Json.{
@@ -9,10 +9,13 @@ ghost use Rattle.mcmap.specs.Json.{
   pairs_json,
   entry_json,
   hang_json,
+  front_members,
   map_json,
   map_members,
+  move_members,
   moving_json,
   owner_json,
+  page_members,
   row_json,
   totals_json,
   with_members,
@@ -68,7 +71,7 @@ fn put_front(
     line: u64,
     object: &mut Object<String, Value>,
 ) -> Result<(), AllocError>
-    ensures { OnOk result (members_view object.new.entries ≡ with_members (members_view object.old.entries) ((codes "line", number_json line) ∷ (codes "done", number_json map.now.done) ∷ (codes "page", number_json map.now.page) ∷ (codes "chunks", number_json map.now.chunks) ∷ [])) }
+    ensures { OnOk result (members_view object.new.entries ≡ with_members (members_view object.old.entries) (front_members line map.now)) }
 {
     put(object, alloc, "line", Value::from(line))?;
     put(object, alloc, "done", Value::from(map.done))?;
@@ -78,7 +81,7 @@ fn put_front(
 
 /// Puts who owns the pages, the classes, and the numbers of the whole.
 fn put_pages(alloc: Global, map: &Map, object: &mut Object<String, Value>) -> Result<(), AllocError>
-    ensures { OnOk result (members_view object.new.entries ≡ with_members (members_view object.old.entries) ((codes "owners", row_json owner_json map.now.owners.items) ∷ (codes "pool", row_json number_json map.now.pool.items) ∷ (codes "classes", row_json class_json map.now.classes.items) ∷ (codes "totals", totals_json map.now.totals) ∷ [])) }
+    ensures { OnOk result (members_view object.new.entries ≡ with_members (members_view object.old.entries) (page_members map.now)) }
 {
     put(object, alloc, "owners", owners_value(alloc, &map.owners)?)?;
     put(object, alloc, "pool", numbers_value(alloc, &map.pool)?)?;
@@ -93,7 +96,7 @@ fn put_pages(alloc: Global, map: &Map, object: &mut Object<String, Value>) -> Re
 
 /// Puts how pages changed hands, which one moves, and what holds it up.
 fn put_moves(alloc: Global, map: &Map, object: &mut Object<String, Value>) -> Result<(), AllocError>
-    ensures { OnOk result (members_view object.new.entries ≡ with_members (members_view object.old.entries) ((codes "ledger", row_json entry_json map.now.ledger.items) ∷ (codes "moving", moving_json map.now.moving) ∷ (codes "blockers", hang_json map.now.hang) ∷ [])) }
+    ensures { OnOk result (members_view object.new.entries ≡ with_members (members_view object.old.entries) (move_members map.now)) }
 {
     put(object, alloc, "ledger", ledger_value(alloc, &map.ledger)?)?;
     put(object, alloc, "moving", moving_value(alloc, map.moving)?)?;
