@@ -191,6 +191,23 @@ fn put_in(blockers: &mut Vec<Blocker>, blocker: Blocker) -> Result<(), Refused> 
     insert(blockers, place, blocker)
 }
 
+/// The item as what holds this chunk up.
+fn blocker_of(
+    alloc: Global,
+    chunk: u64,
+    held: &HeldItem,
+    items: &Items,
+    keeper: &Keeper,
+) -> Result<Blocker, Lost> {
+    let linked = items.is_linked(keeper, held)?;
+    Ok(Blocker {
+        chunk,
+        key: held.key,
+        linked,
+        workers: from_slice(alloc, &held.workers)?,
+    })
+}
+
 /// The chunks that hold the move up. Of each key the item that was held last is let go first, as a worker's last hold is.
 fn blockers_of(
     alloc: Global,
@@ -199,9 +216,9 @@ fn blockers_of(
     items: &Items,
     keeper: &Keeper,
 ) -> Result<Vec<Blocker>, Lost> {
-    let mut blockers = Vec::new(alloc);
     let mut busy = probe.pass()?;
     let all = busy.len();
+    let mut blockers = Vec::new(alloc);
     for held in items.held().iter().rev() {
         if !held.is_of(keeper.table(), class) {
             continue;
@@ -209,12 +226,7 @@ fn blockers_of(
         probe.release(held);
         let left = probe.pass()?;
         if let Some(chunk) = missing(&busy, &left) {
-            let blocker = Blocker {
-                chunk,
-                key: held.key,
-                linked: items.is_linked(keeper, held)?,
-                workers: from_slice(alloc, &held.workers)?,
-            };
+            let blocker = blocker_of(alloc, chunk, held, items, keeper)?;
             put_in(&mut blockers, blocker)?;
         }
         busy = left;
@@ -226,7 +238,25 @@ fn blockers_of(
     }
 }
 
-/// Does the commands anew, and searches there for what holds the move up.
+/// Does the commands anew on the probe, and searches there for what holds the move up.
+fn blockers_after(
+    alloc: Global,
+    probe: &mut Probe,
+    moving: Moving,
+    keeper: &Keeper,
+    items: &Items,
+    commands: &[Command],
+) -> Result<Vec<Blocker>, Lost>
+    requires { All IsValid commands.now }
+{
+    probe.play(commands)?;
+    if probe.keeper.moving() != Some(moving) {
+        return Err(Lost::Unknown);
+    }
+    blockers_of(alloc, probe, moving.src, items, keeper)
+}
+
+/// The same, on a probe of its own, which is lent: it's dropped at one place.
 fn search(
     alloc: Global,
     moving: Moving,
@@ -239,11 +269,7 @@ fn search(
     requires valid { All IsValid commands.now }
 {
     let mut probe = Probe::new(alloc, &run.config, run.automove)?;
-    probe.play(commands)?;
-    if probe.keeper.moving() != Some(moving) {
-        return Err(Lost::Unknown);
-    }
-    blockers_of(alloc, &mut probe, moving.src, items, keeper)
+    blockers_after(alloc, &mut probe, moving, keeper, items, commands)
 }
 
 /// Where the keeper's move hangs. `commands` are those that were done.
