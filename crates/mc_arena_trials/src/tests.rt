@@ -1,9 +1,6 @@
 //! The tests, and what they have in common.
-mod calls;
-mod keys;
-mod locks;
-mod owner;
-mod threads;
+mod items;
+mod words;
 
 use std::fmt::Debug;
 use std::process::Abort;

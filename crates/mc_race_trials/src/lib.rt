@@ -1,5 +1,5 @@
 //! Threads that race for items, over the public calls of `mc_mover`, `mc_items` and `mc_words` alone. The tests of `mc_stress_trials` run
-//! them, and those of `mc_item_trials` use some of their calls.
+//! them, and those of `mc_arena_trials` use some of their calls.
 #![tactic(auto)]
 
 mod calls;

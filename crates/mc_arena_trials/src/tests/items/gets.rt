@@ -4,8 +4,9 @@ ghost use Rattle.mc_items.specs.ItemRefs.{IsItemRef};
 ghost use Rattle.mc_calls.specs.Hands.{IsReadyHandOf};
 ghost use Rattle.mc_calls.specs.Pairs.{AreReady};
 
+use super::MOST_WORDS;
 use super::steps::Step;
-use super::{MOST_WORDS, assert_same};
+use crate::tests::assert_same;
 use mc_calls::{FOUR_CLASSES, GETTERS, Getter, Two, get_by, header, play_all, play_two, run};
 use mc_items::{Ref, SetError, release};
 use mc_pages::ChunkId;

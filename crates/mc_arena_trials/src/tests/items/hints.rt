@@ -5,8 +5,9 @@ ghost use Rattle.mc_words.specs.hand.Arenas.{setup_of};
 ghost use Rattle.mc_words.specs.hand.Observers.{hint_chunk};
 ghost use Rattle.mc_calls.specs.Pairs.{AreReady};
 
+use super::MOST_WORDS;
 use super::steps::Step;
-use super::{MOST_WORDS, assert_equal, assert_same};
+use crate::tests::{assert_equal, assert_same};
 use mc_calls::{Getter, Two, follow, hint_of, play_all, play_two};
 use mc_items::again;
 use mc_words::{Again, Hint};

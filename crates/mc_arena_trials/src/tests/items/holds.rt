@@ -4,8 +4,8 @@ ghost use Rattle.mc_items.specs.ItemRefs.{IsItemRef};
 ghost use Rattle.mc_calls.specs.Hands.{IsReadyHandOf};
 ghost use Rattle.mc_calls.specs.Pairs.{AreReady};
 
-use super::assert_same;
 use super::steps::Step;
+use crate::tests::assert_same;
 use mc_calls::{GETTERS, Getter, Two, are_from, get_by, play_all, play_two};
 use mc_items::{Ref, read, release};
 use mc_memory::Refused;

@@ -12,7 +12,7 @@ ghost use Rattle.mc_words.specs.hand.Idle.{has_no_stripes};
 ghost use Rattle.mc_words.specs.hand.Observers.{HasSlabs, fresh_chunk, fresh_room, slabs_lent, stripe_lent};
 ghost use Rattle.mc_words.specs.item.Fresh.{IsFreshOf};
 ghost use Rattle.mc_mover.specs.Acting.{HasBlankCopy, KnowsReason};
-ghost use Rattle.mc_item_trials.specs.Locked.{LeadsTo, MayTakeAway};
+ghost use Rattle.mc_arena_trials.specs.Locked.{LeadsTo, MayTakeAway};
 
 use mc_classes::ClassId;
 use mc_pages::ChunkId;

@@ -6,9 +6,10 @@ ghost use Rattle.mc_words.specs.hand.Observers.{hint_chunk};
 ghost use Rattle.mc_calls.specs.Hands.{IsReadyHandOf};
 ghost use Rattle.mc_calls.specs.Pairs.{AreReady};
 
+use super::MOST_WORDS;
 use super::hints::hint_behind;
 use super::steps::Step;
-use super::{MOST_WORDS, assert_equal, assert_same};
+use crate::tests::{assert_equal, assert_same};
 use mc_calls::{FOUR_CLASSES, Two, drop_arena, drop_two, follow, opened_two, play_all, play_two};
 use mc_items::{GetError, SetError, TryGetError, get, try_get};
 use mc_stripe::Key;

@@ -2,7 +2,7 @@
 ghost use Rattle.std.specs.Prelude.{◌≡◌, ◌<◌, ◌%◌, true, None, Some, slice_index_or, IfSome};
 ghost use Rattle.mc_words.specs.hand.Arenas.{IsHandOf, setup_of, view};
 
-use super::{assert_equal, assert_same};
+use crate::tests::{assert_equal, assert_same};
 use mc_stripe::{Call, Key};
 use mc_trial_values::FOUR_CLASSES;
 use mc_words::{Arena, Final, Hand, StripeHeld};

@@ -2,7 +2,7 @@
 ghost use Rattle.mc_words.specs.hand.Arenas.{IsHandOf};
 
 use super::calls::{give, has_lent_stripe, head, is_stripe_left, lose_stripe, owner};
-use super::{assert_equal, assert_same};
+use crate::tests::{assert_equal, assert_same};
 use mc_pages::{ChunkId, Owner};
 use mc_trial_values::FOUR_CLASSES;
 use mc_words::{Arena, Final, Hand};

@@ -3,7 +3,7 @@ ghost use Rattle.std.specs.Prelude.{◌≡◌, IfOk, Some};
 ghost use Rattle.mc_words.specs.hand.Arenas.{IsHandOf, view};
 
 use super::calls::{first_free, give, go_round, grow_page, is_worn, sweep_around};
-use super::{assert_equal, assert_same};
+use crate::tests::{assert_equal, assert_same};
 use mc_classes::Config;
 use mc_memory::with_capacity;
 use mc_pages::{ChunkId, Grow, Numbers};

@@ -7,7 +7,7 @@ ghost use Rattle.mc_words.specs.item.Fresh.{IsFreshOf};
 ghost use Rattle.mc_core.specs.State.{is_class};
 
 use super::calls::{give, grow_page, has_chunk, head, is_class, listed_free};
-use super::{assert_equal, assert_same};
+use crate::tests::{assert_equal, assert_same};
 use mc_classes::ClassId;
 use mc_pages::ChunkId;
 use mc_trial_values::FOUR_CLASSES;

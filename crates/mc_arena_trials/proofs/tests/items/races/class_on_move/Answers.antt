@@ -3,7 +3,7 @@ use Rattle.mc_pages.specs.SlabState.{SlabState}
 use Rattle.mc_core.specs.State.{has_chunk}
 use Rattle.mc_words.specs.hand.View.{Setup}
 use Rattle.mc_words.proofs.Items.HeldReads.{owner_near}
-use Rattle.mc_item_trials.proofs.tests.races.class_on_move.Goals as goal
+use Rattle.mc_arena_trials.proofs.tests.items.races.class_on_move.Goals as goal
 
 pub owner-requires : goal.owner-requires
 owner-requires c =

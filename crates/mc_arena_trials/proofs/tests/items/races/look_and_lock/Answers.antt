@@ -12,7 +12,7 @@ use Rattle.mc_mover.specs.Linked.{ReadsKey}
 use Rattle.mc_mover.proofs.Copied.{three_places}
 use Rattle.mc_mover.proofs.SeenChunks.{linked_found}
 use Rattle.mc_mover.proofs.Visits.{stripe_found}
-use Rattle.mc_item_trials.proofs.tests.races.look_and_lock.Goals as goal
+use Rattle.mc_arena_trials.proofs.tests.items.races.look_and_lock.Goals as goal
 
 pub word_held-key-requires-clause-linked : goal.word_held-key-requires-clause-linked
 word_held-key-requires-clause-linked c =

@@ -10,7 +10,7 @@ use Rattle.mc_words.specs.hand.View.{View}
 use Rattle.mc_words.specs.hand.Views.{copy_holding}
 use Rattle.mc_mover.proofs.Kept.{finds_keep}
 use Rattle.mc_mover.proofs.Writes.{found_among}
-use Rattle.mc_item_trials.proofs.tests.races.rescue.Goals as goal
+use Rattle.mc_arena_trials.proofs.tests.items.races.rescue.Goals as goal
 
 pub condemn_original-requires-clause-copy : goal.condemn_original-requires-clause-copy
 condemn_original-requires-clause-copy g c =

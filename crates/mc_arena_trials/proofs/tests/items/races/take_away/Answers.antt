@@ -20,7 +20,7 @@ use Rattle.mc_words.proofs.Chunks.Judging.{class_of_slabs}
 use Rattle.mc_mover.proofs.Kept.{passes_keep}
 use Rattle.mc_mover.proofs.Leads.{out_now, reaches_passed, reaches_swept}
 use Rattle.mc_mover.proofs.Saves.{alive_passed, free_apart, found_last, made_reaches, no_copies, popped_holds, popped_reaches, stripe_reached, sweeps_slabs}
-use Rattle.mc_item_trials.proofs.tests.races.take_away.Goals as goal
+use Rattle.mc_arena_trials.proofs.tests.items.races.take_away.Goals as goal
 
 pub pop_off-requires-clause-moving : goal.pop_off-requires-clause-moving
 pop_off-requires-clause-moving g c =

@@ -3,7 +3,7 @@ use Rattle.mc_pages.specs.SlabState.{SlabState, IsClass}
 use Rattle.mc_core.specs.State.{is_class}
 use Rattle.mc_words.specs.hand.View.{Setup}
 use Rattle.mc_words.proofs.Chunks.Judging.{class_of_slabs}
-use Rattle.mc_arena_trials.proofs.tests.calls.first_free.Goals as goal
+use Rattle.mc_arena_trials.proofs.tests.words.calls.first_free.Goals as goal
 
 pub first_free-requires : goal.first_free-requires
 first_free-requires c =

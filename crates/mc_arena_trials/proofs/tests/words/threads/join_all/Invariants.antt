@@ -1,6 +1,6 @@
 use Rattle.std.proofs.Common.{All, vec_len}
 use Rattle.mc_words.specs.hand.Arenas.{IsHandOf}
-use Rattle.mc_arena_trials.proofs.tests.threads.join_all.Given as goal
+use Rattle.mc_arena_trials.proofs.tests.words.threads.join_all.Given as goal
 
 abbrev pub invariant-loop-worked : goal.invariant-loop-worked
 invariant-loop-worked l =

@@ -1,0 +1,13 @@
+//! Items, by calls on hands.
+mod calls;
+mod eviction;
+mod gets;
+mod hints;
+mod holds;
+mod orders;
+mod races;
+mod refusals;
+mod steps;
+
+/// How many words the greatest item has.
+const MOST_WORDS: u64 = 61;
