@@ -1,7 +1,7 @@
 //! The command line of `mcslab`.
 ghost use Rattle.std.specs.Prelude.{◌≡◌, ◌≤◌, IfErr, IfOk, IfSome, codes, drop, false, map};
 ghost use Rattle.std.specs.Str.{all_ascii_digits};
-ghost use Rattle.clap.specs.Words.{app_of, first_value, found_of, kind_of, one_text, rule_of, with_rule};
+ghost use Rattle.clap.specs.Words.{app_of, first_value, found_of, kind_of, one_text, rule_of};
 ghost use Rattle.mc_options.specs.CommandLine.{automove_rule, factor_rule, mcslab, number_rule, threads_rule};
 ghost use Rattle.mc_options.specs.Options.{IsCommandLine, IsNumber, factor_of, factor_or, is_short_number, number_or, options_of, short_number_of};
 
@@ -11,6 +11,25 @@ use clap::{Arg, ArgAction, ArgMatches, Command, Error, value_parser};
 use mc_classes::Config;
 use std::alloc::{AllocError, Global};
 use std::convert::AsStr;
+
+/// What the help says of the program.
+const ABOUT: &str =
+    "Runs a script on a slab memory: commands from standard input, replies to standard output";
+
+/// What it says of the options whose values are numbers.
+const PAGE_HELP: &str = "Bytes of a page; default 1024, a multiple of 8 from 64 to 16384";
+
+const LIMIT_HELP: &str =
+    "Bytes of pages, but for the first ones of classes; default 4096, room for 1 to 64 pages";
+
+const FIRST_HELP: &str = "Bytes that the first class begins with; default 48, from 24 to a page";
+
+const MAX_HELP: &str =
+    "Bytes of a chunk of the last class; default 512, a multiple of 8 from the first size to a page";
+
+const STRIPES_HELP: &str = "Number of item locks; default 4, from 1 to 64";
+
+const BULK_HELP: &str = "Chunks that the mover looks at in a turn; default 64, from 1 to 256";
 
 /// An option whose value is a number.
 fn number_option<'a>(alloc: Global, name: &'a str, help: &'a str) -> Arg<'a>
@@ -61,78 +80,22 @@ fn threads_option<'a>(alloc: Global) -> Arg<'a>
         .help("Workers and the mover run in threads of their own; default off")
 }
 
-/// Adds the options of the pages: the size of one, and how many bytes of them there may be.
-fn with_pages<'a>(alloc: Global, command: Command<'a>) -> Result<Command<'a>, AllocError>
-    ensures { IfOk result (λ more. app_of more ≡ with_rule (with_rule (app_of command.entry) (number_rule (codes "page"))) (number_rule (codes "limit"))) }
+/// The command line's options, in the order that the help has them in.
+fn command<'a>(alloc: Global) -> Result<Command<'a>, AllocError>
+    ensures { IfOk result (λ command. app_of command ≡ mcslab) }
 {
-    command
-        .arg(number_option(
-            alloc,
-            "page",
-            "Bytes of a page; default 1024, a multiple of 8 from 64 to 16384",
-        ))?
-        .arg(number_option(
-            alloc,
-            "limit",
-            "Bytes of pages, but for the first ones of classes; default 4096, room for 1 to 64 pages",
-        ))
-}
-
-/// Adds the options of the class table.
-fn with_classes<'a>(alloc: Global, command: Command<'a>) -> Result<Command<'a>, AllocError>
-    ensures { IfOk result (λ more. app_of more ≡ with_rule (with_rule (with_rule (app_of command.entry) (number_rule (codes "first"))) factor_rule) (number_rule (codes "max"))) }
-{
-    command
-        .arg(number_option(
-            alloc,
-            "first",
-            "Bytes that the first class begins with; default 48, from 24 to a page",
-        ))?
-        .arg(factor_option(alloc))?
-        .arg(number_option(
-            alloc,
-            "max",
-            "Bytes of a chunk of the last class; default 512, a multiple of 8 from the first size to a page",
-        ))
-}
-
-/// Adds the options of the locks, the mover and the automover.
-fn with_movers<'a>(alloc: Global, command: Command<'a>) -> Result<Command<'a>, AllocError>
-    ensures { IfOk result (λ more. app_of more ≡ with_rule (with_rule (with_rule (app_of command.entry) (number_rule (codes "stripes"))) (number_rule (codes "bulk"))) automove_rule) }
-{
-    command
-        .arg(number_option(
-            alloc,
-            "stripes",
-            "Number of item locks; default 4, from 1 to 64",
-        ))?
-        .arg(number_option(
-            alloc,
-            "bulk",
-            "Chunks that the mover looks at in a turn; default 64, from 1 to 256",
-        ))?
-        .arg(automove_option(alloc))
-}
-
-/// Adds the flag of the threads.
-fn with_threads<'a>(alloc: Global, command: Command<'a>) -> Result<Command<'a>, AllocError>
-    ensures { IfOk result (λ more. app_of more ≡ with_rule (app_of command.entry) threads_rule) }
-{
-    command.arg(threads_option(alloc))
-}
-
-/// The command line's options.
-fn command<'a>(alloc: Global) -> Result<Command<'a>, Error>
-    ensures app { IfOk result (λ command. app_of command ≡ mcslab) }
-    ensures memory { IfErr result (λ error. kind_of error ≡ ErrorKind.OutOfMemory) }
-{
-    let command = Command::new(alloc, "mcslab").about(
-        "Runs a script on a slab memory: commands from standard input, replies to standard output",
-    );
-    let command = with_pages(alloc, command)?;
-    let command = with_classes(alloc, command)?;
-    let command = with_movers(alloc, command)?;
-    Ok(with_threads(alloc, command)?)
+    let options = vec![in alloc;
+        number_option(alloc, "page", PAGE_HELP),
+        number_option(alloc, "limit", LIMIT_HELP),
+        number_option(alloc, "first", FIRST_HELP),
+        factor_option(alloc),
+        number_option(alloc, "max", MAX_HELP),
+        number_option(alloc, "stripes", STRIPES_HELP),
+        number_option(alloc, "bulk", BULK_HELP),
+        automove_option(alloc),
+        threads_option(alloc),
+    ]?;
+    Command::new(alloc, "mcslab").about(ABOUT).args(options)
 }
 
 /// The number of an option, or what it is where it isn't named.

@@ -52,38 +52,38 @@ threads_are text value true on off e = on e
 threads_are text value false on off e = off e
 
 pub number_or-requires : goal.number_or-requires
-number_or-requires g c = is_number _ _ (is_up_to _ _ _ c.in_ok-matches.matches _ _ c.in_ok-command.ensures.app c.in_ok-matches.ensures.matches c.in_ok-matches.ensures.kinds (refl, named _ _) refl refl refl)
+number_or-requires g c = is_number _ _ (is_up_to _ _ _ c.in_ok-matches.matches _ _ c.in_ok-command.ensures c.in_ok-matches.ensures.matches c.in_ok-matches.ensures.kinds (refl, named _ _) refl refl refl)
 
 pub number_or-requires-2 : goal.number_or-requires-2
-number_or-requires-2 g c = is_number _ _ (is_up_to _ _ _ c.in_ok-matches.matches _ _ c.in_ok-command.ensures.app c.in_ok-matches.ensures.matches c.in_ok-matches.ensures.kinds (refl, named _ _) refl refl refl)
+number_or-requires-2 g c = is_number _ _ (is_up_to _ _ _ c.in_ok-matches.matches _ _ c.in_ok-command.ensures c.in_ok-matches.ensures.matches c.in_ok-matches.ensures.kinds (refl, named _ _) refl refl refl)
 
 pub number_or-requires-3 : goal.number_or-requires-3
-number_or-requires-3 g c = is_number _ _ (is_up_to _ _ _ c.in_ok-matches.matches _ _ c.in_ok-command.ensures.app c.in_ok-matches.ensures.matches c.in_ok-matches.ensures.kinds (refl, named _ _) refl refl refl)
+number_or-requires-3 g c = is_number _ _ (is_up_to _ _ _ c.in_ok-matches.matches _ _ c.in_ok-command.ensures c.in_ok-matches.ensures.matches c.in_ok-matches.ensures.kinds (refl, named _ _) refl refl refl)
 
 pub number_or-requires-4 : goal.number_or-requires-4
-number_or-requires-4 g c = is_number _ _ (is_up_to _ _ _ c.in_ok-matches.matches _ _ c.in_ok-command.ensures.app c.in_ok-matches.ensures.matches c.in_ok-matches.ensures.kinds (refl, named _ _) refl refl refl)
+number_or-requires-4 g c = is_number _ _ (is_up_to _ _ _ c.in_ok-matches.matches _ _ c.in_ok-command.ensures c.in_ok-matches.ensures.matches c.in_ok-matches.ensures.kinds (refl, named _ _) refl refl refl)
 
 pub number_or-requires-5 : goal.number_or-requires-5
-number_or-requires-5 g c = is_number _ _ (is_up_to _ _ _ c.in_ok-matches.matches _ _ c.in_ok-command.ensures.app c.in_ok-matches.ensures.matches c.in_ok-matches.ensures.kinds (refl, named _ _) refl refl refl)
+number_or-requires-5 g c = is_number _ _ (is_up_to _ _ _ c.in_ok-matches.matches _ _ c.in_ok-command.ensures c.in_ok-matches.ensures.matches c.in_ok-matches.ensures.kinds (refl, named _ _) refl refl refl)
 
 pub number_or-requires-6 : goal.number_or-requires-6
-number_or-requires-6 g c = is_number _ _ (is_up_to _ _ _ c.in_ok-matches.matches _ _ c.in_ok-command.ensures.app c.in_ok-matches.ensures.matches c.in_ok-matches.ensures.kinds (refl, named _ _) refl refl refl)
+number_or-requires-6 g c = is_number _ _ (is_up_to _ _ _ c.in_ok-matches.matches _ _ c.in_ok-command.ensures c.in_ok-matches.ensures.matches c.in_ok-matches.ensures.kinds (refl, named _ _) refl refl refl)
 
 pub number_or-requires-7 : goal.number_or-requires-7
-number_or-requires-7 g c = is_number _ _ (is_up_to _ _ _ c.in_ok-matches.matches _ _ c.in_ok-command.ensures.app c.in_ok-matches.ensures.matches c.in_ok-matches.ensures.kinds (refl, named _ _) refl refl refl)
+number_or-requires-7 g c = is_number _ _ (is_up_to _ _ _ c.in_ok-matches.matches _ _ c.in_ok-command.ensures c.in_ok-matches.ensures.matches c.in_ok-matches.ensures.kinds (refl, named _ _) refl refl refl)
 
 pub returns-clause-taken : goal.returns-clause-taken
 returns-clause-taken g c =
-    let page = number_is _ _ c.in_ok-matches.matches (codes "page") 1024 c.number_or.result c.in_ok-command.ensures.app c.in_ok-matches.ensures.matches c.in_ok-matches.ensures.kinds (refl, named _ _) refl c.number_or.ensures in
-    let limit = number_is _ _ c.in_ok-matches.matches (codes "limit") 4096 c.number_or-2.result c.in_ok-command.ensures.app c.in_ok-matches.ensures.matches c.in_ok-matches.ensures.kinds (refl, named _ _) refl c.number_or-2.ensures in
-    let first = number_is _ _ c.in_ok-matches.matches (codes "first") 48 c.number_or-3.result c.in_ok-command.ensures.app c.in_ok-matches.ensures.matches c.in_ok-matches.ensures.kinds (refl, named _ _) refl c.number_or-3.ensures in
-    let max = number_is _ _ c.in_ok-matches.matches (codes "max") 512 c.number_or-4.result c.in_ok-command.ensures.app c.in_ok-matches.ensures.matches c.in_ok-matches.ensures.kinds (refl, named _ _) refl c.number_or-4.ensures in
-    let stripes = number_is _ _ c.in_ok-matches.matches (codes "stripes") 4 c.number_or-5.result c.in_ok-command.ensures.app c.in_ok-matches.ensures.matches c.in_ok-matches.ensures.kinds (refl, named _ _) refl c.number_or-5.ensures in
-    let bulk = number_is _ _ c.in_ok-matches.matches (codes "bulk") 64 c.number_or-6.result c.in_ok-command.ensures.app c.in_ok-matches.ensures.matches c.in_ok-matches.ensures.kinds (refl, named _ _) refl c.number_or-6.ensures in
-    let automove = number_is _ _ c.in_ok-matches.matches (codes "automove") 0 c.number_or-7.result c.in_ok-command.ensures.app c.in_ok-matches.ensures.matches c.in_ok-matches.ensures.kinds (refl, named _ _) refl c.number_or-7.ensures in
-    let factor = factor_is _ _ c.in_ok-matches.matches (codes "factor") c.factor_or_default-num.result c.in_ok-command.ensures.app c.in_ok-matches.ensures.matches c.in_ok-matches.ensures.kinds (refl, named _ _) refl c.factor_or_default-num.ensures in
+    let page = number_is _ _ c.in_ok-matches.matches (codes "page") 1024 c.number_or.result c.in_ok-command.ensures c.in_ok-matches.ensures.matches c.in_ok-matches.ensures.kinds (refl, named _ _) refl c.number_or.ensures in
+    let limit = number_is _ _ c.in_ok-matches.matches (codes "limit") 4096 c.number_or-2.result c.in_ok-command.ensures c.in_ok-matches.ensures.matches c.in_ok-matches.ensures.kinds (refl, named _ _) refl c.number_or-2.ensures in
+    let first = number_is _ _ c.in_ok-matches.matches (codes "first") 48 c.number_or-3.result c.in_ok-command.ensures c.in_ok-matches.ensures.matches c.in_ok-matches.ensures.kinds (refl, named _ _) refl c.number_or-3.ensures in
+    let max = number_is _ _ c.in_ok-matches.matches (codes "max") 512 c.number_or-4.result c.in_ok-command.ensures c.in_ok-matches.ensures.matches c.in_ok-matches.ensures.kinds (refl, named _ _) refl c.number_or-4.ensures in
+    let stripes = number_is _ _ c.in_ok-matches.matches (codes "stripes") 4 c.number_or-5.result c.in_ok-command.ensures c.in_ok-matches.ensures.matches c.in_ok-matches.ensures.kinds (refl, named _ _) refl c.number_or-5.ensures in
+    let bulk = number_is _ _ c.in_ok-matches.matches (codes "bulk") 64 c.number_or-6.result c.in_ok-command.ensures c.in_ok-matches.ensures.matches c.in_ok-matches.ensures.kinds (refl, named _ _) refl c.number_or-6.ensures in
+    let automove = number_is _ _ c.in_ok-matches.matches (codes "automove") 0 c.number_or-7.result c.in_ok-command.ensures c.in_ok-matches.ensures.matches c.in_ok-matches.ensures.kinds (refl, named _ _) refl c.number_or-7.ensures in
+    let factor = factor_is _ _ c.in_ok-matches.matches (codes "factor") c.factor_or_default-num.result c.in_ok-command.ensures c.in_ok-matches.ensures.matches c.in_ok-matches.ensures.kinds (refl, named _ _) refl c.factor_or_default-num.ensures in
     let threads = threads_are _ c.get_flag.result _ c.get_flag.ensures.value c.get_flag.ensures.other
-    (flag_is _ _ c.in_ok-matches.matches c.in_ok-command.ensures.app c.in_ok-matches.ensures.matches (no_fault _ _ c.in_ok-command.ensures.app c.in_ok-matches.ensures.kinds)) in
+    (flag_is _ _ c.in_ok-matches.matches c.in_ok-command.ensures c.in_ok-matches.ensures.matches (no_fault _ _ c.in_ok-command.ensures c.in_ok-matches.ensures.kinds)) in
     λ i. record {
       run = record {
         config = record { page = page i; limit = limit i; first = first i; num = (factor i).0; den = (factor i).1; max = max i; stripes = stripes i; bulk = bulk i };
@@ -94,7 +94,7 @@ returns-clause-taken g c =
 
 pub returns-clause-mode : goal.returns-clause-mode
 returns-clause-mode g c =
-    let mode = is_up_to 2 _ _ c.in_ok-matches.matches (codes "automove") _ c.in_ok-command.ensures.app c.in_ok-matches.ensures.matches c.in_ok-matches.ensures.kinds (refl, named _ _) refl refl refl in
+    let mode = is_up_to 2 _ _ c.in_ok-matches.matches (codes "automove") _ c.in_ok-command.ensures c.in_ok-matches.ensures.matches c.in_ok-matches.ensures.kinds (refl, named _ _) refl refl refl in
     at_most 2 c.number_or-7.result _ mode c.number_or-7.ensures
 
 -- a command line fails for want of memory alone
@@ -107,4 +107,4 @@ memory_alone a words e is kinds line =
 pub returns-in_err-matches-clause-refused : goal.returns-in_err-matches-clause-refused
 returns-in_err-matches-clause-refused g c =
     let p = err_from_is_err_and c.from_residual-in_err-matches.result c.from_residual-in_err-matches.ensures.1 in
-    rw (p.1, p.2) (λ line. memory_alone _ _ c.in_err-matches.field-0.0 c.in_ok-command.ensures.app c.in_err-matches.ensures.kinds line)
+    rw (p.1, p.2) (λ line. memory_alone _ _ c.in_err-matches.field-0.0 c.in_ok-command.ensures c.in_err-matches.ensures.kinds line)
