@@ -1,7 +1,7 @@
 -- Texts that go on.
-use Rattle.std.proofs.Common.{◌≡◌, ℕ, List, [], ◌∷◌, ◌++◌, ◌+◌, length, refl, ap, ap₂, sym, ◌∙◌, append_assoc}
+use Rattle.std.proofs.Common.{◌≡◌, ℕ, List, [], ◌∷◌, ◌++◌, ◌+◌, length, refl, ap, ap₂, sym, ◌∙◌, append_assoc, Err, Ok, OnOk, Result, if◌then◌else◌}
 use Rattle.mc_pages.specs.declared.ledger.Owner.{Owner}
-use Rattle.std.specs.Prelude.{map, Option, Some}
+use Rattle.std.specs.Prelude.{is_ok, map, Option, Some}
 use Rattle.mc_pages.specs.declared.ledger.Entry.{Entry}
 use Rattle.mc_map.specs.Replays.{replays}
 use Rattle.mc_picture.specs.Charts.{IsChart}
@@ -26,6 +26,25 @@ extends_on old middle new first second = (first.0 ++ second.0, second.1 ∙ ap (
 -- what is no more is a text itself
 pub extends_same : (text : List ℕ) → Extends text text
 extends_same text = ([], sym (append_nil text))
+
+-- a text that goes on is written on
+pub writes : (old middle new more : List ℕ) → Extends old middle → new ≡ middle ++ more → Extends old new
+writes old middle new more first is = extends_on old middle new first (extends middle new more is)
+
+-- the last step, where it succeeds
+pub ends_writing : {E : Type 0} (result : Result (Unit {0}) E) (old middle new more : List ℕ) → Extends old middle → OnOk result (new ≡ middle ++ more) → OnOk result (Extends old new)
+ends_writing (Ok done) old middle new more first is = writes old middle new more first is
+ends_writing (Err e) old middle new more first is = tt
+
+-- the last step, which leaves the text as it is where it fails
+pub ends_pushing : {E : Type 0} (result : Result (Unit {0}) E) (old middle new more : List ℕ) → Extends old middle → new ≡ (if is_ok result then middle ++ more else middle) → OnOk result (Extends old new)
+ends_pushing (Ok done) old middle new more first is = writes old middle new more first is
+ends_pushing (Err e) old middle new more first is = tt
+
+-- the last step of several
+pub ends_on : {E : Type 0} (result : Result (Unit {0}) E) (old middle new : List ℕ) → Extends old middle → OnOk result (Extends middle new) → OnOk result (Extends old new)
+ends_on (Ok done) old middle new first second = extends_on old middle new first second
+ends_on (Err e) old middle new first second = tt
 
 -- cells between two texts
 pub drawn : (columns : List (List Owner)) (count : ℕ) (old before after new : List ℕ) → count ≡ length columns → Extends old before → after ≡ before ++ cells_text columns count → Extends after new

@@ -106,7 +106,6 @@ fn legend_at(pages: usize) -> usize
 }
 
 /// Adds what stands before the cells: the head, the title and the names of the rows.
-#[tactic(auto, using(crate::proofs::Extends::extends_on))]
 fn write_front(sheet: &Sheet, text: &mut String) -> Result<(), AllocError>
     ensures { OnOk result (Extends (string_bytes text.old) (string_bytes text.new)) }
 {
@@ -114,24 +113,20 @@ fn write_front(sheet: &Sheet, text: &mut String) -> Result<(), AllocError>
     let wide = column_at(entries + 2).max(LEAST);
     write_head(wide, legend_end(sheet, legend_at(sheet.pages)), text)?;
     write_title(sheet.pages, sheet.page, entries, text)?;
-    write_names(sheet.pages, text)?;
-    Ok(())
+    write_names(sheet.pages, text)
 }
 
 /// Adds what stands behind the cells: the numbers of classes in them, the axis and the legend.
-#[tactic(auto, using(crate::proofs::Extends::extends_on))]
 fn write_back(columns: &[Vec<Owner>], sheet: &Sheet, text: &mut String) -> Result<(), AllocError>
     ensures { OnOk result (Extends (string_bytes text.old) (string_bytes text.new)) }
 {
     write_labels(columns, text)?;
     write_axis(sheet.ledger, row_at(sheet.pages), text)?;
     write_legend(sheet, legend_at(sheet.pages), text)?;
-    text.push_str("</svg>\n")?;
-    Ok(())
+    text.push_str("</svg>\n")
 }
 
 /// Adds the size, the style of letters, the patterns of moving pages and of the pool, and the ground.
-#[tactic(auto, using(crate::proofs::Extends::extends, crate::proofs::Extends::extends_on))]
 fn write_head(wide: usize, high: usize, text: &mut String) -> Result<(), AllocError>
     ensures { OnOk result (Extends (string_bytes text.old) (string_bytes text.new)) }
 {
@@ -139,8 +134,7 @@ fn write_head(wide: usize, high: usize, text: &mut String) -> Result<(), AllocEr
         text,
         "<svg xmlns=\"http://www.w3.org/2000/svg\" width=\"{wide}\" height=\"{high}\" viewBox=\"0 0 {wide} {high}\">"
     )?;
-    text.push_str(HEAD)?;
-    Ok(())
+    text.push_str(HEAD)
 }
 
 /// The style and the patterns.
@@ -154,7 +148,6 @@ const HEAD: &str =
 ";
 
 /// Adds the title.
-#[tactic(auto, using(crate::proofs::Extends::extends, crate::proofs::Extends::extends_on))]
 fn write_title(pages: usize, page: u64, entries: usize, text: &mut String) -> Result<(), AllocError>
     ensures { OnOk result (Extends (string_bytes text.old) (string_bytes text.new)) }
 {
@@ -162,8 +155,7 @@ fn write_title(pages: usize, page: u64, entries: usize, text: &mut String) -> Re
     writeln!(
         text,
         "<text class=\"s\" x=\"16\" y=\"48\">{pages} pages of {page} bytes, a column for each of the {entries} entries of the ledger</text>"
-    )?;
-    Ok(())
+    )
 }
 
 /// Adds the names of the rows.
@@ -235,11 +227,11 @@ fn write_label(
     }
     match owner {
         Owner::Untouched | Owner::Moving { .. } => Ok(()),
-        Owner::Pool => Ok(writeln!(text, "<text class=\"c m\" x=\"{x}\" y=\"{y}\">p</text>")?),
-        Owner::Class(class) => Ok(writeln!(
+        Owner::Pool => writeln!(text, "<text class=\"c m\" x=\"{x}\" y=\"{y}\">p</text>"),
+        Owner::Class(class) => writeln!(
             text,
             "<text class=\"c m\" x=\"{x}\" y=\"{y}\">{class}</text>"
-        )?),
+        ),
     }
 }
 
@@ -263,12 +255,10 @@ fn write_axis(ledger: &[Entry], below: usize, text: &mut String) -> Result<(), A
     writeln!(
         text,
         "<text class=\"s r\" x=\"{right}\" y=\"{y}\">entry</text>"
-    )?;
-    Ok(())
+    )
 }
 
 /// Adds the number of an entry, and what it did.
-#[tactic(auto, using(crate::proofs::Extends::extends, crate::proofs::Extends::extends_on))]
 fn write_tick(
     x: usize,
     below: usize,
@@ -287,8 +277,7 @@ fn write_tick(
     writeln!(
         text,
         "<text class=\"c m\" x=\"{x}\" y=\"{lower}\">{letter}</text>"
-    )?;
-    Ok(())
+    )
 }
 
 /// What an entry did: a page was granted, taken from the pool, began to move, or came to its end.

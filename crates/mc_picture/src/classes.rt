@@ -71,14 +71,19 @@ pub fn write_classes(
 /// Adds the line of a class.
 fn write_row(row: ClassRow, text: &mut String) -> Result<(), AllocError> {
     write!(text, "{:>5}{:>7}{:>15}", row.class, row.size, row.per_page)?;
+    write_waste(row, text)?;
+    writeln!(text, "{:>16}", row.rest)
+}
+
+/// Adds the bytes of the items that go to a class, and the most that one of them leaves unused.
+fn write_waste(row: ClassRow, text: &mut String) -> Result<(), AllocError> {
     match row.waste {
         Some(waste) => write!(
             text,
             "{:>9} to{:>6}{waste:>13}",
             row.size.saturating_sub(waste),
             row.size
-        )?,
-        None => text.push_str("            none            -")?,
+        ),
+        None => text.push_str("            none            -"),
     }
-    writeln!(text, "{:>16}", row.rest)
 }

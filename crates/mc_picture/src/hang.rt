@@ -23,8 +23,7 @@ pub(crate) fn write_move(
     write_page(moving, text)?;
     write_goal(moving.dst, text)?;
     write_position(moving, chunks, text)?;
-    write_hang(hang, text)?;
-    Ok(())
+    write_hang(hang, text)
 }
 
 /// Adds which page moves, and from where.
@@ -78,8 +77,7 @@ fn write_blocker(blocker: &Blocker, text: &mut String) -> Result<(), AllocError>
     write_chunk(blocker.chunk, blocker.key, text)?;
     write_held(blocker.linked, text)?;
     write_workers(&blocker.workers, text)?;
-    text.push_str("\n")?;
-    Ok(())
+    text.push_str("\n")
 }
 
 /// Adds the chunk, and the key of its item.

@@ -12,12 +12,10 @@ pub(crate) fn write_ledger(ledger: &[Entry], text: &mut String) -> Result<(), Al
     ensures ledger { OnOk result (string_bytes text.new ≡ string_bytes text.old ++ ledger_text ledger.now) }
 {
     if ledger.is_empty() {
-        text.push_str("\nledger\n  no page changed hands\n")?;
-        return Ok(());
+        return text.push_str("\nledger\n  no page changed hands\n");
     }
     text.push_str("\nledger\n")?;
-    write_entries(ledger, text)?;
-    Ok(())
+    write_entries(ledger, text)
 }
 
 /// Adds a line for each entry.
@@ -36,8 +34,7 @@ fn write_entry(number: usize, entry: Entry, text: &mut String) -> Result<(), All
 {
     write!(text, "  {number}: ")?;
     write_change(entry, text)?;
-    text.push_str("\n")?;
-    Ok(())
+    text.push_str("\n")
 }
 
 /// Adds that a page was granted beyond the limit, where it was.

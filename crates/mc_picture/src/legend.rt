@@ -10,7 +10,6 @@ use std::alloc::AllocError;
 use std::fmt::Write;
 
 /// Adds the legend, so far from the top.
-#[tactic(auto, using(crate::proofs::Extends::extends, crate::proofs::Extends::extends_on))]
 pub(crate) fn write_legend(sheet: &Sheet, top: usize, text: &mut String) -> Result<(), AllocError>
     requires { top ≤ 100000 }
     ensures { OnOk result (Extends (string_bytes text.old) (string_bytes text.new)) }
@@ -21,20 +20,17 @@ pub(crate) fn write_legend(sheet: &Sheet, top: usize, text: &mut String) -> Resu
         "<text class=\"s\" x=\"16\" y=\"{y}\">G granted, T taken from the pool, B began to move, E came to its end; a number is a class</text>"
     )?;
     write_patterns(top + 20, text)?;
-    write_class_keys(sheet, top + 44, text)?;
-    Ok(())
+    write_class_keys(sheet, top + 44, text)
 }
 
 /// Adds what the patterns mean.
-#[tactic(auto, using(crate::proofs::Extends::extends_on))]
 fn write_patterns(y: usize, text: &mut String) -> Result<(), AllocError>
     requires { y ≤ 200000 }
     ensures { OnOk result (Extends (string_bytes text.old) (string_bytes text.new)) }
 {
     write_key(16, y, "none\" stroke=\"#ddd", "never granted", text)?;
     write_key(176, y, "url(#pool)", "in the pool", text)?;
-    write_key(336, y, "url(#moving)", "on the move", text)?;
-    Ok(())
+    write_key(336, y, "url(#moving)", "on the move", text)
 }
 
 /// Adds the classes that the ledger names, four in a line.
@@ -69,7 +65,6 @@ pub(crate) fn legend_end(sheet: &Sheet, top: usize) -> usize
 }
 
 /// Adds a pattern and its name.
-#[tactic(auto, using(crate::proofs::Extends::extends, crate::proofs::Extends::extends_on))]
 fn write_key(
     x: usize,
     y: usize,
@@ -83,12 +78,10 @@ fn write_key(
 {
     write_box(x, y, fill, text)?;
     let (right, below) = (x + 32, y + 13);
-    writeln!(text, "<text x=\"{right}\" y=\"{below}\">{name}</text>")?;
-    Ok(())
+    writeln!(text, "<text x=\"{right}\" y=\"{below}\">{name}</text>")
 }
 
 /// Adds a class and the bytes of its chunks.
-#[tactic(auto, using(crate::proofs::Extends::extends, crate::proofs::Extends::extends_on))]
 fn write_class_key(
     x: usize,
     y: usize,
@@ -109,8 +102,7 @@ fn write_class_key(
     writeln!(
         text,
         "<text x=\"{right}\" y=\"{below}\">class {class}: {size} bytes</text>"
-    )?;
-    Ok(())
+    )
 }
 
 /// Whether an entry names the class.

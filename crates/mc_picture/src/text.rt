@@ -19,12 +19,10 @@ pub fn write_map(map: &Map, heading: &str, text: &mut String) -> Result<(), Allo
     write_front(map, heading, text)?;
     write_ledger(&map.ledger, text)?;
     write_move(map.moving, map.chunks, &map.hang, text)?;
-    text.push_str("\n")?;
-    Ok(())
+    text.push_str("\n")
 }
 
 /// Adds the heading, who owns each page, and what each class has.
-#[tactic(auto, using(crate::proofs::Extends::extends, crate::proofs::Extends::extends_on))]
 fn write_front(map: &Map, heading: &str, text: &mut String) -> Result<(), AllocError>
     ensures { OnOk result (Extends (string_bytes text.old) (string_bytes text.new)) }
 {
@@ -32,12 +30,10 @@ fn write_front(map: &Map, heading: &str, text: &mut String) -> Result<(), AllocE
     writeln!(text, "map {heading}, {done} commands done\n")?;
     write_totals(map.page, map.owners.len(), map.totals, text)?;
     write_owners(&map.owners, text)?;
-    write_lines(&map.classes, text)?;
-    Ok(())
+    write_lines(&map.classes, text)
 }
 
 /// Adds how many pages of so many bytes are where.
-#[tactic(auto, using(crate::proofs::Extends::extends, crate::proofs::Extends::extends_on))]
 fn write_totals(
     page: u64,
     pages: usize,
@@ -56,8 +52,7 @@ fn write_totals(
         text,
         "pages of {page} bytes: {granted} of {pages} granted, "
     )?;
-    writeln!(text, "{pool} in the pool, {moved} moved")?;
-    Ok(())
+    writeln!(text, "{pool} in the pool, {moved} moved")
 }
 
 /// Adds the page map: who owns each page.
@@ -73,8 +68,7 @@ fn write_owners(owners: &[Owner], text: &mut String) -> Result<(), AllocError>
     }
     text.push_str(
         "  a number is a class, 4>1 moves from class 4 to 1, p is the pool, . was never granted\n",
-    )?;
-    Ok(())
+    )
 }
 
 /// Adds a page's number where a line of the page map starts.
@@ -85,8 +79,7 @@ fn write_line_start(page: usize, text: &mut String) -> Result<(), AllocError>
     if page % PAGES_A_LINE != 0 {
         return Ok(());
     }
-    write!(text, "{page:>4}")?;
-    Ok(())
+    write!(text, "{page:>4}")
 }
 
 /// Ends a line of the page map behind eight pages, and behind the last.
@@ -98,8 +91,7 @@ fn write_line_end(page: usize, pages: usize, text: &mut String) -> Result<(), Al
     if page % PAGES_A_LINE != PAGES_A_LINE - 1 && page != last {
         return Ok(());
     }
-    text.push_str("\n")?;
-    Ok(())
+    text.push_str("\n")
 }
 
 /// Adds an owner in seven places.
@@ -122,8 +114,7 @@ fn write_lines(lines: &[ClassLine], text: &mut String) -> Result<(), AllocError>
     ensures { OnOk result (Extends (string_bytes text.old) (string_bytes text.new)) }
 {
     if lines.is_empty() {
-        text.push_str("\nno class has a page\n")?;
-        return Ok(());
+        return text.push_str("\nno class has a page\n");
     }
     text.push_str(
         "\nclass   size  pages  linked  held  dead  free  cleared    asked    bytes    waste  evicted\n",
@@ -135,7 +126,6 @@ fn write_lines(lines: &[ClassLine], text: &mut String) -> Result<(), AllocError>
 }
 
 /// Adds the line of a class.
-#[tactic(auto, using(crate::proofs::Extends::extends, crate::proofs::Extends::extends_on))]
 fn write_line(line: &ClassLine, text: &mut String) -> Result<(), AllocError>
     ensures { OnOk result (Extends (string_bytes text.old) (string_bytes text.new)) }
 {
@@ -148,6 +138,5 @@ fn write_line(line: &ClassLine, text: &mut String) -> Result<(), AllocError>
         line.bytes,
         line.waste(),
         line.evictions
-    )?;
-    Ok(())
+    )
 }

@@ -1,0 +1,6 @@
+use Rattle.mc_picture.proofs.Extends.{ends_writing, extends}
+use Rattle.mc_picture.proofs.legend.write_key.Goals as goal
+
+pub returns : goal.returns
+returns c =
+    ends_writing _ _ _ _ _ (extends _ _ _ c.in_ok-write_box.ensures) c.writeln.ensures.bytes
