@@ -1,5 +1,5 @@
 //! The forms of a command: a function for each kind of words.
-ghost use Rattle.std.specs.Prelude.{◌≡◌, map};
+ghost use Rattle.std.specs.Prelude.{◌≡◌, [], ◌∷◌, codes, map};
 ghost use Rattle.std.specs.Str.{bytes_eq};
 ghost use Rattle.mc_script.specs.Forms.{bare_of, command_of, key_command_of, on_key_of, reassign_of, set_of, source_of, with_number_of, worker_of};
 
@@ -36,14 +36,24 @@ fn set(words: &[&[u8]]) -> Option<Command>
     ensures { result ≡ set_of (map (λ word. word.now) words.now) }
 {
     match words {
-        [worker, verb, key, words, base] if is(verb, b"set") => Some(Command::Set {
-            worker: worker_number(worker)?,
-            key: number(key)?,
-            words: number_between(0, MAX_WORDS, words)?,
-            base: number(base)?,
-        }),
+        [worker, verb, key, words, base] if is(verb, b"set") => {
+            set_command(worker, key, words, base)
+        }
         _ => None,
     }
+}
+
+/// What the words of a set write: the worker, the key, the number of words, and the base.
+#[tactic(auto, unfolding(crate::specs::Forms::set_of))]
+fn set_command(worker: &[u8], key: &[u8], words: &[u8], base: &[u8]) -> Option<Command>
+    ensures { result ≡ set_of (worker.now ∷ codes "set" ∷ key.now ∷ words.now ∷ base.now ∷ []) }
+{
+    Some(Command::Set {
+        worker: worker_number(worker)?,
+        key: number(key)?,
+        words: number_between(0, MAX_WORDS, words)?,
+        base: number(base)?,
+    })
 }
 
 /// `<worker> <verb> <key>`
