@@ -70,18 +70,31 @@ const SIZES: [SizesRow<'static>; 4] = [
     ),
 ];
 
+/// A page has so many chunks of each class.
+fn assert_chunks(rt: &impl Abort, table: &ClassTable, chunks: &[u64], name: &str) {
+    for (place, count) in chunks.iter().enumerate() {
+        assert!(rt; (place as u64) < table.count());
+        assert_same(rt, table.per_page(place as u64 + 1), *count, name);
+    }
+}
+
 /// The table of the row's configuration has four pages, and the row's sizes and chunks.
 fn assert_table(rt: &impl Abort, table: &ClassTable, row: &SizesRow) {
     let (name, config, sizes, chunks) = row;
     assert_classes(rt, table, sizes, name);
-    assert_same(rt, table.page(), config.page, name);
-    assert_same(rt, table.limit(), config.limit, name);
-    assert_same(rt, table.pages(), 4, name);
-    assert_same(rt, table.arena_pages(), 4 + table.count(), name);
-    for (place, chunk) in chunks.iter().enumerate() {
-        assert!(rt; (place as u64) < table.count());
-        assert_same(rt, table.per_page(place as u64 + 1), *chunk, name);
-    }
+    assert_same(
+        rt,
+        (table.page(), table.limit()),
+        (config.page, config.limit),
+        name,
+    );
+    assert_same(
+        rt,
+        (table.pages(), table.arena_pages()),
+        (4, 4 + table.count()),
+        name,
+    );
+    assert_chunks(rt, table, chunks, name);
 }
 
 #[test]
@@ -109,48 +122,75 @@ fn sixty_three_classes(rt: HostRuntime) -> Result<(), Fail> {
     Ok(())
 }
 
-/// An item of so many bytes goes to this class.
+/// By the table of the configuration, an item of so many bytes goes to this class.
 fn assert_class_for(
     rt: &impl Abort,
-    table: &ClassTable,
+    alloc: Global,
+    config: &Config,
     rows: &[(u64, Option<ClassId>)],
     name: &str,
-) {
+) -> Result<(), Fail> {
+    let table = ClassTable::build(alloc, config)?;
     for (bytes, class) in rows {
-        assert_same(
-            rt,
-            (*bytes, table.class_for(*bytes)),
-            (*bytes, *class),
-            name,
-        );
+        let found = (*bytes, table.class_for(*bytes));
+        assert_same(rt, found, (*bytes, *class), name);
     }
+    Ok(())
 }
+
+/// The bytes of an item, and its class of four.
+const OF_FOUR: [(u64, Option<ClassId>); 10] = [
+    (0, Some(1)),
+    (48, Some(1)),
+    (49, Some(2)),
+    (96, Some(2)),
+    (97, Some(3)),
+    (192, Some(3)),
+    (193, Some(4)),
+    // 61 words
+    (512, Some(4)),
+    (520, None),
+    (u64::MAX, None),
+];
+
+/// The same of sixty-three.
+const OF_SIXTY_THREE: [(u64, Option<ClassId>); 4] = [
+    (504, Some(1)),
+    (505, Some(63)),
+    (512, Some(63)),
+    (513, None),
+];
 
 #[test]
 fn class_of_an_item(rt: HostRuntime) -> Result<(), Fail> {
-    let rows = [
-        (0, Some(1)),
-        (48, Some(1)),
-        (49, Some(2)),
-        (96, Some(2)),
-        (97, Some(3)),
-        (192, Some(3)),
-        (193, Some(4)),
-        // 61 words
-        (512, Some(4)),
-        (520, None),
-        (u64::MAX, None),
-    ];
-    let table = ClassTable::build(rt.alloc(), &FOUR_CLASSES)?;
-    assert_class_for(&rt, &table, &rows, "the class of an item");
-    let rows = [
-        (504, Some(1)),
-        (505, Some(63)),
-        (512, Some(63)),
-        (513, None),
-    ];
-    let table = ClassTable::build(rt.alloc(), &SIXTY_THREE)?;
-    assert_class_for(&rt, &table, &rows, "the class of an item, of sixty-three");
+    let alloc = rt.alloc();
+    assert_class_for(&rt, alloc, &FOUR_CLASSES, &OF_FOUR, "of four")?;
+    assert_class_for(&rt, alloc, &SIXTY_THREE, &OF_SIXTY_THREE, "of sixty-three")
+}
+
+/// What the table of the family has with this factor.
+fn config_of(family: &Family, (num, den): (u64, u64)) -> Config {
+    Config {
+        page: family.page,
+        limit: family.page,
+        first: family.first,
+        num,
+        den,
+        max: family.max,
+        ..FOUR_CLASSES
+    }
+}
+
+/// The table of the configuration has these sizes.
+fn assert_built(
+    rt: &impl Abort,
+    alloc: Global,
+    config: &Config,
+    sizes: &[u64],
+    name: &str,
+) -> Result<(), Fail> {
+    let table = ClassTable::build(alloc, config)?;
+    assert_classes(rt, &table, sizes, name);
     Ok(())
 }
 
@@ -161,28 +201,18 @@ fn assert_printed(
     family: &Family,
     printed: &Printed,
 ) -> Result<(), Fail> {
-    let (factor, (num, den), sizes) = printed;
-    let config = Config {
-        page: family.page,
-        limit: family.page,
-        first: family.first,
-        num: *num,
-        den: *den,
-        max: family.max,
-        ..FOUR_CLASSES
-    };
+    let (factor, lowest, sizes) = printed;
     let options = family.options;
     let name = format!(in alloc; "-f {factor} {options}")?;
-    let table = ClassTable::build(alloc, &config)?;
-    assert_classes(rt, &table, sizes, &name);
-    Ok(())
+    let config = config_of(family, *lowest);
+    assert_built(rt, alloc, &config, sizes, &name)
 }
 
 /// So has each table of the family; with an -f of 1.001 it has 62 classes of one size, and the 63rd.
 fn assert_family(rt: &impl Abort, alloc: Global, family: &Family) -> Result<(), Fail> {
     if let Some(size) = family.alike {
-        let mut sizes = vec![in alloc; size; 62]?;
-        sizes.push(family.max)?;
+        let mut sizes = [size; 63];
+        sizes[62] = family.max;
         let printed = ("1.001", (1001, 1000), sizes.as_slice());
         assert_printed(rt, alloc, family, &printed)?;
     }
@@ -509,39 +539,51 @@ fn refusals(rt: HostRuntime) {
     }
 }
 
+const LEAST: Config = Config {
+    page: 64,
+    limit: 64,
+    first: 24,
+    num: 65535,
+    den: 65534,
+    max: 64,
+    stripes: 1,
+    bulk: 1,
+};
+
+const GREATEST: Config = Config {
+    page: 16384,
+    limit: 1_064_959,
+    first: 16384,
+    num: 65535,
+    den: 1,
+    max: 16384,
+    stripes: 64,
+    bulk: 256,
+};
+
+/// The least numbers are accepted.
+fn assert_least(rt: &impl Abort, alloc: Global) -> Result<(), Fail> {
+    let table = ClassTable::build(alloc, &LEAST)?;
+    let pages = (table.pages(), table.arena_pages());
+    assert_same(rt, pages, (1, 1 + table.count()), "the least limit");
+    assert_same(rt, table.class_for(24), Some(1), "the least size");
+    assert_same(rt, table.class_for(64), Some(table.count()), "the page");
+    Ok(())
+}
+
+/// So are the greatest.
+fn assert_greatest(rt: &impl Abort, alloc: Global) -> Result<(), Fail> {
+    let table = ClassTable::build(alloc, &GREATEST)?;
+    let pages = (table.pages(), table.arena_pages());
+    assert_same(rt, pages, (64, 65), "the greatest limit");
+    assert_classes(rt, &table, &[16384], "one chunk a page");
+    Ok(())
+}
+
 #[test]
 fn bounds_are_accepted(rt: HostRuntime) -> Result<(), Fail> {
-    let least = Config {
-        page: 64,
-        limit: 64,
-        first: 24,
-        num: 65535,
-        den: 65534,
-        max: 64,
-        stripes: 1,
-        bulk: 1,
-    };
-    let greatest = Config {
-        page: 16384,
-        limit: 1_064_959,
-        first: 16384,
-        num: 65535,
-        den: 1,
-        max: 16384,
-        stripes: 64,
-        bulk: 256,
-    };
-    let table = ClassTable::build(rt.alloc(), &least)?;
-    assert_same(&rt, table.pages(), 1, "the least limit");
-    let pages = table.arena_pages();
-    assert_same(&rt, pages, 1 + table.count(), "the least limit");
-    assert_same(&rt, table.class_for(24), Some(1), "the least size");
-    assert_same(&rt, table.class_for(64), Some(table.count()), "the page");
-    let table = ClassTable::build(rt.alloc(), &greatest)?;
-    assert_same(&rt, table.pages(), 64, "the greatest limit");
-    assert_same(&rt, table.arena_pages(), 65, "the greatest limit");
-    assert_classes(&rt, &table, &[16384], "one chunk a page");
-    Ok(())
+    assert_least(&rt, rt.alloc())?;
+    assert_greatest(&rt, rt.alloc())
 }
 
 /// The error has this number, and its text begins so.
@@ -553,8 +595,8 @@ fn assert_told(
     text: &str,
 ) -> Result<(), Fail> {
     let told = error.to_string(alloc)?;
-    assert_same(rt, error.number(), number, text);
-    assert_same(rt, told.starts_with(text), true, text);
+    let found = (error.number(), told.starts_with(text));
+    assert_same(rt, found, (number, true), text);
     Ok(())
 }
 
@@ -573,13 +615,9 @@ fn numbers_and_texts(rt: HostRuntime) -> Result<(), Fail> {
             "a page of the first class would",
         ),
         (ConfigError::Bulk, 8, "the number of chunks a turn must"),
-        (
-            ConfigError::NoMemory(too_much(rt.alloc())?),
-            9,
-            "out of memory",
-        ),
     ] {
         assert_told(&rt, rt.alloc(), error, number, text)?;
     }
-    Ok(())
+    let memory = ConfigError::NoMemory(too_much(rt.alloc())?);
+    assert_told(&rt, rt.alloc(), memory, 9, "out of memory")
 }

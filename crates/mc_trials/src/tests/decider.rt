@@ -27,6 +27,12 @@ const PAGES: [u64; 4] = [3, 1, 1, 2];
 
 const NONE: [u64; 4] = [0; 4];
 
+/// A decider of four classes that was fed nothing yet.
+fn new_decider(alloc: Global) -> Result<Decider, Fail> {
+    let table = ClassTable::build(alloc, &FOUR_CLASSES)?;
+    Ok(Decider::new(alloc, &table)?)
+}
+
 /// A new decider decides so, window by window.
 fn assert_decisions(
     rt: &impl Abort,
@@ -34,8 +40,7 @@ fn assert_decisions(
     name: &str,
     windows: Windows<'_>,
 ) -> Result<(), Fail> {
-    let table = ClassTable::build(alloc, &FOUR_CLASSES)?;
-    let mut decider = Decider::new(alloc, &table)?;
+    let mut decider = new_decider(alloc)?;
     for (evictions, pages, free, decision) in windows {
         let fed = decider.feed(evictions, pages, free);
         assert_equal(rt, fed, Ok(*decision), name);
@@ -167,34 +172,48 @@ fn assert_decides(
     assert_equal(rt, fed, Ok(decision), "the decision");
 }
 
+/// Each row is refused.
+fn assert_refused(rt: &impl Abort, decider: &mut Decider, rows: &[RefusedRow]) {
+    for (evictions, pages, free, refusal) in rows {
+        let fed = decider.feed(evictions, pages, free);
+        assert_equal(rt, fed, Err(*refusal), "the refusal");
+    }
+}
+
 #[test]
 fn refusals_leave_the_decider_alone(rt: HostRuntime) -> Result<(), Fail> {
-    let table = ClassTable::build(rt.alloc(), &FOUR_CLASSES)?;
-    let mut decider = Decider::new(rt.alloc(), &table)?;
+    let mut decider = new_decider(rt.alloc())?;
     assert_decides(&rt, &mut decider, &[0, 0, 0, 5], None);
     assert_decides(&rt, &mut decider, &[0, 0, 0, 6], None);
-    for (evictions, pages, free, refusal) in &REFUSED {
-        let fed = decider.feed(evictions, pages, free);
-        assert_equal(&rt, fed, Err(*refusal), "the refusal");
-    }
+    assert_refused(&rt, &mut decider, &REFUSED);
     assert_decides(&rt, &mut decider, &[0, 0, 0, 9], FROM_1_TO_4);
     Ok(())
+}
+
+/// Four classes, built at the second try where memory was refused at the first.
+fn table_at_last(rt: &impl Abort, alloc: Global) -> Result<ClassTable, ConfigError> {
+    match ClassTable::build(alloc, &FOUR_CLASSES) {
+        Err(error) => {
+            assert_same(rt, error.number(), 9, "the refusal");
+            ClassTable::build(alloc, &FOUR_CLASSES)
+        }
+        built => built,
+    }
+}
+
+/// So is their decider.
+fn decider_at_last(rt: &impl Abort, alloc: Global) -> Result<Decider, Fail> {
+    let table = table_at_last(rt, alloc)?;
+    match Decider::new(alloc, &table) {
+        Ok(decider) => Ok(decider),
+        Err(_) => Ok(Decider::new(alloc, &table)?),
+    }
 }
 
 /// Where one allocation is refused (`rt try --test --fail-alloc N`), the call answers that, and its repeat goes well.
 #[test]
 fn made_at_the_second_try(rt: HostRuntime) -> Result<(), Fail> {
-    let table = match ClassTable::build(rt.alloc(), &FOUR_CLASSES) {
-        Ok(table) => table,
-        Err(error) => {
-            assert_same(&rt, error.number(), 9, "the refusal");
-            ClassTable::build(rt.alloc(), &FOUR_CLASSES)?
-        }
-    };
-    let mut decider = match Decider::new(rt.alloc(), &table) {
-        Ok(decider) => decider,
-        Err(_) => Decider::new(rt.alloc(), &table)?,
-    };
+    let mut decider = decider_at_last(&rt, rt.alloc())?;
     assert_equal(
         &rt,
         decider.feed(&NONE, &PAGES, &[53, 0, 0, 0]),
@@ -204,19 +223,22 @@ fn made_at_the_second_try(rt: HostRuntime) -> Result<(), Fail> {
     Ok(())
 }
 
+/// Each refusal, and its text.
+const TEXTS: [(Feed, &str); 2] = [
+    (
+        Feed::Length,
+        "each list must have one number for each class",
+    ),
+    (
+        Feed::Backwards,
+        "the evictions of a class can't become fewer",
+    ),
+];
+
 #[test]
 fn refusals_in_words(rt: HostRuntime) -> Result<(), Fail> {
-    let rows = [
-        (
-            Feed::Length.to_string(rt.alloc())?,
-            "each list must have one number for each class",
-        ),
-        (
-            Feed::Backwards.to_string(rt.alloc())?,
-            "the evictions of a class can't become fewer",
-        ),
-    ];
-    for (text, words) in &rows {
+    for (refusal, words) in &TEXTS {
+        let text = refusal.to_string(rt.alloc())?;
         assert_same(&rt, text.as_str(), *words, "the text");
     }
     Ok(())

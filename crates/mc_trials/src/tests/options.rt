@@ -27,11 +27,12 @@ fn config_of(rt: &(impl Abort + AllocGlobal), words: &[&str]) -> Result<Config, 
 }
 
 /// An option and its value as two words, the two joined, and what is configured.
-type OptionRow<'a> = ([&'a str; 2], &'a str, Config);
+type OptionRow<'a> = (&'a str, &'a str, &'a str, Config);
 
 const EACH_OPTION: [OptionRow<'static>; 7] = [
     (
-        ["--page", "2048"],
+        "--page",
+        "2048",
         "--page=2048",
         Config {
             page: 2048,
@@ -39,7 +40,8 @@ const EACH_OPTION: [OptionRow<'static>; 7] = [
         },
     ),
     (
-        ["--limit", "65536"],
+        "--limit",
+        "65536",
         "--limit=65536",
         Config {
             limit: 65_536,
@@ -47,7 +49,8 @@ const EACH_OPTION: [OptionRow<'static>; 7] = [
         },
     ),
     (
-        ["--first", "0100"],
+        "--first",
+        "0100",
         "--first=0100",
         Config {
             first: 100,
@@ -55,7 +58,8 @@ const EACH_OPTION: [OptionRow<'static>; 7] = [
         },
     ),
     (
-        ["--factor", "5/4"],
+        "--factor",
+        "5/4",
         "--factor=5/4",
         Config {
             num: 5,
@@ -64,7 +68,8 @@ const EACH_OPTION: [OptionRow<'static>; 7] = [
         },
     ),
     (
-        ["--max", "+1024"],
+        "--max",
+        "+1024",
         "--max=+1024",
         Config {
             max: 1024,
@@ -72,7 +77,8 @@ const EACH_OPTION: [OptionRow<'static>; 7] = [
         },
     ),
     (
-        ["--stripes", "0"],
+        "--stripes",
+        "0",
         "--stripes=0",
         Config {
             stripes: 0,
@@ -80,7 +86,8 @@ const EACH_OPTION: [OptionRow<'static>; 7] = [
         },
     ),
     (
-        ["--bulk", "18446744073709551615"],
+        "--bulk",
+        "18446744073709551615",
         "--bulk=18446744073709551615",
         Config {
             bulk: u64::MAX,
@@ -89,14 +96,23 @@ const EACH_OPTION: [OptionRow<'static>; 7] = [
     ),
 ];
 
+/// This is configured by the words.
+fn assert_config(
+    rt: &(impl Abort + AllocGlobal),
+    words: &[&str],
+    config: &Config,
+    what: &str,
+) -> Result<(), Fail> {
+    let found = config_of(rt, words)?;
+    assert_equal(rt, found, *config, what);
+    Ok(())
+}
+
 /// Both forms of a row are read so.
 fn assert_both_forms(rt: &(impl Abort + AllocGlobal), row: &OptionRow) -> Result<(), Fail> {
-    let ([name, value], joined, config) = row;
-    let found = config_of(rt, &["mcslab", name, value])?;
-    assert_equal(rt, found, *config, joined);
-    let found = config_of(rt, &["mcslab", joined])?;
-    assert_equal(rt, found, *config, joined);
-    Ok(())
+    let (name, value, joined, config) = row;
+    assert_config(rt, &["mcslab", name, value], config, joined)?;
+    assert_config(rt, &["mcslab", joined], config, joined)
 }
 
 /// Each row's option is read in both of its forms.
@@ -114,26 +130,24 @@ fn reads_each_option(rt: HostRuntime) -> Result<(), Fail> {
 
 #[test]
 fn reads_no_option(rt: HostRuntime) -> Result<(), Fail> {
-    let plain = config_of(&rt, &["mcslab"])?;
-    assert_equal(&rt, plain, FOUR_CLASSES, "the options");
-    let plain = config_of(&rt, &["mcslab", "--"])?;
-    assert_equal(&rt, plain, FOUR_CLASSES, "the options");
-    Ok(())
+    assert_config(&rt, &["mcslab"], &FOUR_CLASSES, "no option")?;
+    assert_config(&rt, &["mcslab", "--"], &FOUR_CLASSES, "no option")
 }
 
-/// Words are read so, with four classes.
-fn assert_read(
-    rt: &(impl Abort + AllocGlobal),
-    words: &[&str],
-    automove: u64,
-    threads: bool,
-) -> Result<(), Fail> {
-    let run = Run {
-        config: FOUR_CLASSES,
-        automove,
-    };
-    let found = options(rt.alloc(), words)?;
-    assert_equal(rt, found, Options { run, threads }, "the options");
+/// Words, the automover's mode, and whether the run has threads.
+type ReadRow<'a> = (&'a [&'a str], u64, bool);
+
+/// The words of each row are read so, with four classes.
+fn assert_read(rt: &(impl Abort + AllocGlobal), rows: &[ReadRow]) -> Result<(), Fail> {
+    for (words, automove, threads) in rows {
+        let run = Run {
+            config: FOUR_CLASSES,
+            automove: *automove,
+        };
+        let threads = *threads;
+        let found = options(rt.alloc(), words)?;
+        assert_equal(rt, found, Options { run, threads }, "the options");
+    }
     Ok(())
 }
 
@@ -182,75 +196,69 @@ fn reads_all_options(rt: HostRuntime) -> Result<(), Fail> {
 }
 
 /// A factor, and what is read: 0 over 0 where it is none.
-const FACTORS: [(&str, (u64, u64)); 13] = [
-    ("5/4", (5, 4)),
-    ("05/04", (5, 4)),
-    ("99999/00000", (99_999, 0)),
-    ("", (0, 0)),
-    ("5", (0, 0)),
-    ("5/", (0, 0)),
-    ("/4", (0, 0)),
-    ("5/4/3", (0, 0)),
-    ("123456/1", (0, 0)),
-    ("1/123456", (0, 0)),
-    ("a/b", (0, 0)),
-    ("5 /4", (0, 0)),
-    ("+5/4", (0, 0)),
+const FACTORS: [(&str, u64, u64); 13] = [
+    ("5/4", 5, 4),
+    ("05/04", 5, 4),
+    ("99999/00000", 99_999, 0),
+    ("", 0, 0),
+    ("5", 0, 0),
+    ("5/", 0, 0),
+    ("/4", 0, 0),
+    ("5/4/3", 0, 0),
+    ("123456/1", 0, 0),
+    ("1/123456", 0, 0),
+    ("a/b", 0, 0),
+    ("5 /4", 0, 0),
+    ("+5/4", 0, 0),
 ];
 
 #[test]
 fn reads_any_factor(rt: HostRuntime) -> Result<(), Fail> {
-    for (text, factor) in &FACTORS {
+    for (text, num, den) in &FACTORS {
         let config = config_of(&rt, &["mcslab", "--factor", text])?;
-        assert_same(&rt, (config.num, config.den), *factor, text);
+        assert_same(&rt, (config.num, config.den), (*num, *den), text);
     }
     Ok(())
 }
 
-/// Words, and the automover's mode.
-const MODES: [(&[&str], u64); 12] = [
-    (&["mcslab"], 0),
-    (&["mcslab", "--bulk", "64"], 0),
-    (&["mcslab", "--automove", "0"], 0),
-    (&["mcslab", "--automove=0"], 0),
-    (&["mcslab", "--automove", "1"], 1),
-    (&["mcslab", "--automove=1"], 1),
-    (&["mcslab", "--automove", "2"], 2),
-    (&["mcslab", "--automove=2"], 2),
-    (&["mcslab", "--automove", "01"], 1),
-    (&["mcslab", "--automove=+1"], 1),
-    (&["mcslab", "--automove=2", "--stripes", "4"], 2),
-    (&["mcslab", "--stripes=4", "--automove", "+002"], 2),
+const MODES: [ReadRow<'static>; 12] = [
+    (&["mcslab"], 0, false),
+    (&["mcslab", "--bulk", "64"], 0, false),
+    (&["mcslab", "--automove", "0"], 0, false),
+    (&["mcslab", "--automove=0"], 0, false),
+    (&["mcslab", "--automove", "1"], 1, false),
+    (&["mcslab", "--automove=1"], 1, false),
+    (&["mcslab", "--automove", "2"], 2, false),
+    (&["mcslab", "--automove=2"], 2, false),
+    (&["mcslab", "--automove", "01"], 1, false),
+    (&["mcslab", "--automove=+1"], 1, false),
+    (&["mcslab", "--automove=2", "--stripes", "4"], 2, false),
+    (&["mcslab", "--stripes=4", "--automove", "+002"], 2, false),
 ];
 
 #[test]
 fn reads_the_mode_of_the_automover(rt: HostRuntime) -> Result<(), Fail> {
-    for (words, automove) in &MODES {
-        assert_read(&rt, words, *automove, false)?;
-    }
-    Ok(())
+    assert_read(&rt, &MODES)
 }
 
-/// Words, and whether the run has threads.
-const THREADS: [(&[&str], bool); 8] = [
-    (&["mcslab"], false),
-    (&["--threads"], false),
-    (&["mcslab", "--bulk", "64"], false),
-    (&["mcslab", "--threads"], true),
-    (&["mcslab", "--threads", "--bulk", "64"], true),
+const THREADS: [ReadRow<'static>; 8] = [
+    (&["mcslab"], 0, false),
+    (&["--threads"], 0, false),
+    (&["mcslab", "--bulk", "64"], 0, false),
+    (&["mcslab", "--threads"], 0, true),
+    (&["mcslab", "--threads", "--bulk", "64"], 0, true),
     (
         &["mcslab", "--stripes=4", "--threads", "--bulk", "64"],
+        0,
         true,
     ),
-    (&["mcslab", "--stripes", "4", "--threads"], true),
-    (&["mcslab", "--threads", "--"], true),
+    (&["mcslab", "--stripes", "4", "--threads"], 0, true),
+    (&["mcslab", "--threads", "--"], 0, true),
 ];
 
 #[test]
 fn reads_the_flag_of_the_threads(rt: HostRuntime) -> Result<(), Fail> {
-    for (words, threads) in &THREADS {
-        assert_read(&rt, words, 0, *threads)?;
-    }
+    assert_read(&rt, &THREADS)?;
     let config = config_of(&rt, &["mcslab", "--factor=--threads"])?;
     assert_same(
         &rt,
@@ -269,15 +277,19 @@ fn text_of(rt: &impl AllocGlobal, words: &[&str]) -> Result<String, Fail> {
     }
 }
 
+/// What the text of the help tells of the flag.
+const HELP: [&str; 3] = [
+    "[OPTIONS]",
+    "  --threads  ",
+    "run in threads of their own; default off",
+];
+
 #[test]
 fn tells_the_flag_of_the_threads(rt: HostRuntime) -> Result<(), Fail> {
     let text = text_of(&rt, &["mcslab", "--help"])?;
-    assert!(rt; text.contains("[OPTIONS]"), "{text}");
-    assert!(rt; text.contains("  --threads  "), "{text}");
-    assert!(rt;
-        text.contains("run in threads of their own; default off"),
-        "{text}"
-    );
+    for part in &HELP {
+        assert_same(&rt, (*part, text.contains(part)), (*part, true), &text);
+    }
     Ok(())
 }
 

@@ -76,6 +76,21 @@ fn assert_refused(rt: &(impl Abort + AllocGlobal), scripts: &[&str]) -> Result<(
     Ok(())
 }
 
+/// Each row's script is the row's command alone.
+fn assert_commands(rt: &(impl Abort + AllocGlobal), rows: &[(&str, Command)]) -> Result<(), Fail> {
+    for (script, command) in rows {
+        assert_command(rt, script, command)?;
+    }
+    Ok(())
+}
+
+/// A script has so many commands.
+fn assert_count(rt: &(impl Abort + AllocGlobal), script: &[u8], count: usize) -> Result<(), Fail> {
+    let commands = read(rt.alloc(), script)?;
+    assert_same(rt, commands.len(), count, "commands");
+    Ok(())
+}
+
 /// A script, and its command.
 const COMMANDS: [(&str, Command); 6] = [
     (
@@ -105,11 +120,8 @@ const COMMANDS: [(&str, Command); 6] = [
 
 #[test]
 fn gives_the_commands(rt: HostRuntime) -> Result<(), Fail> {
-    for (script, command) in &COMMANDS {
-        assert_command(&rt, script, command)?;
-    }
-    assert!(rt; read(rt.alloc(), b"")?.is_empty());
-    Ok(())
+    assert_commands(&rt, &COMMANDS)?;
+    assert_count(&rt, b"", 0)
 }
 
 #[test]
@@ -125,15 +137,10 @@ fn keeps_the_order(rt: HostRuntime) -> Result<(), Fail> {
 
 #[test]
 fn skips_any_comment(rt: HostRuntime) -> Result<(), Fail> {
-    assert_same(
-        &rt,
-        refused_line(rt.alloc(), b"#\0\xff\t\r x\nno")?,
-        Some(2),
-        "after a comment",
-    );
+    let line = refused_line(rt.alloc(), b"#\0\xff\t\r x\nno")?;
+    assert_same(&rt, line, Some(2), "after a comment");
     let comment = vec![in rt.alloc(); b'#'; MAX_SCRIPT]?;
-    assert!(rt; read(rt.alloc(), &comment)?.is_empty());
-    Ok(())
+    assert_count(&rt, &comment, 0)
 }
 
 #[test]
@@ -142,22 +149,27 @@ fn reads_a_largest_script(rt: HostRuntime) -> Result<(), Fail> {
     for _ in 0..MAX_SCRIPT / 8 {
         script.extend_from_slice(b"1 del 1\n")?;
     }
-    assert_same(
-        &rt,
-        read(rt.alloc(), &script)?.len(),
-        MAX_SCRIPT / 8,
-        "commands",
-    );
+    assert_count(&rt, &script, MAX_SCRIPT / 8)
+}
+
+/// The error has this text.
+fn assert_text(
+    rt: &impl Abort,
+    alloc: Global,
+    error: ScriptError,
+    wanted: &str,
+) -> Result<(), Fail> {
+    let text = error.to_string(alloc)?;
+    assert_same(rt, text.as_str(), wanted, "the text");
     Ok(())
 }
 
 #[test]
 fn tells_the_error(rt: HostRuntime) -> Result<(), Fail> {
-    let line = ScriptError::Line(12).to_string(rt.alloc())?;
-    assert_same(&rt, line.as_str(), "line 12 is no command", "the text");
-    let memory = ScriptError::NoMemory(too_much(rt.alloc())?).to_string(rt.alloc())?;
-    assert_same(&rt, memory.as_str(), "out of memory", "the text");
-    Ok(())
+    let line = ScriptError::Line(12);
+    assert_text(&rt, rt.alloc(), line, "line 12 is no command")?;
+    let memory = ScriptError::NoMemory(too_much(rt.alloc())?);
+    assert_text(&rt, rt.alloc(), memory, "out of memory")
 }
 
 /// Lines that are no worker's.
@@ -275,10 +287,7 @@ const OF_WORKERS: [(&str, Command); 5] = [
 
 #[test]
 fn gives_the_commands_of_workers(rt: HostRuntime) -> Result<(), Fail> {
-    for (script, command) in &OF_WORKERS {
-        assert_command(&rt, script, command)?;
-    }
-    Ok(())
+    assert_commands(&rt, &OF_WORKERS)
 }
 
 /// Lines of the mover, and their commands.
@@ -323,8 +332,5 @@ const WITHOUT_A_WORKER: [(&str, Command); 15] = [
 
 #[test]
 fn gives_the_commands_without_a_worker(rt: HostRuntime) -> Result<(), Fail> {
-    for (script, command) in &WITHOUT_A_WORKER {
-        assert_command(&rt, script, command)?;
-    }
-    Ok(())
+    assert_commands(&rt, &WITHOUT_A_WORKER)
 }

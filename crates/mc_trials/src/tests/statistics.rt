@@ -2,6 +2,7 @@
 ghost use Rattle.std.specs.Prelude.{◌≡◌, ◌<◌};
 ghost use Rattle.mc_watch.specs.Texts.{AreCounts};
 
+use super::assert_same;
 use mc_classes::{ClassTable, Failures, Fault, Sink};
 use mc_trial_values::FOUR_CLASSES;
 use mc_watch::{stats_general, stats_slabs};
@@ -55,6 +56,9 @@ struct Attempt {
 /// The pages of each class, its free chunks, and the bytes granted.
 type Counts = ([u64; 4], [u64; 4], u64);
 
+/// The pages in the pool and those moved, the items rescued, evicted and busy, and whether a page moves.
+type Numbers = (u64, u64, u64, u64, u64, bool);
+
 fn sink<L: Ledger>(alloc: Global, blank: Blank, fails_at: u64) -> Result<FailingSink<L>, Fail>
     requires name { blank.name ≡ L.name }
     requires parts { blank.parts ≡ L.parts }
@@ -86,12 +90,11 @@ fn attempt_of<L: Ledger>(outcome: Result<(), Fault>, sink: FailingSink<L>) -> At
 fn assert_counts(rt: &impl Abort, table: &ClassTable, pages: &[u64], free: &[u64])
     ensures { AreCounts table.now pages.now free.now }
 {
-    assert!(rt; pages.len() as u64 == table.count());
-    assert!(rt; free.len() as u64 == table.count());
+    let count = table.count();
+    assert!(rt; pages.len() as u64 == count && free.len() as u64 == count);
     for place in 0..pages.len() {
         let per_page = table.per_page(place as u64 + 1);
-        assert!(rt; pages[place] <= 127);
-        assert!(rt; free[place] <= pages[place] * per_page);
+        assert!(rt; pages[place] <= 127 && free[place] <= pages[place] * per_page);
     }
 }
 
@@ -100,17 +103,17 @@ fn slabs_written<L: Ledger>(
     alloc: Global,
     blank: Blank,
     fails_at: u64,
+    table: &ClassTable,
     counts: &Counts,
 ) -> Result<Attempt, Fail>
     requires name { blank.name ≡ L.name }
     requires parts { blank.parts ≡ L.parts }
     requires some { 0 < blank.parts }
 {
-    let table = ClassTable::build(alloc, &FOUR_CLASSES)?;
     let (pages, free, malloced) = counts;
-    assert_counts(rt, &table, pages, free);
+    assert_counts(rt, table, pages, free);
     let mut sink: FailingSink<L> = sink(alloc, blank, fails_at)?;
-    let outcome = stats_slabs(&table, pages, free, *malloced, &mut sink);
+    let outcome = stats_slabs(table, pages, free, *malloced, &mut sink);
     Ok(attempt_of(outcome, sink))
 }
 
@@ -118,13 +121,13 @@ fn general_written<L: Ledger>(
     alloc: Global,
     blank: Blank,
     fails_at: u64,
-    numbers: &([u64; 5], bool),
+    numbers: &Numbers,
 ) -> Result<Attempt, Fail>
     requires name { blank.name ≡ L.name }
     requires parts { blank.parts ≡ L.parts }
     requires some { 0 < blank.parts }
 {
-    let ([pool, moved, rescues, evictions_nomem, busy], running) = *numbers;
+    let (pool, moved, rescues, evictions_nomem, busy, running) = *numbers;
     let mut sink: FailingSink<L> = sink(alloc, blank, fails_at)?;
     let outcome = stats_general(
         pool,
@@ -153,62 +156,79 @@ const SLABS: [(Counts, &str); 3] = [
     ),
 ];
 
-const GENERAL: [(([u64; 5], bool), &str); 3] = [
+const GENERAL: [(Numbers, &str); 3] = [
     (
-        ([0; 5], false),
+        (0, 0, 0, 0, 0, false),
         "STAT slab_global_page_pool 0\r\nSTAT slab_reassign_running 0\r\nSTAT slabs_moved 0\r\nSTAT slab_reassign_rescues 0\r\nSTAT slab_reassign_evictions_nomem 0\r\nSTAT slab_reassign_busy_items 0\r\nEND\r\n",
     ),
     (
-        ([1, 2, 3, 4, 5], true),
+        (1, 2, 3, 4, 5, true),
         "STAT slab_global_page_pool 1\r\nSTAT slab_reassign_running 1\r\nSTAT slabs_moved 2\r\nSTAT slab_reassign_rescues 3\r\nSTAT slab_reassign_evictions_nomem 4\r\nSTAT slab_reassign_busy_items 5\r\nEND\r\n",
     ),
     (
-        ([u64::MAX; 5], true),
+        (u64::MAX, u64::MAX, u64::MAX, u64::MAX, u64::MAX, true),
         "STAT slab_global_page_pool 18446744073709551615\r\nSTAT slab_reassign_running 1\r\nSTAT slabs_moved 18446744073709551615\r\nSTAT slab_reassign_rescues 18446744073709551615\r\nSTAT slab_reassign_evictions_nomem 18446744073709551615\r\nSTAT slab_reassign_busy_items 18446744073709551615\r\nEND\r\n",
     ),
 ];
 
-/// At each of its writes the text may fail: none follows, and what was written begins the text.
-fn assert_stops(rt: &impl Abort, attempt: &Attempt, fails_at: u64, text: &str) {
+/// Where a write failed, none followed, and what was written begins the text. Says whether all went well.
+fn went_well(rt: &impl Abort, attempt: &Attempt, fails_at: u64, text: &str) -> bool {
+    let written = attempt.bytes.as_slice();
     if attempt.went_well {
-        assert!(rt; attempt.bytes.as_slice() == text.as_bytes(), "{text}");
-        assert!(rt; attempt.writes.saturating_add(1) == fails_at);
+        let found = (written, attempt.writes.saturating_add(1));
+        assert_same(rt, found, (text.as_bytes(), fails_at), text);
     } else {
-        assert!(rt; text.as_bytes().starts_with(&attempt.bytes));
-        assert!(rt; attempt.writes == fails_at);
+        let found = (text.as_bytes().starts_with(written), attempt.writes);
+        assert_same(rt, found, (true, fails_at), text);
     }
+    attempt.went_well
+}
+
+/// At each of its writes the text of the slabs may fail.
+fn assert_slabs(
+    rt: &impl Abort,
+    alloc: Global,
+    table: &ClassTable,
+    (counts, text): &(Counts, &str),
+) -> Result<(), Fail> {
+    for fails_at in 1..200 {
+        let blank = Blank::new(1);
+        let got = slabs_written::<Brand>(rt, alloc, blank, fails_at, table, counts)?;
+        if went_well(rt, &got, fails_at, text) {
+            return Ok(());
+        }
+    }
+    Err(Fail::new("the text has more writes"))
 }
 
 #[test]
 fn slabs_until_a_failure(rt: HostRuntime) -> Result<(), Fail> {
-    for (counts, text) in &SLABS {
-        let mut went_well = false;
-        for fails_at in 1..200 {
-            let got = slabs_written::<Brand>(&rt, rt.alloc(), Blank::new(1), fails_at, counts)?;
-            assert_stops(&rt, &got, fails_at, text);
-            went_well = got.went_well;
-            if went_well {
-                break;
-            }
-        }
-        assert!(rt; went_well, "{text}");
+    let table = ClassTable::build(rt.alloc(), &FOUR_CLASSES)?;
+    for row in &SLABS {
+        assert_slabs(&rt, rt.alloc(), &table, row)?;
     }
     Ok(())
 }
 
+/// So may the general text.
+fn assert_general(
+    rt: &impl Abort,
+    alloc: Global,
+    (numbers, text): &(Numbers, &str),
+) -> Result<(), Fail> {
+    for fails_at in 1..200 {
+        let got = general_written::<Brand>(alloc, Blank::new(1), fails_at, numbers)?;
+        if went_well(rt, &got, fails_at, text) {
+            return Ok(());
+        }
+    }
+    Err(Fail::new("the text has more writes"))
+}
+
 #[test]
 fn general_until_a_failure(rt: HostRuntime) -> Result<(), Fail> {
-    for (numbers, text) in &GENERAL {
-        let mut went_well = false;
-        for fails_at in 1..200 {
-            let got = general_written::<Brand>(rt.alloc(), Blank::new(1), fails_at, numbers)?;
-            assert_stops(&rt, &got, fails_at, text);
-            went_well = got.went_well;
-            if went_well {
-                break;
-            }
-        }
-        assert!(rt; went_well, "{text}");
+    for row in &GENERAL {
+        assert_general(&rt, rt.alloc(), row)?;
     }
     Ok(())
 }

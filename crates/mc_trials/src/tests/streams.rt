@@ -91,6 +91,17 @@ impl Write for Narrow<'_> {
     }
 }
 
+/// The lengths of three pieces.
+type Pieces = (usize, usize, usize);
+
+/// Whether each piece went well and the end did, how many bytes were taken, and after how many calls.
+type Written = ((bool, bool, bool), bool, usize, usize);
+
+/// The first bytes, as many as there are.
+fn first_of(bytes: &[u8], count: usize) -> &[u8] {
+    &bytes[..cmp::min(count, bytes.len())]
+}
+
 /// Writes pieces of these lengths and finishes. Says whether each went well, how many bytes were taken and after how
 /// many calls.
 fn written<L: Ledger>(
@@ -98,8 +109,8 @@ fn written<L: Ledger>(
     blank: Blank,
     room: usize,
     is_flushed: bool,
-    pieces: [usize; 3],
-) -> Result<([bool; 3], bool, usize, usize), Fail>
+    pieces: Pieces,
+) -> Result<Written, Fail>
     requires name { blank.name ≡ L.name }
     requires parts { blank.parts ≡ L.parts }
     requires some { 0 < blank.parts }
@@ -114,54 +125,69 @@ fn written<L: Ledger>(
     };
     let writer = RecordedWriter::new(writer);
     let mut output = Output::<_, L>::new(alloc, writer, Failures::new(blank))?;
-    let went = pieces.map(|piece| output.write_all(&bytes[..cmp::min(piece, 20_000)]).is_ok());
+    let (first, second, third) = pieces;
+    let went = (
+        output.write_all(first_of(&bytes, first)).is_ok(),
+        output.write_all(first_of(&bytes, second)).is_ok(),
+        output.write_all(first_of(&bytes, third)).is_ok(),
+    );
     let finished = output.finish().is_ok();
     Ok((went, finished, taken.get(), calls.get()))
 }
 
+/// A name, the room, whether the flush goes well, the lengths of the pieces, and what is written of them.
+type WrittenRow<'a> = (&'a str, usize, bool, Pieces, Written);
+
+const WRITTEN: [WrittenRow<'static>; 6] = [
+    (
+        "held back, written in one, and flushed",
+        20_000,
+        true,
+        (100, 200, 300),
+        ((true, true, true), true, 600, 2),
+    ),
+    (
+        "nothing",
+        20_000,
+        true,
+        (0, 0, 0),
+        ((true, true, true), true, 0, 1),
+    ),
+    (
+        "more than is held back",
+        20_000,
+        true,
+        (8192, 1, 10_000),
+        ((true, true, true), true, 18_193, 21),
+    ),
+    (
+        "nothing is written or flushed after the failure",
+        9000,
+        true,
+        (8192, 10_000, 1),
+        ((true, false, false), false, 9000, 11),
+    ),
+    (
+        "the first write fails",
+        0,
+        true,
+        (100, 200, 300),
+        ((true, true, true), false, 0, 1),
+    ),
+    (
+        "the flush fails",
+        20_000,
+        false,
+        (100, 200, 300),
+        ((true, true, true), false, 600, 2),
+    ),
+];
+
 #[test]
 fn writes_until_a_failure(rt: HostRuntime) -> Result<(), Fail> {
-    let rows = [
-        (
-            "held back, written in one, and flushed",
-            20_000,
-            true,
-            [100, 200, 300],
-            ([true; 3], true, 600, 2),
-        ),
-        ("nothing", 20_000, true, [0, 0, 0], ([true; 3], true, 0, 1)),
-        (
-            "more than is held back",
-            20_000,
-            true,
-            [8192, 1, 10_000],
-            ([true; 3], true, 18_193, 21),
-        ),
-        (
-            "nothing is written or flushed after the failure",
-            9000,
-            true,
-            [8192, 10_000, 1],
-            ([true, false, false], false, 9000, 11),
-        ),
-        (
-            "the first write fails",
-            0,
-            true,
-            [100, 200, 300],
-            ([true; 3], false, 0, 1),
-        ),
-        (
-            "the flush fails",
-            20_000,
-            false,
-            [100, 200, 300],
-            ([true; 3], false, 600, 2),
-        ),
-    ];
-    for (name, room, is_flushed, pieces, outcome) in rows {
-        let got = written::<Brand>(rt.alloc(), Blank::new(1), room, is_flushed, pieces)?;
-        assert_same(&rt, got, outcome, name);
+    for (name, room, is_flushed, pieces, outcome) in &WRITTEN {
+        let got = written::<Brand>(rt.alloc(), Blank::new(1), *room, *is_flushed, *pieces)?;
+        assert_same(&rt, got, *outcome, name);
     }
     Ok(())
 }

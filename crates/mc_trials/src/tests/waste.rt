@@ -1,4 +1,5 @@
 //! The classes and their worst waste of two tables that are built.
+use super::assert_same;
 use mc_classes::{ClassTable, Config};
 use mc_trial_values::FOUR_CLASSES;
 use mc_waste::worst_waste;
@@ -14,6 +15,20 @@ const FINER: Config = Config {
 };
 
 /// The table has these classes, each with its size and the most that an item leaves of it.
+fn assert_wastes(rt: &impl Abort, table: &ClassTable, wanted: &[(u64, u64)]) {
+    assert!(rt;
+        table.count() == wanted.len() as u64,
+        "there are more classes, or fewer"
+    );
+    for (place, (size, waste)) in wanted.iter().enumerate() {
+        let class = place as u64 + 1;
+        let found = (table.size(class), worst_waste(table, class));
+        let wanted = (*size, Some(*waste));
+        assert_same(rt, found, wanted, "a class's size, and what is left of it");
+    }
+}
+
+/// So has the table that is built of the configuration.
 fn assert_classes(
     rt: &impl Abort,
     alloc: Global,
@@ -21,19 +36,7 @@ fn assert_classes(
     wanted: &[(u64, u64)],
 ) -> Result<(), Fail> {
     let table = ClassTable::build(alloc, config)?;
-    assert!(rt;
-        table.count() == wanted.len() as u64,
-        "there are more classes, or fewer"
-    );
-    for (place, (size, waste)) in wanted.iter().enumerate() {
-        let class = place as u64 + 1;
-        assert!(rt; class <= table.count(), "there are fewer classes");
-        assert!(rt; table.size(class) == *size, "a class has another size");
-        assert!(rt;
-            worst_waste(&table, class) == Some(*waste),
-            "an item leaves more, or less"
-        );
-    }
+    assert_wastes(rt, &table, wanted);
     Ok(())
 }
 

@@ -19,7 +19,7 @@ pub(super) struct Family {
     pub alike: Option<u64>,
 }
 
-pub(super) const FAMILIES: [Family; 9] = [
+pub(super) static FAMILIES: [Family; 9] = [
     Family {
         options: "-n 452 -o slab_chunk_max=512",
         page: 16384,

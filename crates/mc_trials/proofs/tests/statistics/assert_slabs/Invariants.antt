@@ -1,4 +1,4 @@
-use Rattle.mc_trials.proofs.tests.statistics.slabs_until_a_failure.Given as goal
+use Rattle.mc_trials.proofs.tests.statistics.assert_slabs.Given as goal
 
 -- the ledger of the blank
 abbrev pub ghosts-slabs_written : goal.ghosts-slabs_written

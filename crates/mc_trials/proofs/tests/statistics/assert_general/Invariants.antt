@@ -1,4 +1,4 @@
-use Rattle.mc_trials.proofs.tests.statistics.general_until_a_failure.Given as goal
+use Rattle.mc_trials.proofs.tests.statistics.assert_general.Given as goal
 
 -- the ledger of the blank
 abbrev pub ghosts-general_written : goal.ghosts-general_written
