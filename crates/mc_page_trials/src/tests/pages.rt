@@ -7,7 +7,7 @@ mod trims;
 
 use super::{assert_equal, assert_same};
 use driven::{ChunkList, Driven};
-use mc_classes::{ClassId, ClassTable, Config, PageId};
+use mc_classes::{ClassId, Config, PageId};
 use mc_pages::{ChunkId, Entry, Found, Grow, Numbers, Owner, Totals};
 use mc_trial_values::FOUR_CLASSES;
 use plain::{Plain, PlainClass};
@@ -80,17 +80,37 @@ fn granted(granted: u64) -> Totals {
 /// The page is half cut until all its chunks are cut.
 fn assert_cuts(rt: &impl Abort, all: &mut Driven, page: PageId, count: u64) {
     for index in 0..count {
-        assert_same(rt, all.half_cut(), Some(page), "half_cut");
-        assert_equal(rt, all.cut(), chunk(page, index), "cut");
+        let found = (all.half_cut(), all.cut());
+        assert_equal(rt, found, (Some(page), chunk(page, index)), "cut");
     }
-    assert_same(rt, all.half_cut(), None, "half_cut");
-    assert_equal(rt, all.cut(), None, "cut");
+    let found = (all.half_cut(), all.cut());
+    assert_equal(rt, found, (None, None), "cut");
 }
 
 /// The class gets the page, and so many chunks of it are cut, and no more.
 fn assert_gets(rt: &impl Abort, all: &mut Driven, class: ClassId, page: PageId, count: u64) {
     assert_equal(rt, all.grow(class), Some(Ok(page)), "grow");
     assert_cuts(rt, all, page, count);
+}
+
+/// At this place of the list stands this chunk.
+fn assert_stands(
+    rt: &impl Abort,
+    all: &Driven,
+    class: ClassId,
+    list: ChunkList,
+    place: u64,
+    want: Option<(PageId, u64)>,
+) {
+    let found = all.at_place(class, list, place);
+    assert_equal(rt, found, want.and_then(named), list.name());
+}
+
+/// The first free chunk takes the place in the hand-out order that is named.
+fn assert_replaces(rt: &impl Abort, all: &mut Driven, class: ClassId, place: u64) {
+    let old = all.at_place(class, ChunkList::HandedOut, place);
+    let want = all.first_of(class, ChunkList::Free).zip(old);
+    assert_equal(rt, all.replace(class, 0, place), want, "replace");
 }
 
 /// The call gives what it is to give.
@@ -111,21 +131,15 @@ fn assert_step(rt: &impl Abort, all: &mut Driven, step: Step) {
             assert_equal(rt, all.back(class, place), chunk(page, index), "back");
         }
         Step::HasFree(class, place, want) => {
-            let found = all.at_place(class, ChunkList::Free, place);
-            assert_equal(rt, found, want.and_then(named), "the free list");
+            assert_stands(rt, all, class, ChunkList::Free, place, want);
         }
         Step::HasOrder(class, place, want) => {
-            let found = all.at_place(class, ChunkList::HandedOut, place);
-            assert_equal(rt, found, want.and_then(named), "the hand-out order");
+            assert_stands(rt, all, class, ChunkList::HandedOut, place, want);
         }
         Step::Touches(class, place, page, index) => {
             assert_equal(rt, all.touch(class, place), chunk(page, index), "touch");
         }
-        Step::Replaces(class, place) => {
-            let old = all.at_place(class, ChunkList::HandedOut, place);
-            let want = all.first_of(class, ChunkList::Free).zip(old);
-            assert_equal(rt, all.replace(class, 0, place), want, "replace");
-        }
+        Step::Replaces(class, place) => assert_replaces(rt, all, class, place),
         Step::IsOlder(class, place, than, want) => {
             assert_equal(rt, all.is_older(class, place, than), Some(want), "is_older");
         }
@@ -150,8 +164,7 @@ fn assert_worked(
     steps: &[Step],
     ledger: &[Entry],
 ) -> Result<(), Fail> {
-    let table = ClassTable::build(alloc, &FOUR_CLASSES)?;
-    let mut all = Driven::new(alloc, &table)?;
+    let mut all = Driven::new(alloc, &FOUR_CLASSES)?;
     assert_steps(rt, &mut all, steps);
     assert_equal(rt, all.totals(), granted(ledger.len() as u64), "totals");
     assert_equal(rt, all.ledger(), ledger, "ledger");
@@ -355,19 +368,22 @@ fn assert_same_walks(rt: &impl Abort, all: &Driven, own: &PlainClass, class: Cla
     }
 }
 
-/// Each chunk of a page that a class has is told to be free where it stands in the class's free list.
-fn assert_same_marks(rt: &impl Abort, all: &Driven, plain: &Plain) {
+/// Each chunk of the class's page is told to be free where it stands in the class's free list.
+fn assert_page_marks(rt: &impl Abort, all: &Driven, own: &PlainClass, page: PageId) {
+    for index in 0..own.per_page {
+        let chunk = ChunkId { page, index };
+        let want = own.free.contains(&chunk);
+        assert_same(rt, all.is_free(chunk), Some(want), "is_free");
+    }
+}
+
+/// Each page has the same owner, and where that is a class, its chunks are told to be free alike.
+fn assert_same_pages(rt: &impl Abort, all: &Driven, plain: &Plain) {
     for (page, owner) in plain.owners.iter().enumerate() {
+        assert_equal(rt, all.owner(page as u64), Some(*owner), "owner");
         let place = (owner.class() as usize).wrapping_sub(1);
         if let Some(own) = plain.classes.get(place) {
-            for index in 0..own.per_page {
-                let chunk = ChunkId {
-                    page: page as u64,
-                    index,
-                };
-                let want = own.free.iter().any(|c| *c == chunk);
-                assert_same(rt, all.is_free(chunk), Some(want), "is_free");
-            }
+            assert_page_marks(rt, all, own, page as u64);
         }
     }
 }
@@ -377,14 +393,11 @@ fn assert_same_slabs(rt: &impl Abort, all: &Driven, plain: &Plain) {
     for (place, own) in plain.classes.iter().enumerate() {
         assert_same_class(rt, all, own, place as u64 + 1);
     }
-    assert_same_marks(rt, all, plain);
-    for (page, owner) in plain.owners.iter().enumerate() {
-        assert_equal(rt, all.owner(page as u64), Some(*owner), "owner");
-    }
+    assert_same_pages(rt, all, plain);
     assert_equal(rt, all.moving(), plain.moving, "moving");
     assert_equal(rt, all.totals(), plain.totals(), "totals");
-    assert_equal(rt, all.ledger(), plain.ledger.as_slice(), "ledger");
-    assert_equal(rt, all.base(), plain.base.as_slice(), "base");
+    let told = (plain.ledger.as_slice(), plain.base.as_slice());
+    assert_equal(rt, (all.ledger(), all.base()), told, "ledger and base");
     assert_same(rt, all.trimmed(), plain.trimmed, "trimmed");
 }
 
@@ -409,23 +422,67 @@ fn found(random: &mut Pcg32) -> Found {
 
 /// Slabs, plain lists that are to hold the same, and what the calls of both are drawn by.
 #[derive(Drop)]
-struct Trial<'a> {
-    all: Driven<'a>,
+struct Trial {
+    all: Driven,
     plain: Plain,
     random: Pcg32,
 }
 
-impl Trial<'_> {
+impl Trial {
     /// Nothing was called yet. Each seed draws other calls.
-    fn new<'a>(alloc: Global, table: &'a ClassTable, seed: u64) -> Result<Trial<'a>, Fail> {
-        let plain = Plain::new(alloc, table)?;
-        let all = Driven::new(alloc, table)?;
+    fn new(alloc: Global, config: &Config, seed: u64) -> Result<Trial, Fail> {
+        let all = Driven::new(alloc, config)?;
         Ok(Trial {
+            plain: Plain::new(alloc, all.table())?,
             all,
-            plain,
             random: Pcg32::new(seed, 0),
         })
     }
+}
+
+/// A chunk of the class comes back from both.
+fn assert_same_back(
+    rt: &impl Abort,
+    trial: &mut Trial,
+    class: ClassId,
+    place: u64,
+) -> Result<(), Fail> {
+    let want = trial.plain.back(class, place as usize)?;
+    assert_equal(rt, trial.all.back(class, place), want, "back");
+    Ok(())
+}
+
+/// A chunk of the class becomes the youngest of both.
+fn assert_same_touch(
+    rt: &impl Abort,
+    trial: &mut Trial,
+    class: ClassId,
+    place: u64,
+) -> Result<(), Fail> {
+    let want = trial.plain.touch(class, place as usize)?;
+    assert_equal(rt, trial.all.touch(class, place), want, "touch");
+    Ok(())
+}
+
+/// A free chunk of the class takes the place of another in both.
+fn assert_same_replace(
+    rt: &impl Abort,
+    trial: &mut Trial,
+    class: ClassId,
+    free: u64,
+    place: u64,
+) -> Result<(), Fail> {
+    let want = trial.plain.replace(class, free as usize, place as usize)?;
+    let found = trial.all.replace(class, free, place);
+    assert_equal(rt, found, want, "replace");
+    Ok(())
+}
+
+/// Both hand out a chunk of the class.
+fn assert_same_pop(rt: &impl Abort, trial: &mut Trial, class: ClassId) -> Result<(), Fail> {
+    let want = trial.plain.pop(class)?;
+    assert_equal(rt, trial.all.pop(class), want, "pop");
+    Ok(())
 }
 
 /// One drawn call of both on the chunks of a class.
@@ -434,69 +491,68 @@ fn assert_chunk_call(rt: &impl Abort, trial: &mut Trial) -> Result<(), Fail> {
     let place = trial.random.next_u64() % 32;
     let free = trial.random.next_u64() % 8;
     match trial.random.next_u64() % 16 {
-        0..=6 => assert_equal(rt, trial.all.pop(class), trial.plain.pop(class)?, "pop"),
-        7..=10 => assert_equal(
-            rt,
-            trial.all.back(class, place),
-            trial.plain.back(class, place as usize)?,
-            "back",
-        ),
-        11 | 12 => assert_equal(
-            rt,
-            trial.all.touch(class, place),
-            trial.plain.touch(class, place as usize)?,
-            "touch",
-        ),
-        13 | 14 => assert_equal(
-            rt,
-            trial.all.replace(class, free, place),
-            trial.plain.replace(class, free as usize, place as usize)?,
-            "replace",
-        ),
-        _ => assert_same(
-            rt,
-            trial.all.evicted(class),
-            trial.plain.evicted(class),
-            "evicted",
-        ),
+        0..=6 => assert_same_pop(rt, trial, class),
+        7..=10 => assert_same_back(rt, trial, class, place),
+        11 | 12 => assert_same_touch(rt, trial, class, place),
+        13 | 14 => assert_same_replace(rt, trial, class, free, place),
+        _ => {
+            let want = trial.plain.evicted(class);
+            assert_same(rt, trial.all.evicted(class), want, "evicted");
+            Ok(())
+        }
     }
+}
+
+/// The class gets a page of both, or none.
+fn assert_same_grow(rt: &impl Abort, trial: &mut Trial, class: ClassId) -> Result<(), Fail> {
+    let want = trial.plain.grow(class)?.ok_or(Grow::NoRoom);
+    assert_equal(rt, trial.all.grow(class), Some(want), "grow");
+    cut_all(&mut trial.all);
     Ok(())
+}
+
+/// A page begins to move in both, from a class that is drawn or that they pick, or is refused.
+fn assert_same_begin(rt: &impl Abort, trial: &mut Trial) -> Result<(), Fail> {
+    let src = match trial.random.next_u64() % 3 {
+        0 => None,
+        _ => Some(trial.random.next_u64() % 6),
+    };
+    let dst = trial.random.next_u64() % 6;
+    let want = trial.plain.begin(src, dst)?;
+    assert_equal(rt, trial.all.begin(src, dst), want, "begin");
+    Ok(())
+}
+
+/// The move ends in both, or goes on.
+fn assert_same_finish(rt: &impl Abort, trial: &mut Trial) -> Result<(), Fail> {
+    let want = trial.plain.finish()?;
+    assert_same(rt, trial.all.finish(), want, "finish");
+    cut_all(&mut trial.all);
+    Ok(())
+}
+
+/// The pass goes on in both by up to eight chunks.
+fn assert_same_pass(rt: &impl Abort, trial: &mut Trial) {
+    for _ in 0..8 {
+        let wanted = found(&mut trial.random);
+        let want = trial.plain.pass(wanted);
+        assert_equal(rt, trial.all.pass(wanted), want, "pass");
+    }
 }
 
 /// One drawn call of both on the pages of a class.
 fn assert_page_call(rt: &impl Abort, trial: &mut Trial) -> Result<(), Fail> {
     let class = trial.random.next_u64() % 4 + 1;
     match trial.random.next_u64() % 16 {
-        0..=2 => {
-            let want = trial.plain.grow(class)?.ok_or(Grow::NoRoom);
-            assert_equal(rt, trial.all.grow(class), Some(want), "grow");
-            cut_all(&mut trial.all);
-        }
-        3 | 4 => {
-            let src = match trial.random.next_u64() % 3 {
-                0 => None,
-                _ => Some(trial.random.next_u64() % 6),
-            };
-            let dst = trial.random.next_u64() % 6;
-            let want = trial.plain.begin(src, dst)?;
-            assert_equal(rt, trial.all.begin(src, dst), want, "begin");
-        }
+        0..=2 => return assert_same_grow(rt, trial, class),
+        3 | 4 => return assert_same_begin(rt, trial),
+        6 | 7 => return assert_same_finish(rt, trial),
         5 => assert_same(rt, trial.all.wrap(), trial.plain.wrap(), "wrap"),
-        6 | 7 => {
-            assert_same(rt, trial.all.finish(), trial.plain.finish()?, "finish");
-            cut_all(&mut trial.all);
-        }
         8 => {
             trial.all.trim();
             trial.plain.trim();
         }
-        _ => {
-            for _ in 0..8 {
-                let wanted = found(&mut trial.random);
-                let want = trial.plain.pass(wanted);
-                assert_equal(rt, trial.all.pass(wanted), want, "pass");
-            }
-        }
+        _ => assert_same_pass(rt, trial),
     }
     Ok(())
 }
@@ -512,6 +568,15 @@ fn assert_calls(rt: &impl Abort, trial: &mut Trial) -> Result<(), Fail> {
     Ok(())
 }
 
+/// The lists of each class are the same, and so are walks along them.
+fn assert_same_rows(rt: &impl Abort, all: &Driven, classes: &[PlainClass]) {
+    for (place, own) in classes.iter().enumerate() {
+        let class = place as u64 + 1;
+        assert_same_class(rt, all, own, class);
+        assert_same_walks(rt, all, own, class);
+    }
+}
+
 /// Drawn calls of both, three on chunks and then one on pages.
 fn assert_rows(rt: &impl Abort, trial: &mut Trial) -> Result<(), Fail> {
     for call in 0..400 {
@@ -520,11 +585,7 @@ fn assert_rows(rt: &impl Abort, trial: &mut Trial) -> Result<(), Fail> {
         } else {
             assert_chunk_call(rt, trial)?;
         }
-        for (place, own) in trial.plain.classes.iter().enumerate() {
-            let class = place as u64 + 1;
-            assert_same_class(rt, &trial.all, own, class);
-            assert_same_walks(rt, &trial.all, own, class);
-        }
+        assert_same_rows(rt, &trial.all, &trial.plain.classes);
     }
     Ok(())
 }
@@ -538,7 +599,16 @@ enum Compared {
     Rows,
 }
 
-/// The totals that drawn calls leave from the beginning on, where the limit is so many bytes. This number leads to the calls.
+/// The totals that drawn calls leave.
+fn totals_of(rt: &impl Abort, trial: &mut Trial, compared: Compared) -> Result<Totals, Fail> {
+    match compared {
+        Compared::All => assert_calls(rt, trial)?,
+        Compared::Rows => assert_rows(rt, trial)?,
+    }
+    Ok(trial.all.totals())
+}
+
+/// The same from the beginning on, where the limit is so many bytes. This number leads to the calls.
 fn totals_behind(
     rt: &impl Abort,
     alloc: Global,
@@ -550,16 +620,10 @@ fn totals_behind(
         limit,
         ..FOUR_CLASSES
     };
-    let table = ClassTable::build(alloc, &config)?;
-    let mut trial = Trial::new(alloc, &table, seed)?;
-    let called = match compared {
-        Compared::All => assert_calls(rt, &mut trial),
-        Compared::Rows => assert_rows(rt, &mut trial),
-    };
-    let totals = trial.all.totals();
+    let mut trial = Trial::new(alloc, &config, seed)?;
+    let totals = totals_of(rt, &mut trial, compared);
     drop(trial);
-    called?;
-    Ok(totals)
+    totals
 }
 
 #[test]
@@ -599,15 +663,19 @@ fn assert_finishes(rt: &impl Abort, all: &mut Driven) {
     cut_all(all);
 }
 
+/// The automover's mode is 0, and each of these is set where it is one of three.
+fn assert_modes(rt: &impl Abort, all: &mut Driven) {
+    assert_same(rt, all.automove(), 0, "automove");
+    for (mode, is, now) in [(2, true, 2), (3, false, 2), (1, true, 1)] {
+        let found = (all.set_automove(mode), all.automove());
+        assert_same(rt, found, (is, now), "set_automove");
+    }
+}
+
 #[test]
 fn the_automover_has_three_modes(rt: HostRuntime) -> Result<(), Fail> {
-    let table = ClassTable::build(rt.alloc(), &FOUR_CLASSES)?;
-    let mut all = Driven::new(rt.alloc(), &table)?;
-    assert_same(&rt, all.automove(), 0, "automove");
-    for (mode, is, now) in [(2, true, 2), (3, false, 2), (1, true, 1)] {
-        assert_same(&rt, all.set_automove(mode), is, "set_automove");
-        assert_same(&rt, all.automove(), now, "automove");
-    }
+    let mut all = Driven::new(rt.alloc(), &FOUR_CLASSES)?;
+    assert_modes(&rt, &mut all);
     drop(all);
     Ok(())
 }

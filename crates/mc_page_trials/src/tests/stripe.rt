@@ -103,10 +103,10 @@ fn assert_row(rt: &impl Abort, stripe: &mut Stripe, row: Row) -> Result<(), Fail
     assert_same(rt, stripe.is_ready(), true, "is_ready");
     assert_same(rt, made(stripe, call), true, "made");
     let is_lift = matches!(call, Lift(_));
-    assert_same(rt, stripe.is_ready(), is_lift, "is_ready");
-    assert_equal(rt, stripe.find(1), first.map(place), "find");
-    assert_same(rt, stripe.aside(), aside, "aside");
-    assert_equal(rt, stripe.history().last().copied(), last, "history");
+    let found = (stripe.is_ready(), stripe.aside());
+    assert_same(rt, found, (is_lift, aside), "is_ready and aside");
+    let found = (stripe.find(1), stripe.history().last().copied());
+    assert_equal(rt, found, (first.map(place), last), "find and history");
     Ok(())
 }
 
@@ -211,9 +211,9 @@ fn assert_same_lists(rt: &impl Abort, stripe: &Stripe, plain: &Plain) {
         let key = key * 64 + 3;
         assert_equal(rt, stripe.find(key), plain.find(key), "find");
     }
-    assert_same(rt, stripe.aside(), plain.aside(), "aside");
-    assert_same(rt, stripe.is_ready(), plain.ready, "is_ready");
-    assert_same(rt, stripe.history().len(), plain.history.len(), "history");
+    let found = (stripe.aside(), stripe.is_ready(), stripe.history().len());
+    let wanted = (plain.aside(), plain.ready, plain.history.len());
+    assert_same(rt, found, wanted, "aside, is_ready and history");
     assert_equal(rt, stripe.history().last(), plain.history.last(), "history");
 }
 
@@ -248,6 +248,22 @@ impl Both {
     }
 }
 
+/// A rescue is of the key that is aside, if there is one.
+fn of_the_aside(call: Try, aside: Option<Key>) -> Try {
+    match call {
+        Rescue(hand, key, chunk) => Rescue(hand, aside.unwrap_or(key), chunk),
+        other => other,
+    }
+}
+
+/// Both make the call, or don't. True if an item was rescued.
+fn make_both(rt: &impl Abort, both: &mut Both, call: Try) -> Result<bool, Fail> {
+    let is_made = made(&mut both.stripe, call);
+    assert_same(rt, is_made, both.plain.made(call)?, "made");
+    assert_same_lists(rt, &both.stripe, &both.plain);
+    Ok(is_made && matches!(call, Rescue(_, _, _)))
+}
+
 /// A call of both, drawn. True if an item was rescued.
 fn call_both(
     rt: &impl Abort,
@@ -255,18 +271,12 @@ fn call_both(
     random: &mut Pcg32,
     number: u64,
 ) -> Result<bool, Fail> {
-    let Both { stripe, plain } = both;
     if random.next_u64() % 8 != 0 {
-        reserve_at_last(rt, stripe, plain)?;
+        reserve_at_last(rt, &mut both.stripe, &mut both.plain)?;
     }
-    let mut call = any_call(random, number);
-    if let (Rescue(hand, _, chunk), Some(key)) = (call, stripe.aside()) {
-        call = Rescue(hand, key, chunk);
-    }
-    let is_made = made(stripe, call);
-    assert_same(rt, is_made, plain.made(call)?, "made");
-    assert_same_lists(rt, stripe, plain);
-    Ok(is_made && matches!(call, Rescue(_, _, _)))
+    let call = any_call(random, number);
+    let aside = both.stripe.aside();
+    make_both(rt, both, of_the_aside(call, aside))
 }
 
 /// How many items were rescued in 1,000 calls of both, drawn by this number.
@@ -349,9 +359,9 @@ fn a_full_stripe_finds_each_key(rt: HostRuntime) -> Result<(), Fail> {
 fn make_room(rt: &impl Abort, stripe: &mut Stripe) -> Result<(), NoMemory> {
     assert_same(rt, made(stripe, Got(0, 1)), false, "made");
     stripe.reserve()?;
-    assert!(rt; stripe.reserve().is_ok());
-    assert_same(rt, made(stripe, Got(0, 1)), true, "made");
-    assert_same(rt, made(stripe, Got(0, 1)), false, "made");
+    assert_same(rt, stripe.reserve().is_ok(), true, "reserve");
+    let twice = (made(stripe, Got(0, 1)), made(stripe, Got(0, 1)));
+    assert_same(rt, twice, (true, false), "made");
     let told = [Call::Get(0, 1, None)];
     assert_equal(rt, stripe.history(), told.as_slice(), "history");
     Ok(())

@@ -6,12 +6,12 @@ ghost use Rattle.mc_pages.specs.Accounted.{places_in};
 ghost use Rattle.mc_pages.specs.Moves.{CanPass, CanWrap, CanFinish, is_held_up, chunk_at_position};
 ghost use Rattle.mc_page_trials.specs.Sized.{IsSized};
 
-use mc_classes::{ClassId, ClassTable, PageId};
+use mc_classes::{ClassId, ClassTable, Config, PageId};
 use mc_pages::{
-    BasePage, ChunkId, Entry, Found, Grow, Moving, NoMemory, Numbers, Owner, Reassign, Slabs,
-    Totals,
+    BasePage, ChunkId, Entry, Found, Grow, Moving, Numbers, Owner, Reassign, Slabs, Totals,
 };
 use std::alloc::Global;
+use std::test::Fail;
 
 /// How far a walk along the lists of a class goes. No memory has as many chunks.
 const FURTHEST: u64 = 65_536;
@@ -37,17 +37,21 @@ impl ChunkList {
 
 /// The slabs, and the table that they are made by.
 #[derive(Drop)]
-pub(super) struct Driven<'a> {
+pub(super) struct Driven {
     slabs: Slabs,
-    table: &'a ClassTable,
-    ghost sized: { IsSized slabs.state table.now },
+    table: ClassTable,
+    ghost sized: { IsSized slabs.state table },
 }
 
-impl Driven<'_> {
-    #[tactic(auto, using(crate::proofs::Sized::sized_fresh))]
-    pub(super) fn new<'a>(alloc: Global, table: &'a ClassTable) -> Result<Driven<'a>, NoMemory> {
-        let slabs = Slabs::new(alloc, table)?;
+impl Driven {
+    pub(super) fn new(alloc: Global, config: &Config) -> Result<Driven, Fail> {
+        let table = ClassTable::build(alloc, config)?;
+        let slabs = Slabs::new(alloc, &table)?;
         Ok(Driven { slabs, table })
+    }
+
+    pub(super) fn table(&self) -> &ClassTable {
+        &self.table
     }
 
     fn is_class(&self, class: ClassId) -> bool
@@ -91,7 +95,7 @@ impl Driven<'_> {
     }
 
     /// Gives back the chunk at this place of the class's hand-out order.
-    #[tactic(auto, using(crate::proofs::Sized::sized_back, crate::proofs::Looked::handed_out_at))]
+    #[tactic(auto, using(crate::proofs::Looked::handed_out_at))]
     pub(super) fn back(&mut self, class: ClassId, place: u64) -> Option<ChunkId> {
         let class = self.find_class(class)?;
         let chunk = self.slabs.order_at(class, place)?;
@@ -100,7 +104,7 @@ impl Driven<'_> {
     }
 
     /// Takes the chunk at this place of the class's hand-out order to its back.
-    #[tactic(auto, using(crate::proofs::Sized::sized_touch, crate::proofs::Looked::handed_out_at))]
+    #[tactic(auto, using(crate::proofs::Looked::handed_out_at))]
     pub(super) fn touch(&mut self, class: ClassId, place: u64) -> Option<ChunkId> {
         let class = self.find_class(class)?;
         let chunk = self.slabs.order_at(class, place)?;
@@ -109,7 +113,7 @@ impl Driven<'_> {
     }
 
     /// Puts the chunk at one place of the class's free list before the one at the other place of its hand-out order.
-    #[tactic(auto, using(crate::proofs::Sized::sized_replace, crate::proofs::Looked::handed_out_at, crate::proofs::Looked::free_beside))]
+    #[tactic(auto, using(crate::proofs::Looked::handed_out_at, crate::proofs::Looked::free_beside))]
     pub(super) fn replace(
         &mut self,
         class: ClassId,
@@ -155,7 +159,7 @@ impl Driven<'_> {
     }
 
     /// Clears the chunk at the move's position.
-    #[tactic(auto, using(crate::proofs::Sized::sized_clear, crate::proofs::Looked::moving_class, crate::proofs::Looked::placed_looked))]
+    #[tactic(auto, using(crate::proofs::Looked::moving_class, crate::proofs::Looked::placed_looked))]
     fn clear(&mut self, wanted: Found) -> Option<Found> {
         let moving = self.slabs.moving()?;
         let chunk = chunk_at(moving);

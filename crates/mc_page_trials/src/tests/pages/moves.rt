@@ -4,7 +4,6 @@ use super::{
     assert_cuts, assert_equal, assert_finishes, assert_gets, assert_grows, assert_same, chunk,
     granted, numbers,
 };
-use mc_classes::ClassTable;
 use mc_pages::{BasePage, Entry, Found, Grow, Owner, Reassign, Totals};
 use mc_trial_values::FOUR_CLASSES;
 use std::process::Abort;
@@ -53,18 +52,27 @@ fn assert_refused(rt: &impl Abort, all: &mut Driven, rows: &[(Option<u64>, u64, 
     }
 }
 
+/// No page begins to move while class 1 has none, one and two.
+fn assert_too_few(rt: &impl Abort, all: &mut Driven) {
+    assert_refused(rt, all, &REFUSED);
+    assert_grows(rt, all, 1, 0);
+    assert_refused(rt, all, &REFUSED_BY_ONE);
+    assert_grows(rt, all, 1, 1);
+    assert_refused(rt, all, &REFUSED_BY_TWO);
+}
+
+/// Then one begins to move, and no other.
+fn assert_only_move(rt: &impl Abort, all: &mut Driven) {
+    assert_equal(rt, all.moving(), None, "moving");
+    assert_equal(rt, all.begin(None, 2), Ok(()), "begin");
+    assert_refused(rt, all, &REFUSED_BY_A_MOVE);
+}
+
 #[test]
 fn the_first_test_that_applies_refuses(rt: HostRuntime) -> Result<(), Fail> {
-    let table = ClassTable::build(rt.alloc(), &FOUR_CLASSES)?;
-    let mut all = Driven::new(rt.alloc(), &table)?;
-    assert_refused(&rt, &mut all, &REFUSED);
-    assert_grows(&rt, &mut all, 1, 0);
-    assert_refused(&rt, &mut all, &REFUSED_BY_ONE);
-    assert_grows(&rt, &mut all, 1, 1);
-    assert_refused(&rt, &mut all, &REFUSED_BY_TWO);
-    assert_equal(&rt, all.moving(), None, "moving");
-    assert_equal(&rt, all.begin(None, 2), Ok(()), "begin");
-    assert_refused(&rt, &mut all, &REFUSED_BY_A_MOVE);
+    let mut all = Driven::new(rt.alloc(), &FOUR_CLASSES)?;
+    assert_too_few(&rt, &mut all);
+    assert_only_move(&rt, &mut all);
     drop(all);
     Ok(())
 }
@@ -79,8 +87,8 @@ fn assert_pooled(rt: &impl Abort, all: &mut Driven) {
         let moves = Some(Owner::Moving { src: 4, dst: 0 });
         assert_equal(rt, all.owner(page), moves, "owner");
         assert_finishes(rt, all);
-        assert_equal(rt, all.owner(page), Some(Owner::Pool), "owner");
-        assert_same(rt, all.half_cut(), None, "half_cut");
+        let found = (all.owner(page), all.half_cut());
+        assert_equal(rt, found, (Some(Owner::Pool), None), "owner");
     }
     assert_same(rt, all.totals().pool, 2, "pool");
 }
@@ -136,8 +144,7 @@ fn assert_trimmed(rt: &impl Abort, all: &mut Driven) {
 
 #[test]
 fn a_page_goes_through_the_pool(rt: HostRuntime) -> Result<(), Fail> {
-    let table = ClassTable::build(rt.alloc(), &FOUR_CLASSES)?;
-    let mut all = Driven::new(rt.alloc(), &table)?;
+    let mut all = Driven::new(rt.alloc(), &FOUR_CLASSES)?;
     assert_pooled(&rt, &mut all);
     assert_taken(&rt, &mut all);
     assert_trimmed(&rt, &mut all);
@@ -170,8 +177,8 @@ fn assert_held_up(rt: &impl Abort, all: &mut Driven) {
         assert_equal(rt, all.pass(*wanted), Some(*wanted), "pass");
     }
     assert_equal(rt, all.pass(Found::Cleared), None, "at the page's end");
-    assert_same(rt, all.finish(), false, "two chunks are left");
-    assert_same(rt, all.wrap(), true, "wrap");
+    let found = (all.finish(), all.wrap());
+    assert_same(rt, found, (false, true), "two chunks are left");
 }
 
 /// Another one, which ends the move.
@@ -179,8 +186,8 @@ fn assert_ends(rt: &impl Abort, all: &mut Driven) {
     for want in &FOUND_THEN {
         assert_equal(rt, all.pass(Found::Cleared), Some(*want), "pass");
     }
-    assert_same(rt, all.wrap(), false, "nothing held it up");
-    assert_same(rt, all.finish(), true, "finish");
+    let found = (all.wrap(), all.finish());
+    assert_same(rt, found, (false, true), "nothing held it up");
     assert_cuts(rt, all, 0, 2);
 }
 
@@ -195,14 +202,13 @@ fn assert_counted(rt: &impl Abort, all: &Driven) {
         busy: 2,
     };
     assert_equal(rt, all.totals(), totals, "totals");
-    assert_equal(rt, all.numbers(3), numbers(1, 5), "numbers");
-    assert_equal(rt, all.numbers(4), numbers(1, 2), "numbers");
+    let found = (all.numbers(3), all.numbers(4));
+    assert_equal(rt, found, (numbers(1, 5), numbers(1, 2)), "numbers");
 }
 
 #[test]
 fn what_a_move_finds_is_counted(rt: HostRuntime) -> Result<(), Fail> {
-    let table = ClassTable::build(rt.alloc(), &FOUR_CLASSES)?;
-    let mut all = Driven::new(rt.alloc(), &table)?;
+    let mut all = Driven::new(rt.alloc(), &FOUR_CLASSES)?;
     assert_grows(&rt, &mut all, 3, 0);
     assert_grows(&rt, &mut all, 3, 1);
     assert_held_up(&rt, &mut all);

@@ -43,6 +43,15 @@ impl PlainClass {
         }
     }
 
+    /// The class gets the page with all its chunks, the last of them first.
+    fn give(&mut self, page: PageId) -> Result<(), AllocError> {
+        self.pages.push(page)?;
+        for index in 0..self.per_page {
+            self.free.insert(0, ChunkId { page, index })?;
+        }
+        Ok(())
+    }
+
     /// Whether the chunk was in a list, which it leaves.
     fn leave(&mut self, chunk: ChunkId) -> bool {
         leave(&mut self.free, chunk) || leave(&mut self.order, chunk)
@@ -110,30 +119,35 @@ fn note_base(base: &mut Vec<BasePage>, owners: &[Owner], graces: &[Option<ClassI
     }
 }
 
+/// The table's classes, without pages.
+fn new_classes(alloc: Global, table: &ClassTable) -> Result<Vec<PlainClass>, AllocError> {
+    let mut classes = Vec::new(alloc);
+    for place in 0..table.count() {
+        classes.push(PlainClass {
+            per_page: table.per_page(place + 1),
+            evictions: 0,
+            pages: Vec::new(alloc),
+            free: Vec::new(alloc),
+            order: Vec::new(alloc),
+        })?;
+    }
+    Ok(classes)
+}
+
 impl Plain {
     pub(super) fn new(alloc: Global, table: &ClassTable) -> Result<Plain, AllocError> {
-        let mut classes = Vec::new(alloc);
-        for place in 0..table.count() {
-            classes.push(PlainClass {
-                per_page: table.per_page(place + 1),
-                evictions: 0,
-                pages: Vec::new(alloc),
-                free: Vec::new(alloc),
-                order: Vec::new(alloc),
-            })?;
-        }
         let pages = table.arena_pages() as usize;
         let fresh = BasePage {
             owner: Owner::Untouched,
             grace: None,
         };
         Ok(Plain {
-            classes,
             owners: vec![in alloc; Owner::Untouched; pages]?,
             ledger: Vec::new(alloc),
             base: vec![in alloc; fresh; pages]?,
             trimmed: 0,
             graces: vec![in alloc; None; pages]?,
+            classes: new_classes(alloc, table)?,
             moving: None,
             within: table.pages(),
             pool: Vec::new(alloc),
@@ -162,16 +176,13 @@ impl Plain {
         }
     }
 
-    /// The class gets the page with all its chunks, the last of them first.
+    /// The class gets the page with all its chunks.
     fn give(&mut self, class: ClassId, page: PageId) -> Result<(), AllocError> {
         self.own(page, Owner::Class(class));
-        if let Some(own) = class_of(&mut self.classes, class) {
-            own.pages.push(page)?;
-            for index in 0..own.per_page {
-                own.free.insert(0, ChunkId { page, index })?;
-            }
+        match class_of(&mut self.classes, class) {
+            Some(own) => own.give(page),
+            None => Ok(()),
         }
-        Ok(())
     }
 
     fn note_grace(&mut self, page: usize, class: ClassId) {
@@ -188,17 +199,29 @@ impl Plain {
     }
 
     pub(super) fn grow(&mut self, class: ClassId) -> Result<Option<PageId>, AllocError> {
-        if let Some(page) = self.pool.pop() {
-            self.ledger.push(Entry::Taken(page, class))?;
-            self.give(class, page)?;
-            return Ok(Some(page));
-        }
-        let Some(place) = self.owners.iter().position(|o| *o == Owner::Untouched) else {
+        let Some(page) = self.pool.pop() else {
+            return self.grant(class);
+        };
+        self.ledger.push(Entry::Taken(page, class))?;
+        self.give(class, page)?;
+        Ok(Some(page))
+    }
+
+    /// The first page that no class had yet.
+    fn untouched(&self) -> Option<usize> {
+        self.owners
+            .iter()
+            .position(|owner| *owner == Owner::Untouched)
+    }
+
+    /// The class gets that page, beyond the limit only where it has none.
+    fn grant(&mut self, class: ClassId) -> Result<Option<PageId>, AllocError> {
+        let Some(place) = self.untouched() else {
             return Ok(None);
         };
         let page = place as PageId;
         let grace = self.within == 0;
-        if grace && class_of(&mut self.classes, class).is_some_and(|own| !own.pages.is_empty()) {
+        if grace && self.pages_of(class) > 0 {
             return Ok(None);
         }
         self.within = self.within.saturating_sub(1);
@@ -274,6 +297,11 @@ impl Plain {
         }
     }
 
+    /// The page that the class has had longest.
+    fn first_page(&mut self, class: ClassId) -> Option<PageId> {
+        class_of(&mut self.classes, class)?.pages.first().copied()
+    }
+
     /// Once round all classes, from behind the cursor.
     fn pick(&mut self, dst: u64) -> Option<ClassId> {
         let count = self.classes.len() as u64;
@@ -298,8 +326,8 @@ impl Plain {
             Some(src) => src,
             None => self.pick(dst).ok_or(Reassign::BadClass)?,
         };
-        let classes = 1..self.classes.len() as u64 + 1;
-        if !classes.contains(&source) || dst >= classes.end {
+        let last = self.classes.len() as u64;
+        if source == 0 || source > last || dst > last {
             return Err(Reassign::BadClass);
         }
         match self.pages_of(source) {
@@ -317,10 +345,7 @@ impl Plain {
             Ok(source) => source,
             Err(why) => return Ok(Err(why)),
         };
-        let Some(own) = class_of(&mut self.classes, source) else {
-            return Ok(Err(Reassign::BadClass));
-        };
-        let Some(page) = own.pages.first().copied() else {
+        let Some(page) = self.first_page(source) else {
             return Ok(Err(Reassign::NoSpare));
         };
         self.own(page, Owner::Moving { src: source, dst });
@@ -359,6 +384,12 @@ impl Plain {
             busy: moving.busy.wrapping_add(u64::from(is_held)),
             ..moving
         });
+        self.count(found);
+        Some(found)
+    }
+
+    /// What was found is counted.
+    fn count(&mut self, found: Found) {
         match found {
             Found::Rescued => self.counts.rescues = self.counts.rescues.wrapping_add(1),
             Found::Evicted => {
@@ -366,7 +397,6 @@ impl Plain {
             }
             _ => {}
         }
-        Some(found)
     }
 
     /// The move that runs, where its pass is at the page's end.
@@ -414,13 +444,18 @@ impl Plain {
         }
         self.moving = None;
         self.counts.moved = self.counts.moved.wrapping_add(1);
-        self.ledger.push(Entry::Ended(page, dst))?;
-        if dst == 0 {
-            self.own(page, Owner::Pool);
-            self.pool.push(page)?;
-        } else {
-            self.give(dst, page)?;
-        }
+        self.arrive(page, dst)?;
         Ok(true)
+    }
+
+    /// The page comes to the class, or to the pool.
+    fn arrive(&mut self, page: PageId, dst: ClassId) -> Result<(), AllocError> {
+        self.ledger.push(Entry::Ended(page, dst))?;
+        if dst != 0 {
+            return self.give(dst, page);
+        }
+        self.own(page, Owner::Pool);
+        self.pool.push(page)?;
+        Ok(())
     }
 }

@@ -11,6 +11,7 @@ use mc_classes::{ClassId, ClassTable, PageId};
 use mc_pages::{ChunkId, Grow, NoMemory, SharedSlabs, Slabs};
 use mc_trial_values::FOUR_CLASSES;
 use std::alloc::Global;
+use std::process::Abort;
 use std::test::Fail;
 
 /// Slabs in their box, and the table that they are made by.
@@ -22,7 +23,6 @@ struct Boxed<'a> {
 }
 
 impl Boxed<'_> {
-    #[tactic(auto, using(crate::proofs::Sized::sized_fresh))]
     fn new<'a>(alloc: Global, table: &'a ClassTable) -> Result<Boxed<'a>, NoMemory> {
         let slabs = Slabs::new(alloc, table)?;
         let shared = SharedSlabs::new(alloc, slabs)?;
@@ -71,24 +71,45 @@ fn hand_out(shared: &mut SharedSlabs, class: ClassId) -> Option<ChunkId>
     shared.slabs_mut().pop(class)
 }
 
+/// Both give the class a page, cut it, and hand out three of its chunks.
+fn assert_class_calls(rt: &impl Abort, boxed: &mut Boxed, all: &mut Driven, class: ClassId) {
+    assert_equal(rt, boxed.grow(class), all.grow(class), "grow");
+    for _ in 0..6 {
+        assert_equal(rt, boxed.cut(), all.cut(), "cut");
+    }
+    for _ in 0..3 {
+        assert_equal(rt, boxed.pop(class), all.pop(class), "pop");
+    }
+}
+
+/// Both tell the same.
+fn assert_same_told(rt: &impl Abort, slabs: &Slabs, all: &Driven) {
+    assert_equal(rt, slabs.totals(), all.totals(), "totals");
+    assert_equal(rt, slabs.ledger(), all.ledger(), "ledger");
+}
+
+/// Slabs in a box, by a table of four classes, do the same as slabs without one, which did nothing yet.
+fn assert_same_boxed(
+    rt: &impl Abort,
+    alloc: Global,
+    table: &ClassTable,
+    all: &mut Driven,
+) -> Result<(), Fail> {
+    let mut boxed = Boxed::new(alloc, table)?;
+    for class in [3, 4] {
+        assert_class_calls(rt, &mut boxed, all, class);
+    }
+    let slabs = boxed.shared.into_slabs();
+    assert_same_told(rt, &slabs, all);
+    drop(slabs);
+    Ok(())
+}
+
 #[test]
 fn slabs_in_a_box_are_changed_in_place(rt: HostRuntime) -> Result<(), Fail> {
     let table = ClassTable::build(rt.alloc(), &FOUR_CLASSES)?;
-    let mut boxed = Boxed::new(rt.alloc(), &table)?;
-    let mut all = Driven::new(rt.alloc(), &table)?;
-    for class in [3, 4] {
-        assert_equal(&rt, boxed.grow(class), all.grow(class), "grow");
-        for _ in 0..6 {
-            assert_equal(&rt, boxed.cut(), all.cut(), "cut");
-        }
-        for _ in 0..3 {
-            assert_equal(&rt, boxed.pop(class), all.pop(class), "pop");
-        }
-    }
-    let slabs = boxed.shared.into_slabs();
-    assert_equal(&rt, slabs.totals(), all.totals(), "totals");
-    assert_equal(&rt, slabs.ledger(), all.ledger(), "ledger");
-    drop(slabs);
+    let mut all = Driven::new(rt.alloc(), &FOUR_CLASSES)?;
+    let boxed = assert_same_boxed(&rt, rt.alloc(), &table, &mut all);
     drop(all);
-    Ok(())
+    boxed
 }

@@ -1,11 +1,11 @@
 //! The same by a plain list of items, each of which is looked for from the front.
 use super::Try;
 use mc_pages::ChunkId;
-use mc_stripe::{Call, Key, Stamp};
+use mc_stripe::{Call, HandId, Key, Stamp};
 use std::alloc::{AllocError, Global};
 
 /// An item: its key, its chunk and its stamp.
-#[derive(Clone, Copy, PartialEq, Eq)]
+#[derive(Clone, Copy)]
 pub(super) struct Item {
     pub(super) key: Key,
     pub(super) chunk: ChunkId,
@@ -36,6 +36,15 @@ impl Plain {
             .iter()
             .find(|item| item.key == key)
             .map(|item| (item.chunk, item.stamp))
+    }
+
+    /// The stamp of the key's item, which may be aside.
+    pub(super) fn stamp(&self, key: Key) -> Option<Stamp> {
+        match (self.find(key), self.aside) {
+            (Some((_, stamp)), _) => Some(stamp),
+            (None, Some(item)) if item.key == key => Some(item.stamp),
+            _ => None,
+        }
     }
 
     fn take(&mut self, key: Key) -> Option<Item> {
@@ -81,15 +90,7 @@ impl Plain {
     /// A call that writes an entry of the history.
     fn told(&mut self, call: Try) -> Result<bool, AllocError> {
         match call {
-            Try::Link(hand, key, chunk, stamp) => {
-                let free = self.aside.is_none() || self.aside() == Some(key);
-                if self.find(key).is_some() || !free {
-                    return Ok(false);
-                }
-                self.aside = None;
-                self.items.push(Item { key, chunk, stamp })?;
-                self.tell(Call::Set(hand, key, stamp))
-            }
+            Try::Link(hand, key, chunk, stamp) => self.link(hand, Item { key, chunk, stamp }),
             Try::Unlink(hand, key) => {
                 if self.aside() == Some(key) {
                     return Ok(false);
@@ -113,7 +114,17 @@ impl Plain {
         }
     }
 
-    fn come_back(&mut self, hand: u64, key: Key, chunk: ChunkId) -> Result<bool, AllocError> {
+    fn link(&mut self, hand: HandId, item: Item) -> Result<bool, AllocError> {
+        let free = self.aside.is_none() || self.aside() == Some(item.key);
+        if self.find(item.key).is_some() || !free {
+            return Ok(false);
+        }
+        self.aside = None;
+        self.items.push(item)?;
+        self.tell(Call::Set(hand, item.key, item.stamp))
+    }
+
+    fn come_back(&mut self, hand: HandId, key: Key, chunk: ChunkId) -> Result<bool, AllocError> {
         let Some(item) = self.aside else {
             return Ok(false);
         };

@@ -1,7 +1,8 @@
 //! Stripes whose calls are trimmed, and stripes that forget them.
 use super::Try::{Got, Lift, Link, Rescue, Unlink};
 use super::plain::Plain;
-use super::{Both, any_call, assert_equal, assert_same, chunk, made, place};
+use super::{Both, Try, any_call, assert_equal, assert_same, chunk, made, place};
+use mc_pages::ChunkId;
 use mc_stripe::{Call, Key, NoMemory, Stamp, Stripe, Trim};
 use rand_core::Rng;
 use rand_pcg::Pcg32;
@@ -9,7 +10,7 @@ use std::process::Abort;
 use std::test::Fail;
 
 /// Makes room and the calls, one after another.
-fn make_all(rt: &impl Abort, stripe: &mut Stripe, calls: &[super::Try]) -> Result<(), NoMemory> {
+fn make_all(rt: &impl Abort, stripe: &mut Stripe, calls: &[Try]) -> Result<(), NoMemory> {
     for call in calls {
         stripe.reserve()?;
         assert_same(rt, made(stripe, *call), true, "made");
@@ -29,8 +30,8 @@ fn trim_at_last(rt: &impl Abort, stripe: &mut Stripe) -> Result<(), NoMemory> {
     if stripe.trim().is_ok() {
         return Ok(());
     }
-    assert_same(rt, stripe.trimmed(), trimmed, "trimmed");
-    assert_same(rt, stripe.history().len(), recorded, "history");
+    let found = (stripe.trimmed(), stripe.history().len());
+    assert_same(rt, found, (trimmed, recorded), "trimmed and history");
     match stripe.trim() {
         Err(Trim::NoMemory(refused)) => Err(refused),
         second => {
@@ -40,27 +41,31 @@ fn trim_at_last(rt: &impl Abort, stripe: &mut Stripe) -> Result<(), NoMemory> {
     }
 }
 
+/// How many entries the base has.
+fn base_len(stripe: &Stripe) -> Option<usize> {
+    Some(stripe.base()?.len())
+}
+
+/// Calls that leave an entry, and one aside.
+const CALLS: [Try; 6] = [
+    Link(1, 1, ChunkId { page: 0, index: 4 }, 7),
+    Link(1, 9, ChunkId { page: 0, index: 5 }, 8),
+    Got(2, 1),
+    Unlink(0, 9),
+    Link(1, 3, ChunkId { page: 0, index: 6 }, 9),
+    Lift(1),
+];
+
 /// Calls, and a trim that keeps what they left.
 fn trim_calls(rt: &impl Abort, stripe: &mut Stripe) -> Result<(), NoMemory> {
-    assert_equal(rt, stripe.base().map(|base| base.len()), Some(0), "base");
-    make_all(
-        rt,
-        stripe,
-        &[
-            Link(1, 1, chunk(4), 7),
-            Link(1, 9, chunk(5), 8),
-            Got(2, 1),
-            Unlink(0, 9),
-        ],
-    )?;
-    make_all(rt, stripe, &[Link(1, 3, chunk(6), 9), Lift(1)])?;
+    assert_same(rt, base_len(stripe), Some(0), "base");
+    make_all(rt, stripe, &CALLS)?;
     trim_at_last(rt, stripe)?;
     // the entry aside is counted in
-    assert_same(rt, stripe.trimmed(), 5, "trimmed");
-    assert_same(rt, stripe.history().is_empty(), true, "history");
-    assert_equal(rt, stripe.base().map(|base| base.len()), Some(2), "base");
-    assert_equal(rt, stamp_in(stripe.base(), 1), Some(7), "base");
-    assert_equal(rt, stamp_in(stripe.base(), 3), Some(9), "base");
+    let found = (stripe.trimmed(), stripe.history().len(), base_len(stripe));
+    assert_same(rt, found, (5, 0, Some(2)), "trimmed, history and base");
+    let stamps = (stamp_in(stripe.base(), 1), stamp_in(stripe.base(), 3));
+    assert_same(rt, stamps, (Some(7), Some(9)), "base");
     Ok(())
 }
 
@@ -73,10 +78,10 @@ fn call_behind_a_trim(rt: &impl Abort, stripe: &mut Stripe) -> Result<(), NoMemo
         [Call::Rescue(3, 1), Call::Delete(2, 3, true)].as_slice(),
         "history",
     );
-    assert_equal(rt, stamp_in(stripe.base(), 3), Some(9), "base");
+    assert_same(rt, stamp_in(stripe.base(), 3), Some(9), "base");
     trim_at_last(rt, stripe)?;
-    assert_same(rt, stripe.trimmed(), 7, "trimmed");
-    assert_equal(rt, stamp_in(stripe.base(), 3), None, "base");
+    let found = (stripe.trimmed(), stamp_in(stripe.base(), 3));
+    assert_same(rt, found, (7, None), "trimmed and base");
     assert_equal(rt, stripe.find(1), Some(place((7, 7))), "find");
     Ok(())
 }
@@ -96,22 +101,25 @@ fn what_calls_left_is_kept(rt: HostRuntime) -> Result<(), Fail> {
     Ok(())
 }
 
+/// The stripe keeps nothing of so many calls, and no base.
+fn assert_forgotten(rt: &impl Abort, stripe: &Stripe, trimmed: u64) {
+    let found = (stripe.history().len(), base_len(stripe), stripe.trimmed());
+    assert_same(rt, found, (0, None, trimmed), "history, base and trimmed");
+}
+
 /// Calls of a stripe that forgets them.
 fn forget_calls(rt: &impl Abort, stripe: &mut Stripe) -> Result<(), NoMemory> {
     make_all(rt, stripe, &[Link(1, 1, chunk(4), 7), Got(2, 1)])?;
     stripe.forget();
-    assert_same(rt, stripe.history().is_empty(), true, "history");
-    assert_same(rt, stripe.base().is_none(), true, "base");
-    assert_same(rt, stripe.trimmed(), 2, "trimmed");
+    assert_forgotten(rt, stripe, 2);
     for _ in 0..100 {
         make_all(rt, stripe, &[Got(2, 1), Unlink(2, 5)])?;
     }
-    assert_same(rt, stripe.history().is_empty(), true, "history");
-    assert_same(rt, stripe.trimmed(), 202, "trimmed");
+    assert_forgotten(rt, stripe, 202);
     assert_equal(rt, stripe.find(1), Some(place((4, 7))), "find");
     // there is nothing to trim
     assert_same(rt, stripe.trim().is_ok(), true, "trim");
-    assert_same(rt, stripe.trimmed(), 202, "trimmed");
+    assert_forgotten(rt, stripe, 202);
     Ok(())
 }
 
@@ -128,34 +136,40 @@ fn what_is_forgotten_takes_no_room(rt: HostRuntime) -> Result<(), Fail> {
 fn assert_same_base(rt: &impl Abort, stripe: &Stripe, plain: &Plain) {
     for key in 0..24 {
         let key = key * 64 + 3;
-        let aside = plain
-            .aside
-            .filter(|item| item.key == key)
-            .map(|item| item.stamp);
-        let stamp = plain.find(key).map(|place| place.1).or(aside);
-        assert_equal(rt, stamp_in(stripe.base(), key), stamp, "base");
+        let stamp = plain.stamp(key);
+        assert_same(rt, stamp_in(stripe.base(), key), stamp, "base");
     }
 }
 
-/// A call of both, drawn, and now and then a trim. What is recorded is the end of what all calls were.
+/// What is recorded is the end of what all calls were.
+fn assert_recorded(rt: &impl Abort, stripe: &Stripe, plain: &Plain) {
+    let trimmed = stripe.trimmed() as usize;
+    let history = plain.history.get(trimmed..);
+    assert_equal(rt, Some(stripe.history()), history, "history");
+}
+
+/// Room is made, and both make the call, or don't.
+fn call_both(rt: &impl Abort, both: &mut Both, call: Try) -> Result<(), Fail> {
+    both.stripe.reserve()?;
+    both.plain.ready = true;
+    let want = both.plain.made(call)?;
+    assert_same(rt, made(&mut both.stripe, call), want, "made");
+    Ok(())
+}
+
+/// A call of both, drawn, and now and then a trim. Then what is recorded is right.
 fn call_or_trim(
     rt: &impl Abort,
     both: &mut Both,
     random: &mut Pcg32,
     number: u64,
 ) -> Result<(), Fail> {
-    let Both { stripe, plain } = both;
-    stripe.reserve()?;
-    plain.ready = true;
-    let call = any_call(random, number);
-    assert_same(rt, made(stripe, call), plain.made(call)?, "made");
+    call_both(rt, both, any_call(random, number))?;
     if random.next_u64() % 50 == 0 {
-        trim_at_last(rt, stripe)?;
-        assert_same_base(rt, stripe, plain);
+        trim_at_last(rt, &mut both.stripe)?;
+        assert_same_base(rt, &both.stripe, &both.plain);
     }
-    let trimmed = stripe.trimmed() as usize;
-    let history = plain.history.get(trimmed..);
-    assert_equal(rt, Some(stripe.history()), history, "history");
+    assert_recorded(rt, &both.stripe, &both.plain);
     Ok(())
 }
 
