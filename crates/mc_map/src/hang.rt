@@ -256,7 +256,7 @@ fn blockers_after(
     blockers_of(alloc, probe, moving.src, items, keeper)
 }
 
-/// The same, on a probe of its own, which is lent: it's dropped at one place.
+/// The same, on a probe of its own. It is dropped by a call, as its fields are many: where it goes out of scope takes most of a minute to prove.
 fn search(
     alloc: Global,
     moving: Moving,
@@ -269,7 +269,9 @@ fn search(
     requires valid { All IsValid commands.now }
 {
     let mut probe = Probe::new(alloc, &run.config, run.automove)?;
-    blockers_after(alloc, &mut probe, moving, keeper, items, commands)
+    let found = blockers_after(alloc, &mut probe, moving, keeper, items, commands);
+    drop(probe);
+    found
 }
 
 /// Where the keeper's move hangs. `commands` are those that were done.
