@@ -80,7 +80,12 @@ fn run_script<W: Sink>(
         Err(fault) => return Err(fault),
     };
     match Keeper::new(alloc, table, run.config.bulk, run.automove) {
-        Ok(keeper) => serve_all(alloc, keeper, &commands, writer),
+        Ok(mut keeper) => {
+            let served = serve_all(alloc, &mut keeper, &commands, writer);
+            // by a call: each place where a keeper goes out of scope takes most of a minute to prove
+            drop(keeper);
+            served
+        }
         Err(refused) => Err(RunFault::Memory(refused)),
     }
 }
@@ -114,20 +119,20 @@ pub(crate) fn commands_of(alloc: Global, bytes: &[u8]) -> Result<Vec<Command>, R
 /// Does the commands in order, and writes the reply to each before the next one.
 fn serve_all<W: Sink>(
     alloc: Global,
-    mut keeper: Keeper,
+    keeper: &mut Keeper,
     commands: &[Command],
     writer: &mut W,
 ) -> Result<(), RunFault>
     requires { All IsValid commands.now }
-    ensures done { OnOk result (is_done keeper commands.now ≡ true) }
-    ensures written { OnOk result (Appends (W.contents writer.old) (W.contents writer.new) (replies_to keeper commands.now)) }
+    ensures done { OnOk result (is_done keeper.old commands.now ≡ true) }
+    ensures written { OnOk result (Appends (W.contents writer.old) (W.contents writer.new) (replies_to keeper.old commands.now)) }
     ensures quiet { OnOk result (W.failures writer.new ≡ W.failures writer.old) }
-    ensures fault { IfErr result (IsServeFault keeper commands.now
+    ensures fault { IfErr result (IsServeFault keeper.old commands.now
         (W.contents writer.old) (W.contents writer.new) (W.failures writer.old) (W.failures writer.new)) }
 {
     let mut text = Vec::new(alloc);
     for command in commands {
-        serve_one(&mut keeper, *command, &mut text, writer)?;
+        serve_one(keeper, *command, &mut text, writer)?;
     }
     Ok(())
 }

@@ -14,11 +14,11 @@ loop-command-preserved g c =
     let i : ℕ = c.loop-command.command-index in
     let served : Served = c.in_ok-serve_one.ensures.written.served in
     let is : serve c.loop-command.keeper (get_or c.args.commands.now i other) ≡ Some served = c.in_ok-serve_one.ensures.written.is in
-    let so_far : after_all c.args.keeper (take i c.args.commands.now) ≡ Some c.loop-command.keeper = c.loop-command.invariant.machine in
+    let so_far : after_all c.args.keeper.now (take i c.args.commands.now) ≡ Some c.loop-command.keeper = c.loop-command.invariant.machine in
     record {
-      written = rw (replies_more c.args.keeper c.loop-command.keeper c.args.commands.now i other c.loop-command-test.true so_far served is)
+      written = rw (replies_more c.args.keeper.now c.loop-command.keeper c.args.commands.now i other c.loop-command-test.true so_far served is)
           (Appends-trans _ _ _ _ _ c.loop-command.invariant.written c.in_ok-serve_one.ensures.written.written);
-      machine = after_more c.args.keeper c.loop-command.keeper c.args.commands.now i other c.loop-command-test.true so_far
+      machine = after_more c.args.keeper.now c.loop-command.keeper c.args.commands.now i other c.loop-command-test.true so_far
           ∙ rw is (ap (λ (m : Machine). Some m) (sym c.in_ok-serve_one.ensures.written.after));
       quiet = c.in_ok-serve_one.ensures.quiet ∙ c.loop-command.invariant.quiet;
     }
