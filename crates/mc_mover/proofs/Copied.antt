@@ -10,7 +10,7 @@ use Rattle.mc_pages.proofs.Chunks.{is_chunk-same}
 use Rattle.mc_stripe.proofs.Entries.{nat_eq_other, nat_eq_same}
 use Rattle.mc_core.specs.declared.look.Look.TheVariants.{Read}
 use Rattle.mc_core.specs.Columns.{IsHandedOut}
-use Rattle.mc_core.specs.Looks.{was_linked}
+use Rattle.mc_core.specs.Looks.{stays_linked, was_linked}
 use Rattle.mc_core.specs.Seen.{last_read, linked_issue}
 use Rattle.mc_core.specs.State.{has_chunk, head_at, is_class, looks_at, room_in}
 use Rattle.mc_core.proofs.Base.{placed_at}
@@ -56,6 +56,10 @@ pub three_places : (view : View) (setup : Setup) → LawfulView view → view.se
 three_places view setup was of slabs mine chunk near linked room is =
     let fits = three_fit view was slabs mine chunk (ap (λ (s : Setup). has_chunk s.table chunk) of ∙ near) linked in
     subst (λ n. (3 ≤ n) × (n ≤ 2048)) (ap (λ (s : Setup). room_in s.table (class_of_page slabs chunk.page)) of ∙ sym is) fits
+
+-- a chunk that was found linked is so still, whatever word is read of a chunk
+pub linked_read : (chunk read : ChunkId) (place word : ℕ) (view : View) → was_linked (held_word_seen read place word view).row.looks chunk ≡ was_linked view.row.looks chunk
+linked_read chunk read place word view = fold-append (stays_linked chunk) false view.row.looks (Read read place word ∷ [])
 
 module _ (chunk copy : ChunkId) where
   -- one word that is read and written

@@ -2,6 +2,7 @@
 use Rattle.std.proofs.Common.{◌≡◌, ◌≢◌, ℕ, ◌<◌, ◌≤◌, ◌==◌, Bool, true, false, length, slice_set, inl, inr, eqb-true, length-set, get_or-set_same, refl, sym, ap, subst, ◌∙◌, arith}
 use Rattle.std.specs.Prelude.{map}
 use Rattle.std.proofs.lemmas.Bool.{cases_Bool}
+use Rattle.std.proofs.lemmas.List.{length-map}
 use Rattle.std.specs.Prelude.{Some}
 use Rattle.mc_pages.specs.declared.ids.Moving.{Moving}
 use Rattle.mc_pages.specs.declared.ledger.Owner.TheVariants.{Untouched, Pool, Class}
@@ -19,9 +20,9 @@ use Rattle.mc_words.proofs.Pages.MoveChanges.{move_near}
 use Rattle.mc_words.proofs.Pages.Owners.{slabs_here}
 use Rattle.mc_mover.specs.Turning.{IsAtEnd}
 
--- a move's end leaves how many chunks a page of a class has
-pub per_page_finished : (slabs : SlabState) (move : Moving) (class : ℕ) → (class_at (finished slabs move) class).per_page ≡ (class_at slabs class).per_page
-per_page_finished slabs move class = per_page-map slabs (finished slabs move) class (by (move.dst == 0))
+-- a move's end leaves how many chunks a page of each class has
+per_pages_finished : (slabs : SlabState) (move : Moving) → map (λ (c : ClassState). c.per_page) (finished slabs move).classes ≡ map (λ (c : ClassState). c.per_page) slabs.classes
+per_pages_finished slabs move = by (move.dst == 0)
   where
     pool : SlabState
     pool = released slabs move.page move.src
@@ -32,6 +33,18 @@ per_page_finished slabs move class = per_page-map slabs (finished slabs move) cl
     by : (b : Bool) → map (λ (c : ClassState). c.per_page) (arrived_if slabs move b).classes ≡ map (λ (c : ClassState). c.per_page) slabs.classes
     by true = first
     by false = per_pages-with_class pool move.dst (with_page (class_at pool move.dst) move.page) refl ∙ first
+
+-- and a page of one class
+pub per_page_finished : (slabs : SlabState) (move : Moving) (class : ℕ) → (class_at (finished slabs move) class).per_page ≡ (class_at slabs class).per_page
+per_page_finished slabs move class = per_page-map slabs (finished slabs move) class (per_pages_finished slabs move)
+
+-- so its classes are classes still
+pub class_finished : (slabs : SlabState) (move : Moving) (class : ℕ) → IsClass slabs class → IsClass (finished slabs move) class
+class_finished slabs move class (low, high) =
+    let per_page = λ (c : ClassState). c.per_page in
+    let same : length (finished slabs move).classes ≡ length slabs.classes =
+    sym (length-map (finished slabs move).classes per_page) ∙ (ap length (per_pages_finished slabs move) ∙ length-map slabs.classes per_page) in
+    (low, omega (arith, high, same))
 
 -- the page whose move ended has its destination's class, and the pool is none
 finished_page : (slabs : SlabState) (move : Moving) → move.page < length slabs.owners → class_of_page (finished slabs move) move.page ≡ move.dst

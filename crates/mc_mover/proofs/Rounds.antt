@@ -1,16 +1,22 @@
 -- Sections of a turn, one after another: what each needs, and what they leave.
-use Rattle.std.proofs.Common.{◌≡◌, ℕ, ◌+◌, ◌-◌, ◌<◌, ◌≤◌, ◌^◌, ◌++◌, true, List, [], ◌∷◌, length, min, is_some, Option, Some, None, refl, sym, ap, subst, ◌∙◌, arith}
+use Rattle.std.proofs.Common.{◌≡◌, ℕ, ◌+◌, ◌-◌, ◌<◌, ◌≤◌, ◌^◌, ◌++◌, true, false, List, [], ◌∷◌, length, min, is_some, Option, Some, None, nat_le, nat_lt, ◌==◌, eq-eqb, lt-ltb, le-leb, refl, sym, ap, subst, ◌∙◌, arith}
+use Rattle.std.specs.Option.{option_map_or}
+use Rattle.std.proofs.lemmas.Bool.{and_from}
 use Rattle.std.proofs.lemmas.List.{length-append}
 use Rattle.std.proofs.lemmas.Option.{same_Some}
 use Rattle.mc_classes.specs.Classes.{IsSound, per_page_of}
+use Rattle.mc_pages.specs.declared.ids.ChunkId.{ChunkId}
 use Rattle.mc_pages.specs.declared.ids.Moving.{Moving}
-use Rattle.mc_pages.specs.Accounted.{IsMove}
+use Rattle.mc_pages.specs.declared.ledger.Owner.TheVariants as owner
+use Rattle.mc_pages.specs.Accounted.{IsMove, cut_count, is_cut, is_of_class}
+use Rattle.mc_pages.specs.Ledger.{owner_at}
+use Rattle.mc_pages.specs.Pages.{is_on_the_move}
 use Rattle.mc_pages.specs.declared.moves.Found.{Found}
 use Rattle.mc_pages.specs.declared.moves.Found.TheVariants.{Cleared, Rescued, Evicted, Busy, Locked, Already}
 use Rattle.mc_pages.specs.Moves.{chunk_at_position, moved_on}
 use Rattle.mc_pages.specs.SlabState.{SlabState, IsClass, class_at, class_of_owner, class_of_page}
 use Rattle.mc_core.specs.Past.{Moment}
-use Rattle.mc_core.specs.State.{has_chunk}
+use Rattle.mc_core.specs.State.{has_chunk, is_class}
 use Rattle.mc_core.proofs.FreeChunks.{near_in}
 use Rattle.mc_core.proofs.Listed.{per_page_is, source_of_move}
 use Rattle.mc_words.specs.hand.View.{Setup, View}
@@ -59,6 +65,30 @@ module _ (view : View) (was : LawfulView view) (slabs : SlabState) (mine : view.
   -- and it isn't past the page's end
   pub position_within : move.at ≤ (class_at slabs move.src).per_page
   position_within = ((of_table_here view was slabs mine).accounted.move move runs).within
+
+  -- its source is a class of the table
+  pub source_is : is_class view.setup.table move.src ≡ true
+  source_is =
+      let (some, most) = source_of_move view.setup.table slabs move (of_table_here view was slabs mine) runs in
+      and_from (nat_le 1 move.src) (nat_le move.src (length view.setup.table.sizes)) (le-leb 1 move.src some) (le-leb move.src (length view.setup.table.sizes) most)
+
+  owner_is : owner_at slabs.owners move.page ≡ owner.Moving move.src move.dst
+  owner_is = ((of_table_here view was slabs mine).accounted.move move runs).owner
+
+  -- which the page is still of
+  pub page_is : class_of_page slabs move.page ≡ move.src
+  page_is = ap class_of_owner owner_is
+
+  pub page_moves : is_on_the_move slabs move.page ≡ true
+  page_moves = ap (λ (m : Option Moving). option_map_or (λ (m : Moving). m.page == move.page) m false) runs ∙ eq-eqb move.page move.page refl
+
+  -- where no page is left to be cut, the chunk at the position is cut
+  pub position_cut : slabs.uncut ≡ None → move.at < (class_at slabs move.src).per_page → is_cut slabs move.src (chunk_at_position move) ≡ true
+  position_cut whole within =
+      let chunks : ℕ = (class_at slabs move.src).per_page in
+      and_from (is_of_class move.src (owner_at slabs.owners move.page)) (nat_lt move.at (cut_count slabs.uncut move.page chunks))
+      (ap (is_of_class move.src) owner_is ∙ eq-eqb move.src move.src refl)
+      (ap (λ (next : Option ChunkId). nat_lt move.at (cut_count next move.page chunks)) whole ∙ lt-ltb move.at chunks within)
 
 -- sections, and then others
 sections_on : (number : ℕ) (sweep : Sweep) (found : List Found) (then : Sweep) (more : List Found) (last : Sweep) (view : View) (slabs : SlabState) (between : View) (kept : SlabState) (now : View) (left : SlabState)

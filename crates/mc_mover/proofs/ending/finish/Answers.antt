@@ -4,15 +4,24 @@ use Rattle.mc_pages.specs.declared.ids.ChunkId.{ChunkId}
 use Rattle.mc_pages.specs.declared.ids.Moving.{Moving}
 use Rattle.mc_pages.specs.Accounted.{first_chunks}
 use Rattle.mc_pages.specs.Moves.{after_finish, finished}
-use Rattle.mc_pages.specs.SlabState.{SlabState, class_at, class_of_chunk}
+use Rattle.mc_pages.specs.SlabState.{SlabState, IsClass, class_at, class_of_chunk}
 use Rattle.mc_words.specs.hand.View.{View}
 use Rattle.mc_words.specs.page.Cuts.{CutsEach}
-use Rattle.mc_mover.proofs.Ends.{can_finish_here, class_come, per_page_come, per_page_finished, some_here}
+use Rattle.mc_mover.proofs.Ends.{can_finish_here, class_come, class_finished, per_page_come, per_page_finished, some_here}
 use Rattle.mc_mover.proofs.ending.finish.Goals as goal
 
 pub finish_move-requires-clause-cleared : goal.finish_move-requires-clause-cleared
 finish_move-requires-clause-cleared c =
     (c.args.moving, can_finish_here c.args.hand.now.seat.me.0 c.requires.arena.lawful c.args.held.now.shared c.requires.held c.args.moving c.requires.at_end c.requires.none)
+
+pub per_page-chunks-requires : goal.per_page-chunks-requires
+per_page-chunks-requires c =
+    let view : View = c.args.hand.now.seat.me.0 in
+    let slabs = c.args.held.now.shared in
+    let move = c.args.moving in
+    let after : c.finish_move.new.held.shared ≡ finished slabs move = c.finish_move.ensures.finished ∙ ap (λ (o : Option Moving). after_finish slabs o) c.requires.at_end.0 in
+    subst (λ (s : SlabState). IsClass s move.dst) (sym (c.slabs.ensures.slabs ∙ after))
+    (class_finished slabs move move.dst (class_come view c.requires.arena.lawful slabs c.requires.held move c.requires.at_end.0 c.if-moving-ne0.true))
 
 pub cut_page-requires-clause-chunks : goal.cut_page-requires-clause-chunks
 cut_page-requires-clause-chunks c =

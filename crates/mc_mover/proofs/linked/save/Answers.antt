@@ -1,4 +1,4 @@
-use Rattle.std.proofs.Common.{◌≡◌, ℕ, None, Some, map, refl, sym, ap, subst, ◌∙◌, slice_index_or}
+use Rattle.std.proofs.Common.{◌≡◌, ℕ, ◌≤◌, length, None, Some, map, refl, sym, ap, subst, ◌∙◌, slice_index_or}
 use Rattle.mc_pages.specs.ClassState.{ClassState}
 use Rattle.mc_pages.specs.SlabState.{SlabState, class_at, class_of_page}
 use Rattle.mc_pages.proofs.ClassChanges.{per_pages-with_class}
@@ -12,6 +12,7 @@ use Rattle.mc_mover.specs.declared.sweep.Sweep.{Sweep}
 use Rattle.mc_mover.specs.Linked.{SavesAs}
 use Rattle.mc_mover.specs.Saving.{RescuesToTarget, SweepsAndSaves}
 use Rattle.mc_mover.proofs.Leads.{Reaches, reaches_passed}
+use Rattle.mc_mover.proofs.Refusals.{refused}
 use Rattle.mc_mover.proofs.Saved.{saved_at_once, saved_first, saved_later, saved_slabs, there_slabs}
 use Rattle.mc_mover.proofs.Saves.{made_reaches, stripe_reached}
 use Rattle.mc_mover.proofs.linked.save.Goals as goal
@@ -129,6 +130,42 @@ sweep_and_save-requires-in-Err-rescue_to_target-clause-linked c =
     let last = reaches_passed number value key chunk stamp read chunk.page (class_at slabs (class_of_page slabs chunk.page)).free made passed slabs c.in-Err-rescue_to_target.ensures.lacks first in
     let back = c.in-Err-rescue_to_target.ensures.back in
     last.linked
+
+pub sweep_and_save-requires-clause-linked : goal.sweep_and_save-requires-clause-linked
+sweep_and_save-requires-clause-linked c =
+    let view : View = c.args.hand.now.seat.me.0 in
+    let made : View = c.reserve.new.hand.seat.me.0 in
+    let slabs = c.args.slabs.now.shared in
+    let chunk = c.args.chunk in
+    let (key, stamp, leads) = c.requires.leads in
+    let number = c.reserve.new.held.number in
+    let value = c.reserve.new.held.stripe in
+    let first = made_reaches view made slabs c.requires.slabs c.args.stripe.number _ c.args.stripe.stripe c.in_default.ensures.view key chunk stamp number value c.requires.lent leads c.requires.linked c.reserve.ensures.number (ap (λ (h : StripeHeld). h.stripe) c.in_default.ensures.reserved) c.reserve.ensures.held in
+    first.linked
+
+pub sweep_and_save-requires-clause-few : goal.sweep_and_save-requires-clause-few
+sweep_and_save-requires-clause-few c = subst (λ (v : View). length v.row.holdings ≤ 255) (sym c.in_default.ensures.view) c.requires.few
+
+pub rescue_to_target-requires-clause-linked : goal.rescue_to_target-requires-clause-linked
+rescue_to_target-requires-clause-linked c =
+    let view : View = c.args.hand.now.seat.me.0 in
+    let made : View = c.reserve.new.hand.seat.me.0 in
+    let slabs = c.args.slabs.now.shared in
+    let chunk = c.args.chunk in
+    let (key, stamp, leads) = c.requires.leads in
+    let number = c.reserve.new.held.number in
+    let value = c.reserve.new.held.stripe in
+    let first = made_reaches view made slabs c.requires.slabs c.args.stripe.number _ c.args.stripe.stripe c.in_default.ensures.view key chunk stamp number value c.requires.lent leads c.requires.linked c.reserve.ensures.number (ap (λ (h : StripeHeld). h.stripe) c.in_default.ensures.reserved) c.reserve.ensures.held in
+    first.linked
+
+pub rescue_to_target-requires-clause-few : goal.rescue_to_target-requires-clause-few
+rescue_to_target-requires-clause-few c = subst (λ (v : View). length v.row.holdings ≤ 255) (sym c.in_default.ensures.view) c.requires.few
+
+pub returns-in-Err-clause-unready : goal.returns-in-Err-clause-unready
+returns-in-Err-clause-unready c = refused c.reserve.result c.in-Err.error c.in-Err.is c.args.stripe.stripe.ready c.reserve.ensures.succeeds
+
+pub returns-in-Ok-clause-dead : goal.returns-in-Ok-clause-dead
+returns-in-Ok-clause-dead c = c.in-Ok.ensures.dead
 
 pub returns-in-Due-clause-saves : goal.returns-in-Due-clause-saves
 returns-in-Due-clause-saves c =

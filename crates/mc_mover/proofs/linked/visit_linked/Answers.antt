@@ -9,6 +9,7 @@ use Rattle.mc_pages.specs.ClassState.{ClassState}
 use Rattle.mc_pages.specs.SlabState.{SlabState, class_at, class_of_page}
 use Rattle.mc_pages.proofs.ClassChanges.{per_pages-with_class}
 use Rattle.mc_pages.proofs.Cuts.{per_page-map}
+use Rattle.mc_core.specs.Looks.{was_linked}
 use Rattle.mc_core.specs.State.{room_in}
 use Rattle.mc_words.specs.hand.View.{Setup, View}
 use Rattle.mc_words.specs.hand.Idle.{has_no_stripes}
@@ -16,9 +17,9 @@ use Rattle.mc_words.specs.lock.Out.{without_stripe}
 use Rattle.mc_words.specs.hand.Views.{stripe_given, stripe_missed}
 use Rattle.mc_mover.specs.Linked.{GivesThere, OnlyGives, ReadsKey, SavesAs, VisitsLinked}
 use Rattle.mc_mover.proofs.ClearedPages.{cleared_after_clear}
-use Rattle.mc_mover.proofs.Copied.{three_places}
+use Rattle.mc_mover.proofs.Copied.{linked_read, three_places}
 use Rattle.mc_words.proofs.Hands.HandNumbers.{number_stays}
-use Rattle.mc_mover.proofs.Refusals.{as_error}
+use Rattle.mc_mover.proofs.Refusals.{as_error, no_value}
 use Rattle.mc_mover.proofs.Visits.{dead_unused, held_found, held_up, of_ok, reached, saved_found, stripe_back, stripe_found, visited_saved}
 use Rattle.mc_mover.proofs.linked.visit_linked.Goals.{then-not-unheld-via-then-not-unheld, then-not-unheld-via-else-not-unheld+then-not-leads_to}
 use Rattle.mc_mover.proofs.linked.visit_linked.Goals as goal
@@ -63,6 +64,11 @@ returns-then-not-unheld-clause-visits c =
       | then-not-unheld-via-else-not-unheld+then-not-leads_to w ↦ inr (w.if-not-unheld.false, w.if-not-leads_to.ensures.other refl)
     ])
 
+pub save-requires-clause-linked : goal.save-requires-clause-linked
+save-requires-clause-linked c =
+    let linked = λ (v : View). was_linked v.row.looks c.args.chunk in
+    ap linked c.in-Ok.ensures.lent ∙ (ap linked c.word_held-key.ensures.view ∙ (linked_read c.args.chunk c.args.chunk 0 c.word_held-key.result c.args.hand.now.seat.me.0 ∙ c.requires.linked))
+
 pub save-requires-clause-key : goal.save-requires-clause-key
 save-requires-clause-key c =
     let view : View = c.args.hand.now.seat.me.0 in
@@ -85,6 +91,12 @@ pub returns-in_err-found-clause-locks : goal.returns-in_err-found-clause-locks
 returns-in_err-found-clause-locks c =
     let back = ap without_stripe c.in-Ok.ensures.locks ∙ (stripe_back c.word_held-key.new.hand (c.word_held-key.result % c.config.result.now.stripes) (ap (λ (v : View). has_no_stripes v) c.word_held-key.ensures.view ∙ c.requires.one) ∙ c.word_held-key.ensures.locks) in
     c.save.ensures.locks ∙ back
+
+pub returns-in_err-found-clause-visits : goal.returns-in_err-found-clause-visits
+returns-in_err-found-clause-visits c = no_value _ c.from_residual.result c.from_residual.ensures.0
+
+pub returns-in_err-found-clause-clears : goal.returns-in_err-found-clause-clears
+returns-in_err-found-clause-clears c = no_value _ c.from_residual.result c.from_residual.ensures.0
 
 pub returns-in_err-found-clause-lacks : goal.returns-in_err-found-clause-lacks
 returns-in_err-found-clause-lacks c =

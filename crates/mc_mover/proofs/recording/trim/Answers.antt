@@ -3,6 +3,7 @@ use Rattle.mc_core.specs.declared.event.StripeChange.TheVariants.{Trim}
 use Rattle.mc_words.specs.hand.Arenas.{view}
 use Rattle.mc_mover.proofs.GivenBack.{given_behind, given_up_to, on_err}
 use Rattle.mc_mover.proofs.Recorded.{each_keeps, ledger_keeps, refs_kept}
+use Rattle.mc_mover.proofs.Refusals.{as_error, no_ok}
 use Rattle.mc_mover.proofs.recording.trim.Goals as goal
 
 pub returns-clause-keeps : goal.returns-clause-keeps
@@ -21,3 +22,12 @@ returns-clause-given g c =
 pub returns-in_err-trim_stripes-clause-same : goal.returns-in_err-trim_stripes-clause-same
 returns-in_err-trim_stripes-clause-same g c =
     on_err c.from_residual.result (given_up_to c.args.hand.now.number (view c.args.hand.now) (view c.trim_stripes.new.hand) c.in_err-trim_stripes.ensures.stops)
+
+pub returns-in_err-trim_stripes-clause-trims : goal.returns-in_err-trim_stripes-clause-trims
+returns-in_err-trim_stripes-clause-trims g c = no_ok _ c.from_residual.result c.from_residual.ensures.0
+
+pub returns-in_err-trim_stripes-clause-given : goal.returns-in_err-trim_stripes-clause-given
+returns-in_err-trim_stripes-clause-given g c = no_ok _ c.from_residual.result c.from_residual.ensures.0
+
+pub returns-in_err-trim_stripes-clause-stops : goal.returns-in_err-trim_stripes-clause-stops
+returns-in_err-trim_stripes-clause-stops g c = as_error c.from_residual.result c.in_err-trim_stripes.ensures.stops

@@ -1,24 +1,23 @@
-use Rattle.std.proofs.Common.{ℕ, List, sym, subst, ◌∙◌, Result, Ok, Err, OnErr}
+use Rattle.std.proofs.Common.{ℕ, List, sym, subst, ◌∙◌}
 use Rattle.std.specs.List.{range_with_len}
 use Rattle.mc_core.specs.declared.event.StripeChange.TheVariants.{Trim}
 use Rattle.mc_words.specs.hand.View.{View}
 use Rattle.mc_words.specs.lock.Doing.{HoldsStripe}
 use Rattle.mc_mover.specs.Recording.{Changes, ChangesEach, Leaves}
 use Rattle.mc_mover.proofs.Recorded.{each_keeps, each_more, hold_keeps, holdings_kept, mine_kept, numbers_more, refs_kept, said_kept, leaves_quiet}
+use Rattle.mc_mover.proofs.Refusals.{as_error, no_ok}
 use Rattle.mc_mover.proofs.recording.trim_stripes.Goals as goal
 
--- what holds whatever the result is
-stopped : {A E : Type 0} {P : Type 0} (result : Result A E) → P → OnErr result P
-stopped (Ok a) holds = tt
-stopped (Err e) holds = holds
-
 pub returns-in_err-trim_stripe-clause-stops : goal.returns-in_err-trim_stripe-clause-stops
-returns-in_err-trim_stripe-clause-stops g c = stopped c.from_residual.result (record {
+returns-in_err-trim_stripe-clause-stops g c = as_error c.from_residual.result (record {
   stripe = c.loop-stripe.stripe;
   before = c.loop-stripe.hand.seat.me.0;
   trims = c.loop-stripe.invariant.so_far;
   stops = c.in_err-trim_stripe.ensures.leaves;
 })
+
+pub returns-in_err-trim_stripe-clause-trims : goal.returns-in_err-trim_stripe-clause-trims
+returns-in_err-trim_stripe-clause-trims g c = no_ok _ c.from_residual.result c.from_residual.ensures.0
 
 pub returns-in_err-trim_stripe-clause-holdings : goal.returns-in_err-trim_stripe-clause-holdings
 returns-in_err-trim_stripe-clause-holdings g c = holdings_kept c.args.hand.now c.trim_stripe.new.hand
