@@ -1,5 +1,5 @@
 -- A chunk that was freed, by an eviction or as it had died: what it leaves of what the hand has, and that it is free.
-use Rattle.std.proofs.Common.{◌≡◌, ℕ, ◌%◌, Bool, true, false, is_ok, is_some, refl, sym, IsOk, Result, Ok, Err, OnOk, OnErr, List, map, ap, ◌∙◌, inl, inr}
+use Rattle.std.proofs.Common.{◌≡◌, ℕ, ◌%◌, Bool, true, false, is_ok, is_some, refl, sym, IsOk, IsErr, IfOk, Result, Ok, Err, OnOk, OnErr, List, map, ap, ◌∙◌, inl, inr}
 use Rattle.mc_pages.specs.declared.ids.ChunkId.{ChunkId}
 use Rattle.mc_pages.specs.Changes.{after_back, after_evicted, with_class}
 use Rattle.mc_pages.specs.ClassState.{ClassState, evicted, first_free, put_back}
@@ -139,6 +139,11 @@ on_error (Err d) e is p = p
 pub as_error : {A E P : Type 0} (r : Result A E) → P → OnErr r P
 as_error (Ok a) p = tt
 as_error (Err e) p = p
+
+-- a clause on values says nothing of what went wrong
+pub no_value : {A E : Type 0} (P : A → Type 0) (r : Result A E) → IsErr r → IfOk r P
+no_value P (Ok a) wrong = absurd (cc)
+no_value P (Err e) wrong = tt
 
 -- two facts on what went wrong
 pub error_both : {A E : Type 0} (P Q : Type 0) (r : Result A E) → OnErr r P → OnErr r Q → OnErr r (P × Q)

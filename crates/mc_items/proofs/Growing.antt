@@ -1,10 +1,12 @@
 -- A page that a class gets, and its chunks that are cut.
-use Rattle.std.proofs.Common.{◌≡◌, ℕ, ◌+◌, ◌-◌, ◌≤◌, Bool, true, false, is_some, List, length, Some, refl, sym, ap, subst, ◌∙◌, arith}
-use Rattle.std.specs.Prelude.{fold, map}
+use Rattle.std.proofs.Common.{◌≡◌, ◌↔◌, ℕ, ◌+◌, ◌-◌, ◌≤◌, Bool, true, false, is_some, List, length, Option, Some, None, Result, Err, refl, sym, ap, subst, ◌∙◌, arith}
+use Rattle.std.specs.Prelude.{⊤, fold, map}
 use Rattle.std.proofs.lemmas.List.{get_or-set_same}
 use Rattle.mc_pages.specs.declared.ids.ChunkId.{ChunkId}
 use Rattle.mc_pages.specs.declared.ledger.Owner.{Owner}
 use Rattle.mc_pages.specs.declared.ledger.Owner.TheVariants.{Untouched, Class}
+use Rattle.mc_pages.specs.declared.slabs.pages.Grow.{Grow}
+use Rattle.mc_pages.specs.declared.slabs.pages.Grow.TheVariants.{NoMemory, NoRoom}
 use Rattle.mc_pages.specs.Accounted.{IsAccounted, first_chunks}
 use Rattle.mc_pages.specs.Changes.{after_cut, after_grow, next_page}
 use Rattle.mc_pages.specs.ClassState.{ClassState, first_free, with_cut, with_page}
@@ -76,3 +78,8 @@ module _ (view : View) (was : Rattle.mc_words.specs.rule.Happens.LawfulView view
   some_here class is =
       let same = (Rattle.mc_words.proofs.Pages.Owners.slabs_here view was slabs mine).1 in
       subst (λ (s : SlabState). 1 ≤ (class_at s class).per_page) same (was.lawful.paged.order.1.per_page class (subst (λ (s : SlabState). IsClass s class) (sym same) is))
+
+-- a class that gets no page for want of memory has one to get, since that none is left is an error of its own
+pub page_left : (got : Result ℕ Grow) (refused : ⊤) → got ≡ Err (NoMemory refused) → (next : Option ℕ) → ((got ≡ Err NoRoom) ↔ (next ≡ None)) → is_some next ≡ true
+page_left got refused is None no_room = let none = no_room.1 refl in absurd (cc)
+page_left got refused is (Some page) no_room = refl

@@ -12,6 +12,7 @@ use Rattle.mc_core.specs.Past.{known_by}
 use Rattle.mc_words.specs.item.References.{reference_to}
 use Rattle.mc_words.specs.hand.Views.{fields_seen}
 use Rattle.std.proofs.Math.Nat.{lt_of_not-le}
+use Rattle.mc_words.proofs.Hands.HandNumbers.{number_stays}
 use Rattle.mc_items.proofs.Chains.{item_said, ready_more, ready_still, refs_and_more, refs_stay}
 use Rattle.mc_items.proofs.Left.{GotOne, Kept, again_one, read_one}
 use Rattle.mc_items.proofs.GetLeaves.{again_kept}
@@ -24,6 +25,11 @@ returns-in-Ok-clause-known c k among chunk issue =
 
 pub returns-in-Ok-clause-many : goal.returns-in-Ok-clause-many
 returns-in-Ok-clause-many c = (λ e. absurd (cc), λ many. let e = c.in-Ok.ensures.many.1 many in absurd (cc))
+
+pub returns-in-Err-clause-gone : goal.returns-in-Err-clause-gone
+returns-in-Err-clause-gone c e =
+    let same : c.in-Err.error ≡ refused.Gone = cc in
+    c.in-Err.ensures.gone (ap (λ x. Err x) same)
 
 pub returns-in-Err-clause-contended : goal.returns-in-Err-clause-contended
 returns-in-Err-clause-contended c e =
@@ -54,6 +60,17 @@ returns-in-Ok-clause-ready c =
     let holding = reference_to hint.chunk hint.issue one.item in
     ready_more c.args.hand.now c.look_at.new.hand holding (c.look_at.ensures.locks ∙ c.again.ensures.locks) (ap (λ (k : Kept). k.0) one.kept) refl (lt_of_not-le (λ many. let e = c.in-Ok.ensures.many.1 many in absurd (cc))) c.requires.ready
 
+pub returns-in-Ok-clause-number : goal.returns-in-Ok-clause-number
+returns-in-Ok-clause-number c =
+    let view : View = c.args.hand.now.seat.me.0 in
+    let got : View = c.again.new.hand.seat.me.0 in
+    let now : View = c.look_at.new.hand.seat.me.0 in
+    let hint = c.args.hint in
+    let room = c.in-Ok.reference.room in
+    let is = c.look_at.ensures.view ∙ ap (λ (chunk : ChunkId). fields_seen chunk got) c.in-Ok.ensures.hinted.0 in
+    let one : GotOne hint.chunk hint.issue room view now = read_one hint.chunk hint.issue room view got now is (again_one hint.chunk hint.issue room view got c.in-Ok.ensures.gets) in
+    number_stays c.args.hand.now c.look_at.new.hand (ap (λ (k : Kept). k.3) one.kept)
+
 pub returns-in-Ok-clause-said : goal.returns-in-Ok-clause-said
 returns-in-Ok-clause-said c =
     item_said c.look_at.new.hand.seat.me.0 c.look_at.ensures.arena.lawful c.look_at.result c.look_at.ensures.item
@@ -71,3 +88,24 @@ returns-in-Err-clause-ready c =
     let now : View = c.again.new.hand.seat.me.0 in
     let kept = again_kept c.in-Err.error view c.args.hint.chunk c.args.hint.issue now c.in-Err.ensures.gone c.in-Err.ensures.contended c.in-Err.ensures.refused in
     ready_still c.args.hand.now c.again.new.hand c.again.ensures.locks (ap (λ (k : Kept). k.0) kept) c.requires.ready
+
+pub returns-in-Err-clause-number : goal.returns-in-Err-clause-number
+returns-in-Err-clause-number c =
+    let view : View = c.args.hand.now.seat.me.0 in
+    let now : View = c.again.new.hand.seat.me.0 in
+    let kept = again_kept c.in-Err.error view c.args.hint.chunk c.args.hint.issue now c.in-Err.ensures.gone c.in-Err.ensures.contended c.in-Err.ensures.refused in
+    number_stays c.args.hand.now c.again.new.hand (ap (λ (k : Kept). k.3) kept)
+
+pub returns-in-Err-clause-no_more : goal.returns-in-Err-clause-no_more
+returns-in-Err-clause-no_more c =
+    let view : View = c.args.hand.now.seat.me.0 in
+    let now : View = c.again.new.hand.seat.me.0 in
+    let kept = again_kept c.in-Err.error view c.args.hint.chunk c.args.hint.issue now c.in-Err.ensures.gone c.in-Err.ensures.contended c.in-Err.ensures.refused in
+    ap (λ (k : Kept). k.0) kept
+
+pub returns-in-Err-clause-unsaid : goal.returns-in-Err-clause-unsaid
+returns-in-Err-clause-unsaid c =
+    let view : View = c.args.hand.now.seat.me.0 in
+    let now : View = c.again.new.hand.seat.me.0 in
+    let kept = again_kept c.in-Err.error view c.args.hint.chunk c.args.hint.issue now c.in-Err.ensures.gone c.in-Err.ensures.contended c.in-Err.ensures.refused in
+    ap (λ (k : Kept). k.2) kept

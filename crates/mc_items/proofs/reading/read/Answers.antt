@@ -1,11 +1,30 @@
-use Rattle.std.proofs.Common.{◌≡◌, ◌+◌, ◌<◌, ◌≤◌, ℕ, List, [], ◌∷◌, ◌++◌, ap, sym, subst, ◌∙◌, arith, length}
+use Rattle.std.proofs.Common.{◌≡◌, ◌+◌, ◌<◌, ◌≤◌, ℕ, List, [], ◌∷◌, ◌++◌, ap, sym, subst, ◌∙◌, arith, drop, length}
+use Rattle.std.proofs.lemmas.List.{length-take}
 use Rattle.mc_words.specs.hand.View.{View}
 use Rattle.mc_words.specs.item.Items.{held_item, item_with}
 use Rattle.mc_words.specs.hand.Views.{word_seen}
+use Rattle.mc_items.specs.Reading.{words_seen}
 use Rattle.mc_items.specs.Keeping.{AreSaid}
 use Rattle.mc_items.proofs.Chains.{kept_refs_keep_items, refs_stay, words_said}
+use Rattle.mc_items.proofs.Freed.{no_value}
 use Rattle.mc_items.proofs.Words.{one_more, one_read, all_read}
 use Rattle.mc_items.proofs.reading.read.Goals as goal
+
+pub push_reserved-requires : goal.push_reserved-requires
+push_reserved-requires c =
+    let (arena, locks, same, room, words) = c.loop-place.invariant in
+    let near = c.loop-place-test.true in
+    let read = ap length words ∙ length-take c.loop-place.place (drop 3 (held_item c.args.hand.now.seat.me.0 c.args.item.now.reference.chunk)) in
+    omega (arith, room, near, read)
+
+pub returns-in_err-words-clause-view : goal.returns-in_err-words-clause-view
+returns-in_err-words-clause-view c = no_value _ c.from_residual.result c.from_residual.ensures.0
+
+pub returns-in_err-words-clause-words : goal.returns-in_err-words-clause-words
+returns-in_err-words-clause-words c = no_value _ c.from_residual.result c.from_residual.ensures.0
+
+pub returns-in_err-words-clause-said : goal.returns-in_err-words-clause-said
+returns-in_err-words-clause-said c = no_value _ c.from_residual.result c.from_residual.ensures.0
 
 pub loop-place-preserved : goal.loop-place-preserved
 loop-place-preserved c =
@@ -22,6 +41,13 @@ loop-place-preserved c =
           ∙ (ap (λ (l : List ℕ). l ++ c.word.result ∷ []) words
           ∙ one_more (held_item c.args.hand.now.seat.me.0 chunk) c.loop-place.place c.word.result (omega arith) (c.word.ensures.word ∙ ap (λ (i : List ℕ). Rattle.std.proofs.Common.slice_index i (3 + c.loop-place.place)) now)),
     )
+
+pub returns-clause-view : goal.returns-clause-view
+returns-clause-view c =
+    let chunk = c.args.item.now.reference.chunk in
+    let (arena, locks, same, room, words) = c.loop-place.invariant in
+    let all : c.loop-place.place ≡ c.args.item.now.len = omega arith in
+    same ∙ ap (λ n. words_seen chunk 3 n c.args.hand.now.seat.me.0) all
 
 pub returns-clause-words : goal.returns-clause-words
 returns-clause-words c =
