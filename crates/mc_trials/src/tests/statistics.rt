@@ -172,7 +172,7 @@ const GENERAL: [(Numbers, &str); 3] = [
 ];
 
 /// Where a write failed, none followed, and what was written begins the text. Says whether all went well.
-fn went_well(rt: &impl Abort, attempt: &Attempt, fails_at: u64, text: &str) -> bool {
+fn assert_attempt(rt: &impl Abort, attempt: &Attempt, fails_at: u64, text: &str) -> bool {
     let written = attempt.bytes.as_slice();
     if attempt.went_well {
         let found = (written, attempt.writes.saturating_add(1));
@@ -194,7 +194,7 @@ fn assert_slabs(
     for fails_at in 1..200 {
         let blank = Blank::new(1);
         let got = slabs_written::<Brand>(rt, alloc, blank, fails_at, table, counts)?;
-        if went_well(rt, &got, fails_at, text) {
+        if assert_attempt(rt, &got, fails_at, text) {
             return Ok(());
         }
     }
@@ -218,7 +218,7 @@ fn assert_general(
 ) -> Result<(), Fail> {
     for fails_at in 1..200 {
         let got = general_written::<Brand>(alloc, Blank::new(1), fails_at, numbers)?;
-        if went_well(rt, &got, fails_at, text) {
+        if assert_attempt(rt, &got, fails_at, text) {
             return Ok(());
         }
     }
