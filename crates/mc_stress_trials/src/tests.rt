@@ -1,32 +1,3 @@
 //! One test for each.
-use std::test::Fail;
-
-#[test]
-fn each_get_is_noted(rt: HostRuntime) -> Result<(), Fail> {
-    mc_thread_trials::each_get_is_noted(&rt, rt.alloc())
-}
-
-#[test]
-fn no_read_shows_another_item(rt: HostRuntime) -> Result<(), Fail> {
-    mc_thread_trials::no_read_shows_another_item(&rt, rt.alloc())
-}
-
-#[test]
-fn readers_keep_their_words_beside_a_mover(rt: HostRuntime) -> Result<(), Fail> {
-    mc_thread_trials::readers_keep_their_words_beside_a_mover(&rt, rt.alloc())
-}
-
-#[test]
-fn the_last_move_ends_once_nobody_holds_an_item(rt: HostRuntime) -> Result<(), Fail> {
-    mc_thread_trials::the_last_move_ends_once_nobody_holds_an_item(&rt, rt.alloc())
-}
-
-#[test]
-fn lost_hands_cost_what_they_had(rt: HostRuntime) -> Result<(), Fail> {
-    mc_race_trials::lost_hands_cost_what_they_had(&rt, rt.alloc())
-}
-
-#[test]
-fn what_is_kept_is_read_beside_two_movers(rt: HostRuntime) -> Result<(), Fail> {
-    mc_race_trials::what_is_kept_is_read_beside_two_movers(&rt, rt.alloc())
-}
+mod races;
+mod threads;

@@ -7,6 +7,9 @@ use std::fmt::Display;
 use std::process::Abort;
 use std::test::Fail;
 
+/// What every call says of a key that is too short or too long.
+const KEY_LENGTH: &str = "a key must have from 1 to 250 bytes; nothing was done";
+
 /// The refusal has this text.
 fn assert_told<E: Display + Drop>(
     rt: &impl Abort,
@@ -42,12 +45,7 @@ fn assert_new_told(rt: &impl Abort, alloc: Global) -> Result<(), Fail> {
 
 /// Why a value isn't stored.
 fn assert_set_told(rt: &impl Abort, alloc: Global) -> Result<(), Fail> {
-    assert_told(
-        rt,
-        alloc,
-        SetError::KeyLength,
-        "a key must have from 1 to 250 bytes; nothing was done",
-    )?;
+    assert_told(rt, alloc, SetError::KeyLength, KEY_LENGTH)?;
     assert_told(
         rt,
         alloc,
@@ -65,12 +63,7 @@ fn assert_set_told(rt: &impl Abort, alloc: Global) -> Result<(), Fail> {
 
 /// Why another call isn't done.
 fn assert_calls_told(rt: &impl Abort, alloc: Global) -> Result<(), Fail> {
-    assert_told(
-        rt,
-        alloc,
-        CallError::KeyLength,
-        "a key must have from 1 to 250 bytes; nothing was done",
-    )?;
+    assert_told(rt, alloc, CallError::KeyLength, KEY_LENGTH)?;
     let memory = CallError::NoMemory(too_much(alloc)?);
     assert_told(rt, alloc, memory, "out of memory; the key has what it had")?;
     assert_told(

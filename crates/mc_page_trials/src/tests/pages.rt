@@ -441,24 +441,16 @@ impl Trial {
 }
 
 /// A chunk of the class comes back from both.
-fn assert_same_back(
-    rt: &impl Abort,
-    trial: &mut Trial,
-    class: ClassId,
-    place: u64,
-) -> Result<(), Fail> {
+fn assert_same_back(rt: &impl Abort, trial: &mut Trial, at: (ClassId, u64)) -> Result<(), Fail> {
+    let (class, place) = at;
     let want = trial.plain.back(class, place as usize)?;
     assert_equal(rt, trial.all.back(class, place), want, "back");
     Ok(())
 }
 
 /// A chunk of the class becomes the youngest of both.
-fn assert_same_touch(
-    rt: &impl Abort,
-    trial: &mut Trial,
-    class: ClassId,
-    place: u64,
-) -> Result<(), Fail> {
+fn assert_same_touch(rt: &impl Abort, trial: &mut Trial, at: (ClassId, u64)) -> Result<(), Fail> {
+    let (class, place) = at;
     let want = trial.plain.touch(class, place as usize)?;
     assert_equal(rt, trial.all.touch(class, place), want, "touch");
     Ok(())
@@ -492,8 +484,8 @@ fn assert_chunk_call(rt: &impl Abort, trial: &mut Trial) -> Result<(), Fail> {
     let free = trial.random.next_u64() % 8;
     match trial.random.next_u64() % 16 {
         0..=6 => assert_same_pop(rt, trial, class),
-        7..=10 => assert_same_back(rt, trial, class, place),
-        11 | 12 => assert_same_touch(rt, trial, class, place),
+        7..=10 => assert_same_back(rt, trial, (class, place)),
+        11 | 12 => assert_same_touch(rt, trial, (class, place)),
         13 | 14 => assert_same_replace(rt, trial, class, free, place),
         _ => {
             let want = trial.plain.evicted(class);

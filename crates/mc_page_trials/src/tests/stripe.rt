@@ -351,8 +351,7 @@ fn a_full_stripe_finds_each_key(rt: HostRuntime) -> Result<(), Fail> {
     let mut stripe = Stripe::new(rt.alloc());
     let filled = fill_and_empty(&rt, &mut stripe);
     drop(stripe);
-    filled?;
-    Ok(())
+    Ok(filled?)
 }
 
 /// Where there is room, no memory is asked for.
@@ -372,6 +371,5 @@ fn room_is_made_once(rt: HostRuntime) -> Result<(), Fail> {
     let mut stripe = Stripe::new(rt.alloc());
     let room = make_room(&rt, &mut stripe);
     drop(stripe);
-    room?;
-    Ok(())
+    Ok(room?)
 }

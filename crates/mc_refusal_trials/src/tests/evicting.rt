@@ -10,46 +10,38 @@ use std::test::Fail;
 /// A get of the item that is evicted next fills the history of its stripe up.
 const GETS: Step = (Call::Get(1), Answer::There(true));
 
-/// These calls before both classes are filled, and those behind.
+/// These calls before both classes are filled, then gets, and those behind.
 fn evict<R: Abort + Wait + Print>(
     rt: &R,
     alloc: Global,
     before: &[Step],
+    gets: &[Step],
     behind: &[Step],
 ) -> Result<(), Fail> {
-    run_each(rt, alloc, &[before, &TWO_CLASSES, behind])
+    run_each(rt, alloc, &[before, &TWO_CLASSES, gets, behind])
 }
 
-/// Two gets leave no room for the call of the eviction.
-const REFUSED_ITS_CALL: [Step; 5] = [
-    GETS,
-    GETS,
+/// A set takes the place of the first key.
+const SET_EVICTS: [Step; 3] = [
     (Call::Set(5, 61), Answer::Done),
     (Call::Touch(1), Answer::There(false)),
     (Call::Touch(5), Answer::There(true)),
 ];
 
+/// Two gets leave no room for the call of the eviction.
 #[test]
 fn the_eviction_is_refused_its_call(rt: HostRuntime) -> Result<(), Fail> {
-    evict(&rt, rt.alloc(), &[], &REFUSED_ITS_CALL)
+    evict(&rt, rt.alloc(), &[], &[GETS, GETS], &SET_EVICTS)
 }
 
 /// One leaves room for that call alone.
-const REFUSED_ITS_OWN: [Step; 4] = [
-    GETS,
-    (Call::Set(5, 61), Answer::Done),
-    (Call::Touch(1), Answer::There(false)),
-    (Call::Touch(5), Answer::There(true)),
-];
-
 #[test]
 fn the_set_is_refused_its_own_behind_the_eviction(rt: HostRuntime) -> Result<(), Fail> {
-    evict(&rt, rt.alloc(), &[], &REFUSED_ITS_OWN)
+    evict(&rt, rt.alloc(), &[], &[GETS], &SET_EVICTS)
 }
 
 /// The same, where the eviction begins a move.
-const REFUSED_BEHIND_A_MOVE: [Step; 6] = [
-    GETS,
+const BEGINS_A_MOVE: [Step; 5] = [
     (Call::SetAndMove(5, 61), Answer::Done),
     (Call::Survey(true), Answer::Surveyed(true, [0, 0, 0, 0])),
     (Call::Turn, FOUR_RESCUED),
@@ -59,7 +51,7 @@ const REFUSED_BEHIND_A_MOVE: [Step; 6] = [
 
 #[test]
 fn the_set_is_refused_its_own_behind_the_move(rt: HostRuntime) -> Result<(), Fail> {
-    evict(&rt, rt.alloc(), &MODE_TWO, &REFUSED_BEHIND_A_MOVE)
+    evict(&rt, rt.alloc(), &MODE_TWO, &[GETS], &BEGINS_A_MOVE)
 }
 
 /// Two items die, and two are stored.
@@ -73,7 +65,7 @@ const DEAD: [Step; 5] = [
 
 #[test]
 fn dead_chunks_are_put_back_and_one_is_left(rt: HostRuntime) -> Result<(), Fail> {
-    evict(&rt, rt.alloc(), &[], &DEAD)
+    evict(&rt, rt.alloc(), &[], &[], &DEAD)
 }
 
 /// A get of a key that leads nowhere fills the history, too.

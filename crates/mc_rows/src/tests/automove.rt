@@ -41,11 +41,6 @@ const ROWS: [Row<'static>; 5] = [
     ),
 ];
 
-#[test]
-fn rows_are_played(rt: HostRuntime) -> Result<(), Fail> {
-    plays_rows(&rt, rt.alloc(), &ROWS)
-}
-
 /// Adds a line, and its reply.
 fn push_pair(
     alloc: Global,
@@ -141,4 +136,9 @@ fn a_run_is_started_in_a_mode(rt: HostRuntime) -> Result<(), Fail> {
         name,
     )?;
     plays(&rt, rt.alloc(), FROM_MODE_0, script, replies, &Ok(()), name)
+}
+
+#[test]
+fn rows_are_played(rt: HostRuntime) -> Result<(), Fail> {
+    plays_rows(&rt, rt.alloc(), &ROWS)
 }

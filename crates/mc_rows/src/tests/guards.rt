@@ -92,11 +92,6 @@ const ROWS: [Row<'static>; 13] = [
     ),
 ];
 
-#[test]
-fn rows_are_played(rt: HostRuntime) -> Result<(), Fail> {
-    plays_rows(&rt, rt.alloc(), &ROWS)
-}
-
 /// A name, how the run is started, a script and what is written. The run ends well.
 type StartedRow<'a> = (&'a str, Run, &'a str, &'a str);
 
@@ -194,6 +189,11 @@ fn rules_hold_of_runs_with_options(rt: HostRuntime) -> Result<(), Fail> {
 struct Told {
     script: Vec<u8>,
     replies: Vec<u8>,
+}
+
+#[test]
+fn rows_are_played(rt: HostRuntime) -> Result<(), Fail> {
+    plays_rows(&rt, rt.alloc(), &ROWS)
 }
 
 /// No line.

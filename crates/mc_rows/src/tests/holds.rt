@@ -42,11 +42,6 @@ const ROWS: [Row<'static>; 6] = [
     ),
 ];
 
-#[test]
-fn rows_are_played(rt: HostRuntime) -> Result<(), Fail> {
-    plays_rows(&rt, rt.alloc(), &ROWS)
-}
-
 /// Lines of a worker that holds as much as it may, their replies, and how often these stand one after another.
 const MOST_HELD: [(&str, &str, u64); 4] = [
     ("1 set 1 3 7\n1 set 2 1 5\n", "STORED 1\r\nSTORED 2\r\n", 1),
@@ -89,4 +84,9 @@ fn a_worker_holds_at_most_255_chunks(rt: HostRuntime) -> Result<(), Fail> {
         &Ok(()),
         "255 holds",
     )
+}
+
+#[test]
+fn rows_are_played(rt: HostRuntime) -> Result<(), Fail> {
+    plays_rows(&rt, rt.alloc(), &ROWS)
 }

@@ -45,11 +45,6 @@ const TAKEN: [Row<'static>; 3] = [
     ),
 ];
 
-#[test]
-fn rows_are_played(rt: HostRuntime) -> Result<(), Fail> {
-    plays_rows(&rt, rt.alloc(), &TAKEN)
-}
-
 const SPENT: Row<'static> = (
     "a held item holds up a move until the turns of the run are spent",
     "1 set 1 22 100\n1 set 2 22 100\n1 set 3 22 100\n1 set 4 22 100\n1 set 5 22 100\n1 set 6 22 100\n1 set 7 22 100\n1 set 8 22 100\n1 hold 1\nreassign 4 1\nturn 1000000\nturn 1\n",
@@ -125,4 +120,9 @@ fn truncated_scripts(rt: HostRuntime) -> Result<(), Fail> {
 fn last_line(script: &[u8]) -> u64 {
     let ends = script.iter().filter(|byte| **byte == b'\n').count();
     (ends as u64).saturating_add(1)
+}
+
+#[test]
+fn rows_are_played(rt: HostRuntime) -> Result<(), Fail> {
+    plays_rows(&rt, rt.alloc(), &TAKEN)
 }

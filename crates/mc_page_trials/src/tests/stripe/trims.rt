@@ -97,8 +97,7 @@ fn what_calls_left_is_kept(rt: HostRuntime) -> Result<(), Fail> {
     let mut stripe = Stripe::new(rt.alloc());
     let kept = keep_what_calls_left(&rt, &mut stripe);
     drop(stripe);
-    kept?;
-    Ok(())
+    Ok(kept?)
 }
 
 /// The stripe keeps nothing of so many calls, and no base.
@@ -128,8 +127,7 @@ fn what_is_forgotten_takes_no_room(rt: HostRuntime) -> Result<(), Fail> {
     let mut stripe = Stripe::new(rt.alloc());
     let forgot = forget_calls(&rt, &mut stripe);
     drop(stripe);
-    forgot?;
-    Ok(())
+    Ok(forgot?)
 }
 
 /// The base has the stamps that a plain list had when the stripe was trimmed.
