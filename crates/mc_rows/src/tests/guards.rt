@@ -184,16 +184,16 @@ fn rules_hold_of_runs_with_options(rt: HostRuntime) -> Result<(), Fail> {
     Ok(())
 }
 
+#[test]
+fn rows_are_played(rt: HostRuntime) -> Result<(), Fail> {
+    plays_rows(&rt, rt.alloc(), &ROWS)
+}
+
 /// A script that grows, and its replies.
 #[derive(Drop)]
 struct Told {
     script: Vec<u8>,
     replies: Vec<u8>,
-}
-
-#[test]
-fn rows_are_played(rt: HostRuntime) -> Result<(), Fail> {
-    plays_rows(&rt, rt.alloc(), &ROWS)
 }
 
 /// No line.
