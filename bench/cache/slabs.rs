@@ -8,6 +8,10 @@ mod driver;
 mod hashing;
 #[path = "plain/order.rs"]
 mod order;
+// Pages of words are those of the other program.
+#[allow(dead_code)]
+#[path = "plain/pages.rs"]
+mod pages;
 #[path = "plain/shards.rs"]
 mod shards;
 #[path = "plain/slabs.rs"]
@@ -17,7 +21,9 @@ mod slabs;
 mod tests;
 
 use shards::Shards;
-use slabs::Slabs;
+
+/// Slabs whose pages are bytes.
+type Slabs = slabs::Slabs<Box<[u8]>>;
 
 fn main() {
     driver::main::<Shards<Slabs>>();

@@ -1,6 +1,7 @@
 //! A shard whose values are in chunks of some sizes, in pages of which each is cut for one size, and stays so.
 use crate::chains::{Chained, Chains};
 use crate::order::{Linked, Links, Order};
+use crate::pages::Page;
 use crate::shards::Shard;
 
 const PAGE: usize = 16_384;
@@ -43,12 +44,12 @@ struct Class {
     free: Order,
 }
 
-pub struct Slabs {
+pub struct Slabs<P> {
     chains: Chains,
     classes: Vec<Class>,
     headers: Vec<Header>,
     /// The chunks' bytes, without their headers.
-    pages: Vec<Box<[u8]>>,
+    pages: Vec<P>,
     limit: usize,
 }
 
@@ -58,7 +59,7 @@ fn sizes() -> Vec<usize> {
     raws.take_while(|size| size * 5 < PAGE * 4).chain([PAGE]).collect()
 }
 
-impl Slabs {
+impl<P: Page> Slabs<P> {
     /// The lowest class whose chunks have room for so many bytes.
     fn class_for(&self, bytes: usize) -> Option<usize> {
         let class = self.classes.partition_point(|class| class.size < HEADER + bytes);
@@ -73,9 +74,10 @@ impl Slabs {
         }
         let (page, size) = (self.pages.len() as u16, self.classes[class].size);
         let count = PAGE / size;
-        self.pages.push(vec![0; count * (size - HEADER)].into_boxed_slice());
+        let bytes = size - HEADER + P::COUNT;
+        self.pages.push(P::new(count * bytes));
         for place in 0..count {
-            let begin = (place * (size - HEADER)) as u16;
+            let begin = (place * bytes + P::COUNT) as u16;
             let chunk = self.headers.len() as u32;
             self.headers.push(Header { hash: 0, next: 0, links: Links::NONE, page, begin, value: 0, key: 0, class: class as u8 });
             self.classes[class].free.push(&mut self.headers, chunk);
@@ -105,35 +107,42 @@ impl Slabs {
     fn find(&mut self, hash: u32, key: &[u8]) -> Option<u32> {
         let pages = &self.pages;
         self.chains.find(&mut self.headers, hash, |header| {
-            usize::from(header.key) == key.len() && pages[usize::from(header.page)][usize::from(header.begin)..].starts_with(key)
+            usize::from(header.key) == key.len() && pages[usize::from(header.page)].has(usize::from(header.begin), key)
         })
     }
 
-    fn value(&self, chunk: u32) -> &[u8] {
+    /// Puts the value of a chunk's item behind the bytes that are there.
+    fn read(&self, chunk: u32, into: &mut Vec<u8>) {
         let header = &self.headers[chunk as usize];
-        let begin = usize::from(header.begin) + usize::from(header.key);
-        &self.pages[usize::from(header.page)][begin..][..usize::from(header.value)]
+        let (page, begin) = (&self.pages[usize::from(header.page)], usize::from(header.begin));
+        page.hold(begin);
+        page.read(begin + behind::<P>(usize::from(header.key)), usize::from(header.value), into);
+        page.release(begin);
     }
 
     fn write(&mut self, chunk: u32, hash: u32, key: &[u8], value: &[u8]) {
         let header = &mut self.headers[chunk as usize];
         (header.hash, header.key, header.value) = (hash, key.len() as u8, value.len() as u16);
-        let bytes = &mut self.pages[usize::from(header.page)][usize::from(header.begin)..];
-        let (own, rest) = bytes.split_at_mut(key.len());
-        own.copy_from_slice(key);
-        rest[..value.len()].copy_from_slice(value);
+        let (page, begin) = (&mut self.pages[usize::from(header.page)], usize::from(header.begin));
+        page.write(begin, key);
+        page.write(begin + behind::<P>(key.len()), value);
     }
 }
 
-impl Shard for Slabs {
-    fn new(limit: usize) -> Slabs {
+/// Where the value of a key of this length begins.
+fn behind<P: Page>(key: usize) -> usize {
+    key.next_multiple_of(P::STEP)
+}
+
+impl<P: Page> Shard for Slabs<P> {
+    fn new(limit: usize) -> Slabs<P> {
         let classes = sizes().into_iter().map(|size| Class { size, used: Order::new(), free: Order::new() }).collect();
         Slabs { chains: Chains::new(), classes, headers: Vec::with_capacity(limit / FIRST), pages: Vec::new(), limit }
     }
 
     /// Where it is refused, the key has what it had.
     fn set(&mut self, hash: u32, key: &[u8], value: &[u8]) -> bool {
-        let Some(class) = self.class_for(key.len() + value.len()) else {
+        let Some(class) = self.class_for(behind::<P>(key.len()) + value.len()) else {
             return false;
         };
         let old = self.find(hash, key);
@@ -158,7 +167,7 @@ impl Shard for Slabs {
         let Some(chunk) = self.find(hash, key) else {
             return false;
         };
-        into.extend_from_slice(self.value(chunk));
+        self.read(chunk, into);
         if touch {
             let class = usize::from(self.headers[chunk as usize].class);
             self.classes[class].used.bump(&mut self.headers, chunk);
@@ -187,7 +196,7 @@ mod tests {
 
     #[test]
     fn cuts_one_page_for_another_size_when_all_are_cut() {
-        let mut shard = Slabs::new(2 * PAGE);
+        let mut shard = Slabs::<Box<[u8]>>::new(2 * PAGE);
         for hash in 0..1_000_u32 {
             assert!(shard.set(hash, &hash.to_le_bytes(), &[7; 8]));
         }
@@ -201,7 +210,7 @@ mod tests {
 
     #[test]
     fn frees_the_old_chunk_of_a_value_that_grows() {
-        let mut shard = Slabs::new(2 * PAGE);
+        let mut shard = Slabs::<Box<[u8]>>::new(2 * PAGE);
         assert!(shard.set(1, b"key", &[7; 8]) && shard.set(1, b"key", &[8; 100]));
         let mut value = Vec::new();
         assert!(shard.get(1, b"key", &mut value, true));

@@ -1,5 +1,5 @@
 //! Arenas that are opened, and their hands.
-ghost use Rattle.std.specs.Prelude.{IfSome, IfOk};
+ghost use Rattle.std.specs.Prelude.{IfOk};
 ghost use Rattle.mc_calls.specs.Hands.{AreHandsOf, IsIdleHandOf};
 ghost use Rattle.mc_calls.specs.Pairs.{AreIdle, AreReady};
 
@@ -17,39 +17,39 @@ pub fn opened(alloc: Global, config: &Config, hands: u64) -> Result<(Arena, Vec<
 }
 
 /// The hand of the lowest number that is left.
-pub fn next_hand(arena: &Arena, hands: &mut Vec<Hand>) -> Option<Hand>
+pub fn next_hand(arena: &Arena, hands: &mut Vec<Hand>) -> Result<Hand, Fail>
     requires hands { AreHandsOf arena.now hands.old.items }
     ensures hands { AreHandsOf arena.now hands.new.items }
-    ensures hand { IfSome result (λ hand. IsIdleHandOf arena.now hand) }
+    ensures hand { IfOk result (λ hand. IsIdleHandOf arena.now hand) }
 {
     if hands.is_empty() {
-        None
+        Err(Fail::new("there is a hand left"))
     } else {
-        Some(hands.remove(0))
+        Ok(hands.remove(0))
     }
 }
 
 /// The two hands of the lowest numbers that are left.
-fn two_of(arena: &Arena, hands: &mut Vec<Hand>) -> Option<(Hand, Hand)>
+fn two_of(arena: &Arena, hands: &mut Vec<Hand>) -> Result<(Hand, Hand), Fail>
     requires hands { AreHandsOf arena.now hands.old.items }
     ensures hands { AreHandsOf arena.now hands.new.items }
-    ensures two { IfSome result (λ two. IsIdleHandOf arena.now two.0 × IsIdleHandOf arena.now two.1) }
+    ensures two { IfOk result (λ two. IsIdleHandOf arena.now two.0 × IsIdleHandOf arena.now two.1) }
 {
     let first = next_hand(arena, hands)?;
     let second = next_hand(arena, hands)?;
-    Some((first, second))
+    Ok((first, second))
 }
 
 /// The three hands of the lowest numbers that are left.
-pub fn three_of(arena: &Arena, hands: &mut Vec<Hand>) -> Option<(Hand, Hand, Hand)>
+pub fn three_of(arena: &Arena, hands: &mut Vec<Hand>) -> Result<(Hand, Hand, Hand), Fail>
     requires hands { AreHandsOf arena.now hands.old.items }
     ensures hands { AreHandsOf arena.now hands.new.items }
-    ensures three { IfSome result (λ three. IsIdleHandOf arena.now three.0 × IsIdleHandOf arena.now three.1 × IsIdleHandOf arena.now three.2) }
+    ensures three { IfOk result (λ three. IsIdleHandOf arena.now three.0 × IsIdleHandOf arena.now three.1 × IsIdleHandOf arena.now three.2) }
 {
     let first = next_hand(arena, hands)?;
     let second = next_hand(arena, hands)?;
     let third = next_hand(arena, hands)?;
-    Some((first, second, third))
+    Ok((first, second, third))
 }
 
 /// Two hands of a thread: one holds an item, while the other acts.
@@ -60,13 +60,13 @@ pub struct Pair {
 }
 
 /// The two hands of the lowest numbers that are left, for a thread.
-pub fn pair_of(arena: &Arena, hands: &mut Vec<Hand>) -> Option<Pair>
+pub fn pair_of(arena: &Arena, hands: &mut Vec<Hand>) -> Result<Pair, Fail>
     requires hands { AreHandsOf arena.now hands.old.items }
     ensures hands { AreHandsOf arena.now hands.new.items }
-    ensures pair { IfSome result (AreIdle arena.now) }
+    ensures pair { IfOk result (AreIdle arena.now) }
 {
     let (reader, writer) = two_of(arena, hands)?;
-    Some(Pair { reader, writer })
+    Ok(Pair { reader, writer })
 }
 
 /// One hand of two.
@@ -92,8 +92,6 @@ pub fn opened_two(alloc: Global, config: &Config) -> Result<Two, Fail>
     ensures hands { IfOk result AreReady }
 {
     let (arena, mut hands) = opened(alloc, config, 2)?;
-    match two_of(&arena, &mut hands) {
-        Some((hand, other)) => Ok(Two { arena, hand, other }),
-        None => Err(Fail::new("there are two hands")),
-    }
+    let (hand, other) = two_of(&arena, &mut hands)?;
+    Ok(Two { arena, hand, other })
 }

@@ -1,5 +1,5 @@
 //! Hands that are lost while others go on: with references, with a stripe, and with pages and lists. Who doesn't wait goes on reading.
-ghost use Rattle.std.specs.Prelude.{IfSome};
+ghost use Rattle.std.specs.Prelude.{IfOk};
 ghost use Rattle.mc_calls.specs.Hands.{AreHandsOf, IsIdleHandOf};
 ghost use Rattle.mc_race_trials.specs.Keepers.{AreNear, IsKeeperOf};
 
@@ -179,19 +179,24 @@ fn store_each<R: Wait>(rt: &R, alloc: Global, arena: &Arena, hand: &mut Hand)
 /// A mover, and two readers.
 type Jobs = (Mover, (Reader, Reader));
 
-/// Those with the eight hands of the lowest numbers that are left, once items were stored. None where there are fewer.
-fn jobs_of<R: Wait>(rt: &R, alloc: Global, arena: &Arena, hands: &mut Vec<Hand>) -> Option<Jobs>
+/// Those with the eight hands of the lowest numbers that are left, once items were stored.
+fn jobs_of<R: Wait>(
+    rt: &R,
+    alloc: Global,
+    arena: &Arena,
+    hands: &mut Vec<Hand>,
+) -> Result<Jobs, Fail>
     requires hands { AreHandsOf arena.now hands.old.items }
-    ensures mover { IfSome result (λ jobs. IsIdleHandOf arena.now jobs.0.0 × IsIdleHandOf arena.now jobs.0.1) }
-    ensures first { IfSome result (λ jobs. IsIdleHandOf arena.now jobs.1.0.1.0 × IsIdleHandOf arena.now jobs.1.0.1.1 × IsIdleHandOf arena.now jobs.1.0.1.2) }
-    ensures second { IfSome result (λ jobs. IsIdleHandOf arena.now jobs.1.1.1.0 × IsIdleHandOf arena.now jobs.1.1.1.1 × IsIdleHandOf arena.now jobs.1.1.1.2) }
+    ensures mover { IfOk result (λ jobs. IsIdleHandOf arena.now jobs.0.0 × IsIdleHandOf arena.now jobs.0.1) }
+    ensures first { IfOk result (λ jobs. IsIdleHandOf arena.now jobs.1.0.1.0 × IsIdleHandOf arena.now jobs.1.0.1.1 × IsIdleHandOf arena.now jobs.1.0.1.2) }
+    ensures second { IfOk result (λ jobs. IsIdleHandOf arena.now jobs.1.1.1.0 × IsIdleHandOf arena.now jobs.1.1.1.1 × IsIdleHandOf arena.now jobs.1.1.1.2) }
 {
     let mut hand = next_hand(arena, hands)?;
     store_each(rt, alloc, arena, &mut hand);
     let mover = Mover(hand, next_hand(arena, hands)?);
     let first = Reader(1, three_of(arena, hands)?);
     let second = Reader(2, three_of(arena, hands)?);
-    Some((mover, (first, second)))
+    Ok((mover, (first, second)))
 }
 
 /// How many hold a chunk with this header beside the link. None where it is neither linked nor unlinked, but counts.
@@ -261,9 +266,7 @@ pub fn lost_hands_cost_what_they_had<R: Threads + Wait + Sync>(
     alloc: Global,
 ) -> Result<(), Fail> {
     let (arena, mut hands) = opened(alloc, &TWELVE_PAGES, 8)?;
-    let Some((mover, readers)) = jobs_of(rt, alloc, &arena, &mut hands) else {
-        return Err(Fail::new("there are eight hands"));
-    };
+    let (mover, readers) = jobs_of(rt, alloc, &arena, &mut hands)?;
     let Worked { hand, told } = work_three(rt, alloc, &arena, mover, readers);
     let (mover, (first, second)) = told;
     let left = arena.close(hand);

@@ -1,5 +1,5 @@
 //! Two movers move pages, while two workers store, get by hints, keep, read, touch and delete items of few keys.
-ghost use Rattle.std.specs.Prelude.{IfSome};
+ghost use Rattle.std.specs.Prelude.{IfOk};
 ghost use Rattle.mc_calls.specs.Hands.{AreHandsOf, IsIdleHandOf};
 
 use crate::driver::Driver;
@@ -23,17 +23,17 @@ pub const TWELVE_PAGES: Config = Config {
 /// A mover, and a worker beside it.
 type Pair = (Driver, Worker);
 
-/// Two of them, with the four hands of the lowest numbers that are left, which are the threads' numbers. None where there are fewer.
-fn two_pairs(arena: &Arena, hands: &mut Vec<Hand>) -> Option<(Pair, Pair)>
+/// Two of them, with the four hands of the lowest numbers that are left, which are the threads' numbers.
+fn two_pairs(arena: &Arena, hands: &mut Vec<Hand>) -> Result<(Pair, Pair), Fail>
     requires hands { AreHandsOf arena.now hands.old.items }
-    ensures low { IfSome result (λ jobs. IsIdleHandOf arena.now jobs.0.0.1 × IsIdleHandOf arena.now jobs.0.1.1) }
-    ensures high { IfSome result (λ jobs. IsIdleHandOf arena.now jobs.1.0.1 × IsIdleHandOf arena.now jobs.1.1.1) }
+    ensures low { IfOk result (λ jobs. IsIdleHandOf arena.now jobs.0.0.1 × IsIdleHandOf arena.now jobs.0.1.1) }
+    ensures high { IfOk result (λ jobs. IsIdleHandOf arena.now jobs.1.0.1 × IsIdleHandOf arena.now jobs.1.1.1) }
 {
     let mover = Driver(0, next_hand(arena, hands)?);
     let low = (mover, Worker(1, next_hand(arena, hands)?));
     let mover = Driver(2, next_hand(arena, hands)?);
     let high = (mover, Worker(3, next_hand(arena, hands)?));
-    Some((low, high))
+    Ok((low, high))
 }
 
 /// What a worker keeps reads as it was stored, beside two movers; and what is left is what all of them told.
@@ -42,9 +42,7 @@ pub fn what_is_kept_is_read_beside_two_movers<R: Threads + Wait + Sync>(
     alloc: Global,
 ) -> Result<(), Fail> {
     let (arena, mut hands) = opened(alloc, &TWELVE_PAGES, 4)?;
-    let Some((low, high)) = two_pairs(&arena, &mut hands) else {
-        return Err(Fail::new("there are four hands"));
-    };
+    let (low, high) = two_pairs(&arena, &mut hands)?;
     let Worked { hand, told } = work_four(rt, alloc, &arena, low, high);
     let (low, high) = told;
     check_left(rt, alloc, arena, hand, low, high)

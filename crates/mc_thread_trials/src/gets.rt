@@ -1,5 +1,5 @@
 //! Four threads look up a key that leads nowhere: each get is noted in its stripe's history.
-ghost use Rattle.std.specs.Prelude.{IfSome};
+ghost use Rattle.std.specs.Prelude.{IfOk};
 ghost use Rattle.mc_calls.specs.Hands.{AreHandsOf, IsIdleHandOf};
 
 use mc_calls::{FOUR_CLASSES, Getter, Job, Worked, check, is_there, next_hand, opened, work_four};
@@ -39,17 +39,17 @@ impl Job for Searcher {
 /// Two such threads.
 type Searchers = (Searcher, Searcher);
 
-/// Four, with the hands of the lowest numbers that are left. None where there are fewer.
-fn four_searchers(arena: &Arena, hands: &mut Vec<Hand>) -> Option<(Searchers, Searchers)>
+/// Four, with the hands of the lowest numbers that are left.
+fn four_searchers(arena: &Arena, hands: &mut Vec<Hand>) -> Result<(Searchers, Searchers), Fail>
     requires hands { AreHandsOf arena.now hands.old.items }
-    ensures low { IfSome result (λ jobs. IsIdleHandOf arena.now jobs.0.0.0 × IsIdleHandOf arena.now jobs.0.1.0) }
-    ensures high { IfSome result (λ jobs. IsIdleHandOf arena.now jobs.1.0.0 × IsIdleHandOf arena.now jobs.1.1.0) }
+    ensures low { IfOk result (λ jobs. IsIdleHandOf arena.now jobs.0.0.0 × IsIdleHandOf arena.now jobs.0.1.0) }
+    ensures high { IfOk result (λ jobs. IsIdleHandOf arena.now jobs.1.0.0 × IsIdleHandOf arena.now jobs.1.1.0) }
 {
     let first = Searcher(next_hand(arena, hands)?);
     let second = Searcher(next_hand(arena, hands)?);
     let third = Searcher(next_hand(arena, hands)?);
     let fourth = Searcher(next_hand(arena, hands)?);
-    Some(((first, second), (third, fourth)))
+    Ok(((first, second), (third, fourth)))
 }
 
 /// How many calls the stripe noted, if all are gets of that key that found nothing.
@@ -75,9 +75,7 @@ fn is_missed(call: &Call) -> bool {
 /// Each get of four threads is an entry of the stripe's history.
 pub fn each_get_is_noted<R: Threads + Wait + Sync>(rt: &R, alloc: Global) -> Result<(), Fail> {
     let (arena, mut hands) = opened(alloc, &FOUR_CLASSES, 4)?;
-    let Some((low, high)) = four_searchers(&arena, &mut hands) else {
-        return Err(Fail::new("there are four hands"));
-    };
+    let (low, high) = four_searchers(&arena, &mut hands)?;
     let Worked { hand, told } = work_four(rt, alloc, &arena, low, high);
     let left = arena.close(hand);
     let gets = count_gets(&left, 2);

@@ -1,6 +1,6 @@
 //! Four threads set, get, read, give up and delete items over forty keys of one class of two pages. Each word of an item tells its
 //! key and stamp, so a word of another item would be seen.
-ghost use Rattle.std.specs.Prelude.{IfSome};
+ghost use Rattle.std.specs.Prelude.{IfOk};
 ghost use Rattle.mc_calls.specs.Hands.{AreHandsOf};
 ghost use Rattle.mc_calls.specs.Pairs.{AreIdle};
 
@@ -105,17 +105,17 @@ impl Job for Actor {
 /// Two such threads.
 type Actors = (Actor, Actor);
 
-/// Four, with the eight hands of the lowest numbers that are left. None where there are fewer.
-fn four_actors(arena: &Arena, hands: &mut Vec<Hand>) -> Option<(Actors, Actors)>
+/// Four, with the eight hands of the lowest numbers that are left.
+fn four_actors(arena: &Arena, hands: &mut Vec<Hand>) -> Result<(Actors, Actors), Fail>
     requires hands { AreHandsOf arena.now hands.old.items }
-    ensures low { IfSome result (λ jobs. AreIdle arena.now jobs.0.0.1 × AreIdle arena.now jobs.0.1.1) }
-    ensures high { IfSome result (λ jobs. AreIdle arena.now jobs.1.0.1 × AreIdle arena.now jobs.1.1.1) }
+    ensures low { IfOk result (λ jobs. AreIdle arena.now jobs.0.0.1 × AreIdle arena.now jobs.0.1.1) }
+    ensures high { IfOk result (λ jobs. AreIdle arena.now jobs.1.0.1 × AreIdle arena.now jobs.1.1.1) }
 {
     let first = Actor(1, pair_of(arena, hands)?);
     let second = Actor(2, pair_of(arena, hands)?);
     let third = Actor(3, pair_of(arena, hands)?);
     let fourth = Actor(4, pair_of(arena, hands)?);
-    Some(((first, second), (third, fourth)))
+    Ok(((first, second), (third, fourth)))
 }
 
 /// How many chunks of the class are free as its list says, and whether both pages within the limit are the class's.
@@ -152,9 +152,7 @@ pub fn no_read_shows_another_item<R: Threads + Wait + Sync>(
     alloc: Global,
 ) -> Result<(), Fail> {
     let (arena, mut hands) = opened(alloc, &TWO_PAGES, 8)?;
-    let Some((low, high)) = four_actors(&arena, &mut hands) else {
-        return Err(Fail::new("there are eight hands"));
-    };
+    let (low, high) = four_actors(&arena, &mut hands)?;
     let Worked { hand, told } = work_four(rt, alloc, &arena, low, high);
     let left = arena.close(hand);
     let accounted = check_left(&left);

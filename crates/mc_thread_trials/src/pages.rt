@@ -1,5 +1,5 @@
 //! A mover's thread moves pages between four classes, while three workers store, hold, read and delete items.
-ghost use Rattle.std.specs.Prelude.{IfSome};
+ghost use Rattle.std.specs.Prelude.{IfOk};
 ghost use Rattle.mc_calls.specs.Hands.{AreHandsOf, IsIdleHandOf};
 
 use crate::driver::{Mover, end_if};
@@ -25,29 +25,27 @@ const EIGHT_PAGES: Config = Config {
 /// What the threads tell: the mover's turns, and of each worker how many rounds showed words of other items.
 type Told = ((Turns, u64), (u64, u64));
 
-/// All threads' work in this mode, once items were stored. None where a hand is missing, or memory ran out.
+/// All threads' work in this mode, once items were stored.
 fn stress<R: Threads + Wait + Sync>(
     rt: &R,
     alloc: Global,
     arena: &Arena,
     hands: &mut Vec<Hand>,
     mode: u64,
-) -> Option<Worked<Told>>
+) -> Result<Worked<Told>, Fail>
     requires hands { AreHandsOf arena.now hands.old.items }
-    ensures hand { IfSome result (λ worked. IsIdleHandOf arena.now worked.hand) }
+    ensures hand { IfOk result (λ worked. IsIdleHandOf arena.now worked.hand) }
 {
     let mut hand = next_hand(arena, hands)?;
     if !set_mode_by(rt, arena, &mut hand, mode) {
-        return None;
+        return Err(Fail::new("there is such a mode"));
     }
-    if store_each(rt, alloc, arena, &mut hand).is_err() {
-        return None;
-    }
+    store_each(rt, alloc, arena, &mut hand)?;
     let first = Worker(1, pair_of(arena, hands)?);
     let second = Worker(2, pair_of(arena, hands)?);
     let third = Worker(3, pair_of(arena, hands)?);
     let low = (Mover(hand), first);
-    Some(work_four(rt, alloc, arena, low, (second, third)))
+    Ok(work_four(rt, alloc, arena, low, (second, third)))
 }
 
 /// The class's chunks are those of its pages, and what is used is linked, or cleared on a moving page. How many they are.
@@ -157,10 +155,8 @@ fn account<R: Threads + Wait + Sync>(
     ends: bool,
 ) -> Result<(), Fail> {
     let (arena, mut hands) = opened(alloc, &EIGHT_PAGES, 7)?;
-    match stress(rt, alloc, &arena, &mut hands, mode) {
-        Some(worked) => check_left(rt, alloc, arena, worked, ends),
-        None => Err(Fail::new("there are seven hands, and memory for items")),
-    }
+    let worked = stress(rt, alloc, &arena, &mut hands, mode)?;
+    check_left(rt, alloc, arena, worked, ends)
 }
 
 /// Readers read what they stored, while pages move between the classes; a move may be under way at the end.

@@ -1,12 +1,12 @@
 //! What is shown: maps, pages over time, and the class table.
-ghost use Rattle.std.specs.Prelude.{◌≡◌, ℕ, ◌≤◌, All, OnOk, length, string_bytes};
-ghost use Rattle.mc_picture.specs.Charts.{IsChart};
-ghost use Rattle.mcmap.specs.Played.{AreMapsOf, IsChartOf, IsShown, LeadTo, ShowsMaps, done_at};
+ghost use Rattle.std.specs.Prelude.{◌≡◌, ◌≤◌, All, OnOk, length, string_bytes};
+ghost use Rattle.mc_picture.specs.Charts.{IsChart, IsMapText};
+ghost use Rattle.mcmap.specs.Played.{AreMapsOf, IsChartOf, IsMapIn, IsShown, LeadTo, ShowsMaps, done_at};
 ghost use Rattle.mc_script.specs.Command.{IsValid};
 
 use crate::fault::Fault;
 use crate::json::write_json;
-use mc_map::{ClassTable, Command, Mark, Player, Script};
+use mc_map::{ClassTable, Command, Map, Mark, Player, Script};
 use mc_options::Run;
 use mc_picture::{class_rows, write_chart, write_classes, write_map};
 use std::alloc::Global;
@@ -63,10 +63,10 @@ fn play_maps(
         let place = place_of(*mark, commands.len(), done);
         play_all(player, &commands[done..place])?;
         done = place;
-        show_form(alloc, form, player, run, &commands[..done], mark.line, text)?;
+        show_map(alloc, form, player, run, &commands[..done], mark.line, text)?;
     }
     play_all(player, &commands[done..])?;
-    show_form(alloc, form, player, run, commands, 0, text)
+    show_map(alloc, form, player, run, commands, 0, text)
 }
 
 /// How many of so many commands are done at a mark: those above it, or as many as were done already.
@@ -77,7 +77,7 @@ fn place_of(mark: Mark, count: usize, done: usize) -> usize
 }
 
 /// Shows a map in this form. `commands` are those that were done; `line` is that of the mark, or 0 at the end.
-fn show_form(
+fn show_map(
     alloc: Global,
     form: Form,
     player: &Player,
@@ -90,68 +90,38 @@ fn show_form(
     requires valid { All IsValid commands.now }
     ensures shown { OnOk result (IsShown form line player.now.keeper player.now.books (string_bytes text.old) (string_bytes text.new)) }
 {
+    let map = player.map(run, commands)?;
+    let written = write_form(alloc, form, &map, line, text);
+    drop(map);
+    written
+}
+
+/// Adds a map in this form.
+fn write_form(
+    alloc: Global,
+    form: Form,
+    map: &Map,
+    line: u64,
+    text: &mut String,
+) -> Result<(), Fault>
+    ensures map { OnOk result (IsMapIn form line map.now (string_bytes text.old) (string_bytes text.new)) }
+{
     match form {
-        Form::Text => show_text(alloc, player, run, commands, line, text),
-        Form::Json => show_json(alloc, player, run, commands, line, text),
+        Form::Text => write_text(alloc, map, line, text),
+        Form::Json => write_json(alloc, map, line, text),
     }
 }
 
-/// Shows a map as JSON.
-fn show_json(
-    alloc: Global,
-    player: &Player,
-    run: &Run,
-    commands: &[Command],
-    line: u64,
-    text: &mut String,
-) -> Result<(), Fault>
-    requires mode { run.now.automove ≤ 2 }
-    requires valid { All IsValid commands.now }
-    ensures shown { OnOk result (IsShown Form.Json line player.now.keeper player.now.books (string_bytes text.old) (string_bytes text.new)) }
-{
-    let map = player.map(run, commands)?;
-    let written = write_json(alloc, &map, line, text);
-    drop(map);
-    written?;
-    Ok(())
-}
-
-/// Shows a map as text, under a heading that says where in the script.
-fn show_text(
-    alloc: Global,
-    player: &Player,
-    run: &Run,
-    commands: &[Command],
-    line: u64,
-    text: &mut String,
-) -> Result<(), Fault>
-    requires mode { run.now.automove ≤ 2 }
-    requires valid { All IsValid commands.now }
-    ensures shown { OnOk result (IsShown Form.Text line player.now.keeper player.now.books (string_bytes text.old) (string_bytes text.new)) }
+/// Adds a map as text, under a heading that says where in the script.
+fn write_text(alloc: Global, map: &Map, line: u64, text: &mut String) -> Result<(), Fault>
+    ensures map { OnOk result (IsMapText map.now (string_bytes text.old) (string_bytes text.new)) }
 {
     if line == 0 {
-        return show_map(player, run, commands, "at the end", text);
+        write_map(map, "at the end", text)?;
+        return Ok(());
     }
     let heading = format!(in alloc; "at line {line}")?;
-    show_map(player, run, commands, heading.as_str(), text)
-}
-
-/// Shows a map under this heading. `commands` are those that were done.
-fn show_map(
-    player: &Player,
-    run: &Run,
-    commands: &[Command],
-    heading: &str,
-    text: &mut String,
-) -> Result<(), Fault>
-    requires mode { run.now.automove ≤ 2 }
-    requires valid { All IsValid commands.now }
-    ensures shown { OnOk result ((line : ℕ) → IsShown Form.Text line player.now.keeper player.now.books (string_bytes text.old) (string_bytes text.new)) }
-{
-    let map = player.map(run, commands)?;
-    let written = write_map(&map, heading, text);
-    drop(map);
-    written?;
+    write_map(map, heading.as_str(), text)?;
     Ok(())
 }
 

@@ -15,42 +15,6 @@ const HASHES: u64 = 3;
 /// How many calls are made.
 const CALLS: u64 = 2000;
 
-/// Stores the call's version of its key. False where that is refused.
-fn sets<R: Wait>(
-    rt: &R,
-    alloc: Global,
-    arena: &Arena,
-    hand: &mut Hand,
-    at: Label,
-    call: Call,
-) -> Result<bool, Fail>
-    requires { IsIdleHandOf arena.now hand.old }
-    ensures { IsIdleHandOf arena.now hand.new }
-{
-    let value = value_of(alloc, call.number, call.version)?;
-    let mut words = Vec::new(alloc);
-    Ok(set(rt, arena, hand, at, &value, &mut words).is_ok())
-}
-
-/// True if the key is there, and the next key of its hash isn't.
-fn is_alone<R: Wait>(
-    rt: &R,
-    alloc: Global,
-    arena: &Arena,
-    hand: &mut Hand,
-    at: Label,
-    number: u64,
-) -> Result<bool, Fail>
-    requires { IsIdleHandOf arena.now hand.old }
-    ensures { IsIdleHandOf arena.now hand.new }
-{
-    let other = key_of(alloc, number.wrapping_add(HASHES))?;
-    let hash = at.hash;
-    let own = contains(rt, arena, hand, at)?;
-    let others = contains(rt, arena, hand, Label { hash, key: &other })?;
-    Ok(own && !others)
-}
-
 /// Stores the call's version of its key. True if the key is there then, and the next key of its hash isn't.
 fn store<R: Wait>(
     rt: &R,
@@ -63,10 +27,16 @@ fn store<R: Wait>(
     requires { IsIdleHandOf arena.now hand.old }
     ensures { IsIdleHandOf arena.now hand.new }
 {
-    if !sets(rt, alloc, arena, hand, at, call)? {
+    let value = value_of(alloc, call.number, call.version)?;
+    let mut words = Vec::new(alloc);
+    if set(rt, arena, hand, at, &value, &mut words).is_err() {
         return Ok(false);
     }
-    is_alone(rt, alloc, arena, hand, at, call.number)
+    let key = key_of(alloc, call.number.wrapping_add(HASHES))?;
+    let other = Label { key: &key, ..at };
+    let own = contains(rt, arena, hand, at)?;
+    let others = contains(rt, arena, hand, other)?;
+    Ok(own && !others)
 }
 
 /// Deletes the key. True if it isn't there then.

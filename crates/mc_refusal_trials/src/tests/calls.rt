@@ -36,6 +36,9 @@ pub enum Call {
     ModeTwo,
 }
 
+/// What a turn counts: chunks that it cleared, items that it rescued and evicted, chunks that were held, and those whose stripe was.
+pub type Numbers = [u64; 5];
+
 /// What it gives.
 #[derive(Clone, Copy, PartialEq, Eq)]
 pub enum Answer {
@@ -44,8 +47,12 @@ pub enum Answer {
     Done,
     /// Whether there is such an item.
     There(bool),
-    /// How a turn ended, and what it counts.
-    Turned(Turn),
+    /// A turn that found that no page moves.
+    Idle,
+    /// A turn behind which the page moves still, and what it counts.
+    Went(Numbers),
+    /// One that ended the move.
+    Finished(Numbers),
     /// Whether a page moves; and the moves that ended, the items that moves rescued and evicted, and the chunks that held one up.
     Surveyed(bool, [u64; 4]),
     /// A page moves already.
@@ -54,66 +61,20 @@ pub enum Answer {
     Refused,
 }
 
-/// A turn that finds that no page moves.
-pub const IDLE: Answer = Answer::Turned(Turn::Idle);
-
-/// What a turn counts that found no chunk.
-const NO_COUNTS: Counts = Counts {
-    cleared: 0,
-    rescued: 0,
-    evicted: 0,
-    busy: 0,
-    locked: 0,
-};
-
 /// A turn that goes on: of two items one is evicted, and one is held.
-pub const ONE_HELD: Answer = Answer::Turned(Turn::Went(Counts {
-    cleared: 1,
-    evicted: 1,
-    busy: 1,
-    ..NO_COUNTS
-}));
+pub const ONE_HELD: Answer = Answer::Went([1, 0, 1, 1, 0]);
 
 /// A turn that ends the move: one item was left, which is evicted.
-pub const ONE_EVICTED: Answer = Answer::Turned(Turn::Finished(Counts {
-    cleared: 1,
-    evicted: 1,
-    ..NO_COUNTS
-}));
+pub const ONE_EVICTED: Answer = Answer::Finished([1, 0, 1, 0, 0]);
 
 /// Two are evicted.
-pub const TWO_EVICTED: Answer = Answer::Turned(Turn::Finished(Counts {
-    cleared: 2,
-    evicted: 2,
-    ..NO_COUNTS
-}));
+pub const TWO_EVICTED: Answer = Answer::Finished([2, 0, 2, 0, 0]);
 
 /// One is rescued, and one evicted.
-pub const ONE_RESCUED: Answer = Answer::Turned(Turn::Finished(Counts {
-    cleared: 2,
-    rescued: 1,
-    evicted: 1,
-    ..NO_COUNTS
-}));
+pub const ONE_RESCUED: Answer = Answer::Finished([2, 1, 1, 0, 0]);
 
 /// Four are rescued, and one is evicted.
-pub const FOUR_RESCUED: Answer = Answer::Turned(Turn::Finished(Counts {
-    cleared: 5,
-    rescued: 4,
-    evicted: 1,
-    ..NO_COUNTS
-}));
-
-/// What a turn counts that found no lock held.
-pub fn counts(cleared: u64, rescued: u64, evicted: u64, busy: u64) -> Counts {
-    Counts {
-        cleared,
-        rescued,
-        evicted,
-        busy,
-        locked: 0,
-    }
-}
+pub const FOUR_RESCUED: Answer = Answer::Finished([5, 4, 1, 0, 0]);
 
 impl Call {
     /// What it is called by.
@@ -166,8 +127,8 @@ fn answer_of_mover<R: Wait>(rt: &R, arena: &Arena, hand: &mut Hand, call: Call) 
 {
     match call {
         Call::Reassign(src, dst) => reassigned(reassign(rt, arena, hand, src, dst)),
-        Call::Turn => turned(turn(rt, arena, hand).ok()),
-        Call::TryTurn => tried(try_turn(arena, hand)),
+        Call::Turn => answer_of_turn(turn(rt, arena, hand).ok()),
+        Call::TryTurn => answer_of_try(try_turn(arena, hand)),
         Call::Trim => trimmed(trim(rt, arena, hand)),
         _ => {
             set_mode(rt, arena, hand, 2);
@@ -184,16 +145,29 @@ fn there(found: Option<bool>) -> Answer {
     }
 }
 
-fn turned(turn: Option<Turn>) -> Answer {
+fn answer_of_turn(turn: Option<Turn>) -> Answer {
     match turn {
-        Some(turn) => Answer::Turned(turn),
+        Some(Turn::Idle) => Answer::Idle,
+        Some(Turn::Went(counts)) => Answer::Went(numbers_of(counts)),
+        Some(Turn::Finished(counts)) => Answer::Finished(numbers_of(counts)),
         None => Answer::NoMemory,
     }
 }
 
-fn tried(turn: Result<Turn, TryTurn>) -> Answer {
+fn numbers_of(counts: Counts) -> Numbers {
+    let Counts {
+        cleared,
+        rescued,
+        evicted,
+        busy,
+        locked,
+    } = counts;
+    [cleared, rescued, evicted, busy, locked]
+}
+
+fn answer_of_try(turn: Result<Turn, TryTurn>) -> Answer {
     match turn {
-        Ok(turn) => Answer::Turned(turn),
+        Ok(turn) => answer_of_turn(Some(turn)),
         Err(TryTurn::NoMemory(_)) => Answer::NoMemory,
         Err(TryTurn::Held) => Answer::Refused,
     }

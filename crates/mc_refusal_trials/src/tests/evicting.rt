@@ -1,6 +1,6 @@
 //! Sets that evict: the room for the eviction's call may be refused, and then the room for their own, once the item is gone.
-use super::calls::{Answer, Call, FOUR_RESCUED};
-use super::rows::{MODE_TWO, TWO_CLASSES, run_each};
+use super::calls::{Answer, Call};
+use super::rows::{BEGINS_A_MOVE, MODE_TWO, TWO_CLASSES, run_each};
 use super::steps::Step;
 use std::alloc::Global;
 use std::process::Abort;
@@ -41,14 +41,6 @@ fn the_set_is_refused_its_own_behind_the_eviction(rt: HostRuntime) -> Result<(),
 }
 
 /// The same, where the eviction begins a move.
-const BEGINS_A_MOVE: [Step; 5] = [
-    (Call::SetAndMove(5, 61), Answer::Done),
-    (Call::Survey(true), Answer::Surveyed(true, [0, 0, 0, 0])),
-    (Call::Turn, FOUR_RESCUED),
-    (Call::Set(6, 61), Answer::Done),
-    (Call::Touch(2), Answer::There(true)),
-];
-
 #[test]
 fn the_set_is_refused_its_own_behind_the_move(rt: HostRuntime) -> Result<(), Fail> {
     evict(&rt, rt.alloc(), &MODE_TWO, &[GETS], &BEGINS_A_MOVE)

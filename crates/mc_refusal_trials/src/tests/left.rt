@@ -1,5 +1,5 @@
 //! What a call may leave that was refused memory, by two snapshots.
-use super::calls::{Call, counts};
+use super::calls::{Call, Numbers};
 use super::headers::{Change, changes, changes_from};
 use super::listed::{are_all_listed, are_listed, is_in_order, is_same_class};
 use super::snapshot::{
@@ -9,7 +9,6 @@ use super::snapshot::{
 };
 use super::told::{EVICT, Lead, RESCUE, calls_told, entries_told, leads};
 use super::trimmed::is_left_by_trim;
-use mc_mover::Counts;
 
 /// Whether the call left what it may: a set dead chunks that were put back, a page that was granted, one item evicted, the chunk that was
 /// got dead, and a move begun in mode 2; a turn dead chunks that were put back, and earlier chunks done; a trim the first stripes trimmed;
@@ -171,14 +170,12 @@ fn are_saved(before: &[u64], after: &[u64]) -> bool {
     taken == saved && copied == rescued && told == Some(saved) && leads
 }
 
-/// What a turn did that was refused memory.
-pub fn turned(before: &[u64], after: &[u64]) -> Counts {
+/// What a turn did that was refused memory. It met no stripe that somebody had.
+pub fn numbers_left(before: &[u64], after: &[u64]) -> Numbers {
     let cleared = changes(before, after, Change::Cleared);
     let taken = changes(before, after, Change::TakenAndCleared);
-    counts(
-        cleared.wrapping_add(taken),
-        rise(before, after, RESCUES),
-        rise(before, after, EVICTIONS_NOMEM),
-        rise(before, after, HELD_UP),
-    )
+    let rescued = rise(before, after, RESCUES);
+    let evicted = rise(before, after, EVICTIONS_NOMEM);
+    let busy = rise(before, after, HELD_UP);
+    [cleared.wrapping_add(taken), rescued, evicted, busy, 0]
 }

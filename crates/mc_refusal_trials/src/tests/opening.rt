@@ -107,9 +107,12 @@ pub fn opened_from<R: Print>(
     let after = room(alloc, LENGTH)?;
     let words = words_of(alloc)?;
     let (arena, mut hands) = new_again(rt, alloc, config, start)?;
-    let Some((hand, reader, other)) = three_of(&arena, &mut hands) else {
-        drop_arena(arena);
-        return Err(Fail::new("there are three hands"));
+    let (hand, reader, other) = match three_of(&arena, &mut hands) {
+        Ok(three) => three,
+        Err(fail) => {
+            drop_arena(arena);
+            return Err(fail);
+        }
     };
     let looker = Looker {
         hand: other,

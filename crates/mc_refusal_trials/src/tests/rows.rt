@@ -1,9 +1,7 @@
 //! Pages that move: the worked lists of calls, in which each call that takes memory is made.
 ghost use Rattle.mc_refusal_trials.specs.Threes.{AreReadyOf};
 
-use super::calls::{
-    Answer, Call, FOUR_RESCUED, IDLE, ONE_EVICTED, ONE_HELD, ONE_RESCUED, TWO_EVICTED,
-};
+use super::calls::{Answer, Call, FOUR_RESCUED, ONE_EVICTED, ONE_HELD, ONE_RESCUED, TWO_EVICTED};
 use super::holding::{has_words, hold};
 use super::opening::{Three, drop_three, opened};
 use super::steps::{Step, play_all, play_each};
@@ -14,29 +12,20 @@ use std::process::Abort;
 use std::sync::Wait;
 use std::test::Fail;
 
-/// Eight items of 61 words are stored: four pages of class 4.
-pub const EIGHT: [Step; 8] = [
-    (Call::Set(1, 61), Answer::Done),
-    (Call::Set(2, 61), Answer::Done),
-    (Call::Set(3, 61), Answer::Done),
-    (Call::Set(4, 61), Answer::Done),
-    (Call::Set(5, 61), Answer::Done),
-    (Call::Set(6, 61), Answer::Done),
-    (Call::Set(7, 61), Answer::Done),
-    (Call::Set(8, 61), Answer::Done),
-];
-
-/// The same of 22 words.
-const EIGHT_SHORT: [Step; 8] = [
-    (Call::Set(1, 22), Answer::Done),
-    (Call::Set(2, 22), Answer::Done),
-    (Call::Set(3, 22), Answer::Done),
-    (Call::Set(4, 22), Answer::Done),
-    (Call::Set(5, 22), Answer::Done),
-    (Call::Set(6, 22), Answer::Done),
-    (Call::Set(7, 22), Answer::Done),
-    (Call::Set(8, 22), Answer::Done),
-];
+/// Eight items of so many words are stored. Of 61, or 22, they are four pages of class 4.
+pub fn eight(words: usize) -> [Step; 8] {
+    let set = |key| (Call::Set(key, words), Answer::Done);
+    [
+        set(1),
+        set(2),
+        set(3),
+        set(4),
+        set(5),
+        set(6),
+        set(7),
+        set(8),
+    ]
+}
 
 /// Mode 2 of the automover is set.
 pub const MODE_TWO: [Step; 1] = [(Call::ModeTwo, Answer::Done)];
@@ -65,7 +54,7 @@ const RESCUED: [Step; 6] = [
 
 #[test]
 fn an_item_is_rescued_and_another_evicted(rt: HostRuntime) -> Result<(), Fail> {
-    run_each(&rt, rt.alloc(), &[&EIGHT, &RESCUED])
+    run_each(&rt, rt.alloc(), &[&eight(61), &RESCUED])
 }
 
 /// Gets fill the histories of two stripes up, and a page is to go to the pool.
@@ -92,7 +81,7 @@ fn rescue_and_evict<R: Abort + Wait + Print>(
     turn: Call,
 ) -> Result<(), Fail> {
     let turns = [(turn, ONE_RESCUED)];
-    run_each(rt, alloc, &[&EIGHT, &FULL, &turns, &BEHIND])
+    run_each(rt, alloc, &[&eight(61), &FULL, &turns, &BEHIND])
 }
 
 #[test]
@@ -114,13 +103,13 @@ const WHILE_HELD: [Step; 4] = [
 ];
 
 /// And nobody holds it any more.
-const WHEN_RELEASED: [Step; 2] = [(Call::Turn, ONE_EVICTED), (Call::Turn, IDLE)];
+const WHEN_RELEASED: [Step; 2] = [(Call::Turn, ONE_EVICTED), (Call::Turn, Answer::Idle)];
 
 /// A page moves whose item the reader holds, reads and releases.
 fn move_a_held_page<R: Abort + Wait + Print>(rt: &R, all: &mut Three) -> Result<(), Fail>
     requires ready { AreReadyOf all.old.arena all.old.hand all.old.reader all.old.looker.hand }
 {
-    if !play_all(rt, all, &EIGHT_SHORT) {
+    if !play_all(rt, all, &eight(22)) {
         return Ok(());
     }
     let Some(item) = hold(rt, all, 1) else {
@@ -174,7 +163,7 @@ fn two_classes_give_a_page_in_turn(rt: HostRuntime) -> Result<(), Fail> {
 }
 
 /// A set that evicts begins a move.
-const EVICTED: [Step; 5] = [
+pub const BEGINS_A_MOVE: [Step; 5] = [
     (Call::SetAndMove(5, 61), Answer::Done),
     (Call::Survey(true), Answer::Surveyed(true, [0, 0, 0, 0])),
     (Call::Turn, FOUR_RESCUED),
@@ -184,5 +173,5 @@ const EVICTED: [Step; 5] = [
 
 #[test]
 fn an_eviction_begins_a_move(rt: HostRuntime) -> Result<(), Fail> {
-    run_each(&rt, rt.alloc(), &[&MODE_TWO, &TWO_CLASSES, &EVICTED])
+    run_each(&rt, rt.alloc(), &[&MODE_TWO, &TWO_CLASSES, &BEGINS_A_MOVE])
 }

@@ -3,15 +3,14 @@ ghost use Rattle.std.specs.Prelude.{◌≡◌};
 ghost use Rattle.mc_refusal_trials.specs.Threes.{AreReadyOf};
 
 use super::assert_same;
-use super::calls::{Answer, Call, answer_of};
-use super::left::{has_died, is_left, turned};
+use super::calls::{Answer, Call, Numbers, answer_of};
+use super::left::{has_died, is_left, numbers_left};
 use super::looking::{Looker, look_after, look_before};
 use super::marks::{tell_call, tell_done, tell_ignored, tell_refused};
 use super::opening::{Three, drop_three, opened};
 use super::snapshot::{MOVING, at};
 use super::told::entries_told;
 use mc_classes::Config;
-use mc_mover::{Counts, Turn};
 use std::alloc::Global;
 use std::process::Abort;
 use std::sync::Wait;
@@ -99,7 +98,8 @@ pub fn behind_refusal(step: Step, before: &[u64], after: &[u64], again: Answer) 
         return Row::Fails;
     }
     let both = match again {
-        Answer::Turned(turn) => Answer::Turned(both_turns(turned(before, after), turn)),
+        Answer::Went(last) => Answer::Went(sum(numbers_left(before, after), last)),
+        Answer::Finished(last) => Answer::Finished(sum(numbers_left(before, after), last)),
         other => other,
     };
     if both == wanted && has_died(before, after) {
@@ -108,23 +108,13 @@ pub fn behind_refusal(step: Step, before: &[u64], after: &[u64], again: Answer) 
     goes_if(both == wanted)
 }
 
-// What two turns count together, and how the last one ended.
-fn both_turns(first: Counts, last: Turn) -> Turn {
-    match last {
-        Turn::Idle => Turn::Idle,
-        Turn::Went(counts) => Turn::Went(sum(first, counts)),
-        Turn::Finished(counts) => Turn::Finished(sum(first, counts)),
+// What two turns count together.
+fn sum(first: Numbers, last: Numbers) -> Numbers {
+    let mut both = first;
+    for place in 0..both.len() {
+        both[place] = first[place].wrapping_add(last[place]);
     }
-}
-
-fn sum(one: Counts, other: Counts) -> Counts {
-    Counts {
-        cleared: one.cleared.wrapping_add(other.cleared),
-        rescued: one.rescued.wrapping_add(other.rescued),
-        evicted: one.evicted.wrapping_add(other.evicted),
-        busy: one.busy.wrapping_add(other.busy),
-        locked: one.locked.wrapping_add(other.locked),
-    }
+    both
 }
 
 /// Each call gives what it is to, one after another. False where a refusal ends the row.

@@ -1,6 +1,6 @@
 //! Histories that are trimmed: each stripe's new base wants room, and so do the calls behind a trim.
 use super::calls::{Answer, Call, ONE_RESCUED};
-use super::rows::{EIGHT, run_each};
+use super::rows::{eight, run_each};
 use super::steps::{Step, run};
 use mc_trial_values::FOUR_CLASSES;
 use std::test::Fail;
@@ -44,5 +44,5 @@ const MOVED: [Step; 9] = [
 
 #[test]
 fn a_move_goes_on_behind_trims(rt: HostRuntime) -> Result<(), Fail> {
-    run_each(&rt, rt.alloc(), &[&EIGHT, &MOVED])
+    run_each(&rt, rt.alloc(), &[&eight(61), &MOVED])
 }

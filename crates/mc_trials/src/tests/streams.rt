@@ -102,15 +102,9 @@ fn first_of(bytes: &[u8], count: usize) -> &[u8] {
     &bytes[..cmp::min(count, bytes.len())]
 }
 
-/// Writes pieces of these lengths and finishes. Says whether each went well, how many bytes were taken and after how
+/// Writes the row's pieces to its writer and finishes. Says whether each went well, how many bytes were taken and after how
 /// many calls.
-fn written<L: Ledger>(
-    alloc: Global,
-    blank: Blank,
-    room: usize,
-    is_flushed: bool,
-    pieces: Pieces,
-) -> Result<Written, Fail>
+fn written<L: Ledger>(alloc: Global, blank: Blank, row: &WrittenRow<'_>) -> Result<Written, Fail>
     requires name { blank.name ≡ L.name }
     requires parts { blank.parts ≡ L.parts }
     requires some { 0 < blank.parts }
@@ -118,14 +112,14 @@ fn written<L: Ledger>(
     let (taken, calls) = (Cell::new(0), Cell::new(0));
     let bytes = [b'x'; 20_000];
     let writer = Narrow {
-        room,
-        is_flushed,
+        room: row.room,
+        is_flushed: row.is_flushed,
         taken: &taken,
         calls: &calls,
     };
     let writer = RecordedWriter::new(writer);
     let mut output = Output::<_, L>::new(alloc, writer, Failures::new(blank))?;
-    let (first, second, third) = pieces;
+    let (first, second, third) = row.pieces;
     let went = (
         output.write_all(first_of(&bytes, first)).is_ok(),
         output.write_all(first_of(&bytes, second)).is_ok(),
@@ -135,59 +129,67 @@ fn written<L: Ledger>(
     Ok((went, finished, taken.get(), calls.get()))
 }
 
-/// A name, the room, whether the flush goes well, the lengths of the pieces, and what is written of them.
-type WrittenRow<'a> = (&'a str, usize, bool, Pieces, Written);
+/// What becomes of three pieces that are written.
+#[derive(Clone, Copy)]
+struct WrittenRow<'a> {
+    name: &'a str,
+    /// How many bytes the writer takes, at most 1,000 at once.
+    room: usize,
+    /// Whether the flush goes well.
+    is_flushed: bool,
+    pieces: Pieces,
+    outcome: Written,
+}
+
+/// All goes well.
+const HELD_BACK: WrittenRow<'static> = WrittenRow {
+    name: "held back, written in one, and flushed",
+    room: 20_000,
+    is_flushed: true,
+    pieces: (100, 200, 300),
+    outcome: ((true, true, true), true, 600, 2),
+};
 
 const WRITTEN: [WrittenRow<'static>; 6] = [
-    (
-        "held back, written in one, and flushed",
-        20_000,
-        true,
-        (100, 200, 300),
-        ((true, true, true), true, 600, 2),
-    ),
-    (
-        "nothing",
-        20_000,
-        true,
-        (0, 0, 0),
-        ((true, true, true), true, 0, 1),
-    ),
-    (
-        "more than is held back",
-        20_000,
-        true,
-        (8192, 1, 10_000),
-        ((true, true, true), true, 18_193, 21),
-    ),
-    (
-        "nothing is written or flushed after the failure",
-        9000,
-        true,
-        (8192, 10_000, 1),
-        ((true, false, false), false, 9000, 11),
-    ),
-    (
-        "the first write fails",
-        0,
-        true,
-        (100, 200, 300),
-        ((true, true, true), false, 0, 1),
-    ),
-    (
-        "the flush fails",
-        20_000,
-        false,
-        (100, 200, 300),
-        ((true, true, true), false, 600, 2),
-    ),
+    HELD_BACK,
+    WrittenRow {
+        name: "nothing",
+        pieces: (0, 0, 0),
+        outcome: ((true, true, true), true, 0, 1),
+        ..HELD_BACK
+    },
+    WrittenRow {
+        name: "more than is held back",
+        pieces: (8192, 1, 10_000),
+        outcome: ((true, true, true), true, 18_193, 21),
+        ..HELD_BACK
+    },
+    WrittenRow {
+        name: "nothing is written or flushed after the failure",
+        room: 9000,
+        pieces: (8192, 10_000, 1),
+        outcome: ((true, false, false), false, 9000, 11),
+        ..HELD_BACK
+    },
+    WrittenRow {
+        name: "the first write fails",
+        room: 0,
+        outcome: ((true, true, true), false, 0, 1),
+        ..HELD_BACK
+    },
+    WrittenRow {
+        name: "the flush fails",
+        is_flushed: false,
+        outcome: ((true, true, true), false, 600, 2),
+        ..HELD_BACK
+    },
 ];
 
 #[test]
 fn writes_until_a_failure(rt: HostRuntime) -> Result<(), Fail> {
-    for (name, room, is_flushed, pieces, outcome) in &WRITTEN {
-        let got = written::<Brand>(rt.alloc(), Blank::new(1), *room, *is_flushed, *pieces)?;
-        assert_same(&rt, got, *outcome, name);
+    for row in &WRITTEN {
+        let got = written::<Brand>(rt.alloc(), Blank::new(1), row)?;
+        assert_same(&rt, got, row.outcome, row.name);
     }
     Ok(())
 }

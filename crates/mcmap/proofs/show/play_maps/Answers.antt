@@ -10,18 +10,18 @@ loop-mark-preserved c = record {
   shown = λ new rest.
       c.loop-mark.invariant.shown new
       (shows_more c.args.form c.as_slice-commands.result.now c.loop-mark.done c.place_of-place.result c.args.script.now.marks.items c.deref-mark-items.result.now c.loop-mark.mark-index _ _ c.loop-mark.player.keeper
-      c.play_all.new.player.keeper c.loop-mark.player.books c.play_all.new.player.books (string_bytes c.loop-mark.text) (string_bytes c.show_form.new.text) new c.deref-mark-items.ensures.value c.loop-mark-test.true refl
-      c.place_of-place.ensures c.in_ok-play_all.ensures.played c.in_ok-show_form.ensures.shown rest);
+      c.play_all.new.player.keeper c.loop-mark.player.books c.play_all.new.player.books (string_bytes c.loop-mark.text) (string_bytes c.show_map.new.text) new c.deref-mark-items.ensures.value c.loop-mark-test.true refl
+      c.place_of-place.ensures c.in_ok-play_all.ensures.played c.in_ok-show_map.ensures.shown rest);
 }
 
 pub returns : goal.returns
 returns c = record {
-  maps = on_ok c.show_form-2.result
+  maps = on_ok c.show_map-2.result
       (λ shown.
-      subst (λ (commands : List Command). ShowsMaps c.args.form commands 0 c.args.script.now.marks.items c.args.player.now.keeper c.args.player.now.books (string_bytes c.args.text.now) (string_bytes c.show_form-2.new.text))
+      subst (λ (commands : List Command). ShowsMaps c.args.form commands 0 c.args.script.now.marks.items c.args.player.now.keeper c.args.player.now.books (string_bytes c.args.text.now) (string_bytes c.show_map-2.new.text))
       c.as_slice-commands.ensures.value
-      (c.loop-mark.invariant.shown (string_bytes c.show_form-2.new.text)
+      (c.loop-mark.invariant.shown (string_bytes c.show_map-2.new.text)
       (shows_last c.args.form c.as_slice-commands.result.now c.loop-mark.done c.args.script.now.marks.items c.deref-mark-items.result.now c.loop-mark.mark-index c.loop-mark.player.keeper c.play_all-2.new.player.keeper
-      c.loop-mark.player.books c.play_all-2.new.player.books (string_bytes c.loop-mark.text) (string_bytes c.show_form-2.new.text) c.deref-mark-items.ensures.value c.loop-mark-test.false
-      c.in_ok-play_all-2.ensures.played shown))) c.show_form-2.ensures.shown;
+      c.loop-mark.player.books c.play_all-2.new.player.books (string_bytes c.loop-mark.text) (string_bytes c.show_map-2.new.text) c.deref-mark-items.ensures.value c.loop-mark-test.false
+      c.in_ok-play_all-2.ensures.played shown))) c.show_map-2.ensures.shown;
 }
