@@ -1,16 +1,13 @@
--- What a whole text shows: a chart, or a map.
-use Rattle.std.specs.Prelude.{◌≡◌, ℕ, ◌+◌, List, ◌++◌, length, codes, map, Some}
+-- What a chart shows.
+use Rattle.std.specs.Prelude.{◌≡◌, ℕ, ◌+◌, List, length, map, Some}
 use Rattle.mc_pages.specs.declared.ledger.Owner.{Owner}
 use Rattle.mc_pages.specs.declared.ledger.Entry.{Entry}
-use Rattle.mc_map.specs.declared.map.Map.{Map}
 use Rattle.mc_map.specs.declared.replay.Misfit as misfit
 use Rattle.mc_map.specs.declared.replay.Misfit.TheVariants as misfits
 use Rattle.mc_map.specs.Replays.{replays}
 use Rattle.mc_picture.specs.declared.chart.ChartError.{ChartError}
 use Rattle.mc_picture.specs.declared.chart.ChartError.TheVariants as errors
 use Rattle.mc_picture.specs.Drawn.{IsDrawn}
-use Rattle.mc_picture.specs.Lines.{ledger_text}
-use Rattle.mc_picture.specs.Moves.{move_text}
 
 -- why no chart is drawn where entries make no owners
 abbrev pub chart_error_of : misfit.Misfit → ChartError
@@ -22,8 +19,3 @@ pub record IsChart (pages : ℕ) (entries : List Entry) (old new : List ℕ) : T
   pub columns : List (List Owner)
   pub replayed : map Some columns ≡ replays pages entries (length entries + 1)
   pub drawn : IsDrawn columns old new
-
--- behind the old text stands one that ends with the map's ledger and with where its move hangs
-pub record IsMapText (map : Map) (old new : List ℕ) : Type 0 where
-  pub front : List ℕ
-  pub whole : new ≡ old ++ (front ++ (ledger_text map.ledger.items ++ (move_text map.moving map.chunks map.hang ++ codes "\n")))

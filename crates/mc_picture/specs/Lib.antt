@@ -1,6 +1,10 @@
 pub mod Rows
+pub mod Aligned
+pub mod Tables
 pub mod Cells
 pub mod Drawn
 pub mod Lines
 pub mod Moves
+pub mod Maps
 pub mod Charts
+pub mod Worked

@@ -1,7 +1,8 @@
 //! The class table, before anything runs.
-ghost use Rattle.std.specs.Prelude.{◌≡◌, ◌≤◌, IfOk, length};
-ghost use Rattle.mc_classes.specs.Classes.{IsClass};
+ghost use Rattle.std.specs.Prelude.{◌≡◌, ◌≤◌, ◌++◌, IfOk, OnOk, flat_map, length, string_bytes};
+ghost use Rattle.mc_classes.specs.Classes.{IsClass, pages_of};
 ghost use Rattle.mc_picture.specs.Rows.{row_of, rows_of};
+ghost use Rattle.mc_picture.specs.Tables.{classes_text, memory_text, row_columns, row_text, table_note, waste_text};
 
 use mc_classes::{ClassId, ClassTable};
 use mc_memory::{Refused, push};
@@ -50,18 +51,51 @@ pub fn class_rows(alloc: Global, table: &ClassTable) -> Result<Vec<ClassRow>, Re
     Ok(rows)
 }
 
-/// Adds the class table.
+/// Adds the class table: how many pages there are, and a line for each of these rows.
+#[tactic(auto, unfolding(crate::specs::Tables::classes_text))]
 pub fn write_classes(
     table: &ClassTable,
     rows: &[ClassRow],
     text: &mut String,
-) -> Result<(), AllocError> {
-    let (pages, page) = (table.pages(), table.page());
-    writeln!(
-        text,
-        "{pages} pages of {page} bytes, and beyond them a first one for each class; an item of n words asks for 24 + 8 n bytes\n"
-    )?;
-    text.push_str("class   size  chunks a page  items of bytes  worst waste  left of a page\n")?;
+) -> Result<(), AllocError>
+    ensures table { OnOk result (string_bytes text.new ≡ string_bytes text.old ++ classes_text (pages_of table.now) table.now.page rows.now) }
+{
+    write_memory(table.pages(), table.page(), text)?;
+    write_columns(text)?;
+    write_rows(rows, text)
+}
+
+/// Adds how many pages of so many bytes there are.
+#[tactic(auto, unfolding(crate::specs::Tables::memory_text))]
+fn write_memory(pages: u64, page: u64, text: &mut String) -> Result<(), AllocError>
+    ensures memory { OnOk result (string_bytes text.new ≡ string_bytes text.old ++ memory_text pages page) }
+{
+    write!(text, "{pages} pages of {page}")?;
+    write_note(text)
+}
+
+/// Adds what the numbers are about.
+#[tactic(auto, unfolding(crate::specs::Tables::table_note))]
+fn write_note(text: &mut String) -> Result<(), AllocError>
+    ensures note { OnOk result (string_bytes text.new ≡ string_bytes text.old ++ table_note) }
+{
+    text.push_str(
+        " bytes, and beyond them a first one for each class; an item of n words asks for 24 + 8 n bytes\n\n",
+    )
+}
+
+/// Adds what the columns are.
+#[tactic(auto, unfolding(crate::specs::Tables::row_columns))]
+fn write_columns(text: &mut String) -> Result<(), AllocError>
+    ensures columns { OnOk result (string_bytes text.new ≡ string_bytes text.old ++ row_columns) }
+{
+    text.push_str("class   size  chunks a page  items of bytes  worst waste  left of a page\n")
+}
+
+/// Adds a line for each of these rows.
+fn write_rows(rows: &[ClassRow], text: &mut String) -> Result<(), AllocError>
+    ensures rows { OnOk result (string_bytes text.new ≡ string_bytes text.old ++ flat_map row_text rows.now) }
+{
     for row in rows {
         write_row(*row, text)?;
     }
@@ -69,20 +103,26 @@ pub fn write_classes(
 }
 
 /// Adds the line of a class.
-fn write_row(row: ClassRow, text: &mut String) -> Result<(), AllocError> {
+#[tactic(auto, unfolding(crate::specs::Tables::row_text))]
+fn write_row(row: ClassRow, text: &mut String) -> Result<(), AllocError>
+    ensures row { OnOk result (string_bytes text.new ≡ string_bytes text.old ++ row_text row) }
+{
     write!(text, "{:>5}{:>7}{:>15}", row.class, row.size, row.per_page)?;
-    write_waste(row, text)?;
+    write_waste(row.size, row.waste, text)?;
     writeln!(text, "{:>16}", row.rest)
 }
 
-/// Adds the bytes of the items that go to a class, and the most that one of them leaves unused.
-fn write_waste(row: ClassRow, text: &mut String) -> Result<(), AllocError> {
-    match row.waste {
+/// Adds the bytes of the items that go to chunks of this size, and the most that one of them leaves unused.
+#[tactic(auto, unfolding(crate::specs::Tables::waste_text))]
+fn write_waste(size: u64, waste: Option<u64>, text: &mut String) -> Result<(), AllocError>
+    ensures waste { OnOk result (string_bytes text.new ≡ string_bytes text.old ++ waste_text size waste) }
+{
+    match waste {
         Some(waste) => write!(
             text,
             "{:>9} to{:>6}{waste:>13}",
-            row.size.saturating_sub(waste),
-            row.size
+            size.saturating_sub(waste),
+            size
         ),
         None => text.push_str("            none            -"),
     }

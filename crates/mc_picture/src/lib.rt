@@ -5,6 +5,7 @@ mod cells;
 mod chart;
 mod classes;
 mod hang;
+mod laws;
 mod ledger;
 mod legend;
 mod sheet;
@@ -12,4 +13,5 @@ mod text;
 
 pub use chart::{ChartError, MOST_ENTRIES, write_chart};
 pub use classes::{ClassRow, class_rows, write_classes};
+pub use laws::worked_texts;
 pub use text::write_map;

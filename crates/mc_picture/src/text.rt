@@ -1,7 +1,6 @@
-//! A map as lines of text.
-ghost use Rattle.std.specs.Prelude.{OnOk, length, string_bytes};
-ghost use Rattle.mc_picture.specs.Charts.{IsMapText};
-ghost use Rattle.mc_picture.specs.Drawn.{Extends};
+//! A map as text.
+ghost use Rattle.std.specs.Prelude.{◌≡◌, ◌++◌, ◌<◌, OnOk, flat_map, length, string_bytes};
+ghost use Rattle.mc_picture.specs.Maps.{bytes_text, chunks_text, end_text, front_text, heading_text, line_columns, line_text, lines_text, map_text, owner_text, owners_text, page_columns, page_legend, page_text, pages_text, sizes_text, start_text, totals_text};
 
 use crate::hang::write_move;
 use crate::ledger::write_ledger;
@@ -13,8 +12,9 @@ use std::fmt::Write;
 const PAGES_A_LINE: usize = 8;
 
 /// Adds the text of a map under this heading: who owns each page, what each class has, the ledger, and where the move hangs.
+#[tactic(auto, unfolding(crate::specs::Maps::map_text))]
 pub fn write_map(map: &Map, heading: &str, text: &mut String) -> Result<(), AllocError>
-    ensures map { OnOk result (IsMapText map.now (string_bytes text.old) (string_bytes text.new)) }
+    ensures map { OnOk result (string_bytes text.new ≡ string_bytes text.old ++ map_text heading.now map.now) }
 {
     write_front(map, heading, text)?;
     write_ledger(&map.ledger, text)?;
@@ -23,24 +23,33 @@ pub fn write_map(map: &Map, heading: &str, text: &mut String) -> Result<(), Allo
 }
 
 /// Adds the heading, who owns each page, and what each class has.
+#[tactic(auto, unfolding(crate::specs::Maps::front_text))]
 fn write_front(map: &Map, heading: &str, text: &mut String) -> Result<(), AllocError>
-    ensures { OnOk result (Extends (string_bytes text.old) (string_bytes text.new)) }
+    ensures front { OnOk result (string_bytes text.new ≡ string_bytes text.old ++ front_text heading.now map.now) }
 {
-    let done = map.done;
-    writeln!(text, "map {heading}, {done} commands done\n")?;
+    write_heading(heading, map.done, text)?;
     write_totals(map.page, map.owners.len(), map.totals, text)?;
     write_owners(&map.owners, text)?;
     write_lines(&map.classes, text)
 }
 
+/// Adds where in the script, and how many commands are done.
+#[tactic(auto, unfolding(crate::specs::Maps::heading_text))]
+fn write_heading(heading: &str, done: u64, text: &mut String) -> Result<(), AllocError>
+    ensures heading { OnOk result (string_bytes text.new ≡ string_bytes text.old ++ heading_text heading.now done) }
+{
+    writeln!(text, "map {heading}, {done} commands done\n")
+}
+
 /// Adds how many pages of so many bytes are where.
+#[tactic(auto, unfolding(crate::specs::Maps::totals_text))]
 fn write_totals(
     page: u64,
     pages: usize,
     totals: Totals,
     text: &mut String,
 ) -> Result<(), AllocError>
-    ensures { OnOk result (Extends (string_bytes text.old) (string_bytes text.new)) }
+    ensures totals { OnOk result (string_bytes text.new ≡ string_bytes text.old ++ totals_text page pages totals) }
 {
     let Totals {
         granted,
@@ -56,25 +65,58 @@ fn write_totals(
 }
 
 /// Adds the page map: who owns each page.
-#[tactic(auto, using(crate::proofs::Extends::extends, crate::proofs::Extends::extends_on))]
+#[tactic(auto, unfolding(crate::specs::Maps::owners_text))]
 fn write_owners(owners: &[Owner], text: &mut String) -> Result<(), AllocError>
-    ensures { OnOk result (Extends (string_bytes text.old) (string_bytes text.new)) }
+    ensures owners { OnOk result (string_bytes text.new ≡ string_bytes text.old ++ owners_text owners.now) }
 {
-    text.push_str("         +0     +1     +2     +3     +4     +5     +6     +7\n")?;
-    for place in 0..owners.len() {
-        write_line_start(place, text)?;
-        write_owner(owners[place], text)?;
-        write_line_end(place, owners.len(), text)?;
-    }
+    write_page_columns(text)?;
+    write_pages(owners, text)?;
+    write_page_legend(text)
+}
+
+/// Adds what the columns of the page map are.
+#[tactic(auto, unfolding(crate::specs::Maps::page_columns))]
+fn write_page_columns(text: &mut String) -> Result<(), AllocError>
+    ensures columns { OnOk result (string_bytes text.new ≡ string_bytes text.old ++ page_columns) }
+{
+    text.push_str("         +0     +1     +2     +3     +4     +5     +6     +7\n")
+}
+
+/// Adds how the page map is to be read.
+#[tactic(auto, unfolding(crate::specs::Maps::page_legend))]
+fn write_page_legend(text: &mut String) -> Result<(), AllocError>
+    ensures legend { OnOk result (string_bytes text.new ≡ string_bytes text.old ++ page_legend) }
+{
     text.push_str(
         "  a number is a class, 4>1 moves from class 4 to 1, p is the pool, . was never granted\n",
     )
 }
 
+/// Adds each page, eight in a line.
+fn write_pages(owners: &[Owner], text: &mut String) -> Result<(), AllocError>
+    ensures pages { OnOk result (string_bytes text.new ≡ string_bytes text.old ++ pages_text owners.now (length owners.now)) }
+{
+    for page in 0..owners.len() {
+        write_page(owners, page, text)?;
+    }
+    Ok(())
+}
+
+/// Adds a page of these.
+#[tactic(auto, unfolding(crate::specs::Maps::page_text))]
+fn write_page(owners: &[Owner], page: usize, text: &mut String) -> Result<(), AllocError>
+    requires { page < length owners.now }
+    ensures page { OnOk result (string_bytes text.new ≡ string_bytes text.old ++ page_text owners.now page) }
+{
+    write_line_start(page, text)?;
+    write_owner(owners[page], text)?;
+    write_line_end(page, owners.len(), text)
+}
+
 /// Adds a page's number where a line of the page map starts.
-#[tactic(auto, using(crate::proofs::Extends::extends, crate::proofs::Extends::extends_same))]
+#[tactic(auto, unfolding(crate::specs::Maps::start_text))]
 fn write_line_start(page: usize, text: &mut String) -> Result<(), AllocError>
-    ensures { OnOk result (Extends (string_bytes text.old) (string_bytes text.new)) }
+    ensures start { OnOk result (string_bytes text.new ≡ string_bytes text.old ++ start_text page) }
 {
     if page % PAGES_A_LINE != 0 {
         return Ok(());
@@ -83,42 +125,57 @@ fn write_line_start(page: usize, text: &mut String) -> Result<(), AllocError>
 }
 
 /// Ends a line of the page map behind eight pages, and behind the last.
-#[tactic(auto, using(crate::proofs::Extends::extends, crate::proofs::Extends::extends_same))]
+#[tactic(auto, unfolding(crate::specs::Maps::end_text))]
 fn write_line_end(page: usize, pages: usize, text: &mut String) -> Result<(), AllocError>
-    ensures { OnOk result (Extends (string_bytes text.old) (string_bytes text.new)) }
+    ensures end { OnOk result (string_bytes text.new ≡ string_bytes text.old ++ end_text page pages) }
 {
     let last = pages.saturating_sub(1);
-    if page % PAGES_A_LINE != PAGES_A_LINE - 1 && page != last {
-        return Ok(());
+    if page % PAGES_A_LINE == PAGES_A_LINE - 1 || page == last {
+        return text.push_str("\n");
     }
-    text.push_str("\n")
+    Ok(())
 }
 
 /// Adds an owner in seven places.
-#[tactic(auto, using(crate::proofs::Extends::extends))]
+#[tactic(auto, unfolding(crate::specs::Maps::owner_text))]
 fn write_owner(owner: Owner, text: &mut String) -> Result<(), AllocError>
-    ensures { OnOk result (Extends (string_bytes text.old) (string_bytes text.new)) }
+    ensures owner { OnOk result (string_bytes text.new ≡ string_bytes text.old ++ owner_text owner) }
 {
     match owner {
-        Owner::Untouched => Ok(text.push_str("      .")?),
-        Owner::Pool => Ok(text.push_str("      p")?),
-        Owner::Class(class) => Ok(write!(text, "{class:>7}")?),
-        Owner::Moving { src, dst: 0 } => Ok(write!(text, "{src:>5}>p")?),
-        Owner::Moving { src, dst } => Ok(write!(text, "{src:>4}>{dst:<2}")?),
+        Owner::Untouched => text.push_str("      ."),
+        Owner::Pool => text.push_str("      p"),
+        Owner::Class(class) => write!(text, "{class:>7}"),
+        Owner::Moving { src, dst: 0 } => write!(text, "{src:>5}>p"),
+        Owner::Moving { src, dst } => write!(text, "{src:>4}>{dst:<2}"),
     }
 }
 
 /// Adds the lines of the classes.
-#[tactic(auto, using(crate::proofs::Extends::extends, crate::proofs::Extends::extends_on))]
+#[tactic(auto, unfolding(crate::specs::Maps::lines_text))]
 fn write_lines(lines: &[ClassLine], text: &mut String) -> Result<(), AllocError>
-    ensures { OnOk result (Extends (string_bytes text.old) (string_bytes text.new)) }
+    ensures lines { OnOk result (string_bytes text.new ≡ string_bytes text.old ++ lines_text lines.now) }
 {
     if lines.is_empty() {
         return text.push_str("\nno class has a page\n");
     }
+    write_line_columns(text)?;
+    write_each_line(lines, text)
+}
+
+/// Adds what the columns of the classes are.
+#[tactic(auto, unfolding(crate::specs::Maps::line_columns))]
+fn write_line_columns(text: &mut String) -> Result<(), AllocError>
+    ensures columns { OnOk result (string_bytes text.new ≡ string_bytes text.old ++ line_columns) }
+{
     text.push_str(
         "\nclass   size  pages  linked  held  dead  free  cleared    asked    bytes    waste  evicted\n",
-    )?;
+    )
+}
+
+/// Adds the line of each of these classes.
+fn write_each_line(lines: &[ClassLine], text: &mut String) -> Result<(), AllocError>
+    ensures lines { OnOk result (string_bytes text.new ≡ string_bytes text.old ++ flat_map line_text lines.now) }
+{
     for line in lines {
         write_line(line, text)?;
     }
@@ -126,17 +183,37 @@ fn write_lines(lines: &[ClassLine], text: &mut String) -> Result<(), AllocError>
 }
 
 /// Adds the line of a class.
+#[tactic(auto, unfolding(crate::specs::Maps::line_text))]
 fn write_line(line: &ClassLine, text: &mut String) -> Result<(), AllocError>
-    ensures { OnOk result (Extends (string_bytes text.old) (string_bytes text.new)) }
+    ensures line { OnOk result (string_bytes text.new ≡ string_bytes text.old ++ line_text line.now) }
 {
-    write!(text, "{:>5}{:>7}{:>7}", line.class, line.size, line.pages)?;
+    write_sizes(line, text)?;
+    write_chunks(line, text)?;
+    write_bytes(line, text)
+}
+
+/// Adds a class, the bytes of its chunks, and how many pages it has.
+#[tactic(auto, unfolding(crate::specs::Maps::sizes_text))]
+fn write_sizes(line: &ClassLine, text: &mut String) -> Result<(), AllocError>
+    ensures sizes { OnOk result (string_bytes text.new ≡ string_bytes text.old ++ sizes_text line.now) }
+{
+    write!(text, "{:>5}{:>7}{:>7}", line.class, line.size, line.pages)
+}
+
+/// Adds how many of a class's chunks are an item's, held, dead, free and cleared.
+#[tactic(auto, unfolding(crate::specs::Maps::chunks_text))]
+fn write_chunks(line: &ClassLine, text: &mut String) -> Result<(), AllocError>
+    ensures chunks { OnOk result (string_bytes text.new ≡ string_bytes text.old ++ chunks_text line.now) }
+{
     write!(text, "{:>8}{:>6}{:>6}", line.linked, line.held, line.dead)?;
-    write!(text, "{:>6}{:>9}{:>9}", line.free, line.cleared, line.asked)?;
-    writeln!(
-        text,
-        "{:>9}{:>9}{:>9}",
-        line.bytes,
-        line.waste(),
-        line.evictions
-    )
+    write!(text, "{:>6}{:>9}", line.free, line.cleared)
+}
+
+/// Adds the bytes that a class's items ask for, those of their chunks and what is wasted of these, and how many were evicted.
+#[tactic(auto, unfolding(crate::specs::Maps::bytes_text))]
+fn write_bytes(line: &ClassLine, text: &mut String) -> Result<(), AllocError>
+    ensures bytes { OnOk result (string_bytes text.new ≡ string_bytes text.old ++ bytes_text line.now) }
+{
+    write!(text, "{:>9}{:>9}", line.asked, line.bytes)?;
+    writeln!(text, "{:>9}{:>9}", line.waste(), line.evictions)
 }

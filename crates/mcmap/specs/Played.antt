@@ -1,17 +1,21 @@
 -- What a script makes of a machine and its books, and what is shown of it.
-use Rattle.std.specs.Prelude.{◌≡◌, ℕ, List, [], ◌∷◌, ◌++◌, codes, length, max, min, slice_range, Some}
+use Rattle.std.specs.Prelude.{◌≡◌, ℕ, ◌==◌, if◌then◌else◌, List, [], ◌∷◌, ◌++◌, codes, decimal, length, max, min, slice_range, Some}
 use Rattle.std.specs.Option.{option_map}
 use Rattle.mc_script.specs.declared.command.Command.{Command}
 use Rattle.mc_machine.specs.Lines.{serve}
 use Rattle.mc_machine.specs.Machine.{Machine}
-use Rattle.mc_classes.specs.Classes.{Classes, IsTableOf}
+use Rattle.mc_classes.specs.declared.config.Config.{Config}
+use Rattle.mc_classes.specs.Classes.{Classes, IsTableOf, pages_of}
 use Rattle.mc_machine.specs.Machine.{fresh_machine}
 use Rattle.mc_options.specs.declared.settings.Run.{Run}
 use Rattle.mc_map.specs.Books.{Book, fresh_books}
 use Rattle.mc_map.specs.declared.map.Map.{Map}
 use Rattle.mc_map.specs.Map.{IsMap, books_after}
 use Rattle.mc_map.specs.declared.script.Mark.{Mark}
-use Rattle.mc_picture.specs.Charts.{IsChart, IsMapText}
+use Rattle.mc_picture.specs.Charts.{IsChart}
+use Rattle.mc_picture.specs.Maps.{map_text}
+use Rattle.mc_picture.specs.Rows.{rows_of}
+use Rattle.mc_picture.specs.Tables.{classes_text}
 use Rattle.serde_json.specs.Written.{compact_text}
 use Rattle.mcmap.specs.Json.{map_json}
 use Rattle.mcmap.specs.declared.show.Form.{Form}
@@ -32,9 +36,20 @@ pub record IsChartOf (run : Run) (commands : List Command) (old new : List ℕ) 
   pub played : LeadTo commands (fresh_machine table run.config.bulk run.automove) (fresh_books table) machine books
   pub chart : IsChart (length books.owners) books.ledger old new
 
--- behind the old text stands the map in this form: as JSON a line with that of its mark, or with 0 at the end
+-- behind the old text stands the class table of this configuration
+pub record IsClassesOf (config : Config) (old new : List ℕ) : Type 0 where
+  pub table : Classes
+  pub is_table : IsTableOf config table
+  pub text : new ≡ old ++ classes_text (pages_of table) table.page (rows_of table (length table.sizes))
+
+-- where in the script a map is: at this line, or at the end, which is line 0
+unfoldable pub place_text : ℕ → List ℕ
+place_text line = if line == 0 then codes "at the end" else codes "at line " ++ decimal line
+
+-- behind the old text stands the map in this form: as text under a heading that says where in the script, as JSON a line with that of its mark, or
+-- with 0 at the end
 abbrev pub IsMapIn : Form → ℕ → Map → List ℕ → List ℕ → Type 0
-IsMapIn Text line map old new = IsMapText map old new
+IsMapIn Text line map old new = new ≡ old ++ map_text (place_text line) map
 IsMapIn Json line map old new = new ≡ old ++ (compact_text (map_json line map) ++ codes "\n")
 
 -- behind the old text stands a map of this machine and these books in this form

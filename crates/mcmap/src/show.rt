@@ -1,7 +1,8 @@
 //! What is shown: maps, pages over time, and the class table.
-ghost use Rattle.std.specs.Prelude.{◌≡◌, ◌≤◌, All, OnOk, length, string_bytes};
-ghost use Rattle.mc_picture.specs.Charts.{IsChart, IsMapText};
-ghost use Rattle.mcmap.specs.Played.{AreMapsOf, IsChartOf, IsMapIn, IsShown, LeadTo, ShowsMaps, done_at};
+ghost use Rattle.std.specs.Prelude.{◌≡◌, ◌≤◌, ◌++◌, All, OnOk, length, string_bytes};
+ghost use Rattle.mc_picture.specs.Charts.{IsChart};
+ghost use Rattle.mc_picture.specs.Maps.{map_text};
+ghost use Rattle.mcmap.specs.Played.{AreMapsOf, IsChartOf, IsClassesOf, IsMapIn, IsShown, LeadTo, ShowsMaps, done_at, place_text};
 ghost use Rattle.mc_script.specs.Command.{IsValid};
 
 use crate::fault::Fault;
@@ -12,7 +13,9 @@ use mc_picture::{class_rows, write_chart, write_classes, write_map};
 use std::alloc::Global;
 
 /// Shows the class table, before anything runs.
-pub fn show_classes(alloc: Global, run: &Run, text: &mut String) -> Result<(), Fault> {
+pub fn show_classes(alloc: Global, run: &Run, text: &mut String) -> Result<(), Fault>
+    ensures classes { OnOk result (IsClassesOf run.now.config (string_bytes text.old) (string_bytes text.new)) }
+{
     let table = ClassTable::build(alloc, &run.config)?;
     let rows = class_rows(alloc, &table)?;
     write_classes(&table, &rows, text)?;
@@ -113,8 +116,9 @@ fn write_form(
 }
 
 /// Adds a map as text, under a heading that says where in the script.
+#[tactic(auto, unfolding(crate::specs::Played::place_text))]
 fn write_text(alloc: Global, map: &Map, line: u64, text: &mut String) -> Result<(), Fault>
-    ensures map { OnOk result (IsMapText map.now (string_bytes text.old) (string_bytes text.new)) }
+    ensures map { OnOk result (string_bytes text.new ≡ string_bytes text.old ++ map_text (place_text line) map.now) }
 {
     if line == 0 {
         write_map(map, "at the end", text)?;

@@ -1,7 +1,0 @@
-use Rattle.std.proofs.Common.{string_bytes}
-use Rattle.mc_picture.specs.Drawn.{Extends}
-use Rattle.mc_picture.proofs.text.write_owners.Given as goal
-
--- the text goes on from the one before
-abbrev pub invariant-loop-place : goal.invariant-loop-place
-invariant-loop-place l = Extends (string_bytes l.initial.text) (string_bytes l.text)

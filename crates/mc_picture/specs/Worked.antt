@@ -1,0 +1,23 @@
+-- Worked examples of what is written.
+use Rattle.std.specs.Prelude.{◌≡◌, [], ◌∷◌, ◌++◌, Some, None, codes}
+use Rattle.mc_pages.specs.declared.ledger.Owner.TheVariants.{Untouched, Pool, Class, Moving}
+use Rattle.mc_picture.specs.Maps.{line_text, pages_text}
+use Rattle.mc_picture.specs.Tables.{row_text}
+
+-- ten pages: eight in the first line, which begins with the number of its first page
+abbrev pub PagesShown : Type 0
+PagesShown =
+    pages_text (Class 4 ∷ Moving 4 1 ∷ Moving 12 0 ∷ Pool ∷ Untouched ∷ Class 1 ∷ Class 1 ∷ Class 1 ∷ Class 63 ∷ Untouched ∷ []) 10
+    ≡ codes "   0      4   4>1    12>p      p      .      1      1      1\n   8     63      .\n"
+
+-- the line of a class whose items leave 144 bytes of their chunks
+abbrev pub LineShown : Type 0
+LineShown =
+    line_text (record { class = 3; size = 192; per_page = 5; pages = 2; linked = 7; held = 1; unlinked = 0; dead = 0; free = 3; cleared = 0; asked = 1200; bytes = 1344; evictions = 12 })
+    ≡ codes "    3    192      2       7     1     0     3        0     1200     1344      144       12\n"
+
+-- the lines of a class whose items leave up to 16 bytes, and of one that no item goes to
+abbrev pub RowsShown : Type 0
+RowsShown =
+    row_text (record { class = 1; size = 48; per_page = 21; waste = Some 16; rest = 16 }) ++ row_text (record { class = 2; size = 52; per_page = 19; waste = None; rest = 36 })
+    ≡ codes "    1     48             21       32 to    48           16              16\n    2     52             19            none            -              36\n"
