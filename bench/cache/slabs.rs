@@ -1,4 +1,5 @@
-//! A plain cache of slabs whose pages never move: what is lost where the values' sizes change.
+//! A plain cache of slabs whose pages never move: what is lost where the values' sizes change. With `--cfg words` its pages are words that threads
+//! share, each stored by a step of its own: what such words cost, with all else the same.
 // What the chains take is counted by boxes alone.
 #[allow(dead_code)]
 #[path = "plain/chains.rs"]
@@ -8,8 +9,6 @@ mod driver;
 mod hashing;
 #[path = "plain/order.rs"]
 mod order;
-// Pages of words are those of the other program.
-#[allow(dead_code)]
 #[path = "plain/pages.rs"]
 mod pages;
 #[path = "plain/shards.rs"]
@@ -22,8 +21,10 @@ mod tests;
 
 use shards::Shards;
 
-/// Slabs whose pages are bytes.
+#[cfg(not(words))]
 type Slabs = slabs::Slabs<Box<[u8]>>;
+#[cfg(words)]
+type Slabs = slabs::Slabs<Box<[std::sync::atomic::AtomicU64]>>;
 
 fn main() {
     driver::main::<Shards<Slabs>>();
