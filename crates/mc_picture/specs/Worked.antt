@@ -1,8 +1,14 @@
 -- Worked examples of what is written.
 use Rattle.std.specs.Prelude.{◌≡◌, [], ◌∷◌, ◌++◌, Some, None, codes}
 use Rattle.mc_pages.specs.declared.ledger.Owner.TheVariants.{Untouched, Pool, Class, Moving}
-use Rattle.mc_picture.specs.Maps.{line_text, pages_text}
-use Rattle.mc_picture.specs.Tables.{row_text}
+use Rattle.mc_picture.specs.Maps.{heading_text, line_text, lines_text, pages_text, totals_text}
+use Rattle.mc_picture.specs.Tables.{memory_text, row_text}
+
+-- what stands before the page map
+abbrev pub HeadingShown : Type 0
+HeadingShown =
+    heading_text (codes "at line 7") 12 ++ totals_text 1024 8 (record { granted = 5; pool = 1; moved = 2; rescues = 30; evictions_nomem = 40; busy = 50 })
+    ≡ codes "map at line 7, 12 commands done\n\npages of 1024 bytes: 5 of 8 granted, 1 in the pool, 2 moved\n"
 
 -- ten pages: eight in the first line, which begins with the number of its first page
 abbrev pub PagesShown : Type 0
@@ -15,6 +21,14 @@ abbrev pub LineShown : Type 0
 LineShown =
     line_text (record { class = 3; size = 192; per_page = 5; pages = 2; linked = 7; held = 1; unlinked = 0; dead = 0; free = 3; cleared = 0; asked = 1200; bytes = 1344; evictions = 12 })
     ≡ codes "    3    192      2       7     1     0     3        0     1200     1344      144       12\n"
+
+-- no class has a page
+abbrev pub NoLinesShown : Type 0
+NoLinesShown = lines_text [] ≡ codes "\nno class has a page\n"
+
+-- four pages of 1,024 bytes
+abbrev pub MemoryShown : Type 0
+MemoryShown = memory_text 4 1024 ≡ codes "4 pages of 1024 bytes, and beyond them a first one for each class; an item of n words asks for 24 + 8 n bytes\n\n"
 
 -- the lines of a class whose items leave up to 16 bytes, and of one that no item goes to
 abbrev pub RowsShown : Type 0

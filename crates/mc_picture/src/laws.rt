@@ -1,9 +1,12 @@
 //! Worked examples of what is written, computed by the prover: the contract of a function with nothing to do.
-ghost use Rattle.mc_picture.specs.Worked.{LineShown, PagesShown, RowsShown};
+ghost use Rattle.mc_picture.specs.Worked.{HeadingShown, LineShown, MemoryShown, NoLinesShown, PagesShown, RowsShown};
 
-/// A page map, the line of a class, and lines of the class table.
+/// What stands before a page map, a page map, the line of a class and no line; and of the class table its heading and lines.
 pub fn worked_texts()
+    ensures heading { HeadingShown }
     ensures pages { PagesShown }
     ensures line { LineShown }
+    ensures no_lines { NoLinesShown }
+    ensures memory { MemoryShown }
     ensures rows { RowsShown }
 {}

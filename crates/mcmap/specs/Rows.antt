@@ -11,7 +11,7 @@ use Rattle.mcmap.specs.Checked.{wrong_count}
 use Rattle.mcmap.specs.Json.{class_json, entry_json, hang_json, map_members, moving_json, owner_json, totals_json}
 use Rattle.mc_machine.specs.Machine.{Machine}
 use Rattle.mc_map.specs.Books.{Book}
-use Rattle.mcmap.specs.Played.{IsShown, ShowsMaps, done_at}
+use Rattle.mcmap.specs.Played.{IsShown, ShowsMaps, done_at, place_text}
 use Rattle.mcmap.specs.declared.show.Form.{Form}
 
 -- these in this order, of which the names rise
@@ -89,6 +89,10 @@ MapNames =
 -- of five commands: a mark below two, one below two where four are done already, and one past the end
 abbrev pub MarksReached : Type 0
 MarksReached = map (λ (pair : ℕ × Mark). done_at 5 pair.0 pair.1) ((0, record { done = 2; line = 3 }) ∷ (4, record { done = 2; line = 9 }) ∷ (2, record { done = 7; line = 9 }) ∷ []) ≡ 2 ∷ 4 ∷ 5 ∷ []
+
+-- a map at the end, and one of line 7
+abbrev pub PlacesNamed : Type 0
+PlacesNamed = map place_text (0 ∷ 7 ∷ []) ≡ codes "at the end" ∷ codes "at line 7" ∷ []
 
 -- two wrong lines, and one between them that isn't
 abbrev pub WrongLinesCounted : Type 0

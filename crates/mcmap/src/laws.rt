@@ -1,5 +1,5 @@
 //! Worked examples of what is shown, computed by the prover: each the contract of a function with nothing to do.
-ghost use Rattle.mcmap.specs.Rows.{ClassShown, GrantShown, MapNames, MarksReached, MovesShown, MovingShown, NothingShown, OneMarkShown, OwnersShown, TotalsShown, WrongLinesCounted};
+ghost use Rattle.mcmap.specs.Rows.{ClassShown, GrantShown, MapNames, MarksReached, MovesShown, MovingShown, NothingShown, OneMarkShown, OwnersShown, PlacesNamed, TotalsShown, WrongLinesCounted};
 
 /// What the parts of a map are as JSON.
 pub fn worked_maps()
@@ -13,9 +13,10 @@ pub fn worked_maps()
     ensures names { MapNames }
 {}
 
-/// How many commands are done at a mark, what is shown at one, and how many lines of a script are wrong.
+/// How many commands are done at a mark, what is shown at one and where its heading says that it is, and how many lines of a script are wrong.
 pub fn worked_scripts()
     ensures marks { MarksReached }
     ensures shown { OneMarkShown }
+    ensures places { PlacesNamed }
     ensures wrong { WrongLinesCounted }
 {}

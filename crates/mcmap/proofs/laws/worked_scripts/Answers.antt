@@ -1,7 +1,8 @@
-use Rattle.std.proofs.Common.{◌≡◌, ℕ, List, subst}
+use Rattle.std.proofs.Common.{◌≡◌, ℕ, List, refl, subst}
+use Rattle.std.specs.Fmt.{digits}
 use Rattle.mc_machine.specs.Machine.{Machine}
 use Rattle.mc_map.specs.Books.{Book}
-use Rattle.mcmap.specs.Played.{IsShown}
+use Rattle.mcmap.specs.Played.{IsShown, place_text}
 use Rattle.mcmap.specs.declared.show.Form.{Form}
 use Rattle.mcmap.proofs.laws.worked_scripts.Goals as goal
 
@@ -15,3 +16,7 @@ returns-clause-shown c form m book old new (after, later, text, first, (finally,
   as_it_stood form 3 m after book later old text first.played.0 first.played.1 first.shown,
   as_it_stood form 0 m after book later text new first.played.0 first.played.1 (as_it_stood form 0 after finally later books text new last.played.0 last.played.1 last.shown),
 )
+
+pub returns-clause-places : goal.returns-clause-places
+unfolding place_text digits
+returns-clause-places c = refl
