@@ -1,20 +1,24 @@
 -- A chunk for a class, from its parts.
 use Rattle.std.proofs.Common.{◌≡◌, ℕ, ◌+◌, ◌≤◌, true, is_some, List, [], ◌∷◌, ◌++◌, Option, Some, None, Result, Ok, Err, IfOk, IfSome, OnErr, refl, sym, ap, subst, ◌∙◌, inl, inr}
 use Rattle.std.specs.List.{list_all}
+use Rattle.std.specs.Prelude.{Contains}
 use Rattle.mc_pages.specs.declared.ids.ChunkId.{ChunkId}
 use Rattle.mc_pages.specs.Changes.{after_pop}
 use Rattle.mc_pages.specs.ClassState.{first_free}
 use Rattle.mc_pages.specs.SlabState.{SlabState, class_at}
+use Rattle.mc_pages.proofs.Chunks.{times_from_Contains}
 use Rattle.mc_core.specs.declared.head.Head.{Head}
 use Rattle.mc_core.specs.Chunks.{most_issue}
 use Rattle.mc_core.specs.Looks.{is_found_alive}
 use Rattle.mc_core.specs.Silent.{is_among}
 use Rattle.mc_core.specs.State.{room_in}
+use Rattle.mc_core.proofs.Listed.{Contains_from_among}
 use Rattle.mc_words.specs.hand.View.{View}
 use Rattle.mc_words.specs.page.Owner.{PopsFirst, SeesOther}
 use Rattle.mc_words.specs.chunk.Sweeps.{Recovers, SeesHeaders, Sweeps, with_seen}
 use Rattle.mc_words.specs.hand.Views.{chunk_popped, fresh_holding, head_seen, with_holdings}
 use Rattle.std.proofs.lemmas.Bool.{and_from, and_parts}
+use Rattle.mc_words.proofs.Chunks.FewDead.{passes_one}
 use Rattle.mc_words.proofs.Pages.LookedOver.{among_behind, sees_both, sees_headers_alone}
 use Rattle.mc_items.specs.Supplying.{FindsNoFree, FindsWorn, GainsFresh, SuppliesFree}
 
@@ -92,6 +96,10 @@ all_still (chunk ∷ order) first second whole =
     let parts = and_parts (is_among second chunk) (list_all (is_among second) order) whole in
     and_from _ _ (among_behind first second chunk parts.0) (all_still order first second parts.1)
 
+-- each of a list that stands in another whole does
+among_each : (looked order : List ChunkId) → list_all (is_among looked) order ≡ true → (chunk : ChunkId) → Contains order chunk → is_among looked chunk ≡ true
+among_each looked order whole chunk there = passes_one (is_among looked) order chunk whole (times_from_Contains chunk order there)
+
 -- the class has no free chunk, and none came of chunks that were looked at; nothing was changed
 pub record FindsNoneDead (class : ℕ) (view : View) (slabs : SlabState) (now : View) (left : SlabState) : Type 0 where
   pub empty : first_free (class_at slabs class) ≡ None
@@ -112,6 +120,7 @@ module _ (class : ℕ) (view tried swept now : View) (slabs before between left 
           again = here.recovers.again;
           oldest_first = here.recovers.oldest_first;
           each = here.recovers.each;
+          alive = λ chunk looked listed out. here.recovers.alive chunk (Contains_from_among here.recovers.looked chunk (among_each here.recovers.looked (class_at slabs class).order here.whole chunk listed)) listed out;
         };
         whole = all_still (class_at slabs class).order none.looked here.recovers.looked here.whole;
       }

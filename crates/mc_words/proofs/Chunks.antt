@@ -8,5 +8,6 @@ pub mod HeldOut
 pub mod Sweeps
 pub mod SweepViews
 pub mod FewDead
+pub mod Recovered
 pub mod DeadOrders
 pub mod Judging

@@ -3,7 +3,7 @@ use Rattle.std.proofs.Common.{◌≡◌, ◌⊎◌, ℕ, ◌/◌, ◌%◌, ◌<�
 use Rattle.std.specs.Prelude.{Contains}
 use Rattle.std.proofs.lemmas.Bool.{cases_Bool, cases_eq, cases_lt}
 use Rattle.std.proofs.lemmas.Nat.Bits.{bit_at_and}
-use Rattle.std.proofs.lemmas.List.Elements.{Contains-append_left, Contains-push, Contains-push_cases}
+use Rattle.std.proofs.lemmas.List.Elements.{Contains-append_cases, Contains-append_left, Contains-push, Contains-push_cases}
 use Rattle.mc_classes.specs.Classes.{Classes}
 use Rattle.mc_pages.specs.declared.ids.ChunkId.{ChunkId}
 use Rattle.mc_pages.specs.ClassState.{is_chunk}
@@ -14,7 +14,7 @@ use Rattle.mc_core.specs.declared.look.Look.{Look}
 use Rattle.mc_core.specs.declared.look.Look.TheVariants.{Saw}
 use Rattle.mc_core.specs.Head.{decode, is_dead}
 use Rattle.mc_core.specs.Looks.{is_found_alive}
-use Rattle.mc_words.specs.chunk.Dead.{AreHandedOut, IsJudged, IsOut, IsOutside, NotedChunks, Notes, ShareAnOrder}
+use Rattle.mc_words.specs.chunk.Dead.{AreHandedOut, AreJudged, IsJudged, IsOut, IsOutside, NotedChunks, Notes, ShareAnOrder}
 use Rattle.mc_words.specs.hand.View.{View}
 use Rattle.mc_words.specs.hand.Views.{head_seen}
 use Rattle.mc_words.proofs.Chunks.Judging.{seen_is}
@@ -126,3 +126,17 @@ both_one a b low few least = (omega (arith, low, few, least), omega (arith, low,
 
 pub both_odd : (one other : ℕ) → bit_and one other / 65536 % 2 ≡ 1 → (one / 65536 % 2 ≡ 1) × (other / 65536 % 2 ≡ 1)
 both_odd one other odd = both_one (one / 65536 % 2) (other / 65536 % 2) (omega arith) (omega arith) (sym (bit_at_and one other 16) ∙ odd)
+
+-- those of two lists were judged, where the first still are
+pub judged_both : (first second : List ChunkId) (looks more : List Look) (dead now : NotedChunks) → AreJudged first looks dead → ((other : ChunkId) → IsJudged looks dead other → IsJudged more now other) → AreJudged second more now → AreJudged (first ++ second) more now
+judged_both first second looks more dead now before kept behind chunk there = elim (Contains-append_cases first second chunk there) [
+  | inl one ↦ kept chunk (before chunk one)
+  | inr other ↦ behind chunk other
+]
+
+-- one more
+pub judged_more : (chunks : List ChunkId) (last : ChunkId) (looks more : List Look) (dead now : NotedChunks) → AreJudged chunks looks dead → ((other : ChunkId) → IsJudged looks dead other → IsJudged more now other) → IsJudged more now last → AreJudged (chunks ++ last ∷ []) more now
+judged_more chunks last looks more dead now before kept here chunk there = elim (Contains-push_cases chunks last chunk there) [
+  | inl one ↦ kept chunk (before chunk one)
+  | inr alike ↦ subst (λ (c : ChunkId). IsJudged more now c) alike here
+]

@@ -24,6 +24,10 @@ ShareAnOrder slabs chunks = (chunk other : ChunkId) → Contains chunks chunk �
 abbrev pub IsJudged : List Look → NotedChunks → ChunkId → Type 0
 IsJudged looks dead chunk = dead.are_more ≡ false → (is_found_alive looks chunk ≡ true) ⊎ Contains dead.chunks chunk
 
+-- each of these was found alive, or is one of the dead that were noted
+abbrev pub AreJudged : List ChunkId → List Look → NotedChunks → Type 0
+AreJudged chunks looks dead = (chunk : ChunkId) → Contains chunks chunk → IsJudged looks dead chunk
+
 -- the chunk isn't one of those of the page from one index up to another
 abbrev pub IsOutside : ℕ → ℕ → ℕ → ChunkId → Type 0
 IsOutside page from until chunk = chunk.page ≡ page → from ≤ chunk.index → until ≤ chunk.index

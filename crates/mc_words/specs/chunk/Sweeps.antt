@@ -1,13 +1,14 @@
 -- Sweeps: each chunk that a class handed out is looked at, and the dead ones are put back, oldest first.
-use Rattle.std.specs.Prelude.{◌≡◌, ◌⊎◌, ℕ, ◌<◌, ◌≤◌, true, false, Bool, if◌then◌else◌, List, [], ◌∷◌, Some}
+use Rattle.std.specs.Prelude.{◌≡◌, ◌⊎◌, ℕ, ◌<◌, ◌≤◌, true, false, Bool, if◌then◌else◌, List, [], ◌∷◌, Some, Contains}
 use Rattle.std.specs.List.{list_all}
 use Rattle.mc_pages.specs.declared.ids.ChunkId.{ChunkId}
 use Rattle.mc_pages.specs.Changes.{after_back}
 use Rattle.mc_pages.specs.ClassState.{is_chunk}
-use Rattle.mc_pages.specs.SlabState.{SlabState}
+use Rattle.mc_pages.specs.SlabState.{SlabState, class_of_chunk}
 use Rattle.mc_core.specs.declared.event.Step.TheVariants as step
 use Rattle.mc_core.specs.declared.head.Head.{Head}
 use Rattle.mc_core.specs.Head.{is_dead}
+use Rattle.mc_core.specs.Looks.{is_found_alive}
 use Rattle.mc_core.specs.Silent.{is_among}
 use Rattle.mc_words.specs.rule.Happens.{Happens}
 use Rattle.mc_words.specs.hand.View.{View}
@@ -46,7 +47,8 @@ follows order [] = true
 follows [] (chunk ∷ chunks) = false
 follows (other ∷ order) (chunk ∷ chunks) = if is_chunk other chunk then follows order chunks else follows order (chunk ∷ chunks)
 
--- chunks were looked at, and then some of the hand-out order, oldest first, were each put back or seen alive
+-- chunks were looked at, and then some of the hand-out order, oldest first, were each put back or seen alive: each of the order that was looked
+-- at and is handed out still was seen alive last, so that all the others that were looked at were put back
 pub record Recovers (order : List ChunkId) (view : View) (slabs : SlabState) (now : View) (left : SlabState) : Type 0 where
   pub looked : List ChunkId
   pub seen : View
@@ -54,8 +56,10 @@ pub record Recovers (order : List ChunkId) (view : View) (slabs : SlabState) (no
   pub again : List ChunkId
   pub oldest_first : follows order again ≡ true
   pub each : SweepsEach again seen slabs now left
+  pub alive : (chunk : ChunkId) → Contains looked chunk → Contains order chunk → Contains (class_of_chunk left chunk).order chunk → is_found_alive now.row.looks chunk ≡ true
 
--- each chunk of the hand-out order was looked at, and then some of them, oldest first, were each put back or seen alive
+-- each chunk of the hand-out order was looked at, and then some of them, oldest first, were each put back or seen alive, so that each of the
+-- order that is handed out still was seen alive last
 pub record Sweeps (order : List ChunkId) (view : View) (slabs : SlabState) (now : View) (left : SlabState) : Type 0 where
   pub recovers : Recovers order view slabs now left
   pub whole : list_all (is_among recovers.looked) order ≡ true

@@ -53,7 +53,7 @@ impl Arena {
         ensures locks { hand.new.locks ≡ hand.old.locks }
         ensures held { (view hand.new).slabs ≡ Some held.new.shared }
         ensures each { (again : List ChunkId) × (follows (class_at held.old.shared class).order again ≡ true) × SweepsEach again (view hand.old) held.old.shared (view hand.new) held.new.shared }
-        ensures alive { ((chunk : ChunkId) → Contains (class_at held.old.shared class).order chunk → IsJudged (view hand.old).row.looks dead.old chunk) → list_all (is_found_alive (view hand.new).row.looks) (class_at held.new.shared class).order ≡ true }
+        ensures alive { (chunk : ChunkId) → (Contains (class_at held.old.shared class).order chunk → IsJudged (view hand.old).row.looks dead.old chunk) → Contains (class_at held.new.shared class).order chunk → is_found_alive (view hand.new).row.looks chunk ≡ true }
     {
         if dead.put_in_order(held.slabs()) {
             self.put_back_each(hand, held, dead.as_slice());

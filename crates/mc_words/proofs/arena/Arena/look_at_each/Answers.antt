@@ -1,5 +1,6 @@
 use Rattle.std.proofs.Common.{◌+◌, ◌∙◌, [], ◌∷◌, ◌++◌}
 use Rattle.mc_pages.specs.declared.ids.ChunkId.{ChunkId}
+use Rattle.mc_words.proofs.Pages.Judged.{judged_more}
 use Rattle.mc_words.proofs.Pages.LookedOver.{sees_more}
 use Rattle.mc_words.proofs.arena.Arena.look_at_each.Goals as goal
 
@@ -13,4 +14,6 @@ loop-preserved c =
       out = c.judge.ensures.out;
       looked = inv.looked ++ chunk ∷ [];
       sees = sees_more inv.looked chunk c.args.hand.now.seat.me.0 c.loop.hand.seat.me.0 c.judge.new.hand.seat.me.0 inv.sees c.judge.ensures.sees;
+      judged = judged_more inv.looked chunk c.loop.hand.seat.me.0.row.looks c.judge.new.hand.seat.me.0.row.looks c.loop.dead c.judge.new.dead inv.judged c.judge.ensures.kept c.judge.ensures.judged;
+      kept = λ other judged. c.judge.ensures.kept other (inv.kept other judged);
     }

@@ -4,6 +4,7 @@ use Rattle.mc_core.specs.State.{is_class, most_of}
 use Rattle.mc_words.specs.hand.Arenas.{setup_of}
 use Rattle.mc_words.specs.chunk.Dead.{AreHandedOut}
 use Rattle.mc_words.specs.hand.View.{Setup}
+use Rattle.mc_words.proofs.Pages.Judged.{judged_both}
 use Rattle.mc_words.proofs.Pages.LookedOver.{sees_both}
 use Rattle.mc_words.proofs.Chunks.SweepViews.{chunks_at_most, own_page}
 use Rattle.mc_words.proofs.arena.Arena.look_at_hints.Goals as goal
@@ -30,7 +31,7 @@ loop-preserved c =
     let inv = c.loop.invariant in
     let slabs = c.args.held.now.shared in
     let at = c.look_at_page.ensures in
-    let (more, sees) = at.sees in
+    let (more, sees, judged) = at.sees in
     let own = own_page c.args.class c.from-page.result c.class.result slabs c.slabs-in-loop.result.now.state c.slabs-in-loop.ensures.slabs c.if-class.false (c.class.ensures ∙ ap class_of_owner c.owner.ensures.owner) in record {
       arena = at.arena;
       locks = at.locks ∙ inv.locks;
@@ -38,4 +39,5 @@ loop-preserved c =
       out = subst (λ (n : ℕ). AreHandedOut (setup_of c.args.self.now).table slabs n c.look_at_page.new.dead) own at.out;
       looked = inv.looked ++ more;
       sees = sees_both inv.looked more c.args.hand.now.seat.me.0 c.loop.hand.seat.me.0 c.look_at_page.new.hand.seat.me.0 inv.sees sees;
+      judged = judged_both inv.looked more c.loop.hand.seat.me.0.row.looks c.look_at_page.new.hand.seat.me.0.row.looks c.loop.dead c.look_at_page.new.dead inv.judged at.kept judged;
     }

@@ -1,11 +1,11 @@
 use Rattle.std.proofs.Common.{◌≡◌, List, Some}
 use Rattle.mc_pages.specs.declared.ids.ChunkId.{ChunkId}
 use Rattle.mc_words.specs.hand.Arenas.{IsHandOf, setup_of, view}
-use Rattle.mc_words.specs.chunk.Dead.{AreHandedOut}
+use Rattle.mc_words.specs.chunk.Dead.{AreHandedOut, AreJudged}
 use Rattle.mc_words.specs.chunk.Sweeps.{SeesHeaders}
 use Rattle.mc_words.proofs.arena.Arena.look_at_hints.Given as goal
 
--- some chunks were looked at
+-- some chunks were looked at and judged
 abbrev pub invariant-loop : goal.invariant-loop
 invariant-loop l = record {
   arena : IsHandOf l.self l.hand;
@@ -14,4 +14,5 @@ invariant-loop l = record {
   out : AreHandedOut (setup_of l.self).table l.held.shared l.class l.dead;
   looked : List ChunkId;
   sees : SeesHeaders looked (view l.fn.hand) (view l.hand);
+  judged : AreJudged looked (view l.hand).row.looks l.dead;
 }

@@ -3,13 +3,15 @@ use Rattle.std.specs.Prelude.{Contains}
 use Rattle.std.proofs.lemmas.List.Sorted.{Contains-permutation, IsPermutation-sym}
 use Rattle.mc_pages.specs.declared.ids.ChunkId.{ChunkId}
 use Rattle.mc_pages.specs.SlabState.{SlabState, class_at, class_of_chunk}
+use Rattle.mc_pages.proofs.Chunks.{times_from_Contains}
+use Rattle.mc_core.specs.Looks.{is_found_alive}
 use Rattle.mc_core.specs.State.{is_class}
 use Rattle.mc_words.specs.hand.Arenas.{setup_of}
 use Rattle.mc_words.specs.chunk.Dead.{ShareAnOrder}
 use Rattle.mc_words.specs.chunk.Sweeps.{SweepsEach, follows}
 use Rattle.mc_words.specs.hand.View.{Setup}
 use Rattle.mc_words.proofs.Chunks.DeadOrders.{in_order_of}
-use Rattle.mc_words.proofs.Chunks.FewDead.{AreAliveBut, all_alive, contains_from_times, each_alive, follows_all}
+use Rattle.mc_words.proofs.Chunks.FewDead.{IsAliveBut, contains_from_times, each_alive, follows_all, is_alive, passes_one}
 use Rattle.mc_words.proofs.Pages.Judged.{shared_order}
 use Rattle.mc_words.proofs.Chunks.SweepViews.{class_here, order_once}
 use Rattle.mc_words.proofs.arena.Arena.put_back_dead.Goals as goal
@@ -36,7 +38,7 @@ returns-then-put_in_order-clause-each c =
     (now, oldest_first, each)
 
 pub returns-then-put_in_order-clause-alive : goal.returns-then-put_in_order-clause-alive
-returns-then-put_in_order-clause-alive c judged =
+returns-then-put_in_order-clause-alive c chunk judged out =
     let slabs = c.args.held.now.shared in
     let class = c.args.class in
     let view = c.args.hand.now.seat.me.0 in
@@ -50,14 +52,19 @@ returns-then-put_in_order-clause-alive c judged =
     let back = IsPermutation-sym chunks now same in
     let is = ap (λ (s : Setup). is_class s.table class) c.requires.arena.setup ∙ c.requires.class in
     let few = c.put_in_order.ensures.few c.if-put_in_order.true in
-    let but : AreAliveBut class now slabs view.row.looks = λ chunk there. elim (judged chunk (contains_from_times chunk (class_at slabs class).order there) few) [
+    let but : IsAliveBut class now chunk slabs view.row.looks = λ there. elim (judged (contains_from_times chunk (class_at slabs class).order there) few) [
       | inl alive ↦ inl alive
       | inr among ↦ inr (Contains-permutation chunks now chunk same among)
     ] in
-    let own = λ (chunk : ChunkId) (there : Contains now chunk). (c.requires.out chunk (Contains-permutation now chunks chunk back there)).own in
+    let own = λ (a : ChunkId) (there : Contains now a). (c.requires.out a (Contains-permutation now chunks a back there)).own in
     let each = subst (λ (cs : List ChunkId). SweepsEach cs view slabs end left) c.as_slice.ensures.chunks c.put_back_each.ensures.each in
-    all_alive class left end.row.looks (each_alive class now view slabs end left held (class_here view was slabs held class is) own (order_once view was slabs held class is) but each)
+    is_alive class chunk left end.row.looks (each_alive class now chunk view slabs end left held (class_here view was slabs held class is) own (order_once view was slabs held class is) but each) out
 
 pub returns-else-put_in_order-clause-each : goal.returns-else-put_in_order-clause-each
 returns-else-put_in_order-clause-each c =
     let order = (class_at c.args.held.now.shared c.args.class).order in (order, follows_all order, c.walk.ensures.each)
+
+pub returns-else-put_in_order-clause-alive : goal.returns-else-put_in_order-clause-alive
+returns-else-put_in_order-clause-alive c chunk judged out =
+    let order = (class_at c.walk.new.held.shared c.args.class).order in
+    passes_one (is_found_alive c.walk.new.hand.seat.me.0.row.looks) order chunk c.walk.ensures.alive (times_from_Contains chunk order out)
