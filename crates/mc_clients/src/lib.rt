@@ -4,12 +4,14 @@
 
 pub mod cache;
 mod chained;
+mod closed;
 mod first;
 mod held;
 mod own;
 mod trimmed;
 
 pub use chained::call_twice;
+pub use closed::set_and_close;
 pub use first::{first_header, header_from, pop_worn, worn_out};
 pub use held::{read_after_all, read_after_trims};
 pub use own::{RefusedCall, set_and_read};

@@ -1,21 +1,27 @@
 -- The promise of the arena, as its table shows it: by the words, the values at home, and what the hands hold.
-use Rattle.std.specs.Prelude.{◌≡◌, ◌⊎◌, ℕ, ◌+◌, ◌*◌, ◌<◌, ◌≤◌, ◌==◌, List, [], ◌∷◌, IsTrue, count_by, slice_get, slice_index, Some, Contains, true}
+use Rattle.std.specs.Prelude.{◌≡◌, ◌⊎◌, ℕ, ◌+◌, ◌*◌, ◌<◌, ◌≤◌, ◌==◌, List, [], ◌∷◌, ◌++◌, IsTrue, count_by, slice_get, slice_index, Some, Contains, false, not, true}
+use Rattle.std.specs.List.{list_all}
 use mathlib.Core.Option.{some}
 use lib.ListN.{get_elem?}
 use Rattle.mc_classes.specs.Classes.{arena_pages_of}
 use Rattle.mc_pages.specs.declared.ids.ChunkId.{ChunkId}
-use Rattle.mc_pages.specs.Accounted.{is_moving, is_of_class, is_pool, truth}
+use Rattle.mc_pages.specs.Accounted.{is_moving, is_of_class, is_pool, places_in, truth}
 use Rattle.mc_pages.specs.ClassState.{times}
 use Rattle.mc_pages.specs.Ledger.{KeepsGrace, all_untouched, ordinary_count, owner_at, replay}
 use Rattle.mc_pages.specs.SlabState.{IsClass, SlabState, class_at}
+use Rattle.mc_core.specs.declared.event.Event.{Event}
 use Rattle.mc_core.specs.declared.head.Head.{Head}
 use Rattle.mc_core.specs.declared.head.Tag.TheVariants.{Free, Linked, Out, Unlinked}
 use Rattle.mc_core.specs.declared.holding.Holding.{Holding}
-use Rattle.mc_core.specs.Columns.{IsHandedOut, holds, link_of}
+use Rattle.mc_core.specs.Columns.{IsHandedOut, holders, holds, link_of}
 use Rattle.mc_core.specs.Head.{decode}
-use Rattle.mc_core.specs.Holdings.{words_of}
-use Rattle.mc_core.specs.State.{has_chunk, room_in}
+use Rattle.mc_core.specs.Holdings.{is_fresh, words_of}
+use Rattle.mc_core.specs.InOrder.{IsOfTable}
+use Rattle.mc_core.specs.Past.{Moment}
+use Rattle.mc_core.specs.State.{has_chunk, holdings_at, room_in}
+use Rattle.mc_core.specs.Stretch.{Holds, KeepsHolding, fills}
 use Rattle.mc_words.specs.declared.lock.slot.Slot.TheVariants.{OfSlabs}
+use Rattle.mc_words.specs.rule.Happens.{LawfulView}
 use Rattle.mc_words.specs.rule.Joins.{Rule}
 use Rattle.mc_words.specs.rule.Layout.{data_word, head_word, page_word, slabs_word}
 use Rattle.mc_words.specs.rule.Meaning.{Words}
@@ -38,11 +44,12 @@ abbrev pub holders_among : ChunkId → List View → ℕ
 holders_among chunk [] = 0
 holders_among chunk (view ∷ views) = holds chunk view.row.holdings + holders_among chunk views
 
--- each page has the one owner that the ledger replays: the untouched rest, the pool, a class or the move; it stands once in the list of its
--- class, or once in the pool's, and in no other; and no page moves but that of the one move
+-- each page has the one owner that the ledger replays: the untouched rest, the pool, a class of the table or the move; it stands once in the
+-- list of its class, or once in the pool's, and in no other; and no page moves but that of the one move
 pub record ArePagesOwned (setup : Setup) (slabs : SlabState) : Type 0 where
   pub replays : replay (all_untouched (arena_pages_of setup.table)) slabs.ledger ≡ Some slabs.owners
   pub classes : (class page : ℕ) → IsClass slabs class → count_by (λ p. p == page) (class_at slabs class).pages ≡ truth (is_of_class class (owner_at slabs.owners page))
+  pub owned : (class page : ℕ) → IsTrue (is_of_class class (owner_at slabs.owners page)) → IsClass slabs class
   pub pool : (page : ℕ) → count_by (λ p. p == page) slabs.pool ≡ truth (is_pool (owner_at slabs.owners page))
   pub move : (a b : ℕ) → IsTrue (is_moving (owner_at slabs.owners a)) → IsTrue (is_moving (owner_at slabs.owners b)) → a ≡ b
 
@@ -72,13 +79,17 @@ IsChunkOut slabs class chunk head = ((head.tag ≡ Unlinked) ⊎ (head.tag ≡ L
 abbrev pub IsInOnePlace : SlabState → ℕ → ChunkId → Head → Type 0
 IsInOnePlace slabs class chunk head = IsFreeChunk slabs class chunk head ⊎ IsClearedChunk slabs class chunk head ⊎ IsChunkOut slabs class chunk head
 
--- with the slabs lock free: each page has one owner, as the ledger replays; granted bytes keep limit and grace; each cut chunk is once on a
--- free list, cleared, or handed out
+-- with the slabs lock free: the value is of the arena's table, with its classes, its chunks a page and its pages, and accounted for; each page has
+-- one owner, as the ledger replays; granted bytes keep limit and grace; each cut chunk is once on a free list, cleared, or handed out; and no
+-- other stands in a list: those of a class have chunks of its own pages alone
 pub record IsAccountedFor (setup : Setup) (words : List ℕ) (slabs : SlabState) : Type 0 where
+  pub of_table : IsOfTable setup.table slabs
   pub pages : ArePagesOwned setup slabs
   pub bytes : KeepLimitAndGrace setup slabs
   pub chunks : (class : ℕ) (chunk : ChunkId) → IsClass slabs class → has_chunk setup.table chunk ≡ true →
       is_of_class class (owner_at slabs.owners chunk.page) ≡ true → chunk.index < (class_at slabs class).per_page → IsInOnePlace slabs class chunk (header_in setup words chunk)
+  pub only : (class : ℕ) (chunk : ChunkId) → IsClass slabs class → 1 ≤ places_in slabs class chunk →
+      (is_of_class class (owner_at slabs.owners chunk.page) ≡ true) × (chunk.index < (class_at slabs class).per_page)
 
 -- a chunk that somebody holds is handed out with the issue number that it had as it was got, its page is a class's, and each word that its
 -- holder knows of it stands there: so it was neither handed out, cleared nor cut anew
@@ -118,3 +129,41 @@ pub record StaysTheSame (setup : Setup) (before now : Words) (holding : Holding)
 -- *what a hand holds in two states is the same in both*: so between a get and its release the chunk was never handed out, cleared or cut anew
 abbrev pub HeldStaysTheSame : Type 0
 HeldStaysTheSame = (setup : Setup) (before now : Words) (hand : ℕ) (holding : Holding) → Rule setup before → Rule setup now → IsHeldInBoth before now hand holding → StaysTheSame setup before now holding
+
+-- the same of the moment of which a hand knows its view, by the words that the table had then, the value behind the lock and the holdings of
+-- all hands
+pub record HeadlineOf (view : View) (was : LawfulView view) : Type 0 where
+  pub free : slice_index was.words slabs_word ≡ 0 → IsAccountedFor view.setup was.words was.moment.state.slabs
+  pub counts : (chunk : ChunkId) → has_chunk view.setup.table chunk ≡ true →
+      (header_in view.setup was.words chunk).count ≡ link_of (header_in view.setup was.words chunk).tag + holders chunk was.moment.state.holdings
+  pub kept : (hand : ℕ) (holding : Holding) → Contains (holdings_at was.moment.state hand) holding → IsKeptIn view.setup was.words holding
+  pub own : (holding : Holding) → Contains view.row.holdings holding → IsKeptIn view.setup was.words holding
+
+-- *each view of a hand is of a moment of which the promise holds*: so whoever calls has it before each call and behind it
+abbrev pub ViewsGiveHeadline : Type 0
+ViewsGiveHeadline = (view : View) (was : LawfulView view) → HeadlineOf view was
+
+-- the data words of the chunk are the same
+abbrev pub HasSameData : Setup → List ℕ → List ℕ → ChunkId → Type 0
+HasSameData setup before now chunk = (place : ℕ) → place < room_in setup.table (class_in setup before chunk) → data_in setup now chunk place ≡ data_in setup before chunk place
+
+-- the chunk is handed out with its issue, its page is of the same class, and the words that the hand itself doesn't write are the same; of a
+-- reference they all are
+pub record StaysThroughout (setup : Setup) (before now : List ℕ) (moment : Moment) (hand : ℕ) (chunk : ChunkId) (issue : ℕ) (run : List Event) : Type 0 where
+  pub handed_out : IsHandedOut (header_in setup now chunk) issue
+  pub owned : 1 ≤ class_in setup now chunk
+  pub same_class : class_in setup now chunk ≡ class_in setup before chunk
+  pub unfilled : list_all (λ event. not (fills hand chunk event)) run ≡ true → HasSameData setup before now chunk
+  pub referred : (held : Holds moment hand chunk issue) → is_fresh held.holding ≡ false → HasSameData setup before now chunk
+
+-- *what a hand keeps over a run stays so in each state of it*: whatever events come behind those of one state, each of them allowed, while the
+-- hand holds the chunk before and behind each, in any state that some of them lead to, from the first on, the chunk was handed out all along with
+-- this issue, for one class, with the same words
+abbrev pub HeldStaysThroughout : Type 0
+HeldStaysThroughout = (setup : Setup) (before now : Words) (was : Rule setup before) (is : Rule setup now) (hand : ℕ) (chunk : ChunkId) (issue : ℕ) (run more : List Event) →
+    is.ruled.run ≡ was.ruled.run ++ run → KeepsHolding was.ruled.moment hand chunk issue (run ++ more) → StaysThroughout setup before.words now.words was.ruled.moment hand chunk issue run
+
+-- *and so in each moment of which some hand knows its view*
+abbrev pub ViewsStayThroughout : Type 0
+ViewsStayThroughout = (first last : View) (was : LawfulView first) (is : LawfulView last) (hand : ℕ) (chunk : ChunkId) (issue : ℕ) (run more : List Event) → last.setup ≡ first.setup →
+    is.run ≡ was.run ++ run → KeepsHolding was.moment hand chunk issue (run ++ more) → StaysThroughout first.setup was.words is.words was.moment hand chunk issue run

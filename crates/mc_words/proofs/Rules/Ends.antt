@@ -25,6 +25,7 @@ use Rattle.mc_words.specs.lock.Slots.{slot_at}
 use Rattle.mc_words.specs.rule.Meaning.{Words, Has, Ruled}
 use Rattle.mc_words.specs.rule.Joins.{Rule, all_settled}
 use Rattle.mc_words.specs.rule.End.{Closes, IsLeftOf, Left, at_home, left_of, slabs_in, slabs_left, stripe_in, stripe_left}
+use Rattle.mc_words.proofs.Rules.Headlines.{rule_gives_headline}
 use Rattle.mc_words.proofs.Rules.NextMoments.{lawful_view}
 use Rattle.mc_words.proofs.Rules.Settled.{IsSettled, settled_same}
 use Rattle.mc_words.proofs.Rules.Written.{slabs_lock_read, lock_read, head_near}
@@ -87,24 +88,33 @@ module _ (setup : Setup) (t : Words) (r : Ruled setup t) (slots : List Slot) (la
         | false ↦ tt
       ])
 
-  left_is : (id : ℕ) (view : View) → get_elem? t.views id ≡ some view → IsSettled view → view.setup ≡ setup → Closes view (left_of setup t.words slots)
-  left_is id view at live of = record {
-    was = lawful_view setup t r id view at live.0 of;
-    setup = sym of;
-    heads = r.means.words.heads;
-    slabs = slabs_is;
-    stripes = maps_alike (stripe_left t.words slots) (λ stripe. at_home (slice_index s.stripe_locks stripe) (stripe_at s stripe)) 0 setup.config.stripes
-        (λ i near. let e = zero-add i in ap (stripe_left t.words slots) e ∙ (stripe_is i near ∙ sym (ap (λ stripe. at_home (slice_index s.stripe_locks stripe) (stripe_at s stripe)) e)))
-        ∙ ap (λ (of : Setup). map (λ stripe. at_home (slice_index s.stripe_locks stripe) (stripe_at s stripe)) (range_with_len 0 of.config.stripes)) (sym of);
-  }
+-- all of it, of the hand that closes it
+closed_by : (view : View) (t : Words) (slots : List Slot) → ((lock : ℕ) (slot : Slot) → get_elem? t.homes lock ≡ some (some slot) → get_elem? slots lock ≡ some slot) → (id : ℕ) → get_elem? t.views id ≡ some view → IsSettled view → Rule view.setup t
+    → Closes view (left_of view.setup t.words slots)
+closed_by view t slots last id mine live rule =
+    let at : get_elem? (map settled t.views) id ≡ some view = at_map settled t.views id view mine ∙ ap some (settled_same view live.1) in
+    let s = rule.ruled.moment.state in record {
+      was = lawful_view view.setup (all_settled t) rule.ruled id view at live.0 refl;
+      table = t;
+      rule = rule;
+      headline = rule_gives_headline view.setup t rule;
+      same_moment = refl;
+      same_words = refl;
+      mine = mine;
+      setup = refl;
+      heads = rule.ruled.means.words.heads;
+      slabs = slabs_is view.setup (all_settled t) rule.ruled slots last;
+      stripes = maps_alike (stripe_left t.words slots) (λ stripe. at_home (slice_index s.stripe_locks stripe) (stripe_at s stripe)) 0 view.setup.config.stripes
+          (λ i near. let e = zero-add i in
+          ap (stripe_left t.words slots) e ∙ (stripe_is view.setup (all_settled t) rule.ruled slots last i near ∙ sym (ap (λ stripe. at_home (slice_index s.stripe_locks stripe) (stripe_at s stripe)) e)));
+    }
 
 -- as the table tells it when it is closed
 module _ (setup plan : Setup) (planned : setup ≡ plan) (id : ℕ) (view : View) (words : List ℕ) (slots : List Slot) (final : Final (Seen (Rule setup) id view) words slots) where
   pub closes : IsSettled view → view.setup ≡ setup → Closes view (left_of plan words slots)
   closes live of =
       let (t, seen, same, long, last) = final in
-      let at : get_elem? (map settled t.views) id ≡ some view = at_map settled t.views id view seen.1 ∙ ap some (settled_same view live.1) in
-      subst (λ (p : Setup × List ℕ). Closes view (left_of p.0 p.1 slots)) (λ k. (planned k, same k)) (left_is setup (all_settled t) seen.0.ruled slots last id view at live of)
+      subst (λ (p : Setup × List ℕ). Closes view (left_of p.0 p.1 slots)) (λ k. ((of ∙ planned) k, same k)) (closed_by view t slots last id seen.1 live (subst (λ (s : Setup). Rule s t) (sym of) seen.0))
 
   pub lists : IfSome (slabs_left words slots) (λ slabs. IsOfTable plan.table slabs)
   lists =

@@ -1,6 +1,8 @@
 -- What is left of an arena after its end.
 use Rattle.std.specs.Prelude.{◌≡◌, ℕ, zero, suc, ◌<◌, ◌^◌, ◌==◌, List, length, map, take, drop, slice_index, slice_index_or, if◌then◌else◌, Option, Some, None, IfSome}
 use Rattle.std.specs.List.{range_with_len}
+use mathlib.Core.Option.{some}
+use lib.ListN.{get_elem?}
 use Rattle.mc_pages.specs.SlabState.{SlabState}
 use Rattle.mc_stripe.specs.StripeState.{ReadyStripe}
 use Rattle.mc_core.specs.Head.{decode}
@@ -9,8 +11,11 @@ use Rattle.mc_core.specs.State.{stripe_at}
 use Rattle.mc_words.specs.declared.lock.slot.Slot.{Slot}
 use Rattle.mc_words.specs.declared.lock.slot.Slot.TheVariants.{Empty, OfSlabs, OfStripe}
 use Rattle.mc_words.specs.hand.View.{Setup, View}
+use Rattle.mc_words.specs.Headline.{Headline}
 use Rattle.mc_words.specs.rule.Happens.{LawfulView}
+use Rattle.mc_words.specs.rule.Joins.{Rule}
 use Rattle.mc_words.specs.rule.Layout.{lock_word, heads_from, head_count, word_count}
+use Rattle.mc_words.specs.rule.Meaning.{Words}
 use Rattle.mc_words.specs.lock.Slots.{slot_at, slot_count}
 
 -- what is left of an arena: the words of the headers, page 0 first, and the values behind the locks that no hand has
@@ -25,10 +30,16 @@ pub record Left : Type 0 where
 abbrev pub at_home : {X : Type 0} → ℕ → X → Option X
 at_home word value = if word == 0 then Some value else None
 
--- the hand that closed the arena knew this in its last moment, which is lawful and was reached from the arena's beginning, and of which these
--- headers and values are left
+-- at the close, this hand's view is of a lawful moment that the arena's events lead to. It is the moment that the table means, whose views are
+-- those of all hands; the promise holds of that table; and these headers and values are left of it
 pub record Closes (view : View) (left : Left) : Type 0 where
   pub was : LawfulView view
+  pub table : Words
+  pub rule : Rule view.setup table
+  pub headline : Headline view.setup table
+  pub same_moment : rule.ruled.moment ≡ was.moment
+  pub same_words : table.words ≡ was.words
+  pub mine : get_elem? table.views was.hand ≡ some view
   pub setup : left.setup ≡ view.setup
   pub heads : map decode left.heads ≡ was.moment.state.heads
   pub slabs : left.slabs ≡ at_home was.moment.state.slabs_lock was.moment.state.slabs

@@ -1,0 +1,10 @@
+-- The promise at the end of an arena.
+use Rattle.mc_words.specs.Headline.{HeadlineOf}
+use Rattle.mc_words.specs.hand.View.{View}
+use Rattle.mc_words.specs.rule.End.{Closes, Left}
+
+-- a hand closed the arena, of which this is left, and the promise holds of its last moment
+pub record EndsWithPromise (left : Left) : Type 0 where
+  pub view : View
+  pub closes : Closes view left
+  pub promise : HeadlineOf view closes.was
