@@ -24,3 +24,5 @@ pub mod Chains
 pub mod StoredRows
 pub mod GetLeaves
 pub mod Touched
+pub mod Currents
+pub mod Missed

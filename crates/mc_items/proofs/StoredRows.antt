@@ -43,7 +43,7 @@ module _ (chunk : ChunkId) (item : List ℕ) (view between : View) (none : has_f
   filled_holds =
       ap (Rattle.mc_core.specs.Holdings.change_each (is_of chunk) (holding_with item)) gains.holdings ∙ change_last chunk (holding_with item) view.row.holdings gains.fresh before (last_passes chunk gains.fresh gains.of)
 
-  lost_again : lose (is_of chunk) filled.row.holdings ≡ view.row.holdings
+  pub lost_again : lose (is_of chunk) filled.row.holdings ≡ view.row.holdings
   lost_again = ap (lose (is_of chunk)) filled_holds ∙ lose_last chunk view.row.holdings (holding_with item gains.fresh) before (last_passes chunk (holding_with item gains.fresh) gains.of)
 
   -- stored, it is given up

@@ -9,3 +9,5 @@ pub mod Supplying
 pub mod Evicting
 pub mod Sources
 pub mod Setting
+pub mod Current
+pub mod Within

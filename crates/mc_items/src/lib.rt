@@ -17,6 +17,7 @@ mod setting;
 mod storing;
 mod supplying;
 mod touching;
+mod within;
 
 pub use bumping::bump;
 pub use deleting::delete;
@@ -27,3 +28,4 @@ pub use reading::{read, release, word};
 pub use refs::Ref;
 pub use setting::{SetError, set};
 pub use touching::touch;
+pub use within::{SetWithinError, set_within};

@@ -90,7 +90,7 @@ fn store<R: Wait>(
 
 // Links the item to its key in the key's stripe, and gives the stripe's lock back. At want of memory the stripe is as before, and
 // the chunk is given up.
-fn store_at(
+pub(crate) fn store_at(
     arena: &Arena,
     hand: &mut Hand,
     held: StripeHeld,

@@ -7,3 +7,4 @@ pub mod Arenas
 pub mod Hands
 pub mod Observers
 pub mod Ready
+pub mod Seats

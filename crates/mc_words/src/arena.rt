@@ -17,6 +17,7 @@ use crate::chunk::hints::Hints;
 use crate::lock::contention::Contention;
 use crate::rule::SharedTable;
 use mc_classes::{ClassTable, Config};
+use mc_pages::ChunkId;
 
 /// A slab memory that up to 64 hands share. All that a hand does to it goes by `&self`.
 #[derive(Drop)]
@@ -49,6 +50,7 @@ pub struct Arena {
 }
 
 impl Arena {
+    ghost use Rattle.mc_core.specs.State.{has_chunk};
     ghost use Rattle.mc_words.specs.hand.Arenas.{setup_of};
 
     /// What it was configured with.
@@ -63,5 +65,13 @@ impl Arena {
         ensures classes { result.now ≡ (setup_of self.now).table }
     {
         self.plan.classes()
+    }
+
+    /// Whether it has such a chunk: a header that may be looked at.
+    #[inline(always)]
+    pub fn has_chunk(&self, chunk: ChunkId) -> bool
+        ensures { result ≡ has_chunk (setup_of self.now).table chunk }
+    {
+        chunk.page < (self.first_head - self.first_page) as u64 && chunk.index < self.most as u64
     }
 }

@@ -1,6 +1,7 @@
 //! The hands of an arena.
 pub(crate) mod held;
 pub(crate) mod join;
+pub(crate) mod recall;
 
 ghost use Rattle.mc_words.specs.lock.Out.{IsNoted};
 ghost use Rattle.mc_words.specs.hand.Tallies.{IsTallied};

@@ -8,3 +8,4 @@ pub(crate) mod slot;
 pub(crate) mod stripe_room;
 pub(crate) mod tries;
 pub(crate) mod wait;
+pub(crate) mod within;

@@ -1,5 +1,5 @@
 -- Waiting for a lock: some looks at its word, and then a try that takes it.
-use Rattle.std.specs.Prelude.{◌≡◌, ◌≢◌, ℕ, List, [], ◌∷◌, ⊤}
+use Rattle.std.specs.Prelude.{◌≡◌, ◌≢◌, ◌<◌, ℕ, List, [], ◌∷◌, length, All, ⊤}
 use Rattle.mc_pages.specs.SlabState.{SlabState}
 use Rattle.mc_stripe.specs.StripeState.{ReadyStripe}
 use Rattle.mc_core.specs.declared.event.Step.TheVariants as step
@@ -40,3 +40,27 @@ pub record WaitsForStripe (stripe : ℕ) (view : View) (value : ReadyStripe) (no
   pub taken : Happens before [] (step.TakeStripe stripe) now
   pub is : now ≡ stripe_taken stripe value before
   pub begins : BeginsWithSeen view stripe value
+
+-- the slabs lock was taken at one of this many tries
+pub record TakesSlabsWithin (tries : ℕ) (view : View) (slabs : SlabState) (now : View) : Type 0 where
+  pub waits : WaitsForSlabs view slabs now
+  pub few : length waits.words < tries
+
+-- the hand tried for the slabs lock this many times, and its word was never 0
+pub record MissesSlabsEachTime (tries : ℕ) (view now : View) : Type 0 where
+  pub words : List ℕ
+  pub count : length words ≡ tries
+  pub busy : All (λ word. word ≢ 0) words
+  pub misses : MissesSlabs words view now
+
+-- the stripe's lock was taken at one of this many tries
+pub record TakesStripeWithin (tries stripe : ℕ) (view : View) (value : ReadyStripe) (now : View) : Type 0 where
+  pub waits : WaitsForStripe stripe view value now
+  pub few : length waits.words < tries
+
+-- the hand tried for the stripe's lock this many times, and its word was never 0
+pub record MissesStripeEachTime (tries stripe : ℕ) (view now : View) : Type 0 where
+  pub words : List ℕ
+  pub count : length words ≡ tries
+  pub busy : All (λ word. word ≢ 0) words
+  pub misses : MissesStripe stripe words view now

@@ -40,6 +40,25 @@ pub struct Hint {
     pub(crate) issue: u64,
 }
 
+impl Hint {
+    /// A hint of the item that this chunk had, or may have had, with this issue number. Any number may stand there: whoever follows the
+    /// hint looks at the chunk's header.
+    pub fn new(chunk: ChunkId, issue: u64) -> Hint
+        ensures chunk { result.chunk ≡ chunk }
+        ensures issue { result.issue ≡ issue }
+    {
+        Hint { chunk, issue }
+    }
+
+    /// The chunk, and the issue number.
+    pub fn numbers(&self) -> (ChunkId, u64)
+        ensures numbers { result ≡ (self.now.chunk, self.now.issue) }
+    {
+        let Hint { chunk, issue } = *self;
+        (chunk, issue)
+    }
+}
+
 /// Why no reference is had by a hint.
 #[derive(Clone, Copy, PartialEq, Eq, Drop)]
 pub enum Again {

@@ -36,7 +36,8 @@ impl Arena {
         Ok(())
     }
 
-    /// The calls of a stripe so far aren't recorded any more, and what they left is copied. (see `Stripe::trim`)
+    /// The calls of a stripe so far aren't recorded any more, and what they left is copied. `Full`, which is tested first, exactly where
+    /// the stripe records and the place of its next call would pass the greatest number of 64 bits. (see `Stripe::trim`)
     pub fn trim(&self, hand: &mut Hand, held: &mut StripeHeld) -> Result<(), Trim>
         requires arena { IsHandOf self.now hand.old }
         requires held { slice_index_or (view hand.old).stripes held.old.number None ≡ Some held.old.stripe }
@@ -48,6 +49,8 @@ impl Arena {
         ensures happens { OnOk result (Happens (view hand.old) (change.OfStripe held.old.number Trimmed ∷ []) (step.MissStripe held.old.number) (view hand.new)) }
         ensures view { OnOk result (view hand.new ≡ stripe_changed Trimmed held.old.number held.old.stripe (hand.old.number + 1) (view hand.old)) }
         ensures full { result ≡ Err Trim.Full → (is_some held.old.stripe.state.recorded_from ≡ true) × (2 ^ 64 ≤ length held.old.stripe.state.history) }
+        ensures first { is_some held.old.stripe.state.recorded_from ≡ true
+            → 2 ^ 64 ≤ length held.old.stripe.state.history → result ≡ Err Trim.Full }
         ensures refused { OnErr result ((held.new ≡ held.old) × (view hand.new ≡ view hand.old)) }
     {
         held.stripe.stripe_mut().trim()?;

@@ -115,8 +115,8 @@ impl Arena {
 
     /// Where a hand has waited for the lock of the slabs since the last rest, this lets other threads run, so many times. To be called by
     /// who takes that lock again and again and has it long, as a mover does: on what comes at once after it gave the lock, nobody else gets
-    /// in. It changes nothing that is proved, and no lock is to be held meanwhile. (own)
-    pub fn rest(&self, times: u64) {
+    /// in. It changes nothing that is proved, and no lock is to be held meanwhile. It waits, and so it takes the runtime. (own)
+    pub fn rest<R: Wait>(&self, _rt: &R, times: u64) {
         if self.contention.take() {
             let backoff = Backoff::new();
             for _ in 0..times {

@@ -1,0 +1,50 @@
+-- Sets that missed a lock at each try: what they leave of what the hand has.
+use Rattle.std.proofs.Common.{◌≡◌, ℕ, false, List, [], ◌∷◌, refl, ap, ◌∙◌, inl}
+use Rattle.mc_pages.specs.declared.ids.ChunkId.{ChunkId}
+use Rattle.mc_core.specs.Holdings.{has_fresh, is_of, lose}
+use Rattle.mc_words.specs.hand.View.{View}
+use Rattle.mc_words.specs.hand.Views.{slabs_missed}
+use Rattle.mc_words.specs.item.Refs.{KeepsRefs}
+use Rattle.mc_words.specs.lock.Wait.{MissesSlabs, MissesSlabsEachTime}
+use Rattle.mc_words.proofs.Locks.Waited.{misses_keep}
+use Rattle.mc_items.specs.Storing.{IsOwnItem, item_filled}
+use Rattle.mc_items.specs.Within.{LeavesUnlinked}
+use Rattle.mc_items.proofs.Chains.{refs_stay}
+use Rattle.mc_items.proofs.Left.{Kept, kept_of}
+use Rattle.mc_items.proofs.Made.{Gains, Tells, TellsTuple, told_of}
+use Rattle.mc_items.proofs.StoredRows.{lost_again}
+
+-- whatever misses leave stays
+pub slabs_misses_keep : {X : Type 0} (part : View → X) → ((word : ℕ) (v : View) → part (slabs_missed word v) ≡ part v) → (words : List ℕ) (before now : View) → MissesSlabs words before now → part now ≡ part before
+slabs_misses_keep part missed [] before now is = ap part is
+slabs_misses_keep part missed (word ∷ words) before now (busy, happens, rest) = slabs_misses_keep part missed words (slabs_missed word before) now rest ∙ missed word before
+
+-- each try for the lock of the slabs missed
+pub missed_holds : (tries : ℕ) (view now : View) → MissesSlabsEachTime tries view now → now.row.holdings ≡ view.row.holdings
+missed_holds tries view now missed = slabs_misses_keep (λ (v : View). v.row.holdings) (λ word v. refl) missed.words view now missed.misses
+
+pub missed_tells : (number tries : ℕ) (view now : View) → MissesSlabsEachTime tries view now → Tells number view now
+missed_tells number tries view now missed =
+    let told = slabs_misses_keep told_of (λ word v. refl) missed.words view now missed.misses in record {
+      said = ap (λ (o : TellsTuple). o.0) told;
+      ids = ap (λ (o : TellsTuple). o.1) told;
+      known = ap (λ (o : TellsTuple). o.3) told;
+      calls = inl (ap (λ (o : TellsTuple). o.2) told);
+    }
+
+-- each try for that of the stripe missed
+pub unlinked_tells : (tries stripe : ℕ) (chunk : ChunkId) (view now : View) → LeavesUnlinked tries stripe chunk view now → told_of now ≡ told_of view
+unlinked_tells tries stripe chunk view now dead = ap told_of dead.dropped ∙ misses_keep told_of stripe (λ word v. refl) dead.misses.words view dead.missed dead.misses.misses
+
+module _ (chunk : ChunkId) (item : List ℕ) (view between : View) (none : has_fresh view.row.holdings ≡ false) (gains : Gains chunk view between) (own : IsOwnItem between chunk) (tries stripe : ℕ) (now : View) (dead : LeavesUnlinked tries stripe chunk (item_filled chunk item between) now) where
+  missed_is : kept_of dead.missed ≡ kept_of (item_filled chunk item between)
+  missed_is = misses_keep kept_of stripe (λ word v. refl) dead.misses.words (item_filled chunk item between) dead.missed dead.misses.misses
+
+  pub unlinked_holds : now.row.holdings ≡ view.row.holdings
+  unlinked_holds = ap (λ (v : View). v.row.holdings) dead.dropped ∙ (ap (λ (k : Kept). lose (is_of chunk) k.0) missed_is ∙ lost_again chunk item view between none gains own)
+
+  unlinked_knows : now.row.knows.known ≡ between.row.knows.known
+  unlinked_knows = ap (λ (v : View). v.row.knows.known) dead.dropped ∙ ap (λ (k : Kept). k.1) missed_is
+
+  pub unlinked_keeps : between.row.knows.known ≡ view.row.knows.known → KeepsRefs view now
+  unlinked_keeps same = refs_stay view now unlinked_holds (unlinked_knows ∙ same)

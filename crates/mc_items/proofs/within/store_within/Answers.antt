@@ -1,0 +1,149 @@
+use Rattle.std.proofs.Common.{◌≡◌, ◌%◌, ℕ, List, refl, ap, sym, subst, ◌∙◌}
+use Rattle.mc_classes.specs.declared.config.Config.{Config}
+use Rattle.mc_pages.specs.declared.ids.ChunkId.{ChunkId}
+use Rattle.mc_core.specs.declared.holding.Holding.{Holding}
+use Rattle.mc_words.specs.item.Fresh.{IsFreshIn}
+use Rattle.mc_words.specs.lock.Lent.{IsLentStripe}
+use Rattle.mc_words.specs.lock.Out.{without_stripe}
+use Rattle.mc_words.specs.hand.Tallies.{next_stamp}
+use Rattle.mc_words.specs.hand.View.{View}
+use Rattle.mc_words.specs.hand.Views.{chunk_released, stripe_given}
+use Rattle.mc_words.specs.lock.Wait.{WaitsForStripe}
+use Rattle.mc_items.specs.Storing.{LeavesDead, Stores, StoresItem}
+use Rattle.mc_items.proofs.Gets.{called_on, only_waits}
+use Rattle.mc_words.proofs.Hands.HandNumbers.{number_stays}
+use Rattle.mc_words.proofs.Locks.Waited.{misses_keep}
+use Rattle.mc_items.proofs.Locks.{locks_back, waits_keep}
+use Rattle.mc_items.proofs.Stored.{dead_told, filled_still, stored_mine, stored_said}
+use Rattle.mc_items.proofs.within.store_within.Goals as goal
+
+pub discard-requires-clause-fresh : goal.discard-requires-clause-fresh
+discard-requires-clause-fresh c =
+    let missed = c.in_default.ensures.missed in
+    let holdings = misses_keep (λ (v : View). v.row.holdings) (c.args.key % c.config.result.now.stripes) (λ word v. refl) missed.words c.args.hand.now.seat.me.0 c.stripe_within.new.hand.seat.me.0 missed.misses in
+    subst (λ (hs : List Holding). IsFreshIn hs c.args.fresh.chunk c.args.fresh.room) (sym holdings) c.requires.fresh
+
+pub store_at-requires-clause-fresh : goal.store_at-requires-clause-fresh
+store_at-requires-clause-fresh c =
+    let hand = c.args.hand.now in
+    let held = c.in-Ok in
+    let before : View = hand.seat.me.0 in
+    let taken : View = c.stripe_within.new.hand.seat.me.0 in
+    let holdings = waits_keep (λ (v : View). v.row.holdings) (c.args.key % c.config.result.now.stripes) (λ word v. refl) (λ value v. refl) before held.held.stripe taken held.ensures.within.waits in
+    subst (λ (hs : List Holding). IsFreshIn hs c.args.fresh.chunk c.args.fresh.room) (sym holdings) c.requires.fresh
+
+pub store_at-requires-clause-item : goal.store_at-requires-clause-item
+store_at-requires-clause-item c =
+    let hand = c.args.hand.now in
+    let held = c.in-Ok in
+    let before : View = hand.seat.me.0 in
+    let taken : View = c.stripe_within.new.hand.seat.me.0 in
+    let holdings = waits_keep (λ (v : View). v.row.holdings) (c.args.key % c.config.result.now.stripes) (λ word v. refl) (λ value v. refl) before held.held.stripe taken held.ensures.within.waits in
+    filled_still c.args.fresh.chunk c.args.key c.args.fresh.stamp before taken holdings c.requires.item
+
+pub store_at-requires-clause-stamp : goal.store_at-requires-clause-stamp
+store_at-requires-clause-stamp c =
+    let hand = c.args.hand.now in
+    let held = c.in-Ok in
+    let before : View = hand.seat.me.0 in
+    let taken : View = c.stripe_within.new.hand.seat.me.0 in
+    ap next_stamp (waits_keep (λ (v : View). v.row.ids) (c.args.key % c.config.result.now.stripes) (λ word v. refl) (λ value v. refl) before held.held.stripe taken held.ensures.within.waits) ∙ c.requires.stamp
+
+pub returns-in-Ok-store_at-clause-locks : goal.returns-in-Ok-store_at-clause-locks
+returns-in-Ok-store_at-clause-locks c =
+    c.release.ensures.locks ∙ (c.store_at.ensures.locks ∙ (ap without_stripe c.in-Ok.ensures.locks ∙ locks_back c.args.hand.now (c.args.key % c.config.result.now.stripes) c.requires.unlocked))
+
+pub returns-in-Ok-store_at-clause-stores : goal.returns-in-Ok-store_at-clause-stores
+returns-in-Ok-store_at-clause-stores c =
+    let hand = c.args.hand.now in
+    let held = c.in-Ok in
+    let before : View = hand.seat.me.0 in
+    let taken : View = c.stripe_within.new.hand.seat.me.0 in
+    let at : c.args.key % c.config.result.now.stripes ≡ c.args.key % c.args.arena.now.table.shared.key.config.stripes = ap (λ (f : Config). c.args.key % f.stripes) c.config.ensures.config in
+    let stripe = c.args.key % c.args.arena.now.table.shared.key.config.stripes in
+    let linked : View = c.store_at.new.hand.seat.me.0 in
+    let now : View = c.release.new.hand.seat.me.0 in
+    let number = number_stays hand c.stripe_within.new.hand (waits_keep (λ (v : View). v.row.ids) (c.args.key % c.config.result.now.stripes) (λ word v. refl) (λ value v. refl) before held.held.stripe taken held.ensures.within.waits) in
+    let waits = subst (λ (n : ℕ). WaitsForStripe n before held.held.stripe taken) at held.ensures.within.waits in
+    let lent = subst (λ (n : ℕ). IsLentStripe taken n held.held.stripe) at held.ensures.whole in
+    let stored : StoresItem hand.number stripe c.args.key c.args.fresh.stamp c.args.fresh.chunk c.args.fresh.room before now = record {
+      linked = linked;
+      stores = called_on (λ number stripe. Stores number stripe c.args.key c.args.fresh.stamp c.args.fresh.chunk c.args.fresh.room) hand.number stripe c.stripe_within.new.hand.number held.held.number held.held.stripe before taken linked number (held.ensures.number ∙ at) waits lent c.in-Ok-store_at.ensures.done;
+      dropped = c.release.ensures.dropped ∙ ap (λ (chunk : ChunkId). chunk_released chunk linked) c.in-Ok-store_at.ensures.same.0;
+    } in
+    stored
+
+pub returns-in-Ok-store_at-clause-calls : goal.returns-in-Ok-store_at-clause-calls
+returns-in-Ok-store_at-clause-calls c =
+    let hand = c.args.hand.now in
+    let held = c.in-Ok in
+    let before : View = hand.seat.me.0 in
+    let taken : View = c.stripe_within.new.hand.seat.me.0 in
+    let at : c.args.key % c.config.result.now.stripes ≡ c.args.key % c.args.arena.now.table.shared.key.config.stripes = ap (λ (f : Config). c.args.key % f.stripes) c.config.ensures.config in
+    let stripe = c.args.key % c.args.arena.now.table.shared.key.config.stripes in
+    let linked : View = c.store_at.new.hand.seat.me.0 in
+    let now : View = c.release.new.hand.seat.me.0 in
+    let number = number_stays hand c.stripe_within.new.hand (waits_keep (λ (v : View). v.row.ids) (c.args.key % c.config.result.now.stripes) (λ word v. refl) (λ value v. refl) before held.held.stripe taken held.ensures.within.waits) in
+    let waits = subst (λ (n : ℕ). WaitsForStripe n before held.held.stripe taken) at held.ensures.within.waits in
+    let lent = subst (λ (n : ℕ). IsLentStripe taken n held.held.stripe) at held.ensures.whole in
+    let stored : StoresItem hand.number stripe c.args.key c.args.fresh.stamp c.args.fresh.chunk c.args.fresh.room before now = record {
+      linked = linked;
+      stores = called_on (λ number stripe. Stores number stripe c.args.key c.args.fresh.stamp c.args.fresh.chunk c.args.fresh.room) hand.number stripe c.stripe_within.new.hand.number held.held.number held.held.stripe before taken linked number (held.ensures.number ∙ at) waits lent c.in-Ok-store_at.ensures.done;
+      dropped = c.release.ensures.dropped ∙ ap (λ (chunk : ChunkId). chunk_released chunk linked) c.in-Ok-store_at.ensures.same.0;
+    } in
+    stored_mine hand.number stripe c.args.key c.args.fresh.stamp c.args.fresh.chunk c.args.fresh.room before now stored
+
+pub returns-in-Ok-store_at-clause-said : goal.returns-in-Ok-store_at-clause-said
+returns-in-Ok-store_at-clause-said c =
+    let hand = c.args.hand.now in
+    let held = c.in-Ok in
+    let before : View = hand.seat.me.0 in
+    let taken : View = c.stripe_within.new.hand.seat.me.0 in
+    let at : c.args.key % c.config.result.now.stripes ≡ c.args.key % c.args.arena.now.table.shared.key.config.stripes = ap (λ (f : Config). c.args.key % f.stripes) c.config.ensures.config in
+    let stripe = c.args.key % c.args.arena.now.table.shared.key.config.stripes in
+    let linked : View = c.store_at.new.hand.seat.me.0 in
+    let now : View = c.release.new.hand.seat.me.0 in
+    let number = number_stays hand c.stripe_within.new.hand (waits_keep (λ (v : View). v.row.ids) (c.args.key % c.config.result.now.stripes) (λ word v. refl) (λ value v. refl) before held.held.stripe taken held.ensures.within.waits) in
+    let waits = subst (λ (n : ℕ). WaitsForStripe n before held.held.stripe taken) at held.ensures.within.waits in
+    let lent = subst (λ (n : ℕ). IsLentStripe taken n held.held.stripe) at held.ensures.whole in
+    let stored : StoresItem hand.number stripe c.args.key c.args.fresh.stamp c.args.fresh.chunk c.args.fresh.room before now = record {
+      linked = linked;
+      stores = called_on (λ number stripe. Stores number stripe c.args.key c.args.fresh.stamp c.args.fresh.chunk c.args.fresh.room) hand.number stripe c.stripe_within.new.hand.number held.held.number held.held.stripe before taken linked number (held.ensures.number ∙ at) waits lent c.in-Ok-store_at.ensures.done;
+      dropped = c.release.ensures.dropped ∙ ap (λ (chunk : ChunkId). chunk_released chunk linked) c.in-Ok-store_at.ensures.same.0;
+    } in
+    stored_said hand.number stripe c.args.key c.args.fresh.stamp c.args.fresh.chunk c.args.fresh.room before now stored
+
+pub returns-in-Err-clause-locks : goal.returns-in-Err-clause-locks
+returns-in-Err-clause-locks c =
+    (c.store_at.ensures.locks ∙ (ap without_stripe c.in-Ok.ensures.locks ∙ locks_back c.args.hand.now (c.args.key % c.config.result.now.stripes) c.requires.unlocked))
+
+pub returns-in-Err-clause-no_memory : goal.returns-in-Err-clause-no_memory
+returns-in-Err-clause-no_memory c =
+    let hand = c.args.hand.now in
+    let held = c.in-Ok in
+    let before : View = hand.seat.me.0 in
+    let taken : View = c.stripe_within.new.hand.seat.me.0 in
+    let at : c.args.key % c.config.result.now.stripes ≡ c.args.key % c.args.arena.now.table.shared.key.config.stripes = ap (λ (f : Config). c.args.key % f.stripes) c.config.ensures.config in
+    let stripe = c.args.key % c.args.arena.now.table.shared.key.config.stripes in
+    let given : View = stripe_given held.held.number held.held.stripe taken in
+    record {
+      given = given;
+      waits = only_waits stripe held.held.number held.held.stripe before taken given (held.ensures.number ∙ at) (subst (λ (n : ℕ). WaitsForStripe n before held.held.stripe taken) at held.ensures.within.waits) (subst (λ (n : ℕ). IsLentStripe taken n held.held.stripe) at held.ensures.whole) c.in-Err.ensures.full refl;
+      dropped = c.in-Err.ensures.given;
+    }
+
+pub returns-in-Err-clause-refused : goal.returns-in-Err-clause-refused
+returns-in-Err-clause-refused c =
+    let hand = c.args.hand.now in
+    let held = c.in-Ok in
+    let before : View = hand.seat.me.0 in
+    let taken : View = c.stripe_within.new.hand.seat.me.0 in
+    let at : c.args.key % c.config.result.now.stripes ≡ c.args.key % c.args.arena.now.table.shared.key.config.stripes = ap (λ (f : Config). c.args.key % f.stripes) c.config.ensures.config in
+    let stripe = c.args.key % c.args.arena.now.table.shared.key.config.stripes in
+    let given : View = stripe_given held.held.number held.held.stripe taken in
+    let dead : LeavesDead stripe c.args.fresh.chunk before c.store_at.new.hand.seat.me.0 = record {
+      given = given;
+      waits = only_waits stripe held.held.number held.held.stripe before taken given (held.ensures.number ∙ at) (subst (λ (n : ℕ). WaitsForStripe n before held.held.stripe taken) at held.ensures.within.waits) (subst (λ (n : ℕ). IsLentStripe taken n held.held.stripe) at held.ensures.whole) c.in-Err.ensures.full refl;
+      dropped = c.in-Err.ensures.given;
+    } in
+    dead_told stripe c.args.fresh.chunk before c.store_at.new.hand.seat.me.0 dead

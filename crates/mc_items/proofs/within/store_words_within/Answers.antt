@@ -1,0 +1,49 @@
+use Rattle.std.proofs.Common.{◌≡◌, ◌%◌, ℕ, List, [], ◌∷◌, ◌++◌, IfOk, OnErr, OnOk, ap, subst, ◌∙◌}
+use Rattle.mc_core.specs.Holdings.{numbers}
+use Rattle.mc_core.specs.Past.{Own, Saying}
+use Rattle.mc_words.specs.hand.View.{View}
+use Rattle.mc_words.specs.declared.hand.held.Fresh.{Fresh}
+use Rattle.mc_items.specs.Storing.{LeavesDead, StoresItem}
+use Rattle.mc_items.specs.Within.{LeavesUnlinked}
+use Rattle.mc_pages.specs.declared.ids.ChunkId.{ChunkId}
+use Rattle.mc_words.proofs.Hands.HandNumbers.{number_stays}
+use Rattle.mc_words.specs.item.Items.{item_with}
+use Rattle.mc_items.proofs.Stored.{numbers_known}
+use Rattle.mc_items.proofs.within.store_words_within.Goals as goal
+
+pub returns-clause-stores : goal.returns-clause-stores
+returns-clause-stores c =
+    let fill = c.fill_item in
+    let last : View = c.store_within.new.hand.seat.me.0 in
+    let stripe = c.args.key % c.args.arena.now.table.shared.key.config.stripes in
+    let number = number_stays c.args.hand.now fill.new.hand (ap (λ (v : View). v.row.ids) fill.ensures.filled) in
+    let freshes : fill.new.fresh ≡ record c.args.fresh { key = c.args.key; stamp = c.args.stamp } = λ k. record { chunk = fill.ensures.same.0 k; room = fill.ensures.same.1 k; key = fill.ensures.key k; stamp = fill.ensures.stamp k } in
+    subst (λ (p : ℕ × Fresh × View). IfOk c.store_within.result (λ stored. OnOk stored (StoresItem p.0 stripe c.args.key p.1.stamp p.1.chunk p.1.room p.2 last))) (λ k. (number k, freshes k, fill.ensures.filled k)) c.store_within.ensures.stores
+
+pub returns-clause-said : goal.returns-clause-said
+returns-clause-said c =
+    let fill = c.fill_item in
+    let last : View = c.store_within.new.hand.seat.me.0 in
+    let item = item_with c.args.key c.args.stamp c.args.words.now in
+    let words = ap numbers fill.ensures.words ∙ numbers_known item in
+    let said = ap (λ (v : View). v.row.knows.said) fill.ensures.filled in
+    subst (λ (p : List Saying × ℕ × List ℕ). IfOk c.store_within.result (λ stored. OnOk stored (last.row.knows.said ≡ p.0 ++ record { stamp = p.1; words = p.2 } ∷ []))) (λ k. (said k, fill.ensures.stamp k, words k)) c.store_within.ensures.said
+
+pub returns-clause-refused : goal.returns-clause-refused
+returns-clause-refused c =
+    let last : View = c.store_within.new.hand.seat.me.0 in
+    subst (λ (mine : List Own). IfOk c.store_within.result (λ stored. OnErr stored (last.row.knows.mine ≡ mine))) (ap (λ (v : View). v.row.knows.mine) c.fill_item.ensures.filled) c.store_within.ensures.refused
+
+pub returns-clause-missed : goal.returns-clause-missed
+returns-clause-missed c =
+    let fill = c.fill_item in
+    let last : View = c.store_within.new.hand.seat.me.0 in
+    let stripe = c.args.key % c.args.arena.now.table.shared.key.config.stripes in
+    subst (λ (p : ChunkId × View). OnErr c.store_within.result (LeavesUnlinked c.args.tries stripe p.0 p.1 last)) (λ k. (fill.ensures.same.0 k, fill.ensures.filled k)) c.store_within.ensures.missed
+
+pub returns-clause-no_memory : goal.returns-clause-no_memory
+returns-clause-no_memory c =
+    let fill = c.fill_item in
+    let last : View = c.store_within.new.hand.seat.me.0 in
+    let stripe = c.args.key % c.args.arena.now.table.shared.key.config.stripes in
+    subst (λ (p : ChunkId × View). IfOk c.store_within.result (λ stored. OnErr stored (LeavesDead stripe p.0 p.1 last))) (λ k. (fill.ensures.same.0 k, fill.ensures.filled k)) c.store_within.ensures.no_memory

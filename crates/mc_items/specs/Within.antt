@@ -1,0 +1,43 @@
+-- Sets that try for each of their two locks n times, and why they are refused.
+use Rattle.std.specs.Prelude.{◌≡◌, ◌⊎◌, ℕ, List, Some}
+use Rattle.mc_pages.specs.declared.ids.ChunkId.{ChunkId}
+use Rattle.mc_words.specs.declared.hand.held.Fresh.{Fresh}
+use Rattle.mc_words.specs.hand.Observers.{fresh_chunk}
+use Rattle.mc_words.specs.hand.Tallies.{next_stamp}
+use Rattle.mc_words.specs.hand.View.{Setup, View}
+use Rattle.mc_words.specs.hand.Views.{chunk_discarded}
+use Rattle.mc_words.specs.item.Items.{item_with}
+use Rattle.mc_words.specs.lock.Doing.{HoldsSlabs}
+use Rattle.mc_words.specs.lock.Wait.{MissesSlabsEachTime, MissesStripeEachTime}
+use Rattle.mc_items.specs.OnKeys.{stripe_of_key}
+use Rattle.mc_items.specs.Setting.{RefusesSet, class_for_words}
+use Rattle.mc_items.specs.Sources.{SuppliesChunk}
+use Rattle.mc_items.specs.Storing.{item_filled}
+use Rattle.mc_items.specs.declared.within.SetWithinError.{SetWithinError}
+use Rattle.mc_items.specs.declared.within.SetWithinError.TheVariants.{Refused, Held}
+
+-- each try for the stripe's lock missed, and the chunk was given up
+pub record LeavesUnlinked (tries stripe : ℕ) (chunk : ChunkId) (view now : View) : Type 0 where
+  pub missed : View
+  pub misses : MissesStripeEachTime tries stripe view missed
+  pub dropped : now ≡ chunk_discarded chunk missed
+
+-- each try for the lock of the key's stripe missed, and the chunk that was filled for this key was given up
+abbrev pub MissesFor : Setup → ℕ → ℕ → Fresh → View → View → Type 0
+MissesFor setup tries key fresh filled now = LeavesUnlinked tries (stripe_of_key setup key) (fresh_chunk fresh) filled now
+
+-- a chunk was got and filled, each try for the lock of the key's stripe missed, and the chunk was given up
+pub record StoresUnlinked (number tries key : ℕ) (words : List ℕ) (view now : View) : Type 0 where
+  pub class : ℕ
+  pub fits : class_for_words view words ≡ Some class
+  pub stamp : ℕ
+  pub next : next_stamp view.row.ids ≡ Some stamp
+  pub chunk : ChunkId
+  pub between : View
+  pub supplies : HoldsSlabs (SuppliesChunk number class chunk) view between
+  pub dead : LeavesUnlinked tries (stripe_of_key view.setup key) chunk (item_filled chunk (item_with key stamp words) between) now
+
+-- why a set within this many tries was refused: as a set that waits, or each try for the one lock or for the other missed
+abbrev pub RefusesWithin : ℕ → ℕ → ℕ → List ℕ → SetWithinError → View → View → Type 0
+RefusesWithin number tries key words (Refused error) view now = RefusesSet number key words error view now
+RefusesWithin number tries key words Held view now = MissesSlabsEachTime tries view now ⊎ StoresUnlinked number tries key words view now

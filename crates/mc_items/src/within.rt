@@ -1,0 +1,185 @@
+//! Items that are set without a wait: a hand tries for each lock n times. A caller that can't wait uses these calls: a static library can't. (own)
+ghost use Rattle.std.specs.Prelude.{◌+◌, ◌≡◌, ◌≤◌, IfErr, IfOk, OnErr, OnOk, Some, false, length, true};
+ghost use Rattle.mc_core.specs.Holdings.{has_fresh, item_in, numbers};
+ghost use Rattle.mc_core.specs.State.{is_class};
+ghost use Rattle.mc_words.specs.hand.Arenas.{IsHandOf, setup_of, view};
+ghost use Rattle.mc_words.specs.hand.Idle.{is_unlocked};
+ghost use Rattle.mc_words.specs.hand.Observers.{fresh_chunk, fresh_key, fresh_room, fresh_stamp, locks_of, number_of};
+ghost use Rattle.mc_words.specs.hand.Ready.{IsReady};
+ghost use Rattle.mc_words.specs.hand.Tallies.{next_stamp};
+ghost use Rattle.mc_words.specs.item.Fresh.{IsFreshOf};
+ghost use Rattle.mc_words.specs.item.Items.{item_with, words_in};
+ghost use Rattle.mc_words.specs.item.Refs.{KeepsRefs};
+ghost use Rattle.mc_words.specs.lock.Wait.{MissesSlabsEachTime};
+ghost use Rattle.mc_items.specs.Calls.{TellsNoCall};
+ghost use Rattle.mc_items.specs.Evicting.{TellsEvict};
+ghost use Rattle.mc_items.specs.FreshChunks.{IsFilledWith, IsFreshFor, LosesFresh, StoresFresh, filled_with};
+ghost use Rattle.mc_items.specs.Keeping.{HoldsTheSame, Says, SaysNothing};
+ghost use Rattle.mc_items.specs.OnKeys.{ActsOnce, TellsOn};
+ghost use Rattle.mc_items.specs.Setting.{SetsItem, TellsSet};
+ghost use Rattle.mc_items.specs.Sources.{SuppliesChunk, SuppliesNone};
+ghost use Rattle.mc_items.specs.Storing.{IsOwnItem};
+ghost use Rattle.mc_items.specs.Within.{MissesFor, RefusesWithin};
+ghost use Rattle.mc_stripe.specs.declared.history.Call.TheVariants as call;
+
+use crate::filling::fill_item;
+use crate::setting::SetError;
+use crate::storing::store_at;
+use crate::supplying::supply_chunk;
+use mc_classes::ClassId;
+use mc_stripe::{NoMemory, Stamp};
+use mc_words::{Arena, Fresh, Hand, Held};
+use thiserror::Error;
+
+/// Why a set that doesn't wait was refused.
+#[derive(Debug, PartialEq, Eq, Drop, Error)]
+pub enum SetWithinError {
+    /// For a reason that a set that waits has, too.
+    #[error("{0}")]
+    Refused(SetError),
+    /// Other hands had the lock of the slabs at each try, and nothing was done; or they had that of the key's stripe at each try, and the
+    /// chunk that was got for the item is given up: a later set finds it dead. An item that was evicted for it stays evicted. The key's own
+    /// item is as before, unless it was the one evicted.
+    #[error("other hands had the lock of the slabs, or of the key's stripe, at each try")]
+    Held,
+}
+
+/// Stores an item as `set` does, but tries for each of its two locks `tries` times at most, and doesn't wait. `Held` where each try for one of
+/// them missed. With one try each it is a `set` that never spins. (own)
+pub fn set_within(
+    arena: &Arena,
+    hand: &mut Hand,
+    key: u64,
+    words: &[u64],
+    tries: u64,
+) -> Result<Stamp, SetWithinError>
+    requires arena { IsHandOf arena.now hand.old }
+    requires ready { IsReady (view hand.old) }
+    ensures arena { IsHandOf arena.now hand.new }
+    ensures ready { IsReady (view hand.new) }
+    ensures locks { locks_of hand.new ≡ locks_of hand.old }
+    ensures number { number_of hand.new ≡ number_of hand.old }
+    ensures sets { IfOk result (λ stamp. SetsItem (number_of hand.old) key stamp words.now (view hand.old) (view hand.new)) }
+    ensures calls { IfOk result (λ stamp. TellsSet (number_of hand.old) key stamp (view hand.old) (view hand.new)) }
+    ensures said { IfOk result (λ stamp. Says (item_with key stamp words.now) stamp (view hand.old) (view hand.new)) }
+    ensures refused { IfErr result (λ error. RefusesWithin (number_of hand.old) tries key words.now error (view hand.old) (view hand.new)) }
+    ensures evicts { OnErr result (TellsEvict (number_of hand.old) (view hand.old) (view hand.new)) }
+    ensures unsaid { OnErr result (SaysNothing (view hand.old) (view hand.new)) }
+    ensures stamps { OnErr result ((view hand.new).row.ids ≡ (view hand.old).row.ids) }
+    ensures holdings { HoldsTheSame (view hand.old) (view hand.new) }
+    ensures keeps { KeepsRefs (view hand.old) (view hand.new) }
+{
+    let Some(class) = arena.classes().class_for(24 + 8 * words.len() as u64) else {
+        return Err(SetWithinError::Refused(SetError::TooLarge));
+    };
+    let Some(stamp) = hand.next_stamp() else {
+        return Err(SetWithinError::Refused(SetError::WornOut));
+    };
+    let fresh = match chunk_within(arena, hand, class, tries) {
+        Ok(Ok(fresh)) => fresh,
+        Ok(Err(error)) => return Err(SetWithinError::Refused(error)),
+        Err(_) => return Err(SetWithinError::Held),
+    };
+    match store_words_within(arena, hand, fresh, key, stamp, words, tries) {
+        Ok(Ok(())) => Ok(stamp),
+        Ok(Err(refused)) => Err(SetWithinError::Refused(SetError::NoMemory(refused))),
+        Err(_) => Err(SetWithinError::Held),
+    }
+}
+
+// Gets a chunk of the class under the lock of the slabs, for which it tries `tries` times at most.
+fn chunk_within(
+    arena: &Arena,
+    hand: &mut Hand,
+    class: ClassId,
+    tries: u64,
+) -> Result<Result<Fresh, SetError>, Held>
+    requires arena { IsHandOf arena.now hand.old }
+    requires class { is_class (setup_of arena.now).table class ≡ true }
+    requires unlocked { is_unlocked (view hand.old) ≡ true }
+    requires fresh { has_fresh (view hand.old).row.holdings ≡ false }
+    requires few { length (view hand.old).row.holdings ≤ 255 }
+    ensures arena { IsHandOf arena.now hand.new }
+    ensures locks { locks_of hand.new ≡ locks_of hand.old }
+    ensures supplies { IfOk result (λ supplied. IfOk supplied (λ fresh. ActsOnce (SuppliesChunk (number_of hand.old) class (fresh_chunk fresh)) hand.old hand.new)) }
+    ensures fresh { IfOk result (λ supplied. IfOk supplied (IsFreshFor (setup_of arena.now) class (view hand.new))) }
+    ensures own { IfOk result (λ supplied. IfOk supplied (λ fresh. IsOwnItem (view hand.new) (fresh_chunk fresh))) }
+    ensures none { IfOk result (λ supplied. IfErr supplied (λ error. ActsOnce (SuppliesNone (number_of hand.old) class error) hand.old hand.new)) }
+    ensures missed { OnErr result (MissesSlabsEachTime tries (view hand.old) (view hand.new)) }
+{
+    let Ok(held) = arena.slabs_within(hand, tries) else {
+        return Err(Held);
+    };
+    let mut slabs = held;
+    let supplied = supply_chunk(arena, hand, &mut slabs, class);
+    arena.give_slabs(hand, slabs);
+    Ok(supplied)
+}
+
+// Writes an item into the fresh chunk, and stores it under its key, for whose stripe's lock it tries `tries` times at most. Where that is held,
+// and at want of memory, the key is as before, and the chunk is given up.
+fn store_words_within(
+    arena: &Arena,
+    hand: &mut Hand,
+    fresh: Fresh,
+    key: u64,
+    stamp: u64,
+    words: &[u64],
+    tries: u64,
+) -> Result<Result<(), NoMemory>, Held>
+    requires arena { IsHandOf arena.now hand.old }
+    requires unlocked { is_unlocked (view hand.old) ≡ true }
+    requires fresh { IsFreshOf (view hand.old) (fresh_chunk fresh) (fresh_room fresh) }
+    requires own { IsOwnItem (view hand.old) (fresh_chunk fresh) }
+    requires room { 3 + length words.now ≤ (fresh_room fresh) }
+    requires stamp { next_stamp (view hand.old).row.ids ≡ Some stamp }
+    ensures arena { IsHandOf arena.now hand.new }
+    ensures locks { locks_of hand.new ≡ locks_of hand.old }
+    ensures stores { IfOk result (λ stored. OnOk stored (StoresFresh (setup_of arena.now) key stamp fresh (number_of hand.old) (filled_with fresh key stamp words.now (view hand.old)) (view hand.new))) }
+    ensures calls { IfOk result (λ stored. OnOk stored (TellsOn (setup_of arena.now) key (λ number. call.Set number key stamp) hand.old hand.new)) }
+    ensures said { IfOk result (λ stored. OnOk stored (Says (item_with key stamp words.now) stamp (view hand.old) (view hand.new))) }
+    ensures no_memory { IfOk result (λ stored. OnErr stored (LosesFresh (setup_of arena.now) key fresh (filled_with fresh key stamp words.now (view hand.old)) (view hand.new))) }
+    ensures refused { IfOk result (λ stored. OnErr stored (TellsNoCall (view hand.old) (view hand.new))) }
+    ensures missed { OnErr result (MissesFor (setup_of arena.now) tries key fresh (filled_with fresh key stamp words.now (view hand.old)) (view hand.new)) }
+{
+    let mut fresh = fresh;
+    fill_item(arena, hand, &mut fresh, key, stamp, words);
+    store_within(arena, hand, fresh, key, tries)
+}
+
+// Stores the item that the hand filled the chunk with under its key, for whose stripe's lock it tries `tries` times at most.
+fn store_within(
+    arena: &Arena,
+    hand: &mut Hand,
+    fresh: Fresh,
+    key: u64,
+    tries: u64,
+) -> Result<Result<(), NoMemory>, Held>
+    requires arena { IsHandOf arena.now hand.old }
+    requires unlocked { is_unlocked (view hand.old) ≡ true }
+    requires fresh { IsFreshOf (view hand.old) (fresh_chunk fresh) (fresh_room fresh) }
+    requires item { IsFilledWith (view hand.old) fresh key (fresh_stamp fresh) }
+    requires key { fresh_key fresh ≡ key }
+    requires stamp { next_stamp (view hand.old).row.ids ≡ Some (fresh_stamp fresh) }
+    ensures arena { IsHandOf arena.now hand.new }
+    ensures locks { locks_of hand.new ≡ locks_of hand.old }
+    ensures stores { IfOk result (λ stored. OnOk stored (StoresFresh (setup_of arena.now) key (fresh_stamp fresh) fresh (number_of hand.old) (view hand.old) (view hand.new))) }
+    ensures calls { IfOk result (λ stored. OnOk stored (TellsOn (setup_of arena.now) key (λ number. call.Set number key (fresh_stamp fresh)) hand.old hand.new)) }
+    ensures said { IfOk result (λ stored. OnOk stored (Says (numbers (item_in (words_in (view hand.old) (fresh_chunk fresh)))) (fresh_stamp fresh) (view hand.old) (view hand.new))) }
+    ensures no_memory { IfOk result (λ stored. OnErr stored (LosesFresh (setup_of arena.now) key fresh (view hand.old) (view hand.new))) }
+    ensures refused { IfOk result (λ stored. OnErr stored (TellsNoCall (view hand.old) (view hand.new))) }
+    ensures missed { OnErr result (MissesFor (setup_of arena.now) tries key fresh (view hand.old) (view hand.new)) }
+{
+    let stripe = key % arena.config().stripes;
+    let Ok(held) = arena.stripe_within(hand, stripe, tries) else {
+        arena.discard(hand, fresh);
+        return Err(Held);
+    };
+    match store_at(arena, hand, held, fresh, key) {
+        Ok(reference) => {
+            arena.release(hand, reference);
+            Ok(Ok(()))
+        }
+        Err(error) => Ok(Err(error)),
+    }
+}
