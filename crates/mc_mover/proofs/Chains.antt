@@ -54,6 +54,10 @@ module _ (view taken last now : View) (found left : SlabState) (waits : WaitsFor
   pub held_said : last.row.knows.said ≡ taken.row.knows.said → now.row.knows.said ≡ view.row.knows.said
   held_said same = ap (λ (v : View). v.row.knows.said) given ∙ (same ∙ wait_keeps (λ (v : View). v.row.knows.said) (λ word v. refl) (λ slabs v. refl) view found taken waits)
 
+  -- and so do the hand's own calls
+  pub held_mine : last.row.knows.mine ≡ taken.row.knows.mine → now.row.knows.mine ≡ view.row.knows.mine
+  held_mine same = ap (λ (v : View). v.row.knows.mine) given ∙ (same ∙ wait_keeps (λ (v : View). v.row.knows.mine) (λ word v. refl) (λ slabs v. refl) view found taken waits)
+
   pub held_ids : last.row.ids ≡ taken.row.ids → now.row.ids ≡ view.row.ids
   held_ids same = ap (λ (v : View). v.row.ids) given ∙ (same ∙ wait_keeps (λ (v : View). v.row.ids) (λ word v. refl) (λ slabs v. refl) view found taken waits)
 

@@ -1,17 +1,16 @@
 -- Stripes that a hand took and gave back, one after another: of each the value as it was last taken, and as it was last given.
-use Rattle.std.proofs.Common.{◌≡◌, ◌≢◌, ◌⊎◌, ℕ, suc, zero, ◌+◌, ◌<◌, ◌≤◌, Some, List, Result, Ok, Err, OnErr, inl, inr, refl, sym, ap, ap₂, subst, ◌∙◌, arith, eqb, eq-eqb, ne_eqb}
-use Rattle.std.proofs.lemmas.Bool.{cases_eq, cases_lt}
+use Rattle.std.proofs.Common.{◌≡◌, ◌≢◌, ℕ, suc, zero, ◌+◌, ◌<◌, ◌≤◌, Some, Result, Ok, Err, OnErr, inl, inr, refl, sym, ap, subst, ◌∙◌, arith, eq-eqb, ne_eqb}
+use Rattle.std.proofs.lemmas.Bool.{cases_eq}
 use Rattle.std.specs.List.{range_with_len}
 use Rattle.mc_stripe.specs.StripeState.{ReadyStripe}
 use Rattle.mc_core.specs.declared.event.StripeChange.{StripeChange}
 use Rattle.mc_core.specs.declared.event.StripeChange.TheVariants.{Trim}
 use Rattle.mc_core.specs.Past.{Hold, StripeHold, begin_hold, end_hold, last_of}
-use Rattle.mc_core.specs.Silent.{stripe_after}
 use Rattle.mc_words.specs.hand.View.{View}
 use Rattle.mc_words.specs.hand.Observers.{last_given, last_taken}
 use Rattle.mc_words.specs.lock.Doing.{Doing, HoldsSlabs, HoldsStripe}
 use Rattle.mc_words.proofs.Locks.Waited.{misses_keep}
-use Rattle.mc_mover.specs.Recording.{Changes, ChangesEach, GivesBackChanged, GivesBackSame, GivesBackUpToOne, Leaves, StopsTrimming, TrimsLedger}
+use Rattle.mc_mover.specs.Recording.{Changes, ChangesEach, GivesBackChanged, GivesBackUpToOne, IsFull, Leaves, StopsTrimming, TakesNotFull, TrimsLedger}
 use Rattle.mc_mover.proofs.HoldsSlabs.{wait_keeps}
 
 -- the last hold of a stripe's lock
@@ -100,3 +99,21 @@ given_up_to number view now stops =
           (all_given Trim number stops.stripe view stops.before stops.trims below near),
       (last.found, own_taken Leaves leaves_leave stops.stripe stops.before now last, own_given Leaves leaves_leave stops.stripe stops.before now last ∙ ap Some last.does.0),
     )
+
+-- whatever is done, but for these
+abbrev pub OnlyLeaves : Doing
+OnlyLeaves found taken left last = last.row.knows.hold ≡ taken.row.knows.hold
+
+-- a stripe that was taken wasn't full
+pub taken_unfull : (stripe : ℕ) (view now : View) → (holds : HoldsStripe stripe OnlyLeaves view now) → ¬ IsFull holds.found → TakesNotFull now stripe
+taken_unfull stripe view now holds unfull = (holds.found, own_taken OnlyLeaves (λ found taken left last does. does) stripe view now holds, unfull)
+
+-- one stripe more
+pub unfull_more : (number stripe : ℕ) (view now : View) → HoldsStripe stripe (Changes Trim number stripe) view now → ((below : ℕ) → below < stripe → TakesNotFull view below) → TakesNotFull now stripe → (below : ℕ) → below < stripe + 1 → TakesNotFull now below
+unfull_more number stripe view now holds before own below near =
+    elim (cases_eq below stripe) [
+      | inl same ↦ subst (TakesNotFull now) (sym same) own
+      | inr apart ↦
+          let (value, taken, unfull) = before below (omega (arith, near, apart)) in
+          (value, ap (λ (h : StripeHold). h.found) (other_stays (Changes Trim number stripe) (changes_leave Trim number stripe) stripe view now holds below apart) ∙ taken, unfull)
+    ]

@@ -25,7 +25,7 @@ use Rattle.mc_words.specs.item.Removal.{stripe_read}
 use Rattle.mc_words.specs.rule.Happens.{Happens}
 use Rattle.mc_words.specs.hand.Idle.{has_no_stripes}
 use Rattle.mc_words.specs.item.Items.{word_read}
-use Rattle.mc_words.specs.lock.Lent.{IsLentStripe}
+use Rattle.mc_words.specs.lock.Lent.{BeginsWithSeen, IsLentStripe}
 use Rattle.mc_words.specs.lock.Out.{has_no_stripe, with_stripe, without_stripe}
 use Rattle.mc_words.specs.page.Owner.{is_unused}
 use Rattle.mc_words.specs.hand.Views.{stripe_given, stripe_taken}
@@ -47,7 +47,7 @@ stripe_back hand stripe none = by hand.locks (no_stripe_from hand.seat.me.0 hand
 
 -- the key of the chunk was read, and its stripe's lock taken
 module _ (chunk : ChunkId) (view read taken : View) (slabs : SlabState) (key stripe : ℕ) (value : ReadyStripe) (reads : ReadsKey chunk key view read) (at : stripe ≡ key % view.setup.config.stripes) (takes : Happens read [] (step.TakeStripe stripe) taken)
-    (is_taken : taken ≡ stripe_taken stripe value read) (lent : IsLentStripe taken stripe value) where
+    (is_taken : taken ≡ stripe_taken stripe value read) (lent : IsLentStripe taken stripe value) (begins : BeginsWithSeen read stripe value) where
   pub reached : (Does : ℕ → StripeDoing) (now : View) (left : SlabState) → Does key stripe value taken slabs now left → ReachesStripe chunk Does view slabs now left
   reached Does now left does = record {
     key = key;
@@ -58,6 +58,7 @@ module _ (chunk : ChunkId) (view read taken : View) (slabs : SlabState) (key str
     takes = subst (λ n. Happens read [] (step.TakeStripe n) taken) at takes;
     is_taken = is_taken ∙ ap (λ n. stripe_taken n value read) at;
     lent = subst (λ n. IsLentStripe taken n value) at lent;
+    begins = subst (λ (p : View × ℕ). BeginsWithSeen p.0 p.1 value) (λ k. (reads.1 k, at k)) begins;
     does = subst (λ n. Does key n value taken slabs now left) at does;
   }
 
@@ -124,12 +125,12 @@ dead_unused (Some head) dead = ap Some (or_right (is_free head.tag) (is_dead hea
 
 -- the chunk was held, or its key leads elsewhere, and the lock was given back
 module _ (chunk : ChunkId) (view read taken : View) (slabs : SlabState) (key stripe : ℕ) (value : ReadyStripe) (reads : ReadsKey chunk key view read) (at : stripe ≡ key % view.setup.config.stripes) (takes : Happens read [] (step.TakeStripe stripe) taken)
-    (is_taken : taken ≡ stripe_taken stripe value read) (lent : IsLentStripe taken stripe value) where
+    (is_taken : taken ≡ stripe_taken stripe value read) (lent : IsLentStripe taken stripe value) (begins : BeginsWithSeen read stripe value) where
   pub held_up : (number class : ℕ) (sweep : Sweep) (unheld : Bool) (now : View) → now ≡ stripe_given stripe value taken → ((unheld ≡ false) ⊎ ((unheld ≡ true) × (option_map (λ (place : ChunkId × ℕ). place.0) (place_of value.state key) ≢ Some chunk)))
       → HoldsUp number class chunk sweep unheld sweep view slabs now slabs
   held_up number class sweep unheld now given (inl held) =
       subst (λ (b : Bool). HoldsUp number class chunk sweep b sweep view slabs now slabs) (sym held)
-      (reached chunk view read taken slabs key stripe value reads at takes is_taken lent (λ key. OnlyGives) now slabs (given, refl), refl)
+      (reached chunk view read taken slabs key stripe value reads at takes is_taken lent begins (λ key. OnlyGives) now slabs (given, refl), refl)
   held_up number class sweep unheld now given (inr (free, gone)) =
       subst (λ (b : Bool). HoldsUp number class chunk sweep b sweep view slabs now slabs) (sym free)
-      (inl (reached chunk view read taken slabs key stripe value reads at takes is_taken lent (FindsGone chunk) now slabs (gone, (given, refl)), refl))
+      (inl (reached chunk view read taken slabs key stripe value reads at takes is_taken lent begins (FindsGone chunk) now slabs (gone, (given, refl)), refl))

@@ -12,7 +12,7 @@ use Rattle.mc_words.specs.hand.View.{View}
 use Rattle.mc_words.specs.item.Removal.{key_seen}
 use Rattle.mc_words.specs.lock.Doing.{IsDone, SlabsDoing}
 use Rattle.mc_words.specs.rule.Happens.{Happens}
-use Rattle.mc_words.specs.lock.Lent.{IsLentStripe}
+use Rattle.mc_words.specs.lock.Lent.{BeginsWithSeen, IsLentStripe}
 use Rattle.mc_words.specs.page.Owner.{Clears}
 use Rattle.mc_words.specs.chunk.Sweeps.{SweepsOne}
 use Rattle.mc_words.specs.hand.Views.{stripe_given, stripe_missed, stripe_taken}
@@ -37,7 +37,7 @@ pub record FindsLocked (chunk : ChunkId) (view now : View) : Type 0 where
   pub busy : word ≢ 0
   pub is : now ≡ stripe_missed (key % view.setup.config.stripes) word read
 
--- so, the lock of its key's stripe was taken at once, and then this was done
+-- so, the lock of its key's stripe was taken at once, whose history began with all that the hand had seen of it, and then this was done
 pub record ReachesStripe (chunk : ChunkId) (Does : ℕ → StripeDoing) (view : View) (slabs : SlabState) (now : View) (left : SlabState) : Type 0 where
   pub key : ℕ
   pub value : ReadyStripe
@@ -47,6 +47,7 @@ pub record ReachesStripe (chunk : ChunkId) (Does : ℕ → StripeDoing) (view : 
   pub takes : Happens read [] (step.TakeStripe (key % view.setup.config.stripes)) taken
   pub is_taken : taken ≡ stripe_taken (key % view.setup.config.stripes) value read
   pub lent : IsLentStripe taken (key % view.setup.config.stripes) value
+  pub begins : BeginsWithSeen view (key % view.setup.config.stripes) value
   pub does : Does key (key % view.setup.config.stripes) value taken slabs now left
 
 -- the lock was given back, and nothing was changed

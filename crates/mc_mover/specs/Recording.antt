@@ -31,16 +31,25 @@ IsFull stripe = (is_some stripe.state.recorded_from ≡ true) × (2 ^ 64 ≤ len
 abbrev pub FindsFull : Doing
 FindsFull found taken left last = IsFull found × Leaves found taken left last
 
+-- the stripe was found not to be full, and nothing was done
+abbrev pub FindsNotFull : Doing
+FindsNotFull found taken left last = (¬ IsFull found) × Leaves found taken left last
+
 -- each of these stripes changed so, one after another
 abbrev pub ChangesEach : StripeChange → ℕ → List ℕ → View → View → Type 0
 ChangesEach how number [] view now = now ≡ view
 ChangesEach how number (stripe ∷ stripes) view now = (next : View) × HoldsStripe stripe (Changes how number stripe) view next × ChangesEach how number stripes next now
 
--- all stripes below one were trimmed, and this was done with that one
+-- the stripe wasn't full as the hand last took it
+abbrev pub TakesNotFull : View → ℕ → Type 0
+TakesNotFull view stripe = (value : ReadyStripe) × (last_taken view stripe ≡ Some value) × (¬ IsFull value)
+
+-- all stripes below one were trimmed, of which none was full, and this was done with that one
 pub record StopsTrimming (number : ℕ) (Does : Doing) (view now : View) : Type 0 where
   pub stripe : ℕ
   pub before : View
   pub trims : ChangesEach Trim number (range_with_len 0 stripe) view before
+  pub unfull : (below : ℕ) → below < stripe → TakesNotFull before below
   pub stops : HoldsStripe stripe Does before now
 
 -- the hand last gave this stripe back as it had taken it, but changed so
@@ -59,10 +68,11 @@ GivesBackUpToOne view = (stripe : ℕ) × ((below : ℕ) → below < stripe → 
 abbrev pub TrimsLedger : ℕ → SlabsDoing
 TrimsLedger number view slabs now left = ChangesOnce number TrimLedger view slabs now × (left ≡ after_trim slabs)
 
--- all stripes below this one were trimmed, and then the ledger
+-- all stripes below this one were trimmed, of which none was full, and then the ledger
 pub record TrimsAll (number count : ℕ) (view now : View) : Type 0 where
   pub between : View
   pub stripes : ChangesEach Trim number (range_with_len 0 count) view between
+  pub unfull : (stripe : ℕ) → stripe < count → TakesNotFull between stripe
   pub ledger : HoldsSlabs (TrimsLedger number) between now
 
 -- the hand trimmed all stripes and the ledger, or the first stripes, up to one that was refused

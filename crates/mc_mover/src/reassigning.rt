@@ -19,6 +19,8 @@ use std::sync::Wait;
 /// It is refused, by the first of these that applies: `Busy` where a page moves already; `Same` where source and destination are one;
 /// `BadClass` where one of them is no class, or none can be picked; `NoSpare` where the source has one page at most; and `NoMemory` last,
 /// where the room that the move's end needs was refused. What is refused changes nothing: pages, lists, moves and the pick stay.
+///
+/// It records no call of this hand, and stores nothing.
 pub fn reassign<R: Wait>(
     rt: &R,
     arena: &Arena,
@@ -36,6 +38,7 @@ pub fn reassign<R: Wait>(
     ensures holdings { (view hand.new).row.holdings ≡ (view hand.old).row.holdings }
     ensures keeps { KeepsRefs (view hand.old) (view hand.new) }
     ensures unsaid { (view hand.new).row.knows.said ≡ (view hand.old).row.knows.said }
+    ensures untold { (view hand.new).row.knows.mine ≡ (view hand.old).row.knows.mine }
 {
     let mut held = arena.lock_slabs(rt, hand);
     let answer = arena.begin_move(hand, &mut held, src, dst);
@@ -44,7 +47,7 @@ pub fn reassign<R: Wait>(
 }
 
 /// Sets the automover's mode: 0 is off, 1 acts on each window, 2 on each eviction. Nothing else changes, and it takes no memory. It
-/// waits for the lock of the slabs, and for no other.
+/// waits for the lock of the slabs, and for no other. It records no call of this hand, and stores nothing.
 pub fn set_mode<R: Wait>(rt: &R, arena: &Arena, hand: &mut Hand, mode: u64)
     requires arena { IsHandOf arena.now hand.old }
     requires ready { IsReady (view hand.old) }
@@ -57,6 +60,7 @@ pub fn set_mode<R: Wait>(rt: &R, arena: &Arena, hand: &mut Hand, mode: u64)
     ensures holdings { (view hand.new).row.holdings ≡ (view hand.old).row.holdings }
     ensures keeps { KeepsRefs (view hand.old) (view hand.new) }
     ensures unsaid { (view hand.new).row.knows.said ≡ (view hand.old).row.knows.said }
+    ensures untold { (view hand.new).row.knows.mine ≡ (view hand.old).row.knows.mine }
 {
     let mut held = arena.lock_slabs(rt, hand);
     arena.set_automove(hand, &mut held, mode);

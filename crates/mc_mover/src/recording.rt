@@ -8,7 +8,7 @@ ghost use Rattle.mc_words.specs.hand.Observers.{locks_of, number_of};
 ghost use Rattle.mc_words.specs.hand.Ready.{IsReady};
 ghost use Rattle.mc_words.specs.item.Refs.{KeepsRefs};
 ghost use Rattle.mc_mover.specs.Acting.{ActsOnce};
-ghost use Rattle.mc_mover.specs.Recording.{Changes, ChangesEach, FindsFull, GivesBackChanged, GivesBackUpToOne, Leaves, StopsTrimming, TrimsAll, TrimsLedger};
+ghost use Rattle.mc_mover.specs.Recording.{Changes, ChangesEach, FindsFull, FindsNotFull, GivesBackChanged, GivesBackUpToOne, Leaves, StopsTrimming, TakesNotFull, TrimsAll, TrimsLedger};
 
 use mc_stripe::Trim;
 use mc_words::{Arena, Hand};
@@ -16,7 +16,9 @@ use std::sync::Wait;
 
 /// Trims what is recorded of the past: the history of each stripe, from 0 on, one at a time, and then the ledger. The calls and entries
 /// so far aren't recorded any more, and take no memory but what they left, each key's stamp and each page's owner. It waits for each
-/// lock. It ends at the first refusal, whose stripe is as before; what was trimmed stays trimmed, and the ledger isn't then. (own)
+/// lock. It ends at the first refusal, whose stripe is as before; what was trimmed stays trimmed, and the ledger isn't then. It is `Full`
+/// exactly where that stripe records and the place of its next call would pass the greatest number of 64 bits, which is tested before
+/// memory is asked for; no stripe that was trimmed was so. (own)
 pub fn trim<R: Wait>(rt: &R, arena: &Arena, hand: &mut Hand) -> Result<(), Trim>
     requires arena { IsHandOf arena.now hand.old }
     requires ready { IsReady (view hand.old) }
@@ -29,6 +31,8 @@ pub fn trim<R: Wait>(rt: &R, arena: &Arena, hand: &mut Hand) -> Result<(), Trim>
     ensures given { OnOk result ((stripe : ℕ) → stripe < (setup_of arena.now).config.stripes → GivesBackChanged Trimmed (view hand.new) stripe) }
     ensures same { OnErr result (GivesBackUpToOne (view hand.new)) }
     ensures full { result ≡ Err Trim.Full → StopsTrimming (number_of hand.old) FindsFull (view hand.old) (view hand.new) }
+    ensures first { result ≡ Err (Trim.NoMemory tt)
+        → StopsTrimming (number_of hand.old) FindsNotFull (view hand.old) (view hand.new) }
     ensures holdings { (view hand.new).row.holdings ≡ (view hand.old).row.holdings }
     ensures keeps { KeepsRefs (view hand.old) (view hand.new) }
     ensures unsaid { (view hand.new).row.knows.said ≡ (view hand.old).row.knows.said }
@@ -90,8 +94,12 @@ fn trim_stripes<R: Wait>(rt: &R, arena: &Arena, hand: &mut Hand) -> Result<(), T
     ensures locks { locks_of hand.new ≡ locks_of hand.old }
     ensures number { number_of hand.new ≡ number_of hand.old }
     ensures trims { OnOk result (ChangesEach Trimmed (number_of hand.old) (range_with_len 0 (setup_of arena.now).config.stripes) (view hand.old) (view hand.new)) }
+    ensures unfull { OnOk result ((stripe : ℕ) → stripe < (setup_of arena.now).config.stripes
+        → TakesNotFull (view hand.new) stripe) }
     ensures stops { OnErr result (StopsTrimming (number_of hand.old) Leaves (view hand.old) (view hand.new)) }
     ensures full { result ≡ Err Trim.Full → StopsTrimming (number_of hand.old) FindsFull (view hand.old) (view hand.new) }
+    ensures first { result ≡ Err (Trim.NoMemory tt)
+        → StopsTrimming (number_of hand.old) FindsNotFull (view hand.old) (view hand.new) }
     ensures holdings { (view hand.new).row.holdings ≡ (view hand.old).row.holdings }
     ensures keeps { KeepsRefs (view hand.old) (view hand.new) }
     ensures unsaid { (view hand.new).row.knows.said ≡ (view hand.old).row.knows.said }
@@ -114,7 +122,10 @@ fn trim_stripe<R: Wait>(rt: &R, arena: &Arena, hand: &mut Hand, stripe: u64) -> 
     ensures number { number_of hand.new ≡ number_of hand.old }
     ensures trims { OnOk result (HoldsStripe stripe (Changes Trimmed (number_of hand.old) stripe) (view hand.old) (view hand.new)) }
     ensures leaves { OnErr result (HoldsStripe stripe Leaves (view hand.old) (view hand.new)) }
+    ensures unfull { OnOk result (TakesNotFull (view hand.new) stripe) }
     ensures full { result ≡ Err Trim.Full → HoldsStripe stripe FindsFull (view hand.old) (view hand.new) }
+    ensures first { result ≡ Err (Trim.NoMemory tt)
+        → HoldsStripe stripe FindsNotFull (view hand.old) (view hand.new) }
 {
     let mut held = arena.lock_stripe(rt, hand, stripe);
     if let Err(refused) = arena.trim(hand, &mut held) {

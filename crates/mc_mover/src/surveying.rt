@@ -19,7 +19,7 @@ use std::sync::Wait;
 
 /// What the classes and the whole have in one hold of the lock of the slabs, for which it waits. With `sweep` each chunk that is handed
 /// out is looked at first, and the dead ones are put back, so that they count as free; without, nothing is looked at or changed. At want
-/// of memory nothing is done. (memcached's `fill_slab_stats_automove`; the sweep is own)
+/// of memory nothing is done. It records no call of this hand, and stores nothing. (memcached's `fill_slab_stats_automove`; the sweep is own)
 pub fn survey<R: Wait>(
     rt: &R,
     alloc: Global,
@@ -38,6 +38,7 @@ pub fn survey<R: Wait>(
     ensures holdings { (view hand.new).row.holdings ≡ (view hand.old).row.holdings }
     ensures keeps { KeepsRefs (view hand.old) (view hand.new) }
     ensures unsaid { (view hand.new).row.knows.said ≡ (view hand.old).row.knows.said }
+    ensures untold { (view hand.new).row.knows.mine ≡ (view hand.old).row.knows.mine }
 {
     let count = arena.classes().count();
     let room = with_capacity(alloc, count as usize)?;

@@ -49,7 +49,7 @@ pub fn turn<R: Wait>(rt: &R, arena: &Arena, hand: &mut Hand) -> Result<Turn, NoM
     ensures keeps { KeepsRefs (view hand.old) (view hand.new) }
     ensures unsaid { (view hand.new).row.knows.said ≡ (view hand.old).row.knows.said }
 {
-    arena.rest(arena.config().bulk);
+    arena.rest(rt, arena.config().bulk);
     let mut held = arena.lock_slabs(rt, hand);
     let answer = turn_held(arena, hand, &mut held);
     arena.give_slabs(hand, held);

@@ -59,7 +59,7 @@ returns-then-not-unheld-clause-visits c =
     let reads : ReadsKey c.args.chunk key view read = (c.word_held-key.ensures.happens, c.word_held-key.ensures.view) in
     let given = c.give_stripe.ensures.left ∙ ap (λ n. stripe_given n value taken) c.in-Ok.ensures.number in
     let now : View = c.give_stripe.new.hand.seat.me.0 in
-    held_up c.args.chunk view read taken slabs key stripe value reads at c.in-Ok.ensures.taken c.in-Ok.ensures.lent c.in-Ok.ensures.whole c.args.hand.now.number c.args.class c.args.sweep.now c.args.unheld now given (elim c.then-not-unheld.branch [
+    held_up c.args.chunk view read taken slabs key stripe value reads at c.in-Ok.ensures.taken c.in-Ok.ensures.lent c.in-Ok.ensures.whole c.in-Ok.ensures.seen c.args.hand.now.number c.args.class c.args.sweep.now c.args.unheld now given (elim c.then-not-unheld.branch [
       | then-not-unheld-via-then-not-unheld w ↦ inl w.if-not-unheld.true
       | then-not-unheld-via-else-not-unheld+then-not-leads_to w ↦ inr (w.if-not-unheld.false, w.if-not-leads_to.ensures.other refl)
     ])
@@ -80,7 +80,7 @@ save-requires-clause-key c =
     let value = c.in-Ok.stripe.stripe in
     let stripe = key % c.config.result.now.stripes in
     let reads : ReadsKey c.args.chunk key view read = (c.word_held-key.ensures.happens, c.word_held-key.ensures.view) in
-    stripe_found c.args.chunk view read taken slabs key stripe value reads at c.in-Ok.ensures.taken c.in-Ok.ensures.lent c.in-Ok.ensures.whole ∙ ap (λ n. Some n) (sym c.in-Ok.ensures.number)
+    stripe_found c.args.chunk view read taken slabs key stripe value reads at c.in-Ok.ensures.taken c.in-Ok.ensures.lent c.in-Ok.ensures.whole c.in-Ok.ensures.seen ∙ ap (λ n. Some n) (sym c.in-Ok.ensures.number)
 
 pub save-requires-clause-leads : goal.save-requires-clause-leads
 save-requires-clause-leads c =
@@ -113,7 +113,7 @@ returns-in_err-found-clause-lacks c =
     let left = c.save.new.slabs.shared in
     let leads = c.if-not-leads_to.ensures.leads refl in
     as_error c.from_residual.result
-    (c.if-not-unheld.false, reached c.args.chunk view read taken slabs key stripe value reads at c.in-Ok.ensures.taken c.in-Ok.ensures.lent c.in-Ok.ensures.whole (GivesThere c.args.chunk) now left (ap (option_map (λ (place : ChunkId × ℕ). place.0)) leads.1, c.in_err-found.ensures.unready, subst (λ n. OnlyGives n value taken slabs now left) c.in-Ok.ensures.number c.in_err-found.ensures.lacks))
+    (c.if-not-unheld.false, reached c.args.chunk view read taken slabs key stripe value reads at c.in-Ok.ensures.taken c.in-Ok.ensures.lent c.in-Ok.ensures.whole c.in-Ok.ensures.seen (GivesThere c.args.chunk) now left (ap (option_map (λ (place : ChunkId × ℕ). place.0)) leads.1, c.in_err-found.ensures.unready, subst (λ n. OnlyGives n value taken slabs now left) c.in-Ok.ensures.number c.in_err-found.ensures.lacks))
 
 pub returns-clause-locks : goal.returns-clause-locks
 returns-clause-locks c =
@@ -143,7 +143,7 @@ returns-clause-visits c =
     let held : c.args.unheld ≡ true = c.if-not-unheld.false in
     subst (λ (b : Bool). VisitsLinked c.args.hand.now.number c.args.class c.args.chunk c.args.sweep.now b found c.save.new.sweep view slabs c.clear.new.hand.seat.me.0 c.clear.new.held.shared) (sym held)
     (visited_saved c.args.hand.now.number c.args.class c.args.chunk c.args.sweep.now found c.save.new.sweep view slabs c.clear.new.hand.seat.me.0 c.clear.new.held.shared free c.in_ok-found.ensures.done
-    (record { saved = saved; kept = kept; reaches = reached c.args.chunk view read taken slabs key stripe value reads at c.in-Ok.ensures.taken c.in-Ok.ensures.lent c.in-Ok.ensures.whole (λ key. SavesAs c.args.hand.now.number c.args.class c.args.chunk c.args.sweep.now found) saved kept saves; clears = clears.0; left_is = clears.1 }))
+    (record { saved = saved; kept = kept; reaches = reached c.args.chunk view read taken slabs key stripe value reads at c.in-Ok.ensures.taken c.in-Ok.ensures.lent c.in-Ok.ensures.whole c.in-Ok.ensures.seen (λ key. SavesAs c.args.hand.now.number c.args.class c.args.chunk c.args.sweep.now found) saved kept saves; clears = clears.0; left_is = clears.1 }))
 
 pub returns-clause-clears : goal.returns-clause-clears
 returns-clause-clears c =
@@ -302,7 +302,7 @@ returns-then-eq-clause-visits c =
     subst (λ (p : ℕ × ℕ). SavesAs p.0 c.args.class c.args.chunk c.args.sweep.now found p.1 value taken slabs saved kept) (λ k. (number k, c.in-Ok.ensures.number k)) c.in_ok-found.ensures.saves in
     let busy = held_found c.args.hand.now.number c.args.class c.args.chunk c.args.sweep.now found stripe value taken slabs saved kept saves (sym c.eq.ensures ∙ c.if-eq.true) in
     subst (λ (p : Bool × Found). VisitsLinked c.args.hand.now.number c.args.class c.args.chunk c.args.sweep.now p.0 p.1 c.save.new.sweep view slabs saved kept) (λ k. (sym c.if-not-unheld.false k, sym busy k))
-    (inr (reached c.args.chunk view read taken slabs key stripe value reads at c.in-Ok.ensures.taken c.in-Ok.ensures.lent c.in-Ok.ensures.whole (λ key. SavesAs c.args.hand.now.number c.args.class c.args.chunk c.args.sweep.now Busy) saved kept (subst (λ (f : Found). SavesAs c.args.hand.now.number c.args.class c.args.chunk c.args.sweep.now f stripe value taken slabs saved kept) busy saves), c.in_ok-found.ensures.done))
+    (inr (reached c.args.chunk view read taken slabs key stripe value reads at c.in-Ok.ensures.taken c.in-Ok.ensures.lent c.in-Ok.ensures.whole c.in-Ok.ensures.seen (λ key. SavesAs c.args.hand.now.number c.args.class c.args.chunk c.args.sweep.now Busy) saved kept (subst (λ (f : Found). SavesAs c.args.hand.now.number c.args.class c.args.chunk c.args.sweep.now f stripe value taken slabs saved kept) busy saves), c.in_ok-found.ensures.done))
 
 pub returns-then-eq-clause-clears : goal.returns-then-eq-clause-clears
 returns-then-eq-clause-clears c =

@@ -4,7 +4,7 @@ use Rattle.mc_words.specs.hand.View.{View}
 use Rattle.mc_words.specs.page.Moves.{Reassigns}
 use Rattle.mc_words.proofs.Pages.BegunMoves.{reassigns_from, reassigns_holdings}
 use Rattle.mc_words.proofs.Hands.HandNumbers.{number_stays}
-use Rattle.mc_mover.proofs.Chains.{held_ids, held_known_same, held_said, ready_still, refs_stay, reassigns_keep}
+use Rattle.mc_mover.proofs.Chains.{held_ids, held_known_same, held_mine, held_said, ready_still, refs_stay, reassigns_keep}
 use Rattle.mc_mover.proofs.HoldsSlabs.{lock_back, held_for, held_holdings, wait_number}
 use Rattle.mc_mover.proofs.reassigning.reassign.Goals as goal
 
@@ -72,3 +72,14 @@ returns-clause-unsaid g c =
     let e = begun.ensures in
     let does = reassigns_from held.new.hand.number c.args.src c.args.dst taken last held.result.shared left begun.result e.answer e.began e.happens e.view e.refused in
     held_said c.args.hand.now.seat.me.0 taken last c.give_slabs.new.hand.seat.me.0 held.result.shared left held.ensures.waits c.give_slabs.ensures.left (reassigns_keep (λ (v : View). v.row.knows.said) (λ slabs one word v. refl) held.new.hand.number c.args.src c.args.dst taken last held.result.shared left begun.result does)
+
+pub returns-clause-untold : goal.returns-clause-untold
+returns-clause-untold g c =
+    let held = c.lock_slabs-held in
+    let taken : View = held.new.hand.seat.me.0 in
+    let begun = c.begin_move-answer in
+    let last : View = begun.new.hand.seat.me.0 in
+    let left = begun.new.held.shared in
+    let e = begun.ensures in
+    let does = reassigns_from held.new.hand.number c.args.src c.args.dst taken last held.result.shared left begun.result e.answer e.began e.happens e.view e.refused in
+    held_mine c.args.hand.now.seat.me.0 taken last c.give_slabs.new.hand.seat.me.0 held.result.shared left held.ensures.waits c.give_slabs.ensures.left (reassigns_keep (λ (v : View). v.row.knows.mine) (λ slabs one word v. refl) held.new.hand.number c.args.src c.args.dst taken last held.result.shared left begun.result does)

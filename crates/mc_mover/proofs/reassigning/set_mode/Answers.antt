@@ -3,7 +3,7 @@ use Rattle.mc_words.specs.lock.Out.{without_slabs}
 use Rattle.mc_words.specs.hand.View.{View}
 use Rattle.mc_mover.specs.Reassigning.{SetsMode}
 use Rattle.mc_words.proofs.Hands.HandNumbers.{number_stays}
-use Rattle.mc_mover.proofs.Chains.{held_ids, held_known_same, held_said, ready_still, refs_stay}
+use Rattle.mc_mover.proofs.Chains.{held_ids, held_known_same, held_mine, held_said, ready_still, refs_stay}
 use Rattle.mc_mover.proofs.HoldsSlabs.{lock_back, held_for, held_holdings, wait_number}
 use Rattle.mc_mover.proofs.reassigning.set_mode.Goals as goal
 
@@ -59,3 +59,12 @@ returns-clause-unsaid g c =
     let last : View = set.new.hand.seat.me.0 in
     let left = set.new.held.shared in
     held_said c.args.hand.now.seat.me.0 taken last c.give_slabs.new.hand.seat.me.0 held.result.shared left held.ensures.waits c.give_slabs.ensures.left (ap (λ (v : View). v.row.knows.said) set.ensures.view)
+
+pub returns-clause-untold : goal.returns-clause-untold
+returns-clause-untold g c =
+    let held = c.lock_slabs-held in
+    let taken : View = held.new.hand.seat.me.0 in
+    let set = c.set_automove in
+    let last : View = set.new.hand.seat.me.0 in
+    let left = set.new.held.shared in
+    held_mine c.args.hand.now.seat.me.0 taken last c.give_slabs.new.hand.seat.me.0 held.result.shared left held.ensures.waits c.give_slabs.ensures.left (ap (λ (v : View). v.row.knows.mine) set.ensures.view)

@@ -1,4 +1,4 @@
-use Rattle.std.proofs.Common.{◌≡◌, ◌<◌, ℕ, List, ap, arith, sym, subst, ◌∙◌}
+use Rattle.std.proofs.Common.{◌<◌, ℕ, List, ap, arith, sym, subst, ◌∙◌}
 use Rattle.std.specs.List.{range_with_len}
 use Rattle.mc_classes.specs.declared.config.Config.{Config}
 use Rattle.mc_core.specs.declared.event.StripeChange.TheVariants.{Forget}
@@ -6,7 +6,7 @@ use Rattle.mc_words.specs.hand.View.{View}
 use Rattle.mc_words.specs.lock.Doing.{HoldsStripe}
 use Rattle.mc_mover.specs.Recording.{Changes, ChangesEach}
 use Rattle.mc_mover.proofs.GivenBack.{all_given}
-use Rattle.mc_mover.proofs.Recorded.{each_keeps, each_more, hold_keeps, holdings_kept, mine_kept, numbers_more, refs_kept, said_kept}
+use Rattle.mc_mover.proofs.Recorded.{each_keeps, each_more, holdings_kept, mine_kept, numbers_more, refs_kept, said_kept}
 use Rattle.mc_mover.proofs.recording.forget.Goals as goal
 
 pub loop-stripe-preserved : goal.loop-stripe-preserved

@@ -1,11 +1,10 @@
-use Rattle.std.proofs.Common.{◌≡◌, ap, ◌∙◌, subst}
-use Rattle.mc_stripe.specs.StripeState.{ReadyStripe}
+use Rattle.std.proofs.Common.{ap, ◌∙◌}
 use Rattle.mc_core.specs.declared.event.StripeChange.TheVariants.{Forget}
 use Rattle.mc_words.specs.lock.Out.{without_stripe}
 use Rattle.mc_words.specs.declared.hand.held.StripeHeld.{StripeHeld}
 use Rattle.mc_mover.proofs.Chains.{ready_still}
-use Rattle.mc_mover.specs.Recording.{Changes, Leaves}
-use Rattle.mc_mover.proofs.Recorded.{changes_quiet, held_for, hold_keeps, holdings_kept, leaves_quiet, number_kept, stripe_back, waited_number}
+use Rattle.mc_mover.specs.Recording.{Changes}
+use Rattle.mc_mover.proofs.Recorded.{changes_quiet, held_for, hold_keeps, holdings_kept, number_kept, stripe_back, waited_number}
 use Rattle.mc_mover.proofs.recording.forget_stripe.Goals as goal
 
 pub returns-clause-locks : goal.returns-clause-locks

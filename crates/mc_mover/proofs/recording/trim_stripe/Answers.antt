@@ -1,4 +1,7 @@
 use Rattle.std.proofs.Common.{ap, ◌∙◌}
+use Rattle.mc_words.specs.hand.View.{View}
+use Rattle.mc_words.specs.hand.Views.{stripe_given}
+use Rattle.mc_mover.proofs.GivenBack.{taken_unfull}
 use Rattle.mc_core.specs.declared.event.StripeChange.TheVariants.{Trim}
 use Rattle.mc_words.specs.lock.Out.{without_stripe}
 use Rattle.mc_words.specs.declared.hand.held.StripeHeld.{StripeHeld}
@@ -20,7 +23,7 @@ returns-in-Err-clause-leaves g c =
       left = c.trim.new.held.stripe;
       last = c.trim.new.hand.seat.me.0;
       does = (ap (λ (h : StripeHeld). h.stripe) c.in-Err.ensures.refused.0, c.in-Err.ensures.refused.1);
-      given = c.give_stripe.ensures.left ∙ ap (λ n. Rattle.mc_words.specs.hand.Views.stripe_given n c.trim.new.held.stripe c.trim.new.hand.seat.me.0) (c.trim.ensures.number ∙ held.ensures.number);
+      given = c.give_stripe.ensures.left ∙ ap (λ n. stripe_given n c.trim.new.held.stripe c.trim.new.hand.seat.me.0) (c.trim.ensures.number ∙ held.ensures.number);
     }
 
 pub returns-in-Err-clause-number : goal.returns-in-Err-clause-number
@@ -50,3 +53,31 @@ returns-clause-ready g c = ready_still c.args.hand.now c.give_stripe-2.new.hand 
     (holdings_kept c.args.hand.now c.give_stripe-2.new.hand
     (hold_keeps (Changes Trim c.args.hand.now.number c.args.stripe) (changes_quiet Trim c.args.hand.now.number c.args.stripe) c.args.stripe c.args.hand.now.seat.me.0 c.give_stripe-2.new.hand.seat.me.0 (returns-clause-trims g c)))
     c.requires.ready
+
+pub returns-in-Err-clause-first : goal.returns-in-Err-clause-first
+returns-in-Err-clause-first g c = λ other.
+    let held = c.lock_stripe-held in
+    record {
+      found = held.result.stripe;
+      taken = held.new.hand.seat.me.0;
+      waits = held.ensures.waits;
+      left = c.trim.new.held.stripe;
+      last = c.trim.new.hand.seat.me.0;
+      does = (λ full. let says = c.in-Err.ensures.first full.0 full.1 in absurd (cc), (ap (λ (h : StripeHeld). h.stripe) c.in-Err.ensures.refused.0, c.in-Err.ensures.refused.1));
+      given = c.give_stripe.ensures.left ∙ ap (λ n. stripe_given n c.trim.new.held.stripe c.trim.new.hand.seat.me.0) (c.trim.ensures.number ∙ held.ensures.number);
+    }
+
+pub returns-clause-unfull : goal.returns-clause-unfull
+returns-clause-unfull g c =
+    let held = c.lock_stripe-held in
+    taken_unfull c.args.stripe c.args.hand.now.seat.me.0 c.give_stripe-2.new.hand.seat.me.0
+    (record {
+      found = held.result.stripe;
+      taken = held.new.hand.seat.me.0;
+      waits = held.ensures.waits;
+      left = c.trim.new.held.stripe;
+      last = c.trim.new.hand.seat.me.0;
+      does = ap (λ (v : View). v.row.knows.hold) c.in_default.ensures.view;
+      given = c.give_stripe-2.ensures.left ∙ ap (λ n. stripe_given n c.trim.new.held.stripe c.trim.new.hand.seat.me.0) (c.trim.ensures.number ∙ held.ensures.number);
+    })
+    (λ full. let says = c.in_default.ensures.first full.0 full.1 in absurd (cc))

@@ -1,9 +1,11 @@
-use Rattle.std.proofs.Common.{ℕ, List, sym, subst, ◌∙◌}
+use Rattle.std.proofs.Common.{◌<◌, ℕ, List, ap, arith, sym, subst, ◌∙◌}
+use Rattle.mc_classes.specs.declared.config.Config.{Config}
 use Rattle.std.specs.List.{range_with_len}
 use Rattle.mc_core.specs.declared.event.StripeChange.TheVariants.{Trim}
 use Rattle.mc_words.specs.hand.View.{View}
 use Rattle.mc_words.specs.lock.Doing.{HoldsStripe}
 use Rattle.mc_mover.specs.Recording.{Changes, ChangesEach, Leaves}
+use Rattle.mc_mover.proofs.GivenBack.{unfull_more}
 use Rattle.mc_mover.proofs.Recorded.{each_keeps, each_more, hold_keeps, holdings_kept, mine_kept, numbers_more, refs_kept, said_kept, leaves_quiet}
 use Rattle.mc_mover.proofs.Refusals.{as_error, no_ok}
 use Rattle.mc_mover.proofs.recording.trim_stripes.Goals as goal
@@ -13,6 +15,7 @@ returns-in_err-trim_stripe-clause-stops g c = as_error c.from_residual.result (r
   stripe = c.loop-stripe.stripe;
   before = c.loop-stripe.hand.seat.me.0;
   trims = c.loop-stripe.invariant.so_far;
+  unfull = c.loop-stripe.invariant.unfull;
   stops = c.in_err-trim_stripe.ensures.leaves;
 })
 
@@ -52,6 +55,7 @@ loop-stripe-preserved g c =
       locks = c.trim_stripe.ensures.locks ∙ inv.locks;
       number = c.trim_stripe.ensures.number ∙ inv.number;
       so_far = subst (λ (stripes : List ℕ). ChangesEach Trim c.args.hand.now.number stripes view now) (sym (numbers_more stripe)) (each_more Trim c.args.hand.now.number stripe (range_with_len 0 stripe) view before now inv.so_far one);
+      unfull = unfull_more c.args.hand.now.number stripe before now one inv.unfull c.in_ok-trim_stripe.ensures.unfull;
     }
 
 pub returns-clause-holdings : goal.returns-clause-holdings
@@ -65,3 +69,13 @@ returns-clause-unsaid g c = said_kept c.args.hand.now c.loop-stripe.hand (each_k
 
 pub returns-clause-untold : goal.returns-clause-untold
 returns-clause-untold g c = mine_kept c.args.hand.now c.loop-stripe.hand (each_keeps Trim c.args.hand.now.number (range_with_len 0 c.loop-stripe.stripe) c.args.hand.now.seat.me.0 c.loop-stripe.hand.seat.me.0 c.loop-stripe.invariant.so_far)
+
+pub returns-in_err-trim_stripe-clause-unfull : goal.returns-in_err-trim_stripe-clause-unfull
+returns-in_err-trim_stripe-clause-unfull g c = no_ok _ c.from_residual.result c.from_residual.ensures.0
+
+pub returns-clause-unfull : goal.returns-clause-unfull
+returns-clause-unfull g c = λ stripe near.
+    let same = ap (λ (f : Config). f.stripes) c.config.ensures.config in
+    let last = c.loop-stripe-test.false in
+    let within : stripe < c.loop-stripe.stripe = omega (arith, near, same, last) in
+    c.loop-stripe.invariant.unfull stripe within

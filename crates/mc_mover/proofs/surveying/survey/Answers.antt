@@ -4,7 +4,7 @@ use Rattle.mc_pages.specs.SlabState.{SlabState}
 use Rattle.mc_words.specs.lock.Out.{without_slabs}
 use Rattle.mc_words.specs.hand.View.{Setup, View}
 use Rattle.mc_words.proofs.Hands.HandNumbers.{number_stays}
-use Rattle.mc_mover.proofs.Chains.{held_ids, held_known_same, held_said, ready_still, refs_stay}
+use Rattle.mc_mover.proofs.Chains.{held_ids, held_known_same, held_mine, held_said, ready_still, refs_stay}
 use Rattle.mc_mover.proofs.HoldsSlabs.{lock_back, held_holdings}
 use Rattle.mc_mover.proofs.Surveys.{classes_here}
 use Rattle.mc_mover.proofs.surveying.survey.Goals as goal
@@ -56,3 +56,12 @@ returns-clause-unsaid g c =
     let last : View = swept.new.hand.seat.me.0 in
     let left = swept.new.held.shared in
     held_said c.args.hand.now.seat.me.0 taken last c.give_slabs.new.hand.seat.me.0 held.result.shared left held.ensures.waits c.give_slabs.ensures.left (ap (λ (v : View). v.row.knows.said) swept.ensures.view)
+
+pub returns-clause-untold : goal.returns-clause-untold
+returns-clause-untold g c =
+    let held = c.lock_slabs-held in
+    let taken : View = held.new.hand.seat.me.0 in
+    let swept = c.sweep_classes in
+    let last : View = swept.new.hand.seat.me.0 in
+    let left = swept.new.held.shared in
+    held_mine c.args.hand.now.seat.me.0 taken last c.give_slabs.new.hand.seat.me.0 held.result.shared left held.ensures.waits c.give_slabs.ensures.left (ap (λ (v : View). v.row.knows.mine) swept.ensures.view)
