@@ -1,5 +1,5 @@
 -- What a look finds.
-use Rattle.std.proofs.Common.{◌≡◌, ◌∙◌, ℕ, Bool, true, false, List, [], Option, None, Some, Ok, Result, IfOk, IfSome, refl, sym, ap, subst}
+use Rattle.std.proofs.Common.{◌≡◌, ◌∙◌, ℕ, Bool, true, false, List, [], Option, None, Some, Ok, Result, IfOk, IfSome, refl, sym, ap, subst, inl}
 use Rattle.mc_packing.specs.Packing.{IsPackingOf, packed, value_in}
 use Rattle.mc_words.specs.declared.arena.Arena.{Arena}
 use Rattle.mc_words.specs.declared.hand.Hand.{Hand}
@@ -14,7 +14,7 @@ use Rattle.mc_items.specs.Keeping.{HoldsToo, SaysNothing}
 use Rattle.mc_items.specs.OnKeys.{ActsOn, Gets}
 use Rattle.mc_words.specs.item.Items.{item_with}
 use Rattle.mc_items.proofs.Chains.{words_said}
-use Rattle.mc_byte_items.specs.Finding.{BumpsItem, DeletesKey, FindsItem, FindsKey, FindsOther, FindsWords, GivesTouched, GivesTouchedIf, GivesValue, PutsValue, TouchesKey, TouchesValue}
+use Rattle.mc_byte_items.specs.Finding.{BumpsItem, DeletesKey, FindsItem, FindsKey, FindsOther, FindsWords, GetsUnder, TriesHint, GivesTouched, GivesTouchedIf, GivesValue, PutsValue, TouchesKey, TouchesValue}
 use Rattle.mc_byte_items.specs.Hands.{WereSaid, sayings_of}
 use Rattle.mc_byte_items.proofs.Idle.{alone}
 
@@ -26,15 +26,21 @@ were_said arena before got item of unsaid is = record { seen = view got; setup_i
 abbrev SaidOf : Setup → ℕ → Hand → List ℕ → Type 0
 SaidOf setup hash before words = (stamp : ℕ) × WereSaid setup (sayings_of before) stamp (item_with hash stamp words)
 
+-- no hint was tried
+pub no_hint : (hash : ℕ) (before : Hand) → TriesHint hash before before
+no_hint hash before = record { number = refl; did = inl refl }
+
 -- an item was got
-pub finds_item : (arena : Arena) (hash : ℕ) (before got : Hand) (found : Option Ref) (item : Ref) → IsHandOf arena got → SaysNothing (view before) (view got) → found ≡ Some item → Gets (setup_of arena) hash found before got
+pub finds_item : (arena : Arena) (hash : ℕ) (before tried got : Hand) (found : Option Ref) (item : Ref) → TriesHint hash before tried → IsHandOf arena got → SaysNothing (view before) (view got) → found ≡ Some item → GetsUnder (setup_of arena) hash found tried got
     → IfSome found (λ item. IsItemRef (view got) item × (item_key item ≡ hash)) → FindsWords (setup_of arena) hash before (Some (item_words (view got) item))
-finds_item arena hash before got found item of unsaid some gets is =
+finds_item arena hash before tried got found item tries of unsaid some gets is =
     let own : IsItemRef (view got) item × (item_key item ≡ hash) = subst (λ (o : Option Ref). IfSome o (λ item. IsItemRef (view got) item × (item_key item ≡ hash))) some is in
     record {
+      tried = tried;
+      tries = tries;
       got = got;
       item = Some item;
-      gets = subst (λ (o : Option Ref). Gets (setup_of arena) hash o before got) some gets;
+      gets = subst (λ (o : Option Ref). GetsUnder (setup_of arena) hash o tried got) some gets;
       words_are = refl;
       said = (
         item_stamp item,
@@ -54,26 +60,26 @@ module _ (setup : Setup) (hash : ℕ) (key : List ℕ) (before : Hand) (words : 
   finds_other other = record { words = Some words; finds = finds; other = other }
 
 -- it is all that the hand holds
-pub found_item : (arena : Arena) (hash : ℕ) (before got : Hand) (found : Option Ref) → IsHandOf arena got → IsReady (view got) → SaysNothing (view before) (view got) → Gets (setup_of arena) hash found before got
-    → IfSome found (λ item. IsItemRef (view got) item × (item_key item ≡ hash)) → (view before).row.holdings ≡ [] → HoldsToo found (view before) (view got) → IfSome found (λ item. FindsItem arena hash item before got)
+pub found_item : (arena : Arena) (hash : ℕ) (before tried got : Hand) (found : Option Ref) → TriesHint hash before tried → IsHandOf arena got → IsReady (view got) → SaysNothing (view before) (view got) → GetsUnder (setup_of arena) hash found tried got
+    → IfSome found (λ item. IsItemRef (view got) item × (item_key item ≡ hash)) → (view tried).row.holdings ≡ [] → HoldsToo found (view tried) (view got) → IfSome found (λ item. FindsItem arena hash item before got)
 unfolding finds_item
-found_item arena hash before got None of ready unsaid gets is none more = tt
-found_item arena hash before got (Some item) of ready unsaid gets is none more = record {
-  finds = finds_item arena hash before got (Some item) item of unsaid refl gets is;
+found_item arena hash before tried got None tries of ready unsaid gets is none more = tt
+found_item arena hash before tried got (Some item) tries of ready unsaid gets is none more = record {
+  finds = finds_item arena hash before tried got (Some item) item tries of unsaid refl gets is;
   is_item = refl;
   refers = record { of_arena = of; ready = ready; refers = is.0 };
-  alone = alone (view before) (view got) item none more;
+  alone = alone (view tried) (view got) item none more;
 }
 
 pub the_item : (arena : Arena) (hash : ℕ) (before got : Hand) (found : Option Ref) (item : Ref) → found ≡ Some item → IfSome found (λ item. FindsItem arena hash item before got) → FindsItem arena hash item before got
 the_item arena hash before got found item some is = subst (λ (o : Option Ref). IfSome o (λ item. FindsItem arena hash item before got)) some is
 
 -- none was got
-pub none_words : (setup : Setup) (hash : ℕ) (before got : Hand) (found : Option Ref) → found ≡ None → Gets setup hash found before got → FindsWords setup hash before None
-none_words setup hash before got found none gets = record { got = got; item = None; gets = subst (λ (o : Option Ref). Gets setup hash o before got) none gets; words_are = refl; said = tt }
+pub none_words : (setup : Setup) (hash : ℕ) (before tried got : Hand) (found : Option Ref) → TriesHint hash before tried → found ≡ None → Gets setup hash found tried got → FindsWords setup hash before None
+none_words setup hash before tried got found tries none gets = record { tried = tried; tries = tries; got = got; item = None; gets = inl (subst (λ (o : Option Ref). Gets setup hash o tried got) none gets); words_are = refl; said = tt }
 
 pub finds_none : (setup : Setup) (hash : ℕ) (key : List ℕ) (before got : Hand) (found : Option Ref) → found ≡ None → Gets setup hash found before got → FindsOther setup hash key before
-finds_none setup hash key before got found none gets = record { words = None; finds = none_words setup hash before got found none gets; other = tt }
+finds_none setup hash key before got found none gets = record { words = None; finds = none_words setup hash before before got found (no_hint hash before) none gets; other = tt }
 
 -- the key was found, and then something was done
 pub deletes_key : {E : Type 0} (setup : Setup) (hash : ℕ) (key : List ℕ) (there : Bool) (before between now : Hand) (result : Result Bool E) → FindsKey setup hash key before → result ≡ Ok there
@@ -89,7 +95,7 @@ module _ (arena : Arena) (hash : ℕ) (key : List ℕ) (before got : Hand) (item
   touches_words : (value : List ℕ) → item_words (view got) item ≡ packed key value → (now : Hand) → BumpsItem (number_of before) item now → TouchesValue (setup_of arena) hash key value before now
   touches_words value same now bumps =
       let finds = found.finds in record {
-        finds = record { got = finds.got; item = finds.item; gets = finds.gets; words_are = ap Some (sym same) ∙ finds.words_are; said = subst (SaidOf (setup_of arena) hash before) same finds.said };
+        finds = record { tried = finds.tried; tries = finds.tries; got = finds.got; item = finds.item; gets = finds.gets; words_are = ap Some (sym same) ∙ finds.words_are; said = subst (SaidOf (setup_of arena) hash before) same finds.said };
         item = item;
         is_item = found.is_item;
         bumps = bumps;

@@ -1,28 +1,55 @@
 -- What is found under a hash: the words of an item, and whether they are a packing of a key.
-use Rattle.std.specs.Prelude.{◌≡◌, ◌⊎◌, ℕ, Bool, false, true, List, [], ◌∷◌, ◌++◌, Option, Some, IfSome}
+use Rattle.std.specs.Prelude.{◌≡◌, ◌≢◌, ◌⊎◌, ℕ, Bool, false, true, List, [], ◌∷◌, ◌++◌, Option, None, Some, IfSome}
 use Rattle.std.specs.Option.{option_map}
 use Rattle.mc_packing.specs.Packing.{IsPackingOf, packed}
 use Rattle.mc_words.specs.declared.arena.Arena.{Arena}
 use Rattle.mc_words.specs.declared.hand.Hand.{Hand}
 use Rattle.mc_words.specs.hand.Arenas.{setup_of, view}
+use Rattle.mc_words.specs.item.Again.{FindsContended, FindsGone}
 use Rattle.mc_words.specs.item.Items.{item_with}
-use Rattle.mc_words.specs.hand.Observers.{number_of}
+use Rattle.mc_words.specs.declared.item.refs.Hint.{Hint}
+use Rattle.mc_words.specs.hand.Observers.{hint_chunk, hint_issue, number_of}
 use Rattle.mc_words.specs.hand.View.{Setup, View}
 use Rattle.mc_words.specs.hand.Views.{chunk_released}
 use Rattle.mc_words.specs.lock.Doing.{HoldsSlabs}
 use Rattle.mc_items.specs.declared.refs.Ref.{Ref}
-use Rattle.mc_items.specs.ItemRefs.{item_chunk, item_words}
+use Rattle.mc_items.specs.Current.{GetsCurrent}
+use Rattle.mc_items.specs.ItemRefs.{item_chunk, item_key, item_words}
 use Rattle.mc_items.specs.OnKeys.{ActsOn, Gets}
 use Rattle.mc_items.specs.Calls.{Bumps, Deletes}
 use Rattle.mc_items.specs.Keeping.{holding_by}
 use Rattle.mc_byte_items.specs.Hands.{WereSaid, sayings_of}
 use Rattle.mc_byte_items.specs.Reading.{RefersTo}
 
--- the hand got the item under the hash, and these are its words, which somebody said; or there was none
+-- the item of this hash was got by a hint, with no lock; and it was the current item of the hash at the one exchange by which it was got
+abbrev pub GetsHinted : ℕ → Option Ref → Hand → Hand → Type 0
+GetsHinted hash None before got = ⊥
+GetsHinted hash (Some item) before got = (hint : Hint) × GetsCurrent hint item (view before) (view got) × (item_key item ≡ hash)
+
+-- what is under the hash was got: by the lock of its stripe, or by a hint
+abbrev pub GetsUnder : Setup → ℕ → Option Ref → Hand → Hand → Type 0
+GetsUnder setup hash item before got = Gets setup hash item before got ⊎ GetsHinted hash item before got
+
+-- a hint led to nothing: to no item that is there still, or others came between, or to an item of another hash, which was released
+abbrev pub FollowsInVain : Hint → ℕ → View → View → Type 0
+FollowsInVain hint hash view now =
+    FindsGone view (hint_chunk hint) (hint_issue hint) now
+    ⊎ FindsContended view (hint_chunk hint) (hint_issue hint) now
+    ⊎ ((got : View) × (item : Ref) × GetsCurrent hint item view got × (item_key item ≢ hash) × (now ≡ chunk_released (item_chunk item) got))
+
+-- the hand tried a hint of the hash in vain, or had none
+pub record TriesHint (hash : ℕ) (before tried : Hand) : Type 0 where
+  pub number : number_of tried ≡ number_of before
+  pub did : (view tried ≡ view before) ⊎ ((hint : Hint) × FollowsInVain hint hash (view before) (view tried))
+
+-- the hand got the item under the hash, perhaps once it had tried a hint in vain, and these are its words, which somebody said; or there was
+-- none
 pub record FindsWords (setup : Setup) (hash : ℕ) (before : Hand) (words : Option (List ℕ)) : Type 0 where
+  pub tried : Hand
+  pub tries : TriesHint hash before tried
   pub got : Hand
   pub item : Option Ref
-  pub gets : Gets setup hash item before got
+  pub gets : GetsUnder setup hash item tried got
   pub words_are : words ≡ option_map (item_words (view got)) item
   pub said : IfSome words (λ words. (stamp : ℕ) × WereSaid setup (sayings_of before) stamp (item_with hash stamp words))
 

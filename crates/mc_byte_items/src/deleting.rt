@@ -7,6 +7,7 @@ ghost use Rattle.mc_byte_items.specs.Finding.{DeletesKey, DeletesNone};
 ghost use Rattle.mc_byte_items.specs.Hands.{IsIdleHandOf};
 
 use crate::finding::contains;
+use crate::hints::HintTable;
 use crate::label::Label;
 use mc_memory::Refused;
 use mc_words::{Arena, Hand};
@@ -14,7 +15,13 @@ use std::sync::Wait;
 
 /// Deletes the key, and says whether it had an item. An item of another key under the hash stays; but where one is stored there between
 /// the look and the delete, it is deleted, as an eviction would take it. (memcached's `process_delete_command`)
-pub fn delete<R: Wait>(rt: &R, arena: &Arena, hand: &mut Hand, at: Label) -> Result<bool, Refused>
+pub fn delete<R: Wait>(
+    rt: &R,
+    arena: &Arena,
+    hints: &HintTable,
+    hand: &mut Hand,
+    at: Label,
+) -> Result<bool, Refused>
     requires { IsIdleHandOf arena.now hand.old }
     ensures idle { IsIdleHandOf arena.now hand.new }
     ensures number { number_of hand.new ≡ number_of hand.old }
@@ -22,7 +29,7 @@ pub fn delete<R: Wait>(rt: &R, arena: &Arena, hand: &mut Hand, at: Label) -> Res
     ensures none { result ≡ Ok false → DeletesNone (setup_of arena.now) at.entry.hash at.entry.key.now hand.old hand.new }
     ensures unsaid { SaysNothing (view hand.old) (view hand.new) }
 {
-    match contains(rt, arena, hand, at) {
+    match contains(rt, arena, hints, hand, at) {
         Ok(true) => mc_items::delete(rt, arena, hand, at.hash),
         Ok(false) => Ok(false),
         Err(refused) => Err(refused),

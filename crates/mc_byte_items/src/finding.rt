@@ -12,6 +12,7 @@ ghost use Rattle.mc_byte_items.specs.Hands.{IsIdleHandOf};
 ghost use Rattle.mc_byte_items.specs.Reading.{LeavesSlabs, RefersTo};
 
 use crate::getting::get_item;
+use crate::hints::HintTable;
 use crate::label::Label;
 use crate::reading::{is_of, push_value};
 use mc_items::{Ref, release};
@@ -61,7 +62,13 @@ pub fn try_get(
 }
 
 /// Whether the key has an item. It waits for the lock of the hash's stripe.
-pub fn contains<R: Wait>(rt: &R, arena: &Arena, hand: &mut Hand, at: Label) -> Result<bool, Refused>
+pub fn contains<R: Wait>(
+    rt: &R,
+    arena: &Arena,
+    hints: &HintTable,
+    hand: &mut Hand,
+    at: Label,
+) -> Result<bool, Refused>
     requires { IsIdleHandOf arena.now hand.old }
     ensures idle { IsIdleHandOf arena.now hand.new }
     ensures number { number_of hand.new ≡ number_of hand.old }
@@ -70,7 +77,7 @@ pub fn contains<R: Wait>(rt: &R, arena: &Arena, hand: &mut Hand, at: Label) -> R
     ensures unsaid { SaysNothing (view hand.old) (view hand.new) }
     ensures slabs { LeavesSlabs (view hand.old) (view hand.new) }
 {
-    let Some(item) = get_item(rt, arena, hand, at.hash)? else {
+    let Some(item) = get_item(rt, arena, hints, hand, at.hash)? else {
         return Ok(false);
     };
     Ok(tell_key(arena, hand, item, at.key))

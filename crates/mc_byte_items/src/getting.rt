@@ -7,17 +7,20 @@ ghost use Rattle.mc_byte_items.specs.Finding.{FindsItem, FindsWords};
 ghost use Rattle.mc_byte_items.specs.Hands.{IsIdleHandOf};
 ghost use Rattle.mc_byte_items.specs.Reading.{LeavesSlabs};
 
-use mc_items::{GetError, Ref};
+use crate::hinting::get_hinted;
+use crate::hints::HintTable;
+use mc_items::{GetError, Ref, hint};
 use mc_memory::Refused;
 use mc_words::{Arena, Hand};
 use std::sync::Wait;
 
 /// A reference to the item under the hash, if there is one. The hand holds nothing else then, so it is never refused for holding too
-/// much. It waits for the lock of the hash's stripe.
+/// much. Where the hint of the hash leads to it, no lock is taken; else it waits for the lock of the hash's stripe, and notes the hint.
 #[inline(always)]
 pub(crate) fn get_item<R: Wait>(
     rt: &R,
     arena: &Arena,
+    hints: &HintTable,
     hand: &mut Hand,
     hash: u64,
 ) -> Result<Option<Ref>, Refused>
@@ -29,8 +32,15 @@ pub(crate) fn get_item<R: Wait>(
     ensures unsaid { SaysNothing (view hand.old) (view hand.new) }
     ensures slabs { LeavesSlabs (view hand.old) (view hand.new) }
 {
+    if let Some(item) = get_hinted(arena, hints, hand, hash) {
+        return Ok(Some(item));
+    }
     match mc_items::get(rt, arena, hand, hash) {
-        Ok(found) => Ok(found),
+        Ok(Some(item)) => {
+            hints.note(hash, hint(&item));
+            Ok(Some(item))
+        }
+        Ok(None) => Ok(None),
         Err(GetError::NoMemory(refused)) => Err(refused),
         Err(GetError::TooManyRefs) => unreachable!(),
     }

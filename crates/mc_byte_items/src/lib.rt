@@ -7,6 +7,8 @@
 mod deleting;
 mod finding;
 mod getting;
+mod hinting;
+mod hints;
 mod label;
 mod reading;
 mod setting;
@@ -14,6 +16,7 @@ mod touching;
 
 pub use deleting::delete;
 pub use finding::{TryGetError, contains, try_get};
+pub use hints::HintTable;
 pub use label::Label;
 pub use setting::set;
 pub use touching::{get, touch};

@@ -11,6 +11,7 @@ ghost use Rattle.mc_byte_items.specs.Reading.{LeavesSlabs, RefersTo};
 
 use crate::finding::give_value;
 use crate::getting::get_item;
+use crate::hints::HintTable;
 use crate::label::Label;
 use crate::reading::{is_of, push_value};
 use mc_items::{Ref, bump, release};
@@ -27,6 +28,7 @@ use std::sync::Wait;
 pub fn get<R: Wait>(
     rt: &R,
     arena: &Arena,
+    hints: &HintTable,
     hand: &mut Hand,
     at: Label,
     into: &mut Vec<u8>,
@@ -41,7 +43,7 @@ pub fn get<R: Wait>(
     ensures unsaid { SaysNothing (view hand.old) (view hand.new) }
     ensures unasked { touches ≡ false → LeavesSlabs (view hand.old) (view hand.new) }
 {
-    let Some(item) = get_item(rt, arena, hand, at.hash)? else {
+    let Some(item) = get_item(rt, arena, hints, hand, at.hash)? else {
         return Ok(false);
     };
     give_and_touch(rt, arena, hand, item, at.key, into, touches)
@@ -49,7 +51,13 @@ pub fn get<R: Wait>(
 
 /// Makes the key's item the one of its class that is evicted last, and says whether it has one. An item of another key under the hash
 /// stays as it is. It is a get, whose reference is given up. (memcached's `process_touch_command`)
-pub fn touch<R: Wait>(rt: &R, arena: &Arena, hand: &mut Hand, at: Label) -> Result<bool, Refused>
+pub fn touch<R: Wait>(
+    rt: &R,
+    arena: &Arena,
+    hints: &HintTable,
+    hand: &mut Hand,
+    at: Label,
+) -> Result<bool, Refused>
     requires { IsIdleHandOf arena.now hand.old }
     ensures idle { IsIdleHandOf arena.now hand.new }
     ensures number { number_of hand.new ≡ number_of hand.old }
@@ -57,7 +65,7 @@ pub fn touch<R: Wait>(rt: &R, arena: &Arena, hand: &mut Hand, at: Label) -> Resu
     ensures none { result ≡ Ok false → FindsOther (setup_of arena.now) at.entry.hash at.entry.key.now hand.old }
     ensures unsaid { SaysNothing (view hand.old) (view hand.new) }
 {
-    let Some(item) = get_item(rt, arena, hand, at.hash)? else {
+    let Some(item) = get_item(rt, arena, hints, hand, at.hash)? else {
         return Ok(false);
     };
     Ok(touch_own(rt, arena, hand, item, at.key))

@@ -8,6 +8,7 @@ use Rattle.mc_words.specs.item.Items.{item_with}
 use Rattle.mc_words.specs.hand.Observers.{number_of}
 use Rattle.mc_items.specs.Keeping.{Says, SaysNothing}
 use Rattle.mc_items.specs.OnKeys.{FindsStripeHeld}
+use Rattle.mc_items.specs.Setting.{SetsItem}
 use Rattle.mc_items.specs.declared.setting.SetError.{SetError}
 use Rattle.mc_byte_items.specs.Finding.{DeletesKey, FindsKey, FindsOther, FindsValue, TouchesKey, TouchesValue}
 use Rattle.mc_byte_items.specs.Hands.{IsIdleHandOf}
@@ -39,7 +40,7 @@ IsKey key = (1 ≤ length key) × (length key ≤ 250)
 
 -- the hand stored this value under the key, and said so
 abbrev pub StoresValue : ℕ → List ℕ → List ℕ → Arena → Hand → Hand → Type 0
-StoresValue hash key value arena hand now = (stamp : ℕ) × Says (item_with hash stamp (packed key value)) stamp (view hand) (view now)
+StoresValue hash key value arena hand now = (stamp : ℕ) × Says (item_with hash stamp (packed key value)) stamp (view hand) (view now) × SetsItem (number_of hand) hash stamp (packed key value) (view hand) (view now)
 
 -- it was refused to store it
 abbrev pub RefusesValue : ℕ → List ℕ → List ℕ → SetError → Arena → Hand → Hand → Type 0

@@ -4,6 +4,7 @@ ghost use Rattle.mc_cache.specs.Shards.{AreIdleHands};
 
 use crate::hashing::KeyedHasher;
 use crate::recent::Recent;
+use mc_byte_items::HintTable;
 use mc_words::{Arena, Hand};
 
 /// The memory of a cache that threads share: 1 to 4,096 arenas side by side, of which each has the keys of some hashes.
@@ -11,6 +12,8 @@ use mc_words::{Arena, Hand};
 pub struct Cache {
     pub(crate) arenas: Vec<Arena>,
     pub(crate) hashing: KeyedHasher,
+    /// Where items were found last.
+    pub(crate) hints: HintTable,
     ghost some: { 1 ≤ length arenas.items },
     ghost few: { length arenas.items ≤ 4096 },
 }

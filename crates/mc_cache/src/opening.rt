@@ -16,6 +16,7 @@ use crate::cache::{Cache, Worker};
 use crate::hashing::{HashKey, KeyedHasher};
 use crate::recent::Recent;
 use crate::tending::Tender;
+use mc_byte_items::HintTable;
 use mc_classes::{Config, ConfigError};
 use mc_memory::{Refused, push};
 use mc_mover::forget;
@@ -70,6 +71,12 @@ pub(crate) fn test(config: &CacheConfig) -> Result<(), NewError>
     }
 }
 
+// The number of places for hints, as a power of two: one for 64 to 128 bytes of the limits. (own)
+fn hint_bits(config: &CacheConfig) -> u64 {
+    let places = config.shards.saturating_mul(config.arena.limit / 128);
+    u64::from(64u32.saturating_sub(places.leading_zeros()))
+}
+
 impl Cache {
     /// A cache in which nothing is stored, its workers, and its tender. Its arenas keep no history. The configuration is refused by the first of its
     /// tests that it fails, before anything is allocated. It waits for locks that nobody has yet.
@@ -92,10 +99,16 @@ impl Cache {
         if let Err(error) = test(config) {
             return Err(error);
         }
+        let hints = HintTable::new(alloc, hint_bits(config)).map_err(NewError::NoMemory)?;
         match open(rt, alloc, config) {
             Ok((arenas, workers, tender)) => {
                 let hashing = KeyedHasher::new(hashing);
-                Ok((Cache { arenas, hashing }, workers, tender))
+                let cache = Cache {
+                    arenas,
+                    hashing,
+                    hints,
+                };
+                Ok((cache, workers, tender))
             }
             Err(refused) => Err(NewError::NoMemory(refused)),
         }

@@ -92,7 +92,7 @@ impl Worker {
 
     /// Puts the key's value behind the bytes that are there, and says whether the key has one. Where it has none, or the call is
     /// refused, the bytes stay. It takes memory for these bytes alone, where the vector has too little room. It waits for a lock of the
-    /// key's shard. (memcached's `get`)
+    /// key's shard, unless a hint leads it to the key's item with no lock. (memcached's `get`)
     pub fn get<R: Wait>(
         &mut self,
         rt: &R,
@@ -116,7 +116,9 @@ impl Worker {
         let arena = &cache.arenas[at.shard];
         let hand = &mut self.hands[at.shard];
         let label = Label { hash: at.hash, key };
-        mc_byte_items::get(rt, arena, hand, label, into, false).map_err(CallError::NoMemory)
+        mc_byte_items::get(rt, arena, &cache.hints, hand, label, into, false).map_err(
+            CallError::NoMemory,
+        )
     }
 
     /// The same as `get`; and where the key has a value, it is touched then, as by `touch`, unless this worker did so lately: it notes one
@@ -149,7 +151,7 @@ impl Worker {
         let hand = &mut self.hands[at.shard];
         let due = self.recent.is_due(at.hash);
         let label = Label { hash: at.hash, key };
-        match mc_byte_items::get(rt, arena, hand, label, into, due) {
+        match mc_byte_items::get(rt, arena, &cache.hints, hand, label, into, due) {
             Ok(true) => {
                 self.recent.note(at.hash);
                 Ok(true)
@@ -214,7 +216,7 @@ impl Worker {
         let arena = &cache.arenas[at.shard];
         let hand = &mut self.hands[at.shard];
         let label = Label { hash: at.hash, key };
-        mc_byte_items::contains(rt, arena, hand, label).map_err(CallError::NoMemory)
+        mc_byte_items::contains(rt, arena, &cache.hints, hand, label).map_err(CallError::NoMemory)
     }
 
     /// Deletes the key, and says whether it had a value. An item of another key with the same hash stays; where one is stored between the
@@ -234,7 +236,7 @@ impl Worker {
         let arena = &cache.arenas[at.shard];
         let hand = &mut self.hands[at.shard];
         let label = Label { hash: at.hash, key };
-        mc_byte_items::delete(rt, arena, hand, label).map_err(CallError::NoMemory)
+        mc_byte_items::delete(rt, arena, &cache.hints, hand, label).map_err(CallError::NoMemory)
     }
 
     /// Makes the key's item the one of its class that is evicted last, and says whether the key has a value. It waits for locks of the
@@ -254,7 +256,7 @@ impl Worker {
         let arena = &cache.arenas[at.shard];
         let hand = &mut self.hands[at.shard];
         let label = Label { hash: at.hash, key };
-        mc_byte_items::touch(rt, arena, hand, label).map_err(CallError::NoMemory)
+        mc_byte_items::touch(rt, arena, &cache.hints, hand, label).map_err(CallError::NoMemory)
     }
 }
 

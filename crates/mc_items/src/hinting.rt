@@ -10,6 +10,7 @@ ghost use Rattle.mc_words.specs.item.Refs.{KeepsRefs};
 ghost use Rattle.mc_items.specs.ItemRefs.{IsItemRef, item_chunk, item_issue};
 ghost use Rattle.mc_items.specs.Keeping.{HoldsTheSame, HoldsToo, IsAsSaid, SaysNothing};
 ghost use Rattle.mc_items.specs.OnKeys.{GetsByHint, IsAsKnown};
+ghost use Rattle.mc_items.specs.Current.{GetsCurrent};
 
 use crate::refs::{Ref, look_at};
 use mc_words::{Again, Arena, Hand, Hint};
@@ -36,6 +37,7 @@ pub fn again(arena: &Arena, hand: &mut Hand, hint: Hint) -> Result<Ref, Again>
     ensures number { number_of hand.new ≡ number_of hand.old }
     ensures hinted { IfOk result (λ item. (item_chunk item ≡ hint_chunk hint) × (item_issue item ≡ hint_issue hint)) }
     ensures gets { IfOk result (λ item. GetsByHint hint item (view hand.old) (view hand.new)) }
+    ensures current { IfOk result (λ item. GetsCurrent hint item (view hand.old) (view hand.new)) }
     ensures item { IfOk result (λ item. IsItemRef (view hand.new) item) }
     ensures said { IfOk result (IsAsSaid (view hand.new)) }
     ensures known { IfOk result (λ item. IsAsKnown (view hand.old) hint (held_item (view hand.new) (item_chunk item))) }

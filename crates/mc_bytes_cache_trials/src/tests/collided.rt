@@ -3,7 +3,7 @@ ghost use Rattle.mc_byte_items.specs.Hands.{IsIdleHandOf};
 
 use super::made::SMALL;
 use super::values::{Call, Trial, key_of, value_of};
-use mc_byte_items::{Label, contains, delete, get, set, touch};
+use mc_byte_items::{HintTable, Label, contains, delete, get, set, touch};
 use mc_words::{Arena, Hand};
 use std::alloc::Global;
 use std::sync::Wait;
@@ -20,6 +20,7 @@ fn store<R: Wait>(
     rt: &R,
     alloc: Global,
     arena: &Arena,
+    hints: &HintTable,
     hand: &mut Hand,
     at: Label,
     call: Call,
@@ -34,33 +35,46 @@ fn store<R: Wait>(
     }
     let key = key_of(alloc, call.number.wrapping_add(HASHES))?;
     let other = Label { key: &key, ..at };
-    let own = contains(rt, arena, hand, at)?;
-    let others = contains(rt, arena, hand, other)?;
+    let own = contains(rt, arena, hints, hand, at)?;
+    let others = contains(rt, arena, hints, hand, other)?;
     Ok(own && !others)
 }
 
 /// Deletes the key. True if it isn't there then.
-fn deletes<R: Wait>(rt: &R, arena: &Arena, hand: &mut Hand, at: Label) -> Result<bool, Fail>
+fn deletes<R: Wait>(
+    rt: &R,
+    arena: &Arena,
+    hints: &HintTable,
+    hand: &mut Hand,
+    at: Label,
+) -> Result<bool, Fail>
     requires { IsIdleHandOf arena.now hand.old }
     ensures { IsIdleHandOf arena.now hand.new }
 {
-    let _deleted = delete(rt, arena, hand, at)?;
-    Ok(!contains(rt, arena, hand, at)?)
+    let _deleted = delete(rt, arena, hints, hand, at)?;
+    Ok(!contains(rt, arena, hints, hand, at)?)
 }
 
 /// Touches the key. True if it is touched where it is there, and nowhere else.
-fn touches<R: Wait>(rt: &R, arena: &Arena, hand: &mut Hand, at: Label) -> Result<bool, Fail>
+fn touches<R: Wait>(
+    rt: &R,
+    arena: &Arena,
+    hints: &HintTable,
+    hand: &mut Hand,
+    at: Label,
+) -> Result<bool, Fail>
     requires { IsIdleHandOf arena.now hand.old }
     ensures { IsIdleHandOf arena.now hand.new }
 {
-    let there = contains(rt, arena, hand, at)?;
-    Ok(touch(rt, arena, hand, at)? == there)
+    let there = contains(rt, arena, hints, hand, at)?;
+    Ok(touch(rt, arena, hints, hand, at)? == there)
 }
 
 /// Gets the key. True if its bytes are its value, or none where it isn't there.
 fn finds<R: Wait>(
     rt: &R,
     arena: &Arena,
+    hints: &HintTable,
     hand: &mut Hand,
     trial: &Trial,
     at: Label,
@@ -70,7 +84,7 @@ fn finds<R: Wait>(
     ensures { IsIdleHandOf arena.now hand.new }
 {
     let mut bytes = Vec::new(trial.alloc);
-    if get(rt, arena, hand, at, &mut bytes, false)? {
+    if get(rt, arena, hints, hand, at, &mut bytes, false)? {
         Ok(trial.is_value(number, &bytes)?)
     } else {
         Ok(bytes.is_empty())
@@ -81,6 +95,7 @@ fn finds<R: Wait>(
 fn act_at<R: Wait>(
     rt: &R,
     arena: &Arena,
+    hints: &HintTable,
     hand: &mut Hand,
     trial: &mut Trial,
     at: Label,
@@ -92,35 +107,55 @@ fn act_at<R: Wait>(
     match call.kind {
         0 | 1 | 2 => {
             trial.note(call.number, Some(call.version));
-            store(rt, trial.alloc, arena, hand, at, call)
+            store(rt, trial.alloc, arena, hints, hand, at, call)
         }
         3 => {
             trial.note(call.number, None);
-            deletes(rt, arena, hand, at)
+            deletes(rt, arena, hints, hand, at)
         }
-        4 => touches(rt, arena, hand, at),
-        _ => finds(rt, arena, hand, trial, at, call.number),
+        4 => touches(rt, arena, hints, hand, at),
+        _ => finds(rt, arena, hints, hand, trial, at, call.number),
     }
 }
 
 /// One drawn call. True if all that was found was right.
-fn act<R: Wait>(rt: &R, arena: &Arena, hand: &mut Hand, trial: &mut Trial) -> Result<bool, Fail>
+fn act<R: Wait>(
+    rt: &R,
+    arena: &Arena,
+    hints: &HintTable,
+    hand: &mut Hand,
+    trial: &mut Trial,
+) -> Result<bool, Fail>
     requires { IsIdleHandOf arena.now hand.old }
     ensures { IsIdleHandOf arena.now hand.new }
 {
     let call = trial.draw();
     let hash = call.number % HASHES;
     let key = key_of(trial.alloc, call.number)?;
-    act_at(rt, arena, hand, trial, Label { hash, key: &key }, call)
+    act_at(
+        rt,
+        arena,
+        hints,
+        hand,
+        trial,
+        Label { hash, key: &key },
+        call,
+    )
 }
 
 /// All calls, before one that found what is wrong. True if none did.
-fn act_often<R: Wait>(rt: &R, alloc: Global, arena: &Arena, hand: &mut Hand) -> Result<bool, Fail>
+fn act_often<R: Wait>(
+    rt: &R,
+    alloc: Global,
+    arena: &Arena,
+    hints: &HintTable,
+    hand: &mut Hand,
+) -> Result<bool, Fail>
     requires { IsIdleHandOf arena.now hand.old }
 {
     let mut trial = Trial::new(alloc, 3)?;
     for _ in 0..CALLS {
-        if !act(rt, arena, hand, &mut trial)? {
+        if !act(rt, arena, hints, hand, &mut trial)? {
             return Ok(false);
         }
     }
@@ -133,7 +168,8 @@ fn act_often<R: Wait>(rt: &R, alloc: Global, arena: &Arena, hand: &mut Hand) -> 
 fn other_keys_of_a_hash_are_missed(rt: HostRuntime) -> Result<(), Fail> {
     let (arena, mut hands) = Arena::new(rt.alloc(), &SMALL, 1)?;
     let mut hand = hands.remove(0);
-    let right = act_often(&rt, rt.alloc(), &arena, &mut hand)?;
+    let hints = HintTable::new(rt.alloc(), 1)?;
+    let right = act_often(&rt, rt.alloc(), &arena, &hints, &mut hand)?;
     assert!(rt; right, "a key of another was found, or its own wasn't");
     Ok(())
 }

@@ -1,4 +1,4 @@
-use Rattle.std.proofs.Common.{◌≡◌, ◌∷◌, Err, ap, refl, ◌∙◌}
+use Rattle.std.proofs.Common.{◌≡◌, ◌∷◌, Err, ap, refl, subst, sym, ◌∙◌, ℕ}
 use Rattle.mc_words.specs.declared.item.refs.Again.TheVariants as refused
 use Rattle.mc_words.specs.declared.item.refs.Ref.{Ref}
 use Rattle.mc_words.specs.hand.View.{View}
@@ -6,6 +6,7 @@ use Rattle.std.proofs.Common.{[]}
 use Rattle.std.specs.Option.{option_map_or}
 use Rattle.mc_core.specs.Holdings.{holding_of, item_of}
 use Rattle.mc_core.specs.Views.{Row}
+use Rattle.mc_words.specs.item.Again.{GetsAgain}
 use Rattle.mc_words.specs.item.Items.{held_item}
 use Rattle.mc_pages.specs.declared.ids.ChunkId.{ChunkId}
 use Rattle.mc_core.specs.Past.{known_by}
@@ -16,6 +17,7 @@ use Rattle.mc_words.proofs.Hands.HandNumbers.{number_stays}
 use Rattle.mc_items.proofs.Chains.{item_said, ready_more, ready_still, refs_and_more, refs_stay}
 use Rattle.mc_items.proofs.Left.{GotOne, Kept, again_one, read_one}
 use Rattle.mc_items.proofs.GetLeaves.{again_kept}
+use Rattle.mc_items.proofs.Currents.{gets_current}
 use Rattle.mc_items.proofs.hinting.again.Goals as goal
 
 pub returns-in-Ok-clause-known : goal.returns-in-Ok-clause-known
@@ -109,3 +111,13 @@ returns-in-Err-clause-unsaid c =
     let now : View = c.again.new.hand.seat.me.0 in
     let kept = again_kept c.in-Err.error view c.args.hint.chunk c.args.hint.issue now c.in-Err.ensures.gone c.in-Err.ensures.contended c.in-Err.ensures.refused in
     ap (λ (k : Kept). k.2) kept
+
+pub returns-in-Ok-clause-current : goal.returns-in-Ok-clause-current
+returns-in-Ok-clause-current c =
+    let view : View = c.args.hand.now.seat.me.0 in
+    let got : View = c.again.new.hand.seat.me.0 in
+    let now : View = c.look_at.new.hand.seat.me.0 in
+    let hint = c.args.hint in
+    let is = c.look_at.ensures.view ∙ ap (λ (chunk : ChunkId). fields_seen chunk got) c.in-Ok.ensures.hinted.0 in
+    let gets = subst (λ (room : ℕ). GetsAgain view hint.chunk hint.issue room got) (sym (ap (λ (r : Ref). r.room) c.look_at.ensures.chunk)) c.in-Ok.ensures.gets in
+    gets_current view got now hint c.look_at.result gets is (ap (λ (r : Ref). r.chunk) c.look_at.ensures.chunk ∙ c.in-Ok.ensures.hinted.0) c.look_at.ensures.item

@@ -17,7 +17,7 @@ pub returns-in-Ok-clause-same : goal.returns-in-Ok-clause-same
 returns-in-Ok-clause-same g c = λ either. absurd (⊎_elim (λ no. no_none c.in-Some.at (c.in-Some.ensures.key.1 no)) (λ long. omega arith) either)
 
 pub returns-in-Ok-clause-stores : goal.returns-in-Ok-clause-stores
-returns-in-Ok-clause-stores g c = acted c.args.cache.now c.args.key.now c.args.self.now.hands.items c.in-Some.at c.index-arena.result.now c.index_mut-hand.result.now c.set.new.hand (λ (hash : ℕ). StoresValue hash c.args.key.now c.args.value.now) c.requires c.in-Some.ensures.hash c.in-Some.ensures.shard c.in-Some.ensures.near c.index-arena.ensures c.index_mut-hand.ensures.value (c.in-Ok._stamp, c.in-Ok.ensures.said)
+returns-in-Ok-clause-stores g c = acted c.args.cache.now c.args.key.now c.args.self.now.hands.items c.in-Some.at c.index-arena.result.now c.index_mut-hand.result.now c.set.new.hand (λ (hash : ℕ). StoresValue hash c.args.key.now c.args.value.now) c.requires c.in-Some.ensures.hash c.in-Some.ensures.shard c.in-Some.ensures.near c.index-arena.ensures c.index_mut-hand.ensures.value (c.in-Ok._stamp, c.in-Ok.ensures.said, c.in-Ok.ensures.sets)
 
 pub returns-in-Err-clause-refused : goal.returns-in-Err-clause-refused
 returns-in-Err-clause-refused g c = λ error is.
