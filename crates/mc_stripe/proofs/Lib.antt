@@ -5,5 +5,6 @@ pub mod Sequential
 pub mod Stamps
 pub mod Kept
 pub mod Copies
+pub mod Once
 pub mod Fields
 pub mod Tails

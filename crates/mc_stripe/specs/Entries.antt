@@ -2,7 +2,8 @@
 use Rattle.std.specs.Prelude.{ℕ, ◌<◌, nat_eq, ⊤, List, [], ◌∷◌, Option}
 use Rattle.std.specs.Ordering.{nat_cmp}
 use Rattle.std.specs.BTreeMap.{insert_entry}
-use Rattle.std.specs.Map.{lookup, remove_entry}
+use Rattle.std.specs.List.{IsDistinct}
+use Rattle.std.specs.Map.{lookup, remove_entry, keys_of}
 
 module _ {X : Type 0} where
   -- what the key leads to
@@ -31,3 +32,7 @@ module _ {X : Type 0} where
   abbrev pub by_key : List (ℕ × X) → List (ℕ × X)
   by_key [] = []
   by_key (entry ∷ entries) = with_entry (by_key entries) entry.0 entry.1
+
+  -- no key stands in two of the entries
+  abbrev pub HasEachKeyOnce : List (ℕ × X) → Type 0
+  HasEachKeyOnce entries = IsDistinct nat_eq (keys_of entries)

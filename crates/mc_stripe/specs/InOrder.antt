@@ -3,7 +3,7 @@ use Rattle.std.specs.Prelude.{◌≡◌, ◌<◌, ◌^◌, ◌-◌, ◌++◌, []
 use Rattle.std.specs.HashMap.{spare}
 use Rattle.mc_stripe.specs.declared.recorded.Recorded.TheInside.{Inside as RecordedInside}
 use Rattle.mc_stripe.specs.declared.stripe.Stripe.TheInside.{Inside}
-use Rattle.mc_stripe.specs.Entries.{by_key}
+use Rattle.mc_stripe.specs.Entries.{by_key, HasEachKeyOnce}
 use Rattle.mc_stripe.specs.History.{replay}
 use Rattle.mc_stripe.specs.Recorded.{Calls, CanTell}
 use Rattle.mc_stripe.specs.StripeState.{StripeState, ReadyStripe}
@@ -25,6 +25,8 @@ pub record IsRecorded (calls : RecordedInside) : Type 0 where
   pub fits : calls.is_recorded ≡ true → length calls.past.calls < 2 ^ 64
   -- the base is what these left
   pub base : calls.is_recorded ≡ true → replay [] calls.past.calls ≡ Some (by_key calls.base.items)
+  -- which has no key twice
+  pub once : HasEachKeyOnce calls.base.items
   -- no call is in memory where none is recorded
   pub none : calls.is_recorded ≡ false → calls.tail.items ≡ []
 

@@ -2,7 +2,7 @@
 ghost use Rattle.std.specs.Prelude.{◌≡◌, ◌≤◌, ℕ, Bool, true, false, List, [], ◌∷◌, ◌++◌, length, take, drop, filter, Some, None};
 ghost use Rattle.mc_stripe.specs.declared.history.Call.{Call};
 ghost use Rattle.mc_stripe.specs.declared.history.Call.TheVariants.{Set, Get, Delete, Evict, Rescue};
-ghost use Rattle.mc_stripe.specs.Entries.{entry_at};
+ghost use Rattle.mc_stripe.specs.Entries.{HasEachKeyOnce, entry_at};
 ghost use Rattle.mc_stripe.specs.History.{Stamps, replay};
 ghost use Rattle.mc_stripe.specs.Recorded.{left_by_trimmed, recorded, recorded_behind};
 ghost use Rattle.mc_stripe.specs.Sequential.{StampMap, Leads, no_stamps};
@@ -50,4 +50,10 @@ pub fn worked_records()
     ensures all_left { left_by_trimmed (Set 0 9 1 ∷ Set 0 3 2 ∷ []) None ≡ (3, 2) ∷ (9, 1) ∷ [] }
     ensures trimmed_again { recorded_behind (Some 1) 3 ≡ Some 3 }
     ensures none_was_recorded { recorded_behind None 3 ≡ None }
+{}
+
+/// Stamps of two keys, and stamps of which two have one key.
+pub fn worked_keys()
+    ensures differ { HasEachKeyOnce {X = ℕ} ((9, 1) ∷ (3, 1) ∷ []) }
+    ensures meet { HasEachKeyOnce {X = ℕ} ((9, 1) ∷ (3, 2) ∷ (9, 1) ∷ []) → ⊥ }
 {}

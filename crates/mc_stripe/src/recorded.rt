@@ -1,6 +1,6 @@
 //! The calls of a stripe: those that are recorded, and what the others leave.
 ghost use Rattle.std.specs.Prelude.{◌≡◌, ◌≤◌, ◌^◌, ◌-◌, [], ◌∷◌, ◌++◌, true, length, min, Some, None, OnOk, OnErr, Err, IsOk, IfSome, is_some, ◌+◌, vec_len, vec_capacity};
-ghost use Rattle.mc_stripe.specs.Entries.{by_key};
+ghost use Rattle.mc_stripe.specs.Entries.{HasEachKeyOnce, by_key, entry_at};
 ghost use Rattle.mc_stripe.specs.History.{replay};
 ghost use Rattle.mc_stripe.specs.Recorded.{CanTell, count_trimmed, left_by_trimmed, recorded, recorded_behind};
 ghost use Rattle.mc_stripe.specs.StripeState.{stamps_in, with_aside};
@@ -45,6 +45,7 @@ impl Model for Recorded {
 
 impl Recorded {
     /// No call was told.
+    #[tactic(auto, using(crate::proofs::Once::once_empty))]
     pub(crate) fn new(alloc: Global) -> Recorded
         ensures all { result.all ≡ [] }
         ensures from { result.recorded_from ≡ Some 0 }
@@ -89,11 +90,13 @@ impl Recorded {
     /// The calls so far aren't recorded any more: they leave what index and entry aside have. Where none is recorded, nothing changes.
     pub(crate) fn trim(&mut self, index: &Index, aside: Option<(Key, Place)>) -> Result<(), Trim>
         requires replayed { replay [] self.old.all ≡ Some (stamps_in (with_aside (by_key index.now.entries) aside)) }
+        requires apart { IfSome aside (λ entry. entry_at (by_key index.now.entries) entry.0 ≡ None) }
         ensures all { self.new.all ≡ self.old.all }
         ensures from { OnOk result (self.new.recorded_from ≡ recorded_behind self.old.recorded_from (length self.old.all)) }
         ensures refused { OnErr result (self.new.recorded_from ≡ self.old.recorded_from) }
         ensures full { result ≡ Err Trim.Full → (is_some self.old.recorded_from ≡ true) × (2 ^ 64 ≤ length self.old.all) }
         ensures first { is_some self.old.recorded_from ≡ true → 2 ^ 64 ≤ length self.old.all → result ≡ Err Trim.Full }
+        ensures idle { self.old.recorded_from ≡ None → IsOk result }
         ensures kept { CanTell self.old → CanTell self.new }
     {
         if !self.is_recorded {
@@ -112,6 +115,7 @@ impl Recorded {
     }
 
     /// No call is recorded from now on, and none of those so far.
+    #[tactic(auto, using(crate::proofs::Once::once_empty))]
     pub(crate) fn forget(&mut self)
         ensures all { self.new.all ≡ self.old.all }
         ensures from { self.new.recorded_from ≡ None }
@@ -123,9 +127,10 @@ impl Recorded {
         self.is_recorded = false;
     }
 
-    /// How many calls aren't recorded, or the greatest number if they are more.
+    /// How many calls aren't recorded, or the greatest number if they are more, which can be only where no call is recorded.
     pub(crate) fn trimmed(&self) -> u64
-        ensures { result ≡ min (count_trimmed self.now.all self.now.recorded_from) (2 ^ 64 - 1) }
+        ensures trimmed { result ≡ min (count_trimmed self.now.all self.now.recorded_from) (2 ^ 64 - 1) }
+        ensures exact { IfSome self.now.recorded_from (λ from. result ≡ from) }
     {
         self.trimmed
     }
@@ -133,6 +138,7 @@ impl Recorded {
     /// What the calls that aren't recorded left, where others are.
     pub(crate) fn base(&self) -> Option<&[(Key, Stamp)]>
         ensures base { IfSome result (λ base. by_key base.now ≡ left_by_trimmed self.now.all self.now.recorded_from) }
+        ensures each_once { IfSome result (λ base. HasEachKeyOnce base.now) }
         ensures some { is_some result ≡ is_some self.now.recorded_from }
     {
         if !self.is_recorded {
@@ -149,13 +155,15 @@ impl Recorded {
     }
 }
 
-// Makes the base the stamps of the index, the entry aside counted in. Where memory runs out it stays as it is.
+// Makes the base the stamps of the index, the entry aside counted in, whose key the index lacks. Where memory runs out it stays as it is.
 fn copy_stamps(
     base: &mut Vec<(Key, Stamp)>,
     index: &Index,
     aside: Option<(Key, Place)>,
 ) -> Result<(), Refused>
+    requires apart { IfSome aside (λ entry. entry_at (by_key index.now.entries) entry.0 ≡ None) }
     ensures copied { OnOk result (by_key base.new.items ≡ stamps_in (with_aside (by_key index.now.entries) aside)) }
+    ensures each_once { OnOk result (HasEachKeyOnce base.new.items) }
     ensures refused { OnErr result (base.new.items ≡ base.old.items) }
 {
     let wanted = index.len() + 1;

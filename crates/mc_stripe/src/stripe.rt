@@ -99,6 +99,7 @@ impl Stripe {
         ensures refused { OnErr result (self.new ≡ self.old) }
         ensures full { result ≡ Err Trim.Full → (is_some self.old.state.recorded_from ≡ true) × (2 ^ 64 ≤ length self.old.state.history) }
         ensures first { is_some self.old.state.recorded_from ≡ true → 2 ^ 64 ≤ length self.old.state.history → result ≡ Err Trim.Full }
+        ensures idle { self.old.state.recorded_from ≡ None → IsOk result }
         ensures legal { IsLegal self.new.state }
     {
         self.calls.trim(&self.index, self.aside)

@@ -1,6 +1,6 @@
 //! What a stripe tells of itself.
 ghost use Rattle.std.specs.Prelude.{◌≡◌, ◌^◌, ◌-◌, min, IfSome, is_some};
-ghost use Rattle.mc_stripe.specs.Entries.{by_key};
+ghost use Rattle.mc_stripe.specs.Entries.{HasEachKeyOnce, by_key};
 ghost use Rattle.mc_stripe.specs.StripeState.{base_of, key_aside, place_of, tail_of, trimmed_of};
 ghost use Rattle.mc_stripe.specs.Legal.{IsLegal};
 
@@ -50,13 +50,16 @@ impl Stripe {
     /// can be only where no call is recorded.
     pub fn trimmed(&self) -> u64
         ensures trimmed { result ≡ min (trimmed_of self.now.state) (2 ^ 64 - 1) }
+        ensures exact { IfSome self.now.state.recorded_from (λ from. result ≡ from) }
     {
         self.calls.trimmed()
     }
 
-    /// Each key's stamp, in no order, as the calls left them that aren't recorded any more. None where no call is recorded: then it is the index.
+    /// Each key's stamp, no key twice, in no order, as the calls left them that aren't recorded any more. None where no call is recorded: then it
+    /// is the index.
     pub fn base(&self) -> Option<&[(Key, Stamp)]>
         ensures base { IfSome result (λ base. by_key base.now ≡ base_of self.now.state) }
+        ensures each_once { IfSome result (λ base. HasEachKeyOnce base.now) }
         ensures some { is_some result ≡ is_some self.now.state.recorded_from }
     {
         self.calls.base()
