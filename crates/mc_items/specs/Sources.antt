@@ -3,7 +3,7 @@ use Rattle.std.specs.Prelude.{◌≡◌, ◌⊎◌, ℕ, ◌≤◌, ◌==◌, Bo
 use Rattle.std.specs.List.{list_all}
 use Rattle.mc_pages.specs.declared.ids.ChunkId.{ChunkId}
 use Rattle.mc_pages.specs.declared.moves.Reassign.{Reassign}
-use Rattle.mc_pages.specs.Changes.{after_pop, next_page}
+use Rattle.mc_pages.specs.Changes.{HasNoPageFor, after_pop, next_page}
 use Rattle.mc_pages.specs.ClassState.{first_free}
 use Rattle.mc_pages.specs.SlabState.{SlabState, class_at}
 use Rattle.mc_core.specs.Chunks.{most_issue}
@@ -61,7 +61,7 @@ SuppliesChunk number class chunk view slabs now left =
 
 -- no page was left, none of its oldest five chunks could be had, each that it handed out was found alive, and nothing was changed
 pub record MakesNone (number class : ℕ) (view : View) (slabs : SlabState) (now : View) (left : SlabState) : Type 0 where
-  pub page : next_page slabs class ≡ None
+  pub full : HasNoPageFor slabs class
   pub passes : PassesEach number (first_five slabs class) view now
   pub alive : list_all (is_found_alive now.row.looks) (class_at slabs class).order ≡ true
   pub same : left ≡ slabs

@@ -1,7 +1,7 @@
 //! Chunks for items, under one hold of the slabs lock.
 ghost use Rattle.std.specs.List.{list_all};
 ghost use Rattle.std.specs.Prelude.{◌≡◌, ◌≤◌, IfErr, IfOk, IfSome, None, Ok, OnErr, false, is_some, length, true};
-ghost use Rattle.mc_pages.specs.Changes.{next_page};
+ghost use Rattle.mc_pages.specs.Changes.{HasNoPageFor, next_page};
 ghost use Rattle.mc_pages.specs.ClassState.{first_free, popped};
 ghost use Rattle.mc_pages.specs.SlabState.{class_at};
 ghost use Rattle.mc_core.specs.Holdings.{has_fresh};
@@ -80,6 +80,7 @@ pub(crate) fn grow_for(
     ensures whole { (slabs_lent held.new).uncut ≡ None }
     ensures seen { SeesMore hand.old hand.new }
     ensures none { result ≡ Ok false → (next_page (slabs_lent held.old) class ≡ None) × AreUnchanged held.old held.new × (view hand.new ≡ view hand.old) }
+    ensures full { result ≡ Ok false → HasNoPageFor (slabs_lent held.old) class }
     ensures same { OnErr result (AreUnchanged held.old held.new × (view hand.new ≡ view hand.old)) }
     ensures page { OnErr result (is_some (next_page (slabs_lent held.old) class) ≡ true) }
 {

@@ -1,5 +1,5 @@
 -- What each call on chunks and pages changes.
-use Rattle.std.specs.Prelude.{ℕ, ◌+◌, ◌-◌, ◌/◌, ◌==◌, Bool, not, ◌||◌, nat_lt, if◌then◌else◌, [], ◌∷◌, ◌++◌, length, take, slice_get, slice_set, Option, Some, None}
+use Rattle.std.specs.Prelude.{◌≡◌, ◌≤◌, ℕ, ◌+◌, ◌-◌, ◌/◌, ◌==◌, Bool, not, ◌||◌, nat_lt, if◌then◌else◌, [], ◌∷◌, ◌++◌, length, take, slice_get, slice_set, Option, Some, None}
 use Rattle.std.specs.Option.{option_or}
 use Rattle.mc_pages.specs.declared.ids.ChunkId.{ChunkId}
 use Rattle.mc_pages.specs.declared.ledger.Owner.TheVariants.{Class}
@@ -62,6 +62,15 @@ granted_page slabs class = if has_ordinary_page slabs || is_without_page slabs c
 -- the page that a class gets next: the one that came last into the pool, or else one that is granted
 abbrev pub next_page : SlabState → ℕ → Option ℕ
 next_page slabs class = option_or (pooled_page slabs) (granted_page slabs class)
+
+-- why no page is left for the class
+pub record HasNoPageFor (slabs : SlabState) (class : ℕ) : Type 0 where
+  -- the pool is empty
+  pub pool : slabs.pool ≡ []
+  -- as many pages were granted within the limit as it has room for
+  pub limit : slabs.limit / slabs.page ≤ ordinary_count slabs.ledger
+  -- and the class has a page
+  pub page : 1 ≤ length (class_at slabs class).pages
 
 -- an untouched page is given to the class, beyond the limit where none is left within it
 abbrev pub after_grant : SlabState → ℕ → ℕ → SlabState

@@ -77,7 +77,8 @@ impl Recorded {
 
     /// How many entries aren't recorded, or the greatest number if they are more.
     pub(crate) fn trimmed(&self) -> u64
-        ensures { result ≡ min self.now.trimmed (2 ^ 64 - 1) }
+        ensures trimmed { result ≡ min self.now.trimmed (2 ^ 64 - 1) }
+        ensures within { self.now.trimmed ≤ length self.now.all }
     {
         self.trimmed
     }

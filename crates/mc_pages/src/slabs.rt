@@ -165,6 +165,7 @@ impl Slabs {
     /// How many changes came before them, or the greatest number if they are more.
     pub fn trimmed(&self) -> u64
         ensures trimmed { result ≡ min self.now.state.trimmed (2 ^ 64 - 1) }
+        ensures within { self.now.state.trimmed ≤ length self.now.state.ledger }
         ensures accounted { IsAccounted self.now.state }
     {
         self.ledger.trimmed()

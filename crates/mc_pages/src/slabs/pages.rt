@@ -1,7 +1,7 @@
 //! How a class gets a page.
 ghost use Rattle.std.specs.Prelude.{◌≡◌, ◌↔◌, IfOk, OnErr, None, Some, Err, is_some};
 ghost use Rattle.mc_pages.specs.SlabState.{IsClass};
-ghost use Rattle.mc_pages.specs.Changes.{after_grow, has_ordinary_page, is_without_page, next_page};
+ghost use Rattle.mc_pages.specs.Changes.{HasNoPageFor, after_grow, has_ordinary_page, is_without_page, next_page};
 ghost use Rattle.mc_pages.specs.Accounted.{IsAccounted};
 ghost use Rattle.mc_pages.specs.InOrder.{is_awaited};
 
@@ -42,6 +42,7 @@ impl Slabs {
         requires whole { self.old.state.uncut ≡ None }
         ensures given { IfOk result (λ page. (next_page self.old.state class ≡ Some page) × (self.new.state ≡ after_grow self.old.state class page)) }
         ensures no_room { (result ≡ Err Grow.NoRoom) ↔ (next_page self.old.state class ≡ None) }
+        ensures full { result ≡ Err Grow.NoRoom → HasNoPageFor self.old.state class }
         ensures refused { OnErr result (self.new.state ≡ self.old.state) }
         ensures accounted { IsAccounted self.new.state }
         ensures writes { self.new.writes ≡ self.old.writes }

@@ -1,7 +1,7 @@
 //! Changes of pages and lists, and of stripes, that write no header. Each is told at once.
 ghost use Rattle.std.specs.Prelude.{◌≡◌, ℕ, ◌+◌, ◌%◌, ◌<◌, ◌≤◌, ◌↔◌, Bool, if◌then◌else◌, [], ◌∷◌, true, false, slice_index_or, None, Some, Err, IfOk, OnOk, OnErr};
 ghost use Rattle.mc_classes.specs.Classes.{arena_pages_of};
-ghost use Rattle.mc_pages.specs.Changes.{after_evicted, after_grow, after_touch, after_trim, next_page};
+ghost use Rattle.mc_pages.specs.Changes.{HasNoPageFor, after_evicted, after_grow, after_touch, after_trim, next_page};
 ghost use Rattle.mc_stripe.specs.StripeState.{place_of};
 ghost use Rattle.mc_core.specs.Silent.{call_of, is_aside, is_handed_out};
 ghost use Rattle.mc_core.specs.State.{is_class};
@@ -110,6 +110,7 @@ impl Arena {
         ensures happens { IfOk result (λ page. Happens (view hand.old) (change.Grow class ∷ []) step.MissSlabs (view hand.new)) }
         ensures view { IfOk result (λ page. view hand.new ≡ slabs_changed held.old.shared (change.Grow class) (hand.old.number + 1) (view hand.old)) }
         ensures no_room { (result ≡ Err Grow.NoRoom) ↔ (next_page held.old.shared class ≡ None) }
+        ensures full { result ≡ Err Grow.NoRoom → HasNoPageFor held.old.shared class }
         ensures refused { OnErr result ((held.new.shared ≡ held.old.shared) × (view hand.new ≡ view hand.old)) }
     {
         let page = held.shared.slabs_mut().grow(class)?;

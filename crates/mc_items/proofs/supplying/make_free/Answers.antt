@@ -1,4 +1,5 @@
-use Rattle.std.proofs.Common.{ℕ, Ok, ap, subst, ◌∙◌, inr}
+use Rattle.std.proofs.Common.{ℕ, Ok, ap, sym, subst, ◌∙◌, inr}
+use Rattle.mc_pages.specs.Changes.{HasNoPageFor}
 use Rattle.mc_pages.specs.SlabState.{SlabState}
 use Rattle.mc_words.specs.hand.View.{View}
 use Rattle.mc_items.specs.Evicting.{FreesOne, LacksEntry, first_five}
@@ -29,9 +30,10 @@ pub returns-in-Ok-false-clause-none : goal.returns-in-Ok-false-clause-none
 returns-in-Ok-false-clause-none c e =
     let none = c.grow_for.ensures.none (c.in-Ok-false.is ∙ ap (λ b. Ok b) c.in-Ok-false.field-0-test) in
     let number = number_stays c.args.hand.now c.grow_for.new.hand (ap (λ (v : View). v.row.ids) none.2) in
+    let full = c.grow_for.ensures.full (c.in-Ok-false.is ∙ ap (λ b. Ok b) c.in-Ok-false.field-0-test) in
     let passes = c.evict_one.ensures.none e in
     subst (λ (p : ℕ × View × SlabState). MakesNone p.0 c.args.class p.1 p.2 c.evict_one.new.hand.seat.me.0 c.evict_one.new.slabs.shared) (λ k. (number k, none.2 k, none.1 k))
-    (record { page = ap (λ x. Rattle.mc_pages.specs.Changes.next_page x c.args.class) none.1 ∙ none.0; passes = passes.0; alive = c.evict_one.ensures.alive e; same = passes.1 })
+    (record { full = subst (λ (s : SlabState). HasNoPageFor s c.args.class) (sym none.1) full; passes = passes.0; alive = c.evict_one.ensures.alive e; same = passes.1 })
 
 pub returns-in-Ok-false-clause-no_memory : goal.returns-in-Ok-false-clause-no_memory
 returns-in-Ok-false-clause-no_memory c =

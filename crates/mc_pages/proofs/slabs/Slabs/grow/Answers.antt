@@ -9,7 +9,7 @@ use Rattle.mc_pages.specs.ClassState.{ClassState, with_page}
 use Rattle.mc_pages.specs.SlabState.{SlabState, IsClass, class_at}
 use Rattle.mc_pages.specs.Base.{Entries}
 use Rattle.mc_pages.specs.Ledger.{ordinary_count}
-use Rattle.mc_pages.specs.Changes.{has_ordinary_page, next_page, after_grow, after_take, after_grant}
+use Rattle.mc_pages.specs.Changes.{HasNoPageFor, has_ordinary_page, next_page, after_grow, after_take, after_grant}
 use Rattle.mc_pages.specs.Accounted.{truth}
 use Rattle.mc_pages.specs.Linked.{sizes_of}
 use Rattle.mc_pages.specs.Room.{states}
@@ -19,7 +19,7 @@ use Rattle.mc_pages.proofs.Kept.{pages_below}
 use Rattle.mc_pages.proofs.KeptPages.{IsInOrder-after_take, IsInOrder-after_grant}
 use Rattle.mc_pages.proofs.Trimmed.{told_entries}
 use Rattle.mc_pages.proofs.RoomySlabs.{Fits, length-classes, read_state, with_roomy, HasRows-with_class}
-use Rattle.mc_pages.proofs.RoomyGrow.{on_err, truth_le, truth_byte, grow_takes, grow_grants, take_is, grant_is, next_pooled, next_granted, fits-given, next_within, states_roomier, fits-roomier}
+use Rattle.mc_pages.proofs.RoomyGrow.{on_err, truth_le, truth_byte, grow_takes, grow_grants, take_is, grant_is, next_pooled, next_granted, next_none, fits-given, next_within, states_roomier, fits-roomier}
 use Rattle.mc_pages.proofs.Roomy.{same_state}
 use Rattle.mc_pages.proofs.slabs.Slabs.grow.Goals as goal
 use Rattle.mc_pages.proofs.slabs.Slabs.grow.Goals.{After-page_count, in-Some, in-None}
@@ -243,3 +243,11 @@ pub index_mut-slab-requires : goal.index_mut-slab-requires
 index_mut-slab-requires c =
     let is = subst (λ (s : SlabState). IsClass s c.args.class) (sym (same_state c.self.view_is)) c.requires.class in
     omega (arith, is.0, length-classes c.self.inside c.args.class is)
+
+-- where there is no page, the limit is used up and the class has one
+pub returns-in_err-page-clause-full : goal.returns-in_err-page-clause-full
+returns-in_err-page-clause-full c refused =
+    let is = subst (λ (s : SlabState). IsClass s c.args.class) (sym (same_state c.self.view_is)) c.requires.class in
+    let none = ap (λ (s : SlabState). next_page s c.args.class) (same_state c.self.view_is) ∙ (sym c.next_page.ensures.page ∙ c.in_err-page.ensures.ok_part) in
+    let full = next_none (slabs_of c.self.inside) c.self.inside.granted c.args.class c.self.invariant.order is none in
+    subst (λ (s : SlabState). HasNoPageFor s c.args.class) (same_state c.self.view_is) (record { pool = full.0; limit = full.1; page = full.2 })
