@@ -48,7 +48,7 @@ returns-clause-leads c =
       of_key = record {
         near = c.requires.near;
         inside = search rules;
-        key = stripe_found c.args.chunk seen read taken slabs key stripe value reads at c.in-Ok.ensures.taken c.in-Ok.ensures.lent c.in-Ok.ensures.whole ∙ ap (λ n. Some n) (sym c.in-Ok.ensures.number);
+        key = stripe_found c.args.chunk seen read taken slabs key stripe value reads at c.in-Ok.ensures.taken c.in-Ok.ensures.lent c.in-Ok.ensures.whole c.in-Ok.ensures.seen ∙ ap (λ n. Some n) (sym c.in-Ok.ensures.number);
       };
       lent = search rules;
       leads = (key, leads.0, leads.1);
