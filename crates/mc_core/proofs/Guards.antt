@@ -2,7 +2,7 @@
 use Rattle.std.proofs.Common.{◌≡◌, ◌⊎◌, ℕ, ◌&&◌, true, List, length, Option, Some, None, refl, sym, ap, subst, ◌∙◌, inl, inr, slice_set, slice_index_or, length-set, get_or-set_other}
 use Rattle.std.proofs.lemmas.Bool.{and_parts, cases_eq}
 use Rattle.mc_pages.specs.declared.ids.ChunkId.{ChunkId}
-use Rattle.mc_stripe.specs.StripeState.{ReadyStripe, new_stripe}
+use Rattle.mc_stripe.specs.StripeState.{ReadyStripe, can_store, new_stripe}
 use Rattle.mc_core.specs.declared.holding.Holding.{Holding}
 use Rattle.mc_core.specs.declared.holding.Kind.{Kind}
 use Rattle.mc_core.specs.declared.holding.Kind.TheVariants.{Reference, Fresh}
@@ -70,8 +70,8 @@ guards_link s hand chunk (Some holding) can =
     let left : State = without_holding s hand (is_of chunk) in
     let key = key_in (words_of holding) in
     let parts = link_parts s hand chunk holding can in
-    let ready = and_parts (has_stripe s hand (stripe_of s key) && (stripe_at s (stripe_of s key)).ready) _ parts.1 in
-    let has = (and_parts (has_stripe s hand (stripe_of s key)) (stripe_at s (stripe_of s key)).ready ready.0).0 in
+    let ready = and_parts (has_stripe s hand (stripe_of s key) && can_store (stripe_at s (stripe_of s key))) _ parts.1 in
+    let has = (and_parts (has_stripe s hand (stripe_of s key)) (can_store (stripe_at s (stripe_of s key))) ready.0).0 in
     let told = told_stripes left hand holding holding.kind in
     guards_stripe s (after_link_of left hand chunk (Some holding)) hand key told.0 has
     (told_link_keeps (λ x. x.slabs) left hand holding holding.kind refl refl) told.1

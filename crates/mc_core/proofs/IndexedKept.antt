@@ -17,7 +17,7 @@ use Rattle.mc_core.specs.declared.event.Change.TheVariants.{Grow, BeginMove, Fin
 use Rattle.mc_core.specs.declared.event.Step.TheVariants.{TakeSlabs, TakeStripe, MissSlabs, MissStripe, GiveSlabs, GiveStripe, Pop, PopOff, Fill, Word, WordHeld, Link, Refer, Unlink, Release, Discard, Condemn, PutBack, Clear, Cut, Again, Join}
 use Rattle.mc_core.specs.declared.event.Step.TheVariants as step
 use Rattle.mc_core.specs.declared.event.StripeChange.{StripeChange}
-use Rattle.mc_core.specs.declared.event.StripeChange.TheVariants.{Reserve, Trim, Forget}
+use Rattle.mc_core.specs.declared.event.StripeChange.TheVariants.{Reserve, ReserveCall, Trim, Forget}
 use Rattle.mc_core.specs.State.{State, most_of, head_place, stripe_of, stripe_at, has_slabs, has_stripe, with_look, new_state}
 use Rattle.mc_core.specs.Silent.{writer_of, can_tell_none, after_change, stripe_after}
 use Rattle.mc_core.specs.Columns.{head_in}
@@ -50,6 +50,7 @@ indexed_slabs m hand change may =
 -- such a change leaves the index
 same_index : (how : StripeChange) (stripe : ReadyStripe) → (stripe_after how stripe).state.index ≡ stripe.state.index
 same_index Reserve stripe = refl
+same_index ReserveCall stripe = refl
 same_index Trim stripe = refl
 same_index Forget stripe = refl
 

@@ -14,7 +14,7 @@ use Rattle.mc_stripe.specs.Changes as stripe_changes
 use Rattle.mc_stripe.specs.Legal.{IsLegal}
 use Rattle.mc_stripe.proofs.Kept.{IsLegal-after_got, IsLegal-after_unlink, IsLegal-after_lift, IsLegal-after_evict, IsLegal-after_link, IsLegal-after_rescue, IsLegal-after_trim, IsLegal-after_forget}
 use Rattle.mc_core.specs.declared.event.StripeChange.{StripeChange}
-use Rattle.mc_core.specs.declared.event.StripeChange.TheVariants.{Reserve, Trim, Forget}
+use Rattle.mc_core.specs.declared.event.StripeChange.TheVariants.{Reserve, ReserveCall, Trim, Forget}
 use Rattle.mc_core.specs.State.{State, has_stripe, stripe_of, stripe_at, number_at}
 use Rattle.mc_core.specs.Silent.{is_aside, writer_of, stripe_after}
 use Rattle.mc_core.specs.Indexed.{AreLegal}
@@ -92,6 +92,7 @@ module _ (state : State) (hand : ℕ) (l : AreLegal state.stripes state.stripe_l
   -- room was made, or calls were trimmed or forgotten
   pub tells_change : (how : StripeChange) → Tells state (slice_set state.stripes at (stripe_after how (stripe_at state at))) hand []
   tells_change Reserve = told_nothing (stripe_after Reserve (stripe_at state at)) legal refl refl
+  tells_change ReserveCall = told_nothing (stripe_after ReserveCall (stripe_at state at)) legal refl refl
   tells_change Trim = told_nothing (stripe_after Trim (stripe_at state at)) (IsLegal-after_trim old legal) refl refl
   tells_change Forget = told_nothing (stripe_after Forget (stripe_at state at)) (IsLegal-after_forget old legal) refl refl
 
@@ -151,10 +152,10 @@ module _ (state : State) (hand : ℕ) (l : AreLegal state.stripes state.stripe_l
   lifted_of key (Some place) entry is = let same : (key, place) ≡ entry = cc in ap (λ (e : ℕ × (ChunkId × ℕ)). e.0) (sym same)
 
   -- its entry was put aside
-  pub tells_lifted : (key : ℕ) (room : Bool) → stripe_of state key ≡ at → is_some (place_of old key) ≡ true → old.aside ≡ None → Tells state (slice_set state.stripes at (record { state = after_lift old key; ready = room })) hand []
-  tells_lifted key room here there none = record {
+  pub tells_lifted : (key : ℕ) (room entry : Bool) → stripe_of state key ≡ at → is_some (place_of old key) ≡ true → old.aside ≡ None → Tells state (slice_set state.stripes at (record { state = after_lift old key; ready = room; entry = entry })) hand []
+  tells_lifted key room entry here there none = record {
     at = at;
-    value = record { state = after_lift old key; ready = room };
+    value = record { state = after_lift old key; ready = room; entry = entry };
     stripes = refl;
     within = within;
     held = held;

@@ -4,7 +4,7 @@ use Rattle.std.specs.Option.{option_map, option_map_or, option_eq}
 use Rattle.std.proofs.lemmas.Bool.{and_parts}
 use Rattle.mc_pages.specs.declared.ids.ChunkId.{ChunkId}
 use Rattle.mc_pages.specs.ClassState.{is_chunk}
-use Rattle.mc_stripe.specs.StripeState.{ReadyStripe, place_of}
+use Rattle.mc_stripe.specs.StripeState.{ReadyStripe, can_store, place_of}
 use Rattle.mc_core.specs.declared.event.Change.{Change}
 use Rattle.mc_core.specs.declared.event.Change.TheVariants.{Grow, BeginMove, FinishMove, Touch, SetAutomove, TrimLedger, Passed, Wrap, Evicted, OfStripe, GotNone, DeletedNone}
 use Rattle.mc_core.specs.declared.event.Step.{Step}
@@ -129,7 +129,7 @@ module _ (state : State) (hand : ℕ) (l : AreLegal state.stripes state.stripe_l
       let now = λ (b : Bool). slice_set state.stripes at (stripe_unlinked stripe b (writer_of state hand) key) in
       renamed _ (now lifts) (unlinked_stripes (with_stripe state at (stripe_unlinked stripe lifts (writer_of state hand) key)) (chunk_of state key))
       (elim lifts as (λ b. (not b || is_none stripe.state.aside) ≡ true → MayTell state (now b) hand []) [
-        | true ↦ λ none. inr (tells_lifted state hand l at ready.0 key stripe.ready refl (linked_there (chunk_of state key) parts.1) (none_is stripe.state.aside none))
+        | true ↦ λ none. inr (tells_lifted state hand l at ready.0 key stripe.ready stripe.entry refl (linked_there (chunk_of state key) parts.1) (none_is stripe.state.aside none))
         | false ↦ λ _. inr (tells_deleted state hand l at ready.0 key ready.1)
       ] both.1)
 
@@ -147,7 +147,7 @@ module _ (state : State) (hand : ℕ) (l : AreLegal state.stripes state.stripe_l
       let there = (and_parts stripe.ready (is_some (place_of stripe.state key)) away.0).1 in
       let now = λ (b : Bool). slice_set state.stripes at (stripe_condemned stripe b (writer_of state hand) key) in
       elim rescues as (λ b. (not b || is_none stripe.state.aside) ≡ true → MayTell state (now b) hand []) [
-        | true ↦ λ none. inr (tells_lifted state hand l at has key stripe.ready refl there (none_is stripe.state.aside none))
+        | true ↦ λ none. inr (tells_lifted state hand l at has key stripe.ready stripe.entry refl there (none_is stripe.state.aside none))
         | false ↦ λ _. inr (tells_evicted state hand l at has key there)
       ] away.1
 
@@ -180,8 +180,8 @@ module _ (state : State) (hand : ℕ) (l : AreLegal state.stripes state.stripe_l
         let more = and_parts (is_complete (words_of holding) && can_tell_link state hand holding) (is_unlinked (head_at state chunk).tag) parts.0 in
         let told = (and_parts (is_complete (words_of holding)) (can_tell_link state hand holding) more.0).1 in
         let both = and_parts (can_link_key state hand key) (suits state hand (words_of holding) holding.kind) told in
-        let ready = and_parts (has_stripe state hand (stripe_of state key) && (stripe_at state (stripe_of state key)).ready) (is_none (place_of (stripe_at state (stripe_of state key)).state key)) both.0 in
-        let has = (and_parts (has_stripe state hand (stripe_of state key)) (stripe_at state (stripe_of state key)).ready ready.0).0 in
+        let ready = and_parts (has_stripe state hand (stripe_of state key) && can_store (stripe_at state (stripe_of state key))) (is_none (place_of (stripe_at state (stripe_of state key)).state key)) both.0 in
+        let has = (and_parts (has_stripe state hand (stripe_of state key)) (can_store (stripe_at state (stripe_of state key))) ready.0).0 in
         told_by_kind holding holding.kind has both.1
 
   popped_stripes : (s : State) (chunk : Option ChunkId) → (popped s hand chunk).stripes ≡ s.stripes

@@ -3,7 +3,7 @@ use Rattle.std.specs.Prelude.{ℕ, ◌+◌, ◌-◌, ◌/◌, ◌%◌, ◌^◌, 
 use Rattle.std.specs.Option.{option_eq, option_map_or}
 use Rattle.mc_pages.specs.declared.ids.ChunkId.{ChunkId}
 use Rattle.mc_pages.specs.ClassState.{is_chunk}
-use Rattle.mc_stripe.specs.StripeState.{StripeState, ReadyStripe, place_of}
+use Rattle.mc_stripe.specs.StripeState.{StripeState, ReadyStripe, place_of, can_store}
 use Rattle.mc_stripe.specs.Changes as stripe_changes
 use Rattle.mc_stripe.specs.Changes.{after_got, after_lift, after_rescue, used_up}
 use Rattle.mc_core.specs.declared.head.Head.{Head}
@@ -70,10 +70,10 @@ suits state hand words (Fresh (Rescue old item) own) =
 suits state hand words (Fresh purpose own) =
     is_next_stamp (ids_at state hand) (stamp_in words) && is_none_else_aside (stripe_at state (stripe_of state (key_in words))).state (key_in words)
 
--- the stripe of the key is held, has room for a call, and the key leads nowhere
+-- the stripe of the key is held, has room for a call and an entry, and the key leads nowhere
 abbrev pub can_link_key : State → ℕ → ℕ → Bool
 can_link_key state hand key =
-    has_stripe state hand (stripe_of state key) && (stripe_at state (stripe_of state key)).ready && is_none (place_of (stripe_at state (stripe_of state key)).state key)
+    has_stripe state hand (stripe_of state key) && can_store (stripe_at state (stripe_of state key)) && is_none (place_of (stripe_at state (stripe_of state key)).state key)
 
 -- the key's stripe can be told of the link, and the words suit what the chunk is for
 abbrev pub can_tell_link : State → ℕ → Holding → Bool

@@ -14,11 +14,11 @@ use Rattle.mc_pages.specs.Changes.{after_touch, after_evicted, after_grow, after
 use Rattle.mc_pages.specs.Answer.{answer_of}
 use Rattle.mc_pages.specs.Moves.{after_begin, after_finish, after_passed, after_wrap, is_held_up, chunk_at_position}
 use Rattle.mc_stripe.specs.StripeState.{StripeState, ReadyStripe, key_aside, place_of}
-use Rattle.mc_stripe.specs.Changes.{after_got, after_unlink, after_trim, after_forget, used_up}
+use Rattle.mc_stripe.specs.Changes.{after_got, after_unlink, after_trim, after_forget, used_up, after_reserve, after_reserve_call}
 use Rattle.mc_core.specs.declared.event.Change.{Change}
 use Rattle.mc_core.specs.declared.event.Change.TheVariants.{Grow, BeginMove, FinishMove, Touch, SetAutomove, TrimLedger, Passed, Wrap, Evicted, OfStripe, GotNone, DeletedNone}
 use Rattle.mc_core.specs.declared.event.StripeChange.{StripeChange}
-use Rattle.mc_core.specs.declared.event.StripeChange.TheVariants.{Reserve, Trim, Forget}
+use Rattle.mc_core.specs.declared.event.StripeChange.TheVariants.{Reserve, ReserveCall, Trim, Forget}
 use Rattle.mc_core.specs.declared.look.Look.TheVariants.{Changed}
 use Rattle.mc_core.specs.State.{State, is_class, number_at, has_slabs, has_stripe, stripe_of, stripe_at, with_stripe, with_slabs, with_look}
 
@@ -122,12 +122,14 @@ can_tell_none stripe key = stripe.ready && not (is_aside stripe.state key) && is
 -- a stripe may be changed so: trimmed only where the place of the next call can be counted, if calls are recorded
 abbrev pub can_change_stripe : StripeChange → StripeState → Bool
 can_change_stripe Reserve stripe = true
+can_change_stripe ReserveCall stripe = true
 can_change_stripe Trim stripe = is_none stripe.recorded_from || nat_lt (length stripe.history) (2 ^ 64)
 can_change_stripe Forget stripe = true
 
 -- a stripe after such a change
 abbrev pub stripe_after : StripeChange → ReadyStripe → ReadyStripe
-stripe_after Reserve stripe = record stripe { ready = true }
+stripe_after Reserve stripe = after_reserve stripe
+stripe_after ReserveCall stripe = after_reserve_call stripe
 stripe_after Trim stripe = record stripe { state = after_trim stripe.state }
 stripe_after Forget stripe = record stripe { state = after_forget stripe.state }
 

@@ -95,8 +95,10 @@ pub enum Change {
 /// A change of a stripe by which no call is told.
 #[derive(Clone, Copy, PartialEq, Eq)]
 pub enum StripeChange {
-    /// It makes room for a call.
+    /// It makes room for a call that may store an entry.
     Reserve,
+    /// It makes room for a call that stores none.
+    ReserveCall,
     /// The calls so far aren't recorded any more.
     Trim,
     /// No call is recorded from now on, and none of those so far.

@@ -4,6 +4,7 @@ use Rattle.std.specs.Option.{option_map, option_map_or}
 use Rattle.std.proofs.lemmas.List.Sums.{fold-append}
 use Rattle.mc_pages.specs.declared.ids.ChunkId.{ChunkId}
 use Rattle.mc_pages.specs.SlabState.{SlabState}
+use Rattle.mc_stripe.specs.Changes.{after_reserve_call}
 use Rattle.mc_stripe.specs.StripeState.{ReadyStripe}
 use Rattle.mc_core.specs.declared.holding.Holding.{Holding}
 use Rattle.mc_core.specs.declared.look.Look.{Look}
@@ -14,11 +15,11 @@ use Rattle.mc_words.specs.lock.Doing.{Doing, IsDone}
 use Rattle.mc_words.specs.hand.View.{View}
 use Rattle.mc_words.specs.item.Removal.{knows_reason, stripe_read}
 use Rattle.mc_words.specs.item.Items.{word_read}
-use Rattle.mc_words.specs.hand.Views.{stripe_given, stripe_reserved}
+use Rattle.mc_words.specs.hand.Views.{stripe_given, call_reserved}
 use Rattle.mc_words.proofs.Items.Reasoned.{alive_after_other, reason_after}
 
 -- room was made in a stripe, under the slabs lock
-module _ (view made : View) (slabs : SlabState) (mine : view.slabs ≡ Some slabs) (stripe word : ℕ) (value : ReadyStripe) (is : made ≡ stripe_reserved stripe value word view) where
+module _ (view made : View) (slabs : SlabState) (mine : view.slabs ≡ Some slabs) (stripe word : ℕ) (value : ReadyStripe) (is : made ≡ call_reserved stripe value word view) where
   more : List Look
   more = view.row.looks ++ SawStripe stripe word ∷ []
 
@@ -39,8 +40,8 @@ module _ (view made : View) (slabs : SlabState) (mine : view.slabs ≡ Some slab
       knows)
 
 -- the call
-pub done_so : (Does : ℕ → ℕ → Doing) (number stripe : ℕ) (value : ReadyStripe) (view made last now : View) (number' stripe' stripe'' : ℕ) (ready left : ReadyStripe) → number' ≡ number → stripe' ≡ stripe → stripe'' ≡ stripe → ready ≡ record value { ready = true }
-    → made ≡ stripe_reserved stripe value (number + 1) view → Does number' stripe' ready made left last → now ≡ stripe_given stripe'' left last → IsDone number stripe value (Does number stripe) view now
+pub done_so : (Does : ℕ → ℕ → Doing) (number stripe : ℕ) (value : ReadyStripe) (view made last now : View) (number' stripe' stripe'' : ℕ) (ready left : ReadyStripe) → number' ≡ number → stripe' ≡ stripe → stripe'' ≡ stripe → ready ≡ after_reserve_call value
+    → made ≡ call_reserved stripe value (number + 1) view → Does number' stripe' ready made left last → now ≡ stripe_given stripe'' left last → IsDone number stripe value (Does number stripe) view now
 done_so Does number stripe value view made last now number' stripe' stripe'' ready left numbers stripes stripes' readies mades does given = record {
   left = left;
   last = last;

@@ -1,5 +1,5 @@
 -- A chunk that was freed, by an eviction or as it had died: what it leaves of what the hand has, and that it is free.
-use Rattle.std.proofs.Common.{◌≡◌, ℕ, ◌%◌, Bool, true, false, is_ok, is_some, refl, sym, IsOk, IsErr, IfOk, Result, Ok, Err, OnOk, OnErr, List, map, ap, ◌∙◌, inl, inr}
+use Rattle.std.proofs.Common.{◌≡◌, ℕ, ◌%◌, Bool, true, false, is_ok, is_some, refl, sym, IsOk, IsErr, IfOk, Result, Ok, Err, OnOk, OnErr, List, map, Option, Some, None, ap, ◌∙◌, inl, inr}
 use Rattle.mc_pages.specs.declared.ids.ChunkId.{ChunkId}
 use Rattle.mc_pages.specs.Changes.{after_back, after_evicted, with_class}
 use Rattle.mc_pages.specs.ClassState.{ClassState, evicted, first_free, put_back}
@@ -14,6 +14,7 @@ use Rattle.mc_words.specs.item.Calls.{with_own_call}
 use Rattle.mc_words.specs.item.Removal.{Condemns}
 use Rattle.mc_items.specs.declared.evicting.Supply.{Supply}
 use Rattle.mc_items.specs.declared.evicting.Supply.TheVariants.{Page, Dead, Evicted}
+use Rattle.mc_items.specs.Calls.{IsFull}
 use Rattle.mc_items.specs.Evicting.{FreesChunk, FreesOne, LacksEntry, TellsEvict}
 use Rattle.mc_items.specs.Supplying.{FreesEvicted, ReachesItem}
 use Rattle.mc_items.proofs.Passes.{OwnTuple, each_keeps, lacks_spares, own_of, passed_spares, reach_spares}
@@ -154,3 +155,11 @@ error_both P Q (Err e) p q = (p, q)
 pub full_from : {A E : Type 0} (ready : Bool) (r : Result A E) (e : E) → r ≡ Err e → (ready ≡ true → IsOk r) → ready ≡ false
 full_from true r e is succeeds = absurd (let wrong : false ≡ true = sym (ap is_ok is) ∙ succeeds refl in cc)
 full_from false r e is succeeds = refl
+
+-- and where no call is recorded it always suffices
+records_from : {A E : Type 0} (from : Option ℕ) (r : Result A E) (e : E) → r ≡ Err e → (from ≡ None → IsOk r) → is_some from ≡ true
+records_from None r e is idle = absurd (let wrong : false ≡ true = sym (ap is_ok is) ∙ idle refl in cc)
+records_from (Some first) r e is idle = refl
+
+pub full_call : {A E : Type 0} (value : ReadyStripe) (r : Result A E) (e : E) → r ≡ Err e → (value.ready ≡ true → IsOk r) → (value.state.recorded_from ≡ None → IsOk r) → IsFull value
+full_call value r e is succeeds idle = (full_from value.ready r e is succeeds, records_from value.state.recorded_from r e is idle)

@@ -3,12 +3,13 @@ use Rattle.std.proofs.Common.{false, ◌≡◌, ℕ, ◌+◌, true, Option, Some
 use Rattle.std.proofs.lemmas.List.Elements.{Contains-push}
 use Rattle.mc_pages.specs.declared.ids.ChunkId.{ChunkId}
 use Rattle.mc_stripe.specs.StripeState.{ReadyStripe, place_of, stamp_of}
-use Rattle.mc_stripe.specs.Changes.{after_got, used_up}
+use Rattle.mc_stripe.specs.Changes.{after_got, used_up, after_reserve_call}
 use Rattle.mc_core.specs.declared.holding.Holding.{Holding}
 use Rattle.std.specs.Option.{option_map}
 use Rattle.mc_core.specs.Holdings as items
 use Rattle.mc_core.specs.Past.{known_by}
-use Rattle.mc_words.specs.lock.Doing.{Doing, IsDone}
+use Rattle.mc_core.specs.declared.event.StripeChange.{StripeChange}
+use Rattle.mc_words.specs.lock.Doing.{Doing, IsDone, IsDoneBehind}
 use Rattle.mc_words.specs.hand.View.{View}
 use Rattle.mc_words.specs.item.Calls.{key_missed}
 use Rattle.mc_words.specs.rule.Happens.{LawfulView}
@@ -16,10 +17,10 @@ use Rattle.mc_words.specs.item.Items.{held_item}
 use Rattle.mc_words.specs.lock.Lent.{IsLentStripe}
 use Rattle.mc_words.specs.lock.Wait.{WaitsForStripe}
 use Rattle.mc_words.specs.item.References.{reference_to, GetsItem}
-use Rattle.mc_words.specs.hand.Views.{stripe_given, stripe_reserved}
+use Rattle.mc_words.specs.hand.Views.{stripe_given, call_reserved}
 use Rattle.mc_words.proofs.Items.References.{is_item}
 use Rattle.mc_words.specs.declared.item.refs.Ref.{Ref}
-use Rattle.mc_items.specs.Calls.{CallsOn, LooksUp, OnlyWaits}
+use Rattle.mc_items.specs.Calls.{CallsBehind, FindsStripe, LooksUp}
 use Rattle.mc_items.specs.Reading.{AndReads}
 
 -- the item of a reference that was got is the one that the first holding of its chunk has
@@ -30,8 +31,8 @@ got_item view now number stripe value key chunk issue room gets was =
     (subst (λ (v : View). Contains v.row.knows.known (known_by room one)) (sym gets.is) (Contains-push view.row.knows.known (known_by room one)))
 
 -- a call that found the key's item
-pub found_done : (number stripe : ℕ) (value : ReadyStripe) (key : ℕ) (r : Ref) (view made got now : View) (number' stripe' stripe'' : ℕ) (ready left : ReadyStripe) → number' ≡ number → stripe' ≡ stripe → stripe'' ≡ stripe → ready ≡ record value { ready = true }
-    → made ≡ stripe_reserved stripe value (number + 1) view → left ≡ used_up (after_got ready.state number' key) → GetsItem made number' stripe' ready key r.chunk r.issue r.room got → now ≡ stripe_given stripe'' left got
+pub found_done : (number stripe : ℕ) (value : ReadyStripe) (key : ℕ) (r : Ref) (view made got now : View) (number' stripe' stripe'' : ℕ) (ready left : ReadyStripe) → number' ≡ number → stripe' ≡ stripe → stripe'' ≡ stripe → ready ≡ after_reserve_call value
+    → made ≡ call_reserved stripe value (number + 1) view → left ≡ used_up (after_got ready.state number' key) → GetsItem made number' stripe' ready key r.chunk r.issue r.room got → now ≡ stripe_given stripe'' left got
     → IsDone number stripe value (LooksUp number stripe key (Some r)) view now
 found_done number stripe value key r view made got now number' stripe' stripe'' ready left numbers stripes stripes' readies mades lefts gets given = record {
   left = left;
@@ -44,23 +45,23 @@ found_done number stripe value key r view made got now number' stripe' stripe'' 
 }
 
 -- a call under a lock that was waited for
-pub called_on : (Does : ℕ → ℕ → Doing) (number stripe number' stripe' : ℕ) (value : ReadyStripe) (view taken now : View) → number' ≡ number → stripe' ≡ stripe → WaitsForStripe stripe view value taken → IsLentStripe taken stripe value
-    → IsDone number' stripe' value (Does number' stripe') taken now → CallsOn number stripe (Does number stripe) view now
-called_on Does number stripe number' stripe' value view taken now numbers stripes waits lent done = record {
+pub called_on : {room : StripeChange} (Does : ℕ → ℕ → Doing) (number stripe number' stripe' : ℕ) (value : ReadyStripe) (view taken now : View) → number' ≡ number → stripe' ≡ stripe → WaitsForStripe stripe view value taken → IsLentStripe taken stripe value
+    → IsDoneBehind room number' stripe' value (Does number' stripe') taken now → CallsBehind room number stripe (Does number stripe) view now
+called_on {room} Does number stripe number' stripe' value view taken now numbers stripes waits lent done = record {
   value = value;
   taken = taken;
   waits = waits;
   lent = lent;
-  done = subst (λ (p : ℕ × ℕ). IsDone p.0 p.1 value (Does p.0 p.1) taken now) (λ k. (numbers k, stripes k)) done;
+  done = subst (λ (p : ℕ × ℕ). IsDoneBehind room p.0 p.1 value (Does p.0 p.1) taken now) (λ k. (numbers k, stripes k)) done;
 }
 
 -- one that ran out of memory
-pub only_waits : (stripe stripe' : ℕ) (value : ReadyStripe) (view taken now : View) → stripe' ≡ stripe → WaitsForStripe stripe view value taken → IsLentStripe taken stripe value → value.ready ≡ false → now ≡ stripe_given stripe' value taken → OnlyWaits stripe view now
+pub only_waits : {Is : ReadyStripe → Type 0} (stripe stripe' : ℕ) (value : ReadyStripe) (view taken now : View) → stripe' ≡ stripe → WaitsForStripe stripe view value taken → IsLentStripe taken stripe value → Is value → now ≡ stripe_given stripe' value taken → FindsStripe Is stripe view now
 only_waits stripe stripe' value view taken now stripes waits lent full given = record { value = value; taken = taken; waits = waits; lent = lent; full = full; given = given ∙ ap (λ n. stripe_given n value taken) stripes }
 
 -- one that found none
-none_done : (number stripe : ℕ) (value : ReadyStripe) (key : ℕ) (view made got now : View) (number' stripe' stripe'' : ℕ) (ready left : ReadyStripe) → number' ≡ number → stripe' ≡ stripe → stripe'' ≡ stripe → ready ≡ record value { ready = true }
-    → made ≡ stripe_reserved stripe value (number + 1) view → left ≡ used_up (after_got ready.state number' key) → place_of ready.state key ≡ None → got ≡ key_missed number' stripe' ready key made → now ≡ stripe_given stripe'' left got
+none_done : (number stripe : ℕ) (value : ReadyStripe) (key : ℕ) (view made got now : View) (number' stripe' stripe'' : ℕ) (ready left : ReadyStripe) → number' ≡ number → stripe' ≡ stripe → stripe'' ≡ stripe → ready ≡ after_reserve_call value
+    → made ≡ call_reserved stripe value (number + 1) view → left ≡ used_up (after_got ready.state number' key) → place_of ready.state key ≡ None → got ≡ key_missed number' stripe' ready key made → now ≡ stripe_given stripe'' left got
     → IsDone number stripe value (LooksUp number stripe key None) view now
 none_done number stripe value key view made got now number' stripe' stripe'' ready left numbers stripes stripes' readies mades lefts nowhere gots given = record {
   left = left;
@@ -74,8 +75,8 @@ none_done number stripe value key view made got now number' stripe' stripe'' rea
 }
 
 -- one of the two
-pub looked_up : (number stripe : ℕ) (value : ReadyStripe) (key : ℕ) (found : Option Ref) (view made got now : View) (number' stripe' stripe'' : ℕ) (ready left : ReadyStripe) → number' ≡ number → stripe' ≡ stripe → stripe'' ≡ stripe → ready ≡ record value { ready = true }
-    → made ≡ stripe_reserved stripe value (number + 1) view → left ≡ used_up (after_got ready.state number' key) → IfSome found (λ r. GetsItem made number' stripe' ready key r.chunk r.issue r.room got)
+pub looked_up : (number stripe : ℕ) (value : ReadyStripe) (key : ℕ) (found : Option Ref) (view made got now : View) (number' stripe' stripe'' : ℕ) (ready left : ReadyStripe) → number' ≡ number → stripe' ≡ stripe → stripe'' ≡ stripe → ready ≡ after_reserve_call value
+    → made ≡ call_reserved stripe value (number + 1) view → left ≡ used_up (after_got ready.state number' key) → IfSome found (λ r. GetsItem made number' stripe' ready key r.chunk r.issue r.room got)
     → (found ≡ None → (place_of ready.state key ≡ None) × (got ≡ key_missed number' stripe' ready key made)) → now ≡ stripe_given stripe'' left got
     → IsDone number stripe value (LooksUp number stripe key found) view now
 looked_up number stripe value key (Some r) view made got now number' stripe' stripe'' ready left numbers stripes stripes' readies mades lefts gets misses given =
@@ -89,7 +90,7 @@ some_both P Q R (Some a) next p q = next a p q
 some_both P Q R None next p q = tt
 
 -- the stamp that the stripe has is that of the item that was got
-pub stamp_found : (value ready left : ReadyStripe) (key number' stripe' stripe'' : ℕ) (found : Option Ref) (made got last : View) → ready ≡ record value { ready = true } → last ≡ stripe_given stripe'' left got → LawfulView got
+pub stamp_found : (value ready left : ReadyStripe) (key number' stripe' stripe'' : ℕ) (found : Option Ref) (made got last : View) → ready ≡ after_reserve_call value → last ≡ stripe_given stripe'' left got → LawfulView got
     → IfSome found (λ r. GetsItem made number' stripe' ready key r.chunk r.issue r.room got) → (found ≡ None → place_of ready.state key ≡ None)
     → stamp_of value.state key ≡ option_map (λ (r : Ref). items.stamp_of (held_item last r.chunk)) found
 stamp_found value ready left key number' stripe' stripe'' (Some r) made got last readies given was gets misses =

@@ -2,6 +2,7 @@
 use Rattle.std.proofs.Common.{◌≡◌, ℕ, ◌+◌, Bool, true, false, List, [], ◌∷◌, ◌++◌, Some, refl, ap, sym, ◌∙◌, inl, inr, if◌then◌else◌}
 use Rattle.mc_pages.specs.declared.ids.ChunkId.{ChunkId}
 use Rattle.mc_pages.specs.SlabState.{SlabState}
+use Rattle.mc_stripe.specs.Changes.{after_reserve_call}
 use Rattle.mc_stripe.specs.StripeState.{ReadyStripe}
 use Rattle.mc_core.specs.declared.event.Step.TheVariants as step
 use Rattle.mc_core.specs.declared.holding.Holding.{Holding}
@@ -12,12 +13,12 @@ use Rattle.mc_words.specs.item.Calls.{key_deleted, key_not_deleted}
 use Rattle.mc_words.specs.item.Again.{FindsContended, FindsGone, GetsAgain}
 use Rattle.mc_words.specs.item.Items.{held_item}
 use Rattle.mc_words.specs.item.References.{reference_to}
-use Rattle.mc_words.specs.hand.Views.{stripe_reserved, with_event}
+use Rattle.mc_words.specs.hand.Views.{call_reserved, with_event}
 use Rattle.mc_words.specs.lock.Doing.{HoldsSlabs}
 use Rattle.mc_words.specs.lock.Wait.{WaitsForSlabs, WaitsForStripe}
 use Rattle.mc_words.specs.declared.item.refs.Ref as words
 use Rattle.mc_items.specs.declared.refs.Ref.{Ref}
-use Rattle.mc_items.specs.Calls.{Bumps, CallsOn, Deletes, Finds, FindsNone, OnlyWaits}
+use Rattle.mc_items.specs.Calls.{Bumps, CallsOn, Deletes, Finds, FindsNone, FindsStripe}
 use Rattle.mc_items.specs.ItemRefs.{item_chunk, item_issue}
 use Rattle.mc_items.specs.Keeping.{HoldsToo}
 use Rattle.mc_words.specs.hand.Views.{fields_seen}
@@ -38,7 +39,7 @@ waited stripe before value now waits = waits_keep kept_of stripe (λ word v. ref
 pub waited_for_slabs : (before : View) (slabs : SlabState) (now : View) → WaitsForSlabs before slabs now → kept_of now ≡ kept_of before
 waited_for_slabs before slabs now waits = waits_slabs_keep kept_of (λ word v. refl) (λ slabs v. refl) before slabs now waits
 
-pub only_keeps : (stripe : ℕ) (view now : View) → OnlyWaits stripe view now → kept_of now ≡ kept_of view
+pub only_keeps : {Is : ReadyStripe → Type 0} (stripe : ℕ) (view now : View) → FindsStripe Is stripe view now → kept_of now ≡ kept_of view
 only_keeps stripe view now only = ap kept_of only.given ∙ waited stripe view only.value only.taken only.waits
 
 -- and so does a call that finds no item
@@ -50,10 +51,10 @@ pub deletes_keep : (number stripe key : ℕ) (there : Bool) (view now : View) �
 deletes_keep number stripe key there view now on = ap kept_of on.done.given ∙ (by there on.done.does.1 ∙ waited stripe view on.value on.taken on.waits)
   where
     ready : ReadyStripe
-    ready = record on.value { ready = true }
+    ready = after_reserve_call on.value
 
     made : View
-    made = stripe_reserved stripe on.value (number + 1) on.taken
+    made = call_reserved stripe on.value (number + 1) on.taken
 
     by : (there : Bool) → on.done.last ≡ (if there then with_event [] (step.Unlink key) (key_deleted number stripe ready key true made) else key_not_deleted number stripe ready key made) → kept_of on.done.last ≡ kept_of on.taken
     by true is = ap kept_of is

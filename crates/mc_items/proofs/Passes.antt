@@ -19,7 +19,7 @@ use Rattle.mc_words.specs.lock.Doing.{Doing, IsDone}
 use Rattle.mc_words.specs.hand.View.{View}
 use Rattle.mc_words.specs.item.Removal.{FindsHeld, key_seen}
 use Rattle.mc_words.specs.page.Owner.{SeesOther}
-use Rattle.mc_words.specs.hand.Views.{head_seen, stripe_given, stripe_missed, stripe_reserved, stripe_taken}
+use Rattle.mc_words.specs.hand.Views.{head_seen, stripe_given, stripe_missed, call_reserved, stripe_taken}
 use Rattle.mc_words.proofs.Items.Reasoned.{all_weaker}
 use Rattle.mc_items.specs.Evicting.{PassesEach, PassesOne}
 use Rattle.mc_items.specs.Supplying.{FindsItemHeld, LacksCall, PassesItem, ReachesItem}
@@ -63,7 +63,7 @@ missed_spares chunk stripe word view = record { own = refl; slabs = refl; others
     by other was true = fold-append (stays_alive other) false view.row.looks (SawStripe stripe word ∷ []) ∙ was
     by other was false = was
 
-reserved_spares : (chunk : ChunkId) (stripe word : ℕ) (value : ReadyStripe) (view : View) → Spares chunk view (stripe_reserved stripe value word view)
+reserved_spares : (chunk : ChunkId) (stripe word : ℕ) (value : ReadyStripe) (view : View) → Spares chunk view (call_reserved stripe value word view)
 reserved_spares chunk stripe word value view = record { own = refl; slabs = refl; others = λ other apart was. by other was (is_some view.slabs) }
   where
     by : (other : ChunkId) → is_found_alive view.row.looks other ≡ true → (held : Bool) → is_found_alive (if held then view.row.looks ++ SawStripe stripe word ∷ [] else view.row.looks) other ≡ true
@@ -113,7 +113,7 @@ reach_spares number chunk Does view now reaches =
 
 held_spares : (number stripe : ℕ) (chunk : ChunkId) (value : ReadyStripe) (view now : View) → IsDone number stripe value (FindsItemHeld chunk) view now → Spares chunk view now
 held_spares number stripe chunk value view now done =
-    let made = stripe_reserved stripe value (number + 1) view in
+    let made = call_reserved stripe value (number + 1) view in
     spares_at chunk view (stripe_given stripe done.left done.last) now done.given
     (spares_on chunk view done.last (stripe_given stripe done.left done.last)
     (spares_on chunk view made done.last (reserved_spares chunk stripe (number + 1) value view) (finds_spares chunk made done.last done.does.0))

@@ -41,6 +41,7 @@ use Rattle.mc_words.specs.lock.Out.{has_no_stripe, with_stripe, without_stripe}
 use Rattle.mc_words.proofs.Locks.Unlocked.{no_stripe_from}
 use Rattle.mc_words.proofs.Chunks.Judging.{class_of_table, room_of, seen_is}
 use Rattle.mc_words.proofs.Items.Reasoned.{alive_after_look, alive_after_read, all_weaker, room_needed}
+use Rattle.mc_items.specs.Calls.{IsFull}
 use Rattle.mc_items.specs.Supplying.{LacksCall, ReachesItem}
 
 -- a linked chunk isn't dead
@@ -131,7 +132,7 @@ reached Does number number' view chunk head seen read taken now key stripe strip
 
 -- without memory for a call
 pub lacked : (view : View) (chunk : ChunkId) (head : Head) (seen read taken now : View) (key stripe stripe' : ℕ) (value : ReadyStripe) → is_linked_unheld head ≡ true → seen ≡ head_seen chunk head view → read ≡ key_seen chunk key seen
-    → stripe ≡ key % view.setup.config.stripes → stripe' ≡ stripe → Happens view [] (step.Head chunk) seen → Happens seen [] (step.WordHeld chunk 0) read → Happens read [] (step.TakeStripe stripe) taken → taken ≡ stripe_taken stripe value read → IsLentStripe taken stripe value → BeginsWithSeen read stripe value → value.ready ≡ false → now ≡ stripe_given stripe' value taken → LacksCall chunk view now
+    → stripe ≡ key % view.setup.config.stripes → stripe' ≡ stripe → Happens view [] (step.Head chunk) seen → Happens seen [] (step.WordHeld chunk 0) read → Happens read [] (step.TakeStripe stripe) taken → taken ≡ stripe_taken stripe value read → IsLentStripe taken stripe value → BeginsWithSeen read stripe value → IsFull value → now ≡ stripe_given stripe' value taken → LacksCall chunk view now
 lacked view chunk head seen read taken now key stripe stripe' value unheld seen_is read_is at same looks reads takes taken_is lent begins full given =
     let all : read ≡ key_seen chunk key (head_seen chunk head view) = read_is ∙ ap (key_seen chunk key) seen_is in record {
       head = head;

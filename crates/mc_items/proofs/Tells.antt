@@ -8,7 +8,7 @@ use Rattle.mc_words.specs.declared.item.refs.Ref.{Ref}
 use Rattle.mc_words.specs.hand.View.{View}
 use Rattle.mc_words.specs.item.Calls.{with_own_call}
 use Rattle.mc_words.specs.lock.Wait.{WaitsForStripe}
-use Rattle.mc_items.specs.Calls.{Deletes, LooksUp, OnlyWaits, TellsCall, TellsNoCall}
+use Rattle.mc_items.specs.Calls.{Deletes, FindsStripe, LooksUp, TellsCall, TellsNoCall}
 use Rattle.mc_items.proofs.Locks.{waits_keep}
 
 -- a look-up tells of the stamp that the stripe has
@@ -22,7 +22,7 @@ told_on number stripe number' stripe' call value view taken now numbers stripes 
     tells ∙ (λ k. map (with_own_call (numbers k) (stripes k) (call (numbers k))) (waits_keep (λ (v : View). v.row.knows.mine) stripe (λ word v. refl) (λ value v. refl) view value taken waits k))
 
 -- who only waited told nothing
-pub told_none : (stripe : ℕ) (view now : View) → OnlyWaits stripe view now → TellsNoCall view now
+pub told_none : {Is : ReadyStripe → Type 0} (stripe : ℕ) (view now : View) → FindsStripe Is stripe view now → TellsNoCall view now
 told_none stripe view now only = ap (λ (v : View). v.row.knows.mine) only.given ∙ waits_keep (λ (v : View). v.row.knows.mine) stripe (λ word v. refl) (λ value v. refl) view only.value only.taken only.waits
 
 -- a delete tells whether the key was there

@@ -4,10 +4,12 @@ use Rattle.mc_pages.specs.declared.ids.ChunkId.{ChunkId}
 use Rattle.mc_pages.specs.Changes.{after_touch}
 use Rattle.mc_core.specs.declared.event.Change.TheVariants.{Touch}
 use Rattle.mc_core.specs.declared.event.Step.TheVariants as step
+use Rattle.mc_core.specs.declared.event.StripeChange.{StripeChange}
+use Rattle.mc_core.specs.declared.event.StripeChange.TheVariants.{ReserveCall}
 use Rattle.mc_stripe.specs.declared.history.Call.{Call}
-use Rattle.mc_stripe.specs.StripeState.{ReadyStripe, place_of}
+use Rattle.mc_stripe.specs.StripeState.{ReadyStripe, place_of, can_store}
 use Rattle.mc_stripe.specs.Changes.{after_got, after_unlink, used_up}
-use Rattle.mc_words.specs.lock.Doing.{Doing, HoldsSlabs, IsDone, SlabsDoing}
+use Rattle.mc_words.specs.lock.Doing.{Doing, HoldsSlabs, IsDoneBehind, SlabsDoing}
 use Rattle.mc_words.specs.hand.View.{View}
 use Rattle.mc_words.specs.item.Calls.{with_own_call, key_deleted, key_missed, key_not_deleted}
 use Rattle.mc_words.specs.lock.Lent.{IsLentStripe}
@@ -17,22 +19,38 @@ use Rattle.mc_words.specs.lock.Wait.{WaitsForStripe}
 use Rattle.mc_words.specs.declared.item.refs.Ref as words
 use Rattle.mc_words.specs.hand.Observers.{ref_chunk, ref_issue, ref_room}
 
--- the stripe's lock was waited for, and this was done
-pub record CallsOn (number stripe : ℕ) (Does : Doing) (view now : View) : Type 0 where
+-- the stripe's lock was waited for, room was made so, and this was done
+pub record CallsBehind (room : StripeChange) (number stripe : ℕ) (Does : Doing) (view now : View) : Type 0 where
   pub value : ReadyStripe
   pub taken : View
   pub waits : WaitsForStripe stripe view value taken
   pub lent : IsLentStripe taken stripe value
-  pub done : IsDone number stripe value Does taken now
+  pub done : IsDoneBehind room number stripe value Does taken now
 
--- the stripe's lock was waited for, the stripe had no room for a call, and the lock was given back as it was
-pub record OnlyWaits (stripe : ℕ) (view now : View) : Type 0 where
+-- the room was for a call that stores no entry
+abbrev pub CallsOn : ℕ → ℕ → Doing → View → View → Type 0
+CallsOn number stripe Does view now = CallsBehind ReserveCall number stripe Does view now
+
+-- the stripe records its calls, and has no room for one more
+abbrev pub IsFull : ReadyStripe → Type 0
+IsFull value = (value.ready ≡ false) × (is_some value.state.recorded_from ≡ true)
+
+-- the stripe has no room for one more call and its entry
+abbrev pub IsFullToStore : ReadyStripe → Type 0
+IsFullToStore value = can_store value ≡ false
+
+-- the stripe's lock was waited for, the stripe was found so, and the lock was given back as it was
+pub record FindsStripe (Is : ReadyStripe → Type 0) (stripe : ℕ) (view now : View) : Type 0 where
   pub value : ReadyStripe
   pub taken : View
   pub waits : WaitsForStripe stripe view value taken
   pub lent : IsLentStripe taken stripe value
-  pub full : value.ready ≡ false
+  pub full : Is value
   pub given : now ≡ stripe_given stripe value taken
+
+-- it records its calls, and had no room for one more
+abbrev pub OnlyWaits : ℕ → View → View → Type 0
+OnlyWaits stripe view now = FindsStripe IsFull stripe view now
 
 -- the key was looked up, and this reference to its item was got
 abbrev pub Finds : ℕ → ℕ → ℕ → words.Ref → Doing

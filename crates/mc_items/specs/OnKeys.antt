@@ -11,7 +11,7 @@ use Rattle.mc_words.specs.declared.hand.held.StripeHeld.{StripeHeld}
 use Rattle.mc_words.specs.declared.item.refs.Hint.{Hint}
 use Rattle.mc_words.specs.declared.item.refs.Ref as words
 use Rattle.mc_words.specs.hand.Arenas.{view}
-use Rattle.mc_words.specs.lock.Doing.{Doing, IsDone, SlabsDoing, HoldsSlabs}
+use Rattle.mc_words.specs.lock.Doing.{Doing, IsDone, IsStored, SlabsDoing, HoldsSlabs}
 use Rattle.mc_words.specs.item.Again.{GetsAgain}
 use Rattle.mc_words.specs.item.Items.{held_item}
 use Rattle.mc_words.specs.hand.Observers.{hint_chunk, hint_issue, number_of, ref_chunk, ref_issue, ref_room, slabs_lent, stripe_lent, stripe_number}
@@ -58,6 +58,10 @@ TellsOn setup key call before now = TellsCall (number_of before) (stripe_of_key 
 -- with a stripe's lock it made room for a call, did this, and gave the lock back
 abbrev pub DoesOn : KeyDoing → Hand → StripeHeld → Hand → Type 0
 DoesOn doing before held now = IsDone (number_of before) (stripe_number held) (stripe_lent held) (doing (number_of before) (stripe_number held)) (view before) (view now)
+
+-- it made room for a call and an entry, did this, and gave the lock back
+abbrev pub StoresOn : KeyDoing → Hand → StripeHeld → Hand → Type 0
+StoresOn doing before held now = IsStored (number_of before) (stripe_number held) (stripe_lent held) (doing (number_of before) (stripe_number held)) (view before) (view now)
 
 -- it gave the lock back, and did nothing
 abbrev pub GivesBack : Hand → StripeHeld → Hand → Type 0

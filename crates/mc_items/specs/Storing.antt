@@ -10,11 +10,12 @@ use Rattle.mc_core.specs.Holdings.{Words, change_each, holding_of, is_of}
 use Rattle.mc_words.specs.lock.Doing.{Doing}
 use Rattle.mc_words.specs.hand.View.{OwnEvent, View, made}
 use Rattle.mc_core.specs.declared.event.Step.TheVariants as step
+use Rattle.mc_core.specs.declared.event.StripeChange.TheVariants.{Reserve}
 use Rattle.mc_words.specs.item.Calls.{key_lifted}
 use Rattle.mc_words.specs.item.Items.{issue_in, words_in}
 use Rattle.mc_words.specs.item.Links.{item_linked, own_item}
 use Rattle.mc_words.specs.hand.Views.{chunk_discarded, chunk_released, with_holdings}
-use Rattle.mc_items.specs.Calls.{CallsOn, OnlyWaits}
+use Rattle.mc_items.specs.Calls.{CallsBehind, FindsStripe, IsFullToStore}
 
 -- the words of a chunk, with these in place of the first, as far as there is room
 abbrev pub written_over : List ℕ → Words → Words
@@ -62,11 +63,11 @@ Stores number stripe key stamp chunk room value view left now =
 -- the item was stored, and the reference to it given up: it counts its link alone
 pub record StoresItem (number stripe key stamp : ℕ) (chunk : ChunkId) (room : ℕ) (view now : View) : Type 0 where
   pub linked : View
-  pub stores : CallsOn number stripe (Stores number stripe key stamp chunk room) view linked
+  pub stores : CallsBehind Reserve number stripe (Stores number stripe key stamp chunk room) view linked
   pub dropped : now ≡ chunk_released chunk linked
 
--- the stripe got no room for the call, and the chunk was given up
+-- the stripe got no room for the call and its entry, and the chunk was given up
 pub record LeavesDead (stripe : ℕ) (chunk : ChunkId) (view now : View) : Type 0 where
   pub given : View
-  pub waits : OnlyWaits stripe view given
+  pub waits : FindsStripe IsFullToStore stripe view given
   pub dropped : now ≡ chunk_discarded chunk given

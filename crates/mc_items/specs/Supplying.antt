@@ -13,6 +13,7 @@ use Rattle.mc_core.specs.Chunks.{most_issue}
 use Rattle.mc_core.specs.Evictions.{is_linked_unheld}
 use Rattle.mc_stripe.specs.StripeState.{ReadyStripe}
 use Rattle.mc_core.specs.Looks.{is_found_alive}
+use Rattle.mc_items.specs.Calls.{IsFull}
 use Rattle.mc_words.specs.lock.Doing.{Doing, IsDone}
 use Rattle.mc_words.specs.hand.View.{View}
 use Rattle.mc_words.specs.rule.Happens.{Happens}
@@ -103,7 +104,7 @@ abbrev pub PassesItem : ℕ → ChunkId → View → View → Type 0
 PassesItem number chunk view now =
     SeesHeld view chunk now ⊎ MissesItem chunk view now ⊎ ReachesItem number chunk (λ number stripe. FindsItemHeld chunk) view now
 
--- so, and its key's stripe was taken at once, but had no room for a call, and the lock was given back as it was
+-- so, and its key's stripe was taken at once, but records its calls and had no room for one more, and the lock was given back as it was
 pub record LacksCall (chunk : ChunkId) (view now : View) : Type 0 where
   pub head : Head
   pub unheld : is_linked_unheld head ≡ true
@@ -116,7 +117,7 @@ pub record LacksCall (chunk : ChunkId) (view now : View) : Type 0 where
   pub is_taken : taken ≡ stripe_taken (key % view.setup.config.stripes) value (key_seen chunk key (head_seen chunk head view))
   pub lent : IsLentStripe taken (key % view.setup.config.stripes) value
   pub begins : BeginsWithSeen view (key % view.setup.config.stripes) value
-  pub full : value.ready ≡ false
+  pub full : IsFull value
   pub given : now ≡ stripe_given (key % view.setup.config.stripes) value taken
 
 -- the eviction was counted, and the chunk, which is dead, was put back

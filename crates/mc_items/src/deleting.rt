@@ -7,7 +7,7 @@ ghost use Rattle.mc_words.specs.hand.Observers.{locks_of, number_of, stripe_lent
 ghost use Rattle.mc_words.specs.lock.Out.{without_stripe};
 ghost use Rattle.mc_words.specs.hand.Ready.{IsReady};
 ghost use Rattle.mc_words.specs.item.Refs.{KeepsRefs};
-ghost use Rattle.mc_items.specs.Calls.{Deletes, TellsNoCall};
+ghost use Rattle.mc_items.specs.Calls.{Deletes, TellsNoCall, IsFull};
 ghost use Rattle.mc_items.specs.Keeping.{HoldsTheSame, SaysNothing};
 ghost use Rattle.mc_items.specs.OnKeys.{ActsOn, DoesOn, FindsNoRoomFor, GivesBack, TellsOn, stripe_of_key};
 ghost use Rattle.mc_stripe.specs.declared.history.Call.TheVariants as call;
@@ -48,10 +48,10 @@ fn delete_at(arena: &Arena, hand: &mut Hand, held: StripeHeld, key: u64) -> Resu
     ensures locks { locks_of hand.new ≡ without_stripe (locks_of hand.old) }
     ensures done { IfOk result (λ there. DoesOn (λ number stripe. Deletes number stripe key there) hand.old held hand.new) }
     ensures given { OnErr result (GivesBack hand.old held hand.new) }
-    ensures full { OnErr result ((stripe_lent held).ready ≡ false) }
+    ensures full { OnErr result (IsFull (stripe_lent held)) }
 {
     let mut held = held;
-    if let Err(error) = arena.reserve(hand, &mut held) {
+    if let Err(error) = arena.reserve_call(hand, &mut held) {
         arena.give_stripe(hand, held);
         return Err(error);
     }

@@ -17,6 +17,7 @@ ghost use Rattle.mc_words.specs.hand.Idle.{has_no_stripes};
 ghost use Rattle.mc_words.specs.lock.Lent.{IsLentStripe};
 ghost use Rattle.mc_words.specs.hand.Observers.{HasSlabs, locks_of, number_of, slabs_lent, stripe_lent, stripe_number};
 ghost use Rattle.mc_words.specs.lock.Out.{without_stripe};
+ghost use Rattle.mc_items.specs.Calls.{IsFull};
 ghost use Rattle.mc_items.specs.Evicting.{FreesChunk, FreesOneOfFive, LacksEntryOfFive, PassesFive, PassesOne};
 ghost use Rattle.mc_items.specs.OnKeys.{Acts, AreUnchanged, DoesOn, GivesBack};
 ghost use Rattle.mc_items.specs.Supplying.{FindsItemHeld, FreesEvicted, LacksCall, PassesItem, TakesAtOnce};
@@ -51,10 +52,10 @@ pub(crate) fn condemn_at(
     ensures dead { result ≡ Ok true → option_map is_dead (seen_head (view hand.new).row.looks chunk) ≡ Some true }
     ensures moved { result ≡ Ok false → DoesOn (λ number stripe. FindsItemHeld chunk) hand.old held hand.new }
     ensures no_memory { OnErr result (GivesBack hand.old held hand.new) }
-    ensures full { OnErr result ((stripe_lent held).ready ≡ false) }
+    ensures full { OnErr result (IsFull (stripe_lent held)) }
 {
     let mut held = held;
-    if let Err(error) = arena.reserve(hand, &mut held) {
+    if let Err(error) = arena.reserve_call(hand, &mut held) {
         arena.give_stripe(hand, held);
         return Err(error);
     }

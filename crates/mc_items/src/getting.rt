@@ -8,7 +8,7 @@ ghost use Rattle.mc_words.specs.hand.Observers.{locks_of, number_of, stripe_lent
 ghost use Rattle.mc_words.specs.lock.Out.{without_stripe};
 ghost use Rattle.mc_words.specs.hand.Ready.{IsReady};
 ghost use Rattle.mc_words.specs.item.Refs.{KeepsRefs};
-ghost use Rattle.mc_items.specs.Calls.{LooksUp, TellsNoCall};
+ghost use Rattle.mc_items.specs.Calls.{LooksUp, TellsNoCall, IsFull};
 ghost use Rattle.mc_items.specs.ItemRefs.{IsItemRef, item_chunk, item_key, item_stamp};
 ghost use Rattle.mc_items.specs.Keeping.{HoldsTheSame, HoldsToo, IsAsSaid, SaysNothing};
 ghost use Rattle.mc_items.specs.OnKeys.{DoesOn, FindsNoRoomFor, FindsStripeHeld, Gets, GetsAt, GivesBack, IsRefToKey, TellsAt, TellsOn, stamp_there};
@@ -143,7 +143,7 @@ fn look_up(
     ensures item { IfOk result (λ found. IfSome found (λ item. IsItemRef (view hand.new) item × (item_key item ≡ key))) }
     ensures calls { IfOk result (λ found. TellsAt held (λ number. call.Get number key (option_map item_stamp found)) hand.old hand.new) }
     ensures given { OnErr result (GivesBack hand.old held hand.new) }
-    ensures full { OnErr result ((stripe_lent held).ready ≡ false) }
+    ensures full { OnErr result (IsFull (stripe_lent held)) }
 {
     match refer_at(arena, hand, held, key) {
         Ok(Some(reference)) => Ok(Some(look_at(arena, hand, reference))),
@@ -170,10 +170,10 @@ pub(crate) fn refer_at(
     ensures stamp { IfOk result (λ found. stripes.stamp_of (stripe_lent held).state key ≡ option_map (stamp_there (view hand.new)) found) }
     ensures reference { IfOk result (λ found. IfSome found (IsRefToKey (view hand.new) key)) }
     ensures given { OnErr result (GivesBack hand.old held hand.new) }
-    ensures full { OnErr result ((stripe_lent held).ready ≡ false) }
+    ensures full { OnErr result (IsFull (stripe_lent held)) }
 {
     let mut held = held;
-    if let Err(error) = arena.reserve(hand, &mut held) {
+    if let Err(error) = arena.reserve_call(hand, &mut held) {
         arena.give_stripe(hand, held);
         return Err(error);
     }

@@ -11,10 +11,10 @@ ghost use Rattle.mc_words.specs.hand.Observers.{stripe_number};
 ghost use Rattle.mc_words.specs.lock.Out.{without_stripe};
 ghost use Rattle.mc_words.specs.item.Refs.{IsRefOf};
 ghost use Rattle.mc_words.specs.hand.Tallies.{next_stamp};
-ghost use Rattle.mc_items.specs.Calls.{TellsNoCall};
+ghost use Rattle.mc_items.specs.Calls.{TellsNoCall, IsFullToStore};
 ghost use Rattle.mc_items.specs.FreshChunks.{GivesBackBoth, IsFilledWith, IsRefInto, LosesFresh, StoresFresh, filled_with};
 ghost use Rattle.mc_items.specs.Keeping.{Says};
-ghost use Rattle.mc_items.specs.OnKeys.{DoesOn, TellsOn, stripe_of_key};
+ghost use Rattle.mc_items.specs.OnKeys.{StoresOn, TellsOn, stripe_of_key};
 ghost use Rattle.mc_items.specs.Storing.{IsOwnItem, Stores, key_put_aside, stripe_lifted};
 ghost use Rattle.mc_stripe.specs.declared.history.Call.TheVariants as call;
 
@@ -106,11 +106,11 @@ pub(crate) fn store_at(
     requires stamp { next_stamp (view hand.old).row.ids ≡ Some (fresh_stamp fresh) }
     ensures arena { IsHandOf arena.now hand.new }
     ensures locks { locks_of hand.new ≡ without_stripe (locks_of hand.old) }
-    ensures done { OnOk result (DoesOn (λ number stripe. Stores number stripe key (fresh_stamp fresh) (fresh_chunk fresh) (fresh_room fresh)) hand.old held hand.new) }
+    ensures done { OnOk result (StoresOn (λ number stripe. Stores number stripe key (fresh_stamp fresh) (fresh_chunk fresh) (fresh_room fresh)) hand.old held hand.new) }
     ensures same { IfOk result (IsRefInto (view hand.old) fresh) }
     ensures reference { IfOk result (λ r. IsRefOf (view hand.new) (ref_chunk r) (ref_room r)) }
     ensures given { OnErr result (GivesBackBoth hand.old held fresh hand.new) }
-    ensures full { OnErr result ((stripe_lent held).ready ≡ false) }
+    ensures full { OnErr result (IsFullToStore (stripe_lent held)) }
 {
     let mut held = held;
     if let Err(error) = arena.reserve(hand, &mut held) {

@@ -5,6 +5,7 @@ use Rattle.mc_pages.specs.declared.moves.Found.{Found}
 use Rattle.mc_pages.specs.declared.moves.Found.TheVariants.{Cleared, Rescued, Evicted, Busy, Locked, Already}
 use Rattle.mc_pages.specs.Moves.{chunk_at_position}
 use Rattle.mc_pages.specs.SlabState.{SlabState, class_of_page}
+use Rattle.mc_stripe.specs.Changes.{after_reserve}
 use Rattle.mc_stripe.specs.StripeState.{ReadyStripe}
 use Rattle.mc_core.specs.declared.head.Head.{Head}
 use Rattle.mc_core.specs.declared.ids.Ids.{Ids}
@@ -131,7 +132,7 @@ saves_grow : (number stripe : ℕ) (Swept : SlabsDoing) → LeavesKept Swept →
 saves_grow number stripe Swept leaves Does each value taken slabs now left saves =
     let sweeping = saves.does in
     grows_on taken sweeping.swept now (grows_same taken sweeping.swept (leaves _ slabs sweeping.swept sweeping.between sweeping.sweeps))
-    (grows_on sweeping.swept saves.last now (each sweeping.between (record value { ready = true }) sweeping.swept left saves.left saves.last sweeping.does) (grows_same saves.last now (ap kept_of saves.given)))
+    (grows_on sweeping.swept saves.last now (each sweeping.between (after_reserve value) sweeping.swept left saves.left saves.last sweeping.does) (grows_same saves.last now (ap kept_of saves.given)))
 
 -- by what was found
 saved_grow : (number class : ℕ) (chunk : ChunkId) (sweep : Sweep) (found : Found) (stripe : ℕ) (value : ReadyStripe) (taken : View) (slabs : SlabState) (now : View) (left : SlabState) → SavesAs number class chunk sweep found stripe value taken slabs now left → Grows taken now

@@ -2,13 +2,14 @@
 use Rattle.std.proofs.Common.{◌≡◌, ℕ, ◌+◌, ◌%◌, ◌≤◌, ◌<◌, ◌==◌, ◌&&◌, ◌||◌, Bool, true, false, List, [], ◌∷◌, ◌++◌, length, Option, Some, None, IfSome, refl, sym, ap, subst, ◌∙◌, arith, cond, slice_index, slice_index_or, get_or-set_same, replicate, if◌then◌else◌, append_assoc, append-nil}
 use Rattle.std.specs.Option.{option_map, option_map_or}
 use Rattle.std.proofs.lemmas.List.{length-replicate}
+use Rattle.std.proofs.lemmas.Bool.{and_from}
 use Rattle.mc_pages.specs.declared.ids.ChunkId.{ChunkId}
 use Rattle.mc_pages.specs.ClassState.{is_chunk}
 use Rattle.mc_pages.specs.SlabState.{SlabState}
 use Rattle.mc_pages.proofs.Chunks.{is_chunk-same}
 use Rattle.mc_pages.specs.Pages.{is_on_the_move}
 use Rattle.mc_stripe.specs.Entries.{AreRising, entry_at}
-use Rattle.mc_stripe.specs.StripeState.{ReadyStripe, new_stripe, place_of}
+use Rattle.mc_stripe.specs.StripeState.{ReadyStripe, new_stripe, place_of, can_store}
 use Rattle.mc_stripe.specs.Changes.{after_rescue, stamp_aside}
 use Rattle.mc_stripe.proofs.Entries.{at_with_entry, at_without_entry, nat_eq_same}
 use Rattle.mc_core.specs.declared.holding.Holding.{Holding}
@@ -195,6 +196,10 @@ module _ (chunk copy : ChunkId) (key stamp : ℕ) (words : List ℕ) (view fille
       -- its stripe has room for the call still
       pub ready_still : value.ready ≡ true → left.ready ≡ true
       ready_still ready = ap (λ (v : ReadyStripe). v.ready) took.left_is ∙ ready
+
+      -- and for its entry
+      pub room_still : value.ready ≡ true → value.entry ≡ true → can_store left ≡ true
+      room_still ready entry = and_from left.ready left.entry (ready_still ready) (ap (λ (v : ReadyStripe). v.entry) took.left_is ∙ entry)
 
       -- and its key leads nowhere
       pub leads_nowhere : LawfulView filled → slice_index_or filled.stripes stripe None ≡ Some value → place_of left.state key ≡ None

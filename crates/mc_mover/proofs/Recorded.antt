@@ -5,7 +5,7 @@ use Rattle.std.proofs.lemmas.List.{map-id}
 use Rattle.std.proofs.lemmas.List.FromFn.{map-range_with_len_more}
 use Rattle.mc_stripe.specs.StripeState.{ReadyStripe}
 use Rattle.mc_core.specs.declared.event.StripeChange.{StripeChange}
-use Rattle.mc_core.specs.declared.event.StripeChange.TheVariants.{Reserve, Trim, Forget}
+use Rattle.mc_core.specs.declared.event.StripeChange.TheVariants.{Reserve, ReserveCall, Trim, Forget}
 use Rattle.mc_core.specs.declared.holding.Holding.{Holding}
 use Rattle.mc_core.specs.declared.ids.Ids.{Ids}
 use Rattle.mc_core.specs.Past.{Known, Own, Saying}
@@ -91,6 +91,7 @@ stripe_back hand stripe unlocked = by hand.locks (unlocked_from hand.seat.me.0 h
 -- what such a change leaves aside
 pub same_aside : (how : StripeChange) (value : ReadyStripe) → (stripe_after how value).state.aside ≡ value.state.aside
 same_aside Reserve value = refl
+same_aside ReserveCall value = refl
 same_aside Trim value = refl
 same_aside Forget value = refl
 

@@ -5,6 +5,7 @@ use Rattle.mc_pages.specs.declared.moves.Found.{Found}
 use Rattle.mc_pages.specs.declared.moves.Found.TheVariants.{Cleared, Rescued, Evicted, Busy, Locked, Already}
 use Rattle.mc_pages.specs.Changes.{after_back, after_replace}
 use Rattle.mc_pages.specs.SlabState.{SlabState, class_at, class_of_page}
+use Rattle.mc_stripe.specs.Changes.{after_reserve}
 use Rattle.mc_stripe.specs.StripeState.{ReadyStripe}
 use Rattle.mc_core.specs.State.{room_in}
 use Rattle.mc_words.specs.hand.View.{View}
@@ -17,7 +18,7 @@ use Rattle.mc_mover.specs.Linked.{SavesAs, SavesWith}
 use Rattle.mc_mover.specs.Saving.{BothDoing, Evicts, EvictsWithoutTarget, FailsToEvict, FailsToRescue, FindsNoTarget, GivesEvicted, GivesRescued, Rescues, RescuesToTarget, SweepsAndSaves, SweepsForTarget, SweepsToEvict, SweepsToRescue}
 use Rattle.mc_mover.proofs.Saves.{sweeps_slabs}
 
-module _ (number class : ℕ) (chunk : ChunkId) (stripe : ℕ) (value value' : ReadyStripe) (view made : View) (slabs : SlabState) (values : value' ≡ record value { ready = true }) (made_is : made ≡ stripe_reserved stripe value (number + 1) view) where
+module _ (number class : ℕ) (chunk : ChunkId) (stripe : ℕ) (value value' : ReadyStripe) (view made : View) (slabs : SlabState) (values : value' ≡ after_reserve value) (made_is : made ≡ stripe_reserved stripe value (number + 1) view) where
   saved_with : (Swept : SlabsDoing) (swept : View) (kept : SlabState) → Swept made slabs swept kept → (Does : ℕ → BothDoing) (last now : View) (left : ReadyStripe) (after : SlabState) → Does stripe kept value' swept after left last → now ≡ stripe_given stripe left last
       → SavesWith number Swept Does stripe value view slabs now after
   saved_with Swept swept kept sweeps Does last now left after does given = record {

@@ -12,6 +12,7 @@ use Rattle.mc_pages.specs.ClassState.{is_chunk, times}
 use Rattle.mc_pages.specs.SlabState.{IsClass, SlabState, class_at}
 use Rattle.mc_pages.proofs.Chunks.{is_chunk-same, same_from_is_chunk, times-cons}
 use Rattle.mc_pages.proofs.Cleared.{truth-le_one}
+use Rattle.mc_stripe.specs.Changes.{after_reserve}
 use Rattle.mc_stripe.specs.StripeState.{ReadyStripe, place_of}
 use Rattle.mc_core.specs.declared.head.Head.{Head}
 use Rattle.mc_core.specs.declared.holding.Holding.{Holding}
@@ -60,7 +61,7 @@ module _ (view made : View) (slabs : SlabState) (mine : view.slabs ≡ Some slab
   looks_are : made.row.looks ≡ view.row.looks ++ SawStripe number word ∷ []
   looks_are = ap (λ (v : View). v.row.looks) is ∙ ap (λ (b : Bool). if b then view.row.looks ++ SawStripe number word ∷ [] else view.row.looks) (ap is_some mine)
 
-  pub made_reaches : (number' : ℕ) (value' : ReadyStripe) → IsLentStripe view number value → place_of value.state key ≡ Some (chunk, stamp) → was_linked view.row.looks chunk ≡ true → number' ≡ number → value' ≡ record value { ready = true } → slice_index_or made.stripes number' None ≡ Some value'
+  pub made_reaches : (number' : ℕ) (value' : ReadyStripe) → IsLentStripe view number value → place_of value.state key ≡ Some (chunk, stamp) → was_linked view.row.looks chunk ≡ true → number' ≡ number → value' ≡ after_reserve value → slice_index_or made.stripes number' None ≡ Some value'
       → Reaches made slabs number' value' key chunk stamp (word_read view chunk 0)
   made_reaches number' value' lent leads linked numbers values held = record {
     mine = ap (λ (v : View). v.slabs) is ∙ mine;

@@ -7,6 +7,7 @@ use Rattle.mc_pages.specs.declared.moves.Found.{Found}
 use Rattle.mc_pages.specs.declared.moves.Found.TheVariants.{Cleared, Rescued, Evicted, Busy, Locked, Already}
 use Rattle.mc_pages.specs.Accounted.{truth}
 use Rattle.mc_pages.specs.SlabState.{SlabState}
+use Rattle.mc_stripe.specs.Changes.{after_reserve}
 use Rattle.mc_stripe.specs.declared.history.Call.{Call}
 use Rattle.mc_stripe.specs.declared.history.Call.TheVariants.{Evict, Rescue}
 use Rattle.mc_stripe.specs.StripeState.{ReadyStripe, place_of}
@@ -119,7 +120,7 @@ saves_tell : (number stripe : ℕ) (Swept : SlabsDoing) → LeavesTold Swept →
     → (value : ReadyStripe) (taken : View) (slabs : SlabState) (now : View) (left : SlabState) → SavesWith number Swept Does stripe value taken slabs now left → TellsKey number stripe call value taken now
 saves_tell number stripe Swept leaves Does call each value taken slabs now left saves =
     let sweeping = saves.does in
-    let (key, place, led, tells) = each sweeping.between (record value { ready = true }) sweeping.swept left saves.left saves.last sweeping.does in
+    let (key, place, led, tells) = each sweeping.between (after_reserve value) sweeping.swept left saves.left saves.last sweeping.does in
     (key, place, led, ap told_of saves.given ∙ (tells ∙ ap (told_call number stripe (call key)) (leaves _ slabs sweeping.swept sweeping.between sweeping.sweeps)))
 
 saves_quiet : (number stripe : ℕ) (Swept : SlabsDoing) → LeavesTold Swept → (Does : ℕ → BothDoing) → ((slabs : SlabState) (value : ReadyStripe) (view : View) (kept : SlabState) (left : ReadyStripe) (now : View) → Does stripe slabs value view kept left now → told_of now ≡ told_of view)
@@ -127,7 +128,7 @@ saves_quiet : (number stripe : ℕ) (Swept : SlabsDoing) → LeavesTold Swept �
 saves_quiet number stripe Swept leaves Does each value taken slabs now left saves =
     let sweeping = saves.does in
     ap told_of saves.given
-    ∙ (each sweeping.between (record value { ready = true }) sweeping.swept left saves.left saves.last sweeping.does ∙ leaves _ slabs sweeping.swept sweeping.between sweeping.sweeps)
+    ∙ (each sweeping.between (after_reserve value) sweeping.swept left saves.left saves.last sweeping.does ∙ leaves _ slabs sweeping.swept sweeping.between sweeping.sweeps)
 
 held_quiet : (number class : ℕ) (chunk : ChunkId) (sweep : Sweep) (stripe : ℕ) (value : ReadyStripe) (taken : View) (slabs : SlabState) (now : View) (left : SlabState) → SavesAs number class chunk sweep Busy stripe value taken slabs now left → told_of now ≡ told_of taken
 held_quiet number class chunk sweep stripe value taken slabs now left (inl saves) =

@@ -6,11 +6,11 @@ use Rattle.mc_pages.specs.declared.moves.Found.{Found}
 use Rattle.mc_pages.specs.declared.moves.Found.TheVariants.{Rescued, Evicted, Busy, Locked}
 use Rattle.mc_pages.specs.Changes.{after_clear}
 use Rattle.mc_pages.specs.SlabState.{SlabState}
-use Rattle.mc_stripe.specs.StripeState.{ReadyStripe, place_of}
+use Rattle.mc_stripe.specs.StripeState.{ReadyStripe, place_of, can_store}
 use Rattle.mc_core.specs.declared.event.Step.TheVariants as step
 use Rattle.mc_words.specs.hand.View.{View}
 use Rattle.mc_words.specs.item.Removal.{key_seen}
-use Rattle.mc_words.specs.lock.Doing.{IsDone, SlabsDoing}
+use Rattle.mc_words.specs.lock.Doing.{IsStored, SlabsDoing}
 use Rattle.mc_words.specs.rule.Happens.{Happens}
 use Rattle.mc_words.specs.lock.Lent.{BeginsWithSeen, IsLentStripe}
 use Rattle.mc_words.specs.page.Owner.{Clears}
@@ -58,10 +58,10 @@ OnlyGives stripe value taken slabs now left = (now ≡ stripe_given stripe value
 abbrev pub FindsGone : ChunkId → ℕ → StripeDoing
 FindsGone chunk key stripe value taken slabs now left = (option_map (λ place. place.0) (place_of value.state key) ≢ Some chunk) × OnlyGives stripe value taken slabs now left
 
--- room was made for a call on the key, the class was swept as it had to be, and then this was done
+-- room was made for a call on the key and its entry, the class was swept as it had to be, and then this was done
 abbrev pub SavesWith : ℕ → SlabsDoing → (ℕ → BothDoing) → StripeDoing
 SavesWith number Swept Does stripe value taken slabs now left =
-    IsDone number stripe value (λ ready view last after. Sweeping Swept (Does stripe) slabs ready view left last after) taken now
+    IsStored number stripe value (λ ready view last after. Sweeping Swept (Does stripe) slabs ready view left last after) taken now
 
 -- a copy was given up: then its chunk was put back, or seen in use
 pub record GivesCopyUp (number class : ℕ) (chunk : ChunkId) (sweep : Sweep) (stripe : ℕ) (value : ReadyStripe) (taken : View) (slabs : SlabState) (now : View) (left : SlabState) : Type 0 where
@@ -110,7 +110,7 @@ VisitsLinked number class chunk sweep unheld found next view slabs now left = �
 
 -- the lock was given back, and nothing was changed, though the key leads to the chunk
 abbrev pub GivesThere : ChunkId → ℕ → StripeDoing
-GivesThere chunk key stripe value taken slabs now left = (option_map (λ place. place.0) (place_of value.state key) ≡ Some chunk) × (value.ready ≡ false) × OnlyGives stripe value taken slabs now left
+GivesThere chunk key stripe value taken slabs now left = (option_map (λ place. place.0) (place_of value.state key) ≡ Some chunk) × (can_store value ≡ false) × OnlyGives stripe value taken slabs now left
 
 -- the chunk, which was seen unheld, is to be saved, but there was no memory for a call on its key
 abbrev pub LacksCall : ChunkId → Bool → SlabsDoing

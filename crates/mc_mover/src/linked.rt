@@ -5,7 +5,7 @@ ghost use Rattle.mc_pages.specs.Accounted.{is_cleared, is_cut};
 ghost use Rattle.mc_pages.specs.Moves.{is_held_up};
 ghost use Rattle.mc_pages.specs.Pages.{is_on_the_move};
 ghost use Rattle.mc_pages.specs.SlabState.{class_at, class_of_page};
-ghost use Rattle.mc_stripe.specs.StripeState.{place_of};
+ghost use Rattle.mc_stripe.specs.StripeState.{place_of, can_store};
 ghost use Rattle.mc_core.specs.Holdings.{has_fresh};
 ghost use Rattle.mc_core.specs.Judged.{sees_no_target};
 ghost use Rattle.mc_core.specs.Looks.{was_linked};
@@ -122,7 +122,7 @@ fn save(
     ensures done { IfOk result (λ found. sweep.new ≡ Done) }
     ensures dead { IfOk result (λ found. is_held_up found ≡ false → SeesDead hand.new chunk) }
     ensures lacks { OnErr result (ActsOnStripe (λ number. OnlyGives) hand.old stripe slabs.old hand.new slabs.new) }
-    ensures unready { OnErr result ((stripe_lent stripe).ready ≡ false) }
+    ensures unready { OnErr result (can_store (stripe_lent stripe) ≡ false) }
     ensures moving { (slabs_lent slabs.new).moving ≡ (slabs_lent slabs.old).moving }
     ensures owners { (slabs_lent slabs.new).owners ≡ (slabs_lent slabs.old).owners }
     ensures uncut { (slabs_lent slabs.new).uncut ≡ (slabs_lent slabs.old).uncut }
@@ -163,6 +163,7 @@ fn sweep_and_save(
     requires slabs { HasSlabs hand.old slabs.old }
     requires stripe { HasStripe hand.old stripe }
     requires ready { (stripe_lent stripe).ready ≡ true }
+    requires entry { (stripe_lent stripe).entry ≡ true }
     requires empty { (stripe_lent stripe).state.aside ≡ None }
     requires leads { IsLedTo hand.old stripe chunk }
     requires inside { stripe_number stripe < (setup_of arena.now).config.stripes }
@@ -201,6 +202,7 @@ fn rescue_to_target(
     requires slabs { HasSlabs hand.old slabs.old }
     requires stripe { HasStripe hand.old stripe }
     requires ready { (stripe_lent stripe).ready ≡ true }
+    requires entry { (stripe_lent stripe).entry ≡ true }
     requires empty { (stripe_lent stripe).state.aside ≡ None }
     requires leads { IsLedTo hand.old stripe chunk }
     requires inside { stripe_number stripe < (setup_of arena.now).config.stripes }

@@ -73,6 +73,7 @@ pub(crate) fn rescue(
     requires inside { stripe_number stripe < (setup_of arena.now).config.stripes }
     requires stripe { HasStripe hand.old stripe }
     requires ready { (stripe_lent stripe).ready ≡ true }
+    requires entry { (stripe_lent stripe).entry ≡ true }
     requires empty { (stripe_lent stripe).state.aside ≡ None }
     requires key { stripe_read (view hand.old) chunk ≡ Some (stripe_number stripe) }
     requires moving { is_on_the_move (slabs_lent slabs.old) chunk.page ≡ true }
@@ -119,6 +120,7 @@ pub(crate) fn move_item(
     requires slabs { HasSlabs hand.old slabs.old }
     requires stripe { HasStripe hand.old stripe.old }
     requires ready { (stripe_lent stripe.old).ready ≡ true }
+    requires entry { (stripe_lent stripe.old).entry ≡ true }
     requires empty { (stripe_lent stripe.old).state.aside ≡ None }
     requires key { stripe_read (view hand.old) chunk ≡ Some (stripe_number stripe.old) }
     requires moving { is_on_the_move (slabs_lent slabs.old) chunk.page ≡ true }

@@ -1,5 +1,5 @@
 -- What each call changes.
-use Rattle.std.specs.Prelude.{ℕ, false, [], ◌∷◌, ◌++◌, length, is_some, None}
+use Rattle.std.specs.Prelude.{ℕ, true, false, [], ◌∷◌, ◌++◌, length, is_some, None}
 use Rattle.std.specs.Option.{option_map, option_map_or}
 use Rattle.mc_pages.specs.declared.ids.ChunkId.{ChunkId}
 use Rattle.mc_stripe.specs.declared.history.Call.{Call}
@@ -58,4 +58,12 @@ after_forget stripe = record stripe { recorded_from = None }
 
 -- the stripe is now this, and the room is used up
 abbrev pub used_up : StripeState → ReadyStripe
-used_up stripe = record { state = stripe; ready = false }
+used_up stripe = record { state = stripe; ready = false; entry = false }
+
+-- room was made for one more call
+abbrev pub after_reserve_call : ReadyStripe → ReadyStripe
+after_reserve_call stripe = record stripe { ready = true }
+
+-- room was made for one more call and one more entry
+abbrev pub after_reserve : ReadyStripe → ReadyStripe
+after_reserve stripe = record stripe { ready = true; entry = true }

@@ -36,14 +36,13 @@ state_of stripe = record { index = by_key stripe.index.entries; aside = stripe.a
 
 -- the stripe and its room
 abbrev pub ready_of : Inside → ReadyStripe
-ready_of stripe = record { state = state_of stripe; ready = stripe.ready }
+ready_of stripe = record { state = state_of stripe; ready = stripe.ready; entry = stripe.entry }
 
--- the stripe is legal; and where it is ready there is room for one more entry and one more call. What made room for an entry is kept until one is
--- put there
+-- the stripe is legal; and there is room for what it says. What made room for an entry is kept until one is put there
 pub record IsInOrder (stripe : Inside) : Type 0 where
   pub legal : IsLegal (state_of stripe)
-  -- there is room where it says so
-  pub entry : stripe.spare_entry ≡ true → 0 < spare stripe.index
-  -- what is ready has it
-  pub known : stripe.ready ≡ true → stripe.spare_entry ≡ true
+  -- the index has room where that is known
+  pub spare : stripe.spare_entry ≡ true → 0 < spare stripe.index
+  -- and it is known where room for an entry was made
+  pub entry : stripe.entry ≡ true → stripe.spare_entry ≡ true
   pub call : stripe.ready ≡ true → CanTell stripe.calls

@@ -1,5 +1,5 @@
 -- The items of a stripe's keys, and the stripe's history.
-use Rattle.std.specs.Prelude.{ℕ, Bool, false, List, [], map, Option, Some, None}
+use Rattle.std.specs.Prelude.{ℕ, Bool, false, ◌&&◌, List, [], map, Option, Some, None}
 use Rattle.std.specs.Option.{option_map}
 use Rattle.mc_pages.specs.declared.ids.ChunkId.{ChunkId}
 use Rattle.mc_stripe.specs.declared.history.Call.{Call}
@@ -21,14 +21,21 @@ pub record StripeState : Type 0 where
   -- the place of the first call that is recorded, none where no call is
   pub recorded_from : Option ℕ
 
--- the stripe, and whether there is room for one more entry of the index and one more call
+-- the stripe, and for what room was made
 pub record ReadyStripe : Type 0 where
   pub state : StripeState
+  -- there is room for one more call
   pub ready : Bool
+  -- there is room for one more entry of the index
+  pub entry : Bool
+
+-- there is room for one more call, and for the entry that it may store
+abbrev pub can_store : ReadyStripe → Bool
+can_store stripe = stripe.ready && stripe.entry
 
 -- no key was ever stored, and no room was made
 abbrev pub new_stripe : ReadyStripe
-new_stripe = record { state = record { index = []; aside = None; history = []; recorded_from = Some 0 }; ready = false }
+new_stripe = record { state = record { index = []; aside = None; history = []; recorded_from = Some 0 }; ready = false; entry = false }
 
 -- the key whose entry is aside
 abbrev pub key_aside : StripeState → Option ℕ

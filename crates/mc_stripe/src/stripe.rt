@@ -1,7 +1,7 @@
 //! The sequential value behind a stripe's lock.
 ghost use Rattle.std.specs.Prelude.{◌≡◌, ◌≢◌, ◌≤◌, ◌^◌, true, length, is_some, None, Some, Err, OnOk, OnErr, IsOk, IsSome, IfSome};
-ghost use Rattle.mc_stripe.specs.StripeState.{new_stripe, key_aside, place_of};
-ghost use Rattle.mc_stripe.specs.Changes.{after_link, after_unlink, after_got, after_evict, after_lift, after_rescue, after_trim, after_forget, used_up};
+ghost use Rattle.mc_stripe.specs.StripeState.{can_store, new_stripe, key_aside, place_of};
+ghost use Rattle.mc_stripe.specs.Changes.{after_link, after_unlink, after_got, after_evict, after_lift, after_rescue, after_reserve, after_reserve_call, after_trim, after_forget, used_up};
 ghost use Rattle.mc_stripe.specs.Legal.{IsLegal};
 
 mod looks;
@@ -18,17 +18,20 @@ use std::marker::Model;
 
 /// The index and the history of one item lock's part.
 ///
-/// [`Stripe::reserve`] makes room for one call. The calls that need it, and use it up, take no memory and can't fail.
+/// [`Stripe::reserve_call`] makes room for one call, and [`Stripe::reserve`] for one that stores an entry. The calls that need it, and use it
+/// up, take no memory and can't fail.
 #[derive(Drop)]
 pub struct Stripe {
     index: Index,
     /// An entry that was lifted out of the index, until its key comes back.
     aside: Option<(Key, (ChunkId, Stamp))>,
     calls: Recorded,
-    /// The index is known to have room for one more entry.
+    /// The index is known to have room for one more entry, whoever made it.
     spare_entry: bool,
-    /// There is room for one more entry of the index and one more call.
+    /// Room was made for one more call.
     ready: bool,
+    /// Room was made for one more entry of the index.
+    entry: bool,
 }
 
 impl Model for Stripe {
@@ -55,14 +58,29 @@ impl Stripe {
             calls: Recorded::new(alloc),
             spare_entry: false,
             ready: false,
+            entry: false,
         }
+    }
+
+    /// Makes room for one more call, which stores no entry. Where there is room, or no call is recorded, it takes no memory and isn't refused.
+    pub fn reserve_call(&mut self) -> Result<(), NoMemory>
+        ensures reserved { OnOk result (self.new ≡ after_reserve_call self.old) }
+        ensures refused { OnErr result (self.new ≡ self.old) }
+        ensures succeeds { self.old.ready ≡ true → IsOk result }
+        ensures idle { self.old.state.recorded_from ≡ None → IsOk result }
+        ensures legal { IsLegal self.new.state }
+    {
+        let calls = &mut self.calls;
+        calls.reserve()?;
+        self.ready = true;
+        Ok(())
     }
 
     /// Makes room for one more entry of the index and one more call. Where there is room, it takes no memory.
     pub fn reserve(&mut self) -> Result<(), NoMemory>
-        ensures reserved { OnOk result (self.new ≡ record self.old { ready = true }) }
+        ensures reserved { OnOk result (self.new ≡ after_reserve self.old) }
         ensures refused { OnErr result (self.new ≡ self.old) }
-        ensures succeeds { self.old.ready ≡ true → IsOk result }
+        ensures succeeds { can_store self.old ≡ true → IsOk result }
         ensures legal { IsLegal self.new.state }
     {
         if !self.spare_entry {
@@ -71,12 +89,13 @@ impl Stripe {
         }
         self.calls.reserve()?;
         self.ready = true;
+        self.entry = true;
         Ok(())
     }
 
     /// An item is stored under the key, in this chunk. (items.c's `do_item_link`)
     pub fn link(&mut self, hand: HandId, key: Key, chunk: ChunkId, stamp: Stamp)
-        requires ready { self.old.ready ≡ true }
+        requires room { can_store self.old ≡ true }
         requires new { place_of self.old.state key ≡ None }
         requires aside { IfSome (key_aside self.old.state) (λ other. other ≡ key) }
         ensures linked { self.new ≡ used_up (after_link self.old.state hand key chunk stamp) }
@@ -87,6 +106,7 @@ impl Stripe {
         self.spare_entry = false;
         self.calls.tell(Call::Set(hand, key, stamp));
         self.ready = false;
+        self.entry = false;
     }
 
     /// The calls so far aren't recorded any more, and what they left is copied: each key's stamp, also that of the entry aside. That costs
@@ -123,6 +143,7 @@ impl Stripe {
         let was_there = index::take(&mut self.index, key).is_some();
         self.calls.tell(Call::Delete(hand, key, was_there));
         self.ready = false;
+        self.entry = false;
     }
 
     /// The key was looked up, which found this, and its item was got if it has one. It isn't looked up again. (items.c's `do_item_get`)
@@ -136,6 +157,7 @@ impl Stripe {
         let stamp = index::stamp_of(found);
         self.calls.tell(Call::Get(hand, key, stamp));
         self.ready = false;
+        self.entry = false;
     }
 
     /// The key's item is evicted, to make room. (items.c's `do_item_unlink_nolock`)
@@ -148,6 +170,7 @@ impl Stripe {
         index::take(&mut self.index, key);
         self.calls.tell(Call::Evict(hand, key));
         self.ready = false;
+        self.entry = false;
     }
 
     /// The key's entry is put aside, until its `link` or `rescue`. (own)
@@ -162,7 +185,7 @@ impl Stripe {
 
     /// The entry aside comes back, in another chunk and with the stamp that it had. (slabs.c's `slab_rebalance_move`)
     pub fn rescue(&mut self, hand: HandId, key: Key, chunk: ChunkId)
-        requires ready { self.old.ready ≡ true }
+        requires room { can_store self.old ≡ true }
         requires aside { key_aside self.old.state ≡ Some key }
         ensures rescued { self.new ≡ used_up (after_rescue self.old.state hand key chunk) }
         ensures legal { IsLegal self.new.state }
@@ -173,6 +196,7 @@ impl Stripe {
             self.spare_entry = false;
             self.calls.tell(Call::Rescue(hand, key));
             self.ready = false;
+            self.entry = false;
         }
     }
 }

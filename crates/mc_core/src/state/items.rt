@@ -72,13 +72,13 @@ impl Ids {
 }
 
 impl State {
-    /// Whether the stripe of the key is the hand's, has room for a call, and the key leads nowhere.
+    /// Whether the stripe of the key is the hand's, has room for a call and an entry, and the key leads nowhere.
     fn can_link_key(&self, hand: u64, key: u64) -> bool
         ensures { result ≡ can_link_key self.now hand key }
     {
         let place = self.stripe_of(key);
         let stripe = &self.stripes[place as usize];
-        self.has_stripe(hand, place) && stripe.is_ready() && stripe.find(key).is_none()
+        self.has_stripe(hand, place) && stripe.can_store() && stripe.find(key).is_none()
     }
 
     /// Whether words and purpose of a fresh chunk are such that it can be linked.

@@ -257,6 +257,10 @@ impl State {
                 stripe.reserve()?;
                 Ok(true)
             }
+            StripeChange::ReserveCall => {
+                stripe.reserve_call()?;
+                Ok(true)
+            }
             StripeChange::Trim => trim(stripe),
             StripeChange::Forget => {
                 stripe.forget();

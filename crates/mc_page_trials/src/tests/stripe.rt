@@ -42,7 +42,7 @@ fn made(stripe: &mut Stripe, call: Try) -> bool {
     let aside = stripe.aside();
     match call {
         Link(hand, key, chunk, stamp) => {
-            if !stripe.is_ready() || stripe.find(key).is_some() || another_is_aside(aside, key) {
+            if !stripe.can_store() || stripe.find(key).is_some() || another_is_aside(aside, key) {
                 return false;
             }
             stripe.link(hand, key, chunk, stamp);
@@ -73,7 +73,7 @@ fn made(stripe: &mut Stripe, call: Try) -> bool {
             stripe.lift(key);
         }
         Rescue(hand, key, chunk) => {
-            if !stripe.is_ready() || aside != Some(key) {
+            if !stripe.can_store() || aside != Some(key) {
                 return false;
             }
             stripe.rescue(hand, key, chunk);
@@ -354,10 +354,15 @@ fn a_full_stripe_finds_each_key(rt: HostRuntime) -> Result<(), Fail> {
     Ok(filled?)
 }
 
-/// Where there is room, no memory is asked for.
+/// Room for a call, then for an entry, too. Where there is room, no memory is asked for.
 fn make_room(rt: &impl Abort, stripe: &mut Stripe) -> Result<(), NoMemory> {
     assert_same(rt, made(stripe, Got(0, 1)), false, "made");
+    stripe.reserve_call()?;
+    let room = (stripe.is_ready(), stripe.can_store());
+    assert_same(rt, room, (true, false), "room for a call");
+    assert_same(rt, made(stripe, Link(0, 1, chunk(4), 7)), false, "made");
     stripe.reserve()?;
+    assert_same(rt, stripe.can_store(), true, "room for an entry");
     assert_same(rt, stripe.reserve().is_ok(), true, "reserve");
     let twice = (made(stripe, Got(0, 1)), made(stripe, Got(0, 1)));
     assert_same(rt, twice, (true, false), "made");

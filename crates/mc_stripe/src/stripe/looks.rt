@@ -1,7 +1,7 @@
 //! What a stripe tells of itself.
 ghost use Rattle.std.specs.Prelude.{◌≡◌, ◌^◌, ◌-◌, min, IfSome, is_some};
 ghost use Rattle.mc_stripe.specs.Entries.{HasEachKeyOnce, by_key};
-ghost use Rattle.mc_stripe.specs.StripeState.{base_of, key_aside, place_of, tail_of, trimmed_of};
+ghost use Rattle.mc_stripe.specs.StripeState.{base_of, can_store, key_aside, place_of, tail_of, trimmed_of};
 ghost use Rattle.mc_stripe.specs.Legal.{IsLegal};
 
 use super::Stripe;
@@ -17,11 +17,18 @@ impl Stripe {
         index::place_in(&self.index, key)
     }
 
-    /// Whether there is room for one more call.
+    /// Whether room was made for one more call.
     pub fn is_ready(&self) -> bool
         ensures { result ≡ self.now.ready }
     {
         self.ready
+    }
+
+    /// Whether room was made for one more call and one more entry of the index.
+    pub fn can_store(&self) -> bool
+        ensures { result ≡ can_store self.now }
+    {
+        self.is_ready() && self.entry
     }
 
     /// The key whose entry is aside, if one is.

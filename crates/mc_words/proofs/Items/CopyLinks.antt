@@ -5,7 +5,7 @@ use Rattle.std.proofs.lemmas.List.Elements.{Contains-push}
 use Rattle.std.proofs.lemmas.Bool.{and_from, and_parts}
 use Rattle.mc_pages.specs.declared.ids.ChunkId.{ChunkId}
 use Rattle.mc_stripe.specs.declared.history.Call.TheVariants.{Rescue}
-use Rattle.mc_stripe.specs.StripeState.{ReadyStripe, StripeState, key_aside, place_of, new_stripe}
+use Rattle.mc_stripe.specs.StripeState.{ReadyStripe, StripeState, key_aside, place_of, new_stripe, can_store}
 use Rattle.mc_stripe.specs.Changes.{after_rescue, used_up}
 use Rattle.mc_core.specs.declared.head.Head.{Head}
 use Rattle.mc_core.specs.declared.holding.Holding.{Holding}
@@ -64,7 +64,7 @@ may_link_copy view stripe value key stamp number chunk issue words may item was 
     let same = value_is view stripe value key may was in
     let has : has_stripe s was.hand (stripe_of s key) ≡ true = ap (has_stripe s was.hand) at ∙ (stripe_here view stripe value may.mine was).0 in
     let can_key : items.can_link_key s was.hand key ≡ true =
-    and_from _ _ (and_from _ _ has (ap (λ (v : ReadyStripe). v.ready) same ∙ may.ready)) (ap (λ (v : ReadyStripe). is_none (place_of v.state key)) same ∙ ap is_none may.new) in
+    and_from _ _ (and_from _ _ has (ap can_store same ∙ may.room)) (ap (λ (v : ReadyStripe). is_none (place_of v.state key)) same ∙ ap is_none may.new) in
     let suits : are_same (item_in words) item.item && is_entry_aside (stripe_at s (stripe_of s key)).state key item.old stamp ≡ true =
     and_from _ _ item.same (ap (λ (v : ReadyStripe). is_entry_aside v.state key item.old stamp) same ∙ item.aside) in
     let tells : items.can_tell_link s was.hand (copied_item item.old chunk issue item.item words) ≡ true =

@@ -6,7 +6,7 @@ use Rattle.std.proofs.lemmas.Bool.{and_from, and_parts, cases_Bool}
 use Rattle.std.proofs.lemmas.Nat.{div-mul-add, mod-mul-add}
 use Rattle.mc_pages.specs.declared.ids.ChunkId.{ChunkId}
 use Rattle.mc_stripe.specs.declared.history.Call.TheVariants.{Set}
-use Rattle.mc_stripe.specs.StripeState.{ReadyStripe, StripeState, key_aside, place_of, new_stripe}
+use Rattle.mc_stripe.specs.StripeState.{ReadyStripe, StripeState, key_aside, place_of, new_stripe, can_store}
 use Rattle.mc_stripe.specs.Changes.{after_link, used_up}
 use Rattle.mc_core.specs.declared.head.Head.{Head}
 use Rattle.mc_core.specs.declared.holding.Holding.{Holding}
@@ -69,7 +69,7 @@ next_is ids number stamp numbered next = elim (cases_Bool (nat_lt ids.stamps mos
 pub record MayStore (view : View) (stripe : ℕ) (value : ReadyStripe) (key : ℕ) : Type 0 where
   pub mine : slice_index_or view.stripes stripe None ≡ Some value
   pub of_key : key % view.setup.config.stripes ≡ stripe
-  pub ready : value.ready ≡ true
+  pub room : can_store value ≡ true
   pub new : place_of value.state key ≡ None
   pub alone : is_none_else_aside value.state key ≡ true
 
@@ -104,7 +104,7 @@ may_link view stripe value key stamp number chunk issue words may item numbered 
     let same = value_is view stripe value key may was in
     let has : has_stripe s was.hand (stripe_of s key) ≡ true = ap (has_stripe s was.hand) at ∙ (stripe_here view stripe value may.mine was).0 in
     let can_key : items.can_link_key s was.hand key ≡ true =
-    and_from _ _ (and_from _ _ has (ap (λ (v : ReadyStripe). v.ready) same ∙ may.ready)) (ap (λ (v : ReadyStripe). is_none (place_of v.state key)) same ∙ ap is_none may.new) in
+    and_from _ _ (and_from _ _ has (ap can_store same ∙ may.room)) (ap (λ (v : ReadyStripe). is_none (place_of v.state key)) same ∙ ap is_none may.new) in
     let ids : ids_at s was.hand ≡ view.row.ids = ap (λ (v : View). v.row.ids) (sym was.is) in
     let suits : is_next_stamp (ids_at s was.hand) stamp && is_none_else_aside (stripe_at s (stripe_of s key)).state key ≡ true =
     and_from _ _ (ap (λ i. is_next_stamp i stamp) ids ∙ next_is view.row.ids number stamp numbered next) (ap (λ (v : ReadyStripe). is_none_else_aside v.state key) same ∙ may.alone) in

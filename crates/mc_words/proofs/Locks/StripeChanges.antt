@@ -5,7 +5,7 @@ use Rattle.std.proofs.lemmas.List.FromFn.{get_or-map-range_with_len, length-map-
 use Rattle.mc_stripe.specs.StripeState.{ReadyStripe, new_stripe}
 use Rattle.mc_core.specs.declared.event.Change.TheVariants.{OfStripe}
 use Rattle.mc_core.specs.declared.event.StripeChange.{StripeChange}
-use Rattle.mc_core.specs.declared.event.StripeChange.TheVariants.{Reserve, Trim, Forget}
+use Rattle.mc_core.specs.declared.event.StripeChange.TheVariants.{Reserve, ReserveCall, Trim, Forget}
 use Rattle.mc_core.specs.declared.event.Step.TheVariants as core
 use Rattle.mc_core.specs.State.{State, has_stripe, number_at, stripe_at}
 use Rattle.mc_core.specs.Silent.{after_change, can_change_stripe, stripe_after}
@@ -47,6 +47,7 @@ lent_is view number value mine = ap (λ (o : Option ReadyStripe). unwrap_or o ne
 -- no call is told by it
 same_history : (how : StripeChange) (value : ReadyStripe) → (stripe_after how value).state.history ≡ value.state.history
 same_history Reserve value = refl
+same_history ReserveCall value = refl
 same_history Trim value = refl
 same_history Forget value = refl
 

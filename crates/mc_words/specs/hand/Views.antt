@@ -11,7 +11,7 @@ use Rattle.mc_core.specs.declared.event.Change.{Change}
 use Rattle.mc_core.specs.declared.event.Change.TheVariants as change
 use Rattle.mc_core.specs.declared.event.Step.{Step}
 use Rattle.mc_core.specs.declared.event.StripeChange.{StripeChange}
-use Rattle.mc_core.specs.declared.event.StripeChange.TheVariants.{Reserve}
+use Rattle.mc_core.specs.declared.event.StripeChange.TheVariants.{Reserve, ReserveCall}
 use Rattle.mc_core.specs.declared.event.Step.TheVariants as step
 use Rattle.mc_core.specs.Silent.{slabs_after, stripe_after}
 use Rattle.mc_core.specs.Past.{Sight, Knowledge, begin_hold, end_hold, header, slabs_word, stripe_word}
@@ -169,6 +169,10 @@ slabs_changed slabs change word view = slabs_told (change ∷ []) word (looked (
 abbrev pub stripe_changed : StripeChange → ℕ → ReadyStripe → ℕ → View → View
 stripe_changed how stripe value word view = stripe_told (change.OfStripe stripe how ∷ []) stripe word (record view { stripes = slice_set view.stripes stripe (Some (stripe_after how value)) })
 
--- room for a call was made in a stripe, which was told by a look at the word of its lock
+-- room for a call that stores no entry was made in a stripe, which was told by a look at the word of its lock
+abbrev pub call_reserved : ℕ → ReadyStripe → ℕ → View → View
+call_reserved stripe value word view = stripe_changed ReserveCall stripe value word view
+
+-- room for a call and an entry was made in a stripe, which was told by a look at the word of its lock
 abbrev pub stripe_reserved : ℕ → ReadyStripe → ℕ → View → View
 stripe_reserved stripe value word view = stripe_changed Reserve stripe value word view

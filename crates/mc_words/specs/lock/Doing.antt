@@ -1,21 +1,32 @@
 -- What is done under a lock: on a stripe, or on pages and lists.
-use Rattle.std.specs.Prelude.{◌≡◌, ℕ, ◌+◌, true}
+use Rattle.std.specs.Prelude.{◌≡◌, ℕ, ◌+◌}
 use Rattle.mc_pages.specs.SlabState.{SlabState}
 use Rattle.mc_stripe.specs.StripeState.{ReadyStripe}
+use Rattle.mc_core.specs.declared.event.StripeChange.{StripeChange}
+use Rattle.mc_core.specs.declared.event.StripeChange.TheVariants.{Reserve, ReserveCall}
+use Rattle.mc_core.specs.Silent.{stripe_after}
 use Rattle.mc_words.specs.hand.View.{View}
-use Rattle.mc_words.specs.hand.Views.{slabs_given, stripe_given, stripe_reserved}
+use Rattle.mc_words.specs.hand.Views.{slabs_given, stripe_changed, stripe_given}
 use Rattle.mc_words.specs.lock.Wait.{WaitsForSlabs, WaitsForStripe}
 
 -- what is done on a stripe, from its value and the hand's view to those that it leaves
 abbrev pub Doing : Type 1
 Doing = ReadyStripe → View → ReadyStripe → View → Type 0
 
--- under the stripe's lock, whose value was this: room was made for a call, this was done, and the lock was given back
-pub record IsDone (number stripe : ℕ) (value : ReadyStripe) (Does : Doing) (view now : View) : Type 0 where
+-- under the stripe's lock, whose value was this: room was made so, this was done, and the lock was given back
+pub record IsDoneBehind (room : StripeChange) (number stripe : ℕ) (value : ReadyStripe) (Does : Doing) (view now : View) : Type 0 where
   pub left : ReadyStripe
   pub last : View
-  pub does : Does (record value { ready = true }) (stripe_reserved stripe value (number + 1) view) left last
+  pub does : Does (stripe_after room value) (stripe_changed room stripe value (number + 1) view) left last
   pub given : now ≡ stripe_given stripe left last
+
+-- the room was for a call that stores no entry
+abbrev pub IsDone : ℕ → ℕ → ReadyStripe → Doing → View → View → Type 0
+IsDone number stripe value Does view now = IsDoneBehind ReserveCall number stripe value Does view now
+
+-- the room was for a call and an entry
+abbrev pub IsStored : ℕ → ℕ → ReadyStripe → Doing → View → View → Type 0
+IsStored number stripe value Does view now = IsDoneBehind Reserve number stripe value Does view now
 
 -- what is done under the lock of the slabs, from a view and its pages and lists to those that it leaves
 abbrev pub SlabsDoing : Type 1

@@ -1,6 +1,6 @@
 //! Copies of items that are linked in place of their originals.
 ghost use Rattle.std.specs.Prelude.{◌≡◌, ◌%◌, [], true, slice_index_or, None, Some};
-ghost use Rattle.mc_stripe.specs.StripeState.{place_of};
+ghost use Rattle.mc_stripe.specs.StripeState.{place_of, can_store};
 ghost use Rattle.mc_stripe.specs.Changes.{after_rescue, used_up};
 ghost use Rattle.mc_core.specs.declared.event.Step.TheVariants as step;
 ghost use Rattle.mc_words.specs.hand.Arenas.{IsHandOf, setup_of, view};
@@ -26,7 +26,7 @@ impl Arena {
         requires fresh { IsFreshOf (view hand.old) fresh.chunk fresh.room }
         requires copy { IsCopyFilled (view hand.old) held.old.stripe.state fresh.chunk (issue_in (view hand.old) fresh.chunk) (words_in (view hand.old) fresh.chunk) fresh.key fresh.stamp }
         requires stripe { fresh.key % (setup_of self.now).config.stripes ≡ held.old.number }
-        requires ready { held.old.stripe.ready ≡ true }
+        requires room { can_store held.old.stripe ≡ true }
         requires new { place_of held.old.stripe.state fresh.key ≡ None }
         ensures arena { IsHandOf self.now hand.new }
         ensures locks { hand.new.locks ≡ hand.old.locks }

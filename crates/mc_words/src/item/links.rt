@@ -1,6 +1,6 @@
 //! Items that are linked to their keys.
 ghost use Rattle.std.specs.Prelude.{◌≡◌, ◌%◌, [], true, slice_index_or, None, Some};
-ghost use Rattle.mc_stripe.specs.StripeState.{place_of};
+ghost use Rattle.mc_stripe.specs.StripeState.{place_of, can_store};
 ghost use Rattle.mc_stripe.specs.Changes.{after_link, used_up};
 ghost use Rattle.mc_core.specs.Items.{is_none_else_aside};
 ghost use Rattle.mc_core.specs.declared.event.Step.TheVariants as step;
@@ -29,7 +29,7 @@ impl Arena {
         requires item { IsItemFilled (view hand.old) fresh.chunk (issue_in (view hand.old) fresh.chunk) (words_in (view hand.old) fresh.chunk) fresh.key fresh.stamp }
         requires stamp { next_stamp (view hand.old).row.ids ≡ Some fresh.stamp }
         requires stripe { fresh.key % (setup_of self.now).config.stripes ≡ held.old.number }
-        requires ready { held.old.stripe.ready ≡ true }
+        requires room { can_store held.old.stripe ≡ true }
         requires new { place_of held.old.stripe.state fresh.key ≡ None }
         requires aside { is_none_else_aside held.old.stripe.state fresh.key ≡ true }
         ensures arena { IsHandOf self.now hand.new }

@@ -1,13 +1,15 @@
 //! Stripes that make room for a call, or whose calls are trimmed or forgotten. No call is told by it, and each change is told at once.
 ghost use Rattle.std.specs.Prelude.{◌≡◌, ◌≤◌, ◌+◌, ◌^◌, ◌<◌, [], ◌∷◌, true, length, is_some, slice_index_or, None, Some, Err, IsOk, OnOk, OnErr};
+ghost use Rattle.mc_stripe.specs.StripeState.{can_store};
+ghost use Rattle.mc_stripe.specs.Changes.{after_reserve, after_reserve_call};
 ghost use Rattle.mc_core.specs.Silent.{can_change_stripe, stripe_after};
 ghost use Rattle.mc_core.specs.declared.event.Change.TheVariants as change;
 ghost use Rattle.mc_core.specs.declared.event.Step.TheVariants as step;
-ghost use Rattle.mc_core.specs.declared.event.StripeChange.TheVariants.{Reserve, Trim as Trimmed, Forget};
+ghost use Rattle.mc_core.specs.declared.event.StripeChange.TheVariants.{Reserve, ReserveCall, Trim as Trimmed, Forget};
 ghost use Rattle.mc_words.specs.hand.Arenas.{IsHandOf, view};
 ghost use Rattle.mc_words.specs.rule.Happens.{Happens};
 ghost use Rattle.mc_words.specs.lock.Lent.{lent_stripe};
-ghost use Rattle.mc_words.specs.hand.Views.{stripe_changed, stripe_reserved};
+ghost use Rattle.mc_words.specs.hand.Views.{call_reserved, stripe_changed, stripe_reserved};
 
 use crate::arena::Arena;
 use crate::hand::Hand;
@@ -17,7 +19,29 @@ use mc_core::{Change, Step, StripeChange};
 use mc_stripe::{NoMemory, Trim};
 
 impl Arena {
-    /// Makes room in a stripe for one more call on one of its keys. Where there is room, it takes no memory. (own)
+    /// Makes room in a stripe for one more call on one of its keys, which stores no entry. Where there is room, or the stripe records no call, it
+    /// takes no memory and isn't refused. (own)
+    pub fn reserve_call(&self, hand: &mut Hand, held: &mut StripeHeld) -> Result<(), NoMemory>
+        requires arena { IsHandOf self.now hand.old }
+        requires held { slice_index_or (view hand.old).stripes held.old.number None ≡ Some held.old.stripe }
+        ensures arena { IsHandOf self.now hand.new }
+        ensures locks { hand.new.locks ≡ hand.old.locks }
+        ensures number { held.new.number ≡ held.old.number }
+        ensures held { slice_index_or (view hand.new).stripes held.new.number None ≡ Some held.new.stripe }
+        ensures reserved { OnOk result (held.new ≡ record held.old { stripe = after_reserve_call held.old.stripe }) }
+        ensures happens { OnOk result (Happens (view hand.old) (change.OfStripe held.old.number ReserveCall ∷ []) (step.MissStripe held.old.number) (view hand.new)) }
+        ensures view { OnOk result (view hand.new ≡ call_reserved held.old.number held.old.stripe (hand.old.number + 1) (view hand.old)) }
+        ensures succeeds { held.old.stripe.ready ≡ true → IsOk result }
+        ensures idle { held.old.stripe.state.recorded_from ≡ None → IsOk result }
+        ensures refused { OnErr result ((held.new ≡ held.old) × (view hand.new ≡ view hand.old)) }
+    {
+        held.stripe.stripe_mut().reserve_call()?;
+        self.tell_change(hand, held.number, StripeChange::ReserveCall);
+        Ok(())
+    }
+
+    /// Makes room in a stripe for one more call on one of its keys, and for the entry that it may store. Where there is room, it takes no
+    /// memory. (own)
     pub fn reserve(&self, hand: &mut Hand, held: &mut StripeHeld) -> Result<(), NoMemory>
         requires arena { IsHandOf self.now hand.old }
         requires held { slice_index_or (view hand.old).stripes held.old.number None ≡ Some held.old.stripe }
@@ -25,10 +49,10 @@ impl Arena {
         ensures locks { hand.new.locks ≡ hand.old.locks }
         ensures number { held.new.number ≡ held.old.number }
         ensures held { slice_index_or (view hand.new).stripes held.new.number None ≡ Some held.new.stripe }
-        ensures reserved { OnOk result (held.new ≡ record held.old { stripe = record held.old.stripe { ready = true } }) }
+        ensures reserved { OnOk result (held.new ≡ record held.old { stripe = after_reserve held.old.stripe }) }
         ensures happens { OnOk result (Happens (view hand.old) (change.OfStripe held.old.number Reserve ∷ []) (step.MissStripe held.old.number) (view hand.new)) }
         ensures view { OnOk result (view hand.new ≡ stripe_reserved held.old.number held.old.stripe (hand.old.number + 1) (view hand.old)) }
-        ensures succeeds { held.old.stripe.ready ≡ true → IsOk result }
+        ensures succeeds { can_store held.old.stripe ≡ true → IsOk result }
         ensures refused { OnErr result ((held.new ≡ held.old) × (view hand.new ≡ view hand.old)) }
     {
         held.stripe.stripe_mut().reserve()?;

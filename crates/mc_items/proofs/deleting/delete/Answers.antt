@@ -8,7 +8,7 @@ use Rattle.mc_words.specs.hand.View.{View}
 use Rattle.mc_words.specs.hand.Views.{stripe_given}
 use Rattle.mc_words.specs.lock.Wait.{WaitsForStripe}
 use Rattle.mc_stripe.specs.declared.history.Call.TheVariants.{Delete}
-use Rattle.mc_items.specs.Calls.{CallsOn, Deletes, OnlyWaits, TellsCall, TellsNoCall}
+use Rattle.mc_items.specs.Calls.{CallsOn, Deletes, OnlyWaits, TellsCall, TellsNoCall, IsFull}
 use Rattle.mc_items.proofs.Chains.{ready_still, refs_stay}
 use Rattle.mc_items.proofs.Left.{Kept}
 use Rattle.mc_items.proofs.GetLeaves.{delete_kept}
@@ -51,8 +51,8 @@ returns-clause-no_memory g c =
     let now : View = c.delete_at.new.hand.seat.me.0 in
     let at : c.args.key % c.config.result.now.stripes ≡ c.args.key % c.args.arena.now.table.shared.key.config.stripes = ap (λ (f : Config). c.args.key % f.stripes) c.config.ensures.config in
     let stripe = c.args.key % c.args.arena.now.table.shared.key.config.stripes in
-    err_map ((now ≡ stripe_given held.result.number held.result.stripe taken) × (held.result.stripe.ready ≡ false)) (OnlyWaits stripe before now) c.delete_at.result
-    (λ both. only_waits stripe held.result.number held.result.stripe before taken now (held.ensures.number ∙ at) (subst (λ (n : ℕ). WaitsForStripe n before held.result.stripe taken) at held.ensures.waits) (subst (λ (n : ℕ). IsLentStripe taken n held.result.stripe) at held.ensures.whole) both.1 both.0) (error_both (now ≡ stripe_given held.result.number held.result.stripe taken) (held.result.stripe.ready ≡ false) c.delete_at.result c.delete_at.ensures.given c.delete_at.ensures.full)
+    err_map ((now ≡ stripe_given held.result.number held.result.stripe taken) × (IsFull held.result.stripe)) (OnlyWaits stripe before now) c.delete_at.result
+    (λ both. only_waits stripe held.result.number held.result.stripe before taken now (held.ensures.number ∙ at) (subst (λ (n : ℕ). WaitsForStripe n before held.result.stripe taken) at held.ensures.waits) (subst (λ (n : ℕ). IsLentStripe taken n held.result.stripe) at held.ensures.whole) both.1 both.0) (error_both (now ≡ stripe_given held.result.number held.result.stripe taken) (IsFull held.result.stripe) c.delete_at.result c.delete_at.ensures.given c.delete_at.ensures.full)
 
 pub returns-clause-calls : goal.returns-clause-calls
 returns-clause-calls g c =
@@ -76,8 +76,8 @@ returns-clause-refused g c =
     let now : View = c.delete_at.new.hand.seat.me.0 in
     let at : c.args.key % c.config.result.now.stripes ≡ c.args.key % c.args.arena.now.table.shared.key.config.stripes = ap (λ (f : Config). c.args.key % f.stripes) c.config.ensures.config in
     let stripe = c.args.key % c.args.arena.now.table.shared.key.config.stripes in
-    err_map ((now ≡ stripe_given held.result.number held.result.stripe taken) × (held.result.stripe.ready ≡ false)) (TellsNoCall before now) c.delete_at.result
-    (λ both. told_none stripe before now (only_waits stripe held.result.number held.result.stripe before taken now (held.ensures.number ∙ at) (subst (λ (n : ℕ). WaitsForStripe n before held.result.stripe taken) at held.ensures.waits) (subst (λ (n : ℕ). IsLentStripe taken n held.result.stripe) at held.ensures.whole) both.1 both.0)) (error_both (now ≡ stripe_given held.result.number held.result.stripe taken) (held.result.stripe.ready ≡ false) c.delete_at.result c.delete_at.ensures.given c.delete_at.ensures.full)
+    err_map ((now ≡ stripe_given held.result.number held.result.stripe taken) × (IsFull held.result.stripe)) (TellsNoCall before now) c.delete_at.result
+    (λ both. told_none {Is = IsFull} stripe before now (only_waits stripe held.result.number held.result.stripe before taken now (held.ensures.number ∙ at) (subst (λ (n : ℕ). WaitsForStripe n before held.result.stripe taken) at held.ensures.waits) (subst (λ (n : ℕ). IsLentStripe taken n held.result.stripe) at held.ensures.whole) both.1 both.0)) (error_both (now ≡ stripe_given held.result.number held.result.stripe taken) (IsFull held.result.stripe) c.delete_at.result c.delete_at.ensures.given c.delete_at.ensures.full)
 
 pub returns-clause-holdings : goal.returns-clause-holdings
 returns-clause-holdings g c =

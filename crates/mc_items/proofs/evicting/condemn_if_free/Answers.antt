@@ -9,6 +9,7 @@ use Rattle.mc_words.specs.hand.View.{Setup, View}
 use Rattle.mc_words.specs.lock.Out.{with_stripe, without_stripe}
 use Rattle.mc_words.specs.hand.Views.{stripe_given, stripe_missed}
 use Rattle.mc_words.proofs.Chunks.SweepViews.{stands_out}
+use Rattle.mc_items.specs.Calls.{IsFull}
 use Rattle.mc_items.specs.Supplying.{FindsItemHeld}
 use Rattle.mc_words.proofs.Hands.HandNumbers.{number_stays}
 use Rattle.mc_items.proofs.Reaches.{found_linked, holdings_stay, lacked, no_copies, reached, reason_found, some_room, stripe_back, stripe_found}
@@ -118,4 +119,4 @@ returns-clause-no_memory c =
     (λ both. lacked view c.args.chunk (decode c.head-head.result) c.head-head.new.hand.seat.me.0 c.word_held-key.new.hand.seat.me.0 c.try_stripe.new.hand.seat.me.0 c.condemn_at.new.hand.seat.me.0
     key (key % c.config.result.now.stripes) c.in-Ok.held.number c.in-Ok.held.stripe (sym c.is_unheld.ensures.unheld ∙ c.if-not-is_unheld.false) c.head-head.ensures.seen c.word_held-key.ensures.view at c.in-Ok.ensures.number
     c.head-head.ensures.happens c.word_held-key.ensures.happens c.in-Ok.ensures.taken c.in-Ok.ensures.lent c.in-Ok.ensures.whole c.in-Ok.ensures.seen both.1 both.0)
-    (error_both (c.condemn_at.new.hand.seat.me.0 ≡ stripe_given c.in-Ok.held.number c.in-Ok.held.stripe c.try_stripe.new.hand.seat.me.0) (c.in-Ok.held.stripe.ready ≡ false) c.condemn_at.result c.condemn_at.ensures.no_memory c.condemn_at.ensures.full)
+    (error_both (c.condemn_at.new.hand.seat.me.0 ≡ stripe_given c.in-Ok.held.number c.in-Ok.held.stripe c.try_stripe.new.hand.seat.me.0) (IsFull c.in-Ok.held.stripe) c.condemn_at.result c.condemn_at.ensures.no_memory c.condemn_at.ensures.full)

@@ -7,7 +7,7 @@ use Rattle.mc_words.specs.lock.Wait.{WaitsForStripe}
 use Rattle.std.specs.Option.{option_map}
 use Rattle.mc_items.specs.declared.refs.Ref.{Ref}
 use Rattle.mc_words.specs.lock.Doing.{IsDone}
-use Rattle.mc_items.specs.Calls.{CallsOn, LooksUp}
+use Rattle.mc_items.specs.Calls.{CallsOn, IsFull, LooksUp}
 use Rattle.mc_items.specs.ItemRefs.{item_chunk}
 use Rattle.mc_stripe.specs.declared.history.Call.TheVariants.{Get}
 use Rattle.mc_items.proofs.Chains.{ready_still, refs_stay}
@@ -66,7 +66,7 @@ returns-in-Err-clause-refused c =
     let before : View = c.args.hand.now.seat.me.0 in
     let taken : View = c.try_stripe.new.hand.seat.me.0 in
     let at : c.args.key % c.config.result.now.stripes ≡ c.args.key % c.args.arena.now.table.shared.key.config.stripes = ap (λ (f : Config). c.args.key % f.stripes) c.config.ensures.config in
-    told_none _ before c.look_up.new.hand.seat.me.0 (only_waits _ held.number held.stripe before taken c.look_up.new.hand.seat.me.0 (c.in-Ok.ensures.number ∙ at)
+    told_none {Is = IsFull} _ before c.look_up.new.hand.seat.me.0 (only_waits _ held.number held.stripe before taken c.look_up.new.hand.seat.me.0 (c.in-Ok.ensures.number ∙ at)
     (subst (λ (n : ℕ). WaitsForStripe n before held.stripe taken) at (taken_at_once (c.args.key % c.config.result.now.stripes) held.stripe before taken c.in-Ok.ensures.taken c.in-Ok.ensures.lent c.in-Ok.ensures.seen)) (subst (λ (n : ℕ). IsLentStripe taken n held.stripe) at c.in-Ok.ensures.whole) c.in-Err.ensures.full c.in-Err.ensures.given)
 
 pub returns-in-Ok-look_up-clause-holdings : goal.returns-in-Ok-look_up-clause-holdings

@@ -1,6 +1,6 @@
 use Rattle.std.proofs.Common.{ℕ, ap, sym, subst, ◌∙◌}
 use Rattle.mc_stripe.specs.Entries.{AreRising}
-use Rattle.mc_stripe.specs.StripeState.{ReadyStripe, place_of}
+use Rattle.mc_stripe.specs.StripeState.{ReadyStripe, place_of, can_store}
 use Rattle.mc_core.specs.Holdings.{has_fresh}
 use Rattle.mc_core.specs.Items.{is_none_else_aside}
 use Rattle.mc_words.specs.hand.View.{View}
@@ -28,4 +28,4 @@ link-reference-requires-clause-aside c =
     ap (is_none_else_aside c.put_aside.new.held.stripe.state) c.requires.key ∙ (ap (λ (v : ReadyStripe). is_none_else_aside v.state key) c.put_aside.ensures.lifted ∙ lifted_alone value key)
 
 pub returns-in-Err-clause-full : goal.returns-in-Err-clause-full
-returns-in-Err-clause-full c = full_from c.args.held.stripe.ready c.reserve.result c.in-Err.error c.in-Err.is c.reserve.ensures.succeeds
+returns-in-Err-clause-full c = full_from (can_store c.args.held.stripe) c.reserve.result c.in-Err.error c.in-Err.is c.reserve.ensures.succeeds

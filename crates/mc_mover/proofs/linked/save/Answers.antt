@@ -3,7 +3,7 @@ use Rattle.mc_pages.specs.ClassState.{ClassState}
 use Rattle.mc_pages.specs.SlabState.{SlabState, class_at, class_of_page}
 use Rattle.mc_pages.proofs.ClassChanges.{per_pages-with_class}
 use Rattle.mc_pages.proofs.Cuts.{per_page-map}
-use Rattle.mc_stripe.specs.StripeState.{ReadyStripe, place_of}
+use Rattle.mc_stripe.specs.StripeState.{ReadyStripe, place_of, can_store}
 use Rattle.mc_words.specs.declared.hand.held.StripeHeld.{StripeHeld}
 use Rattle.mc_words.specs.item.Items.{word_read}
 use Rattle.mc_words.specs.hand.View.{View}
@@ -162,7 +162,7 @@ pub rescue_to_target-requires-clause-few : goal.rescue_to_target-requires-clause
 rescue_to_target-requires-clause-few c = subst (λ (v : View). length v.row.holdings ≤ 255) (sym c.in_default.ensures.view) c.requires.few
 
 pub returns-in-Err-clause-unready : goal.returns-in-Err-clause-unready
-returns-in-Err-clause-unready c = refused c.reserve.result c.in-Err.error c.in-Err.is c.args.stripe.stripe.ready c.reserve.ensures.succeeds
+returns-in-Err-clause-unready c = refused c.reserve.result c.in-Err.error c.in-Err.is (can_store c.args.stripe.stripe) c.reserve.ensures.succeeds
 
 pub returns-in-Ok-clause-dead : goal.returns-in-Ok-clause-dead
 returns-in-Ok-clause-dead c = c.in-Ok.ensures.dead

@@ -111,6 +111,7 @@ fn forget_calls(rt: &impl Abort, stripe: &mut Stripe) -> Result<(), NoMemory> {
     make_all(rt, stripe, &[Link(1, 1, chunk(4), 7), Got(2, 1)])?;
     stripe.forget();
     assert_forgotten(rt, stripe, 2);
+    assert_same(rt, stripe.reserve_call().is_ok(), true, "reserve_call");
     for _ in 0..100 {
         make_all(rt, stripe, &[Got(2, 1), Unlink(2, 5)])?;
     }

@@ -12,8 +12,8 @@ invariant_of-self c =
     let there = subst (λ (s : ReadyStripe). IsSome (place_of s.state c.args.key)) (sym c.self.view_is) c.requires.there in
     record {
       legal = IsLegal-fields (after_evict stripe c.args.hand c.args.key) _ _ _ _ c.take.ensures.entries refl c.tell.ensures.all c.tell.ensures.from (IsLegal-after_evict stripe c.args.hand c.args.key c.self.invariant.legal there);
-      entry = λ is. omega (arith, c.self.invariant.entry is);
-      known = λ is. absurd cc;
+      spare = λ is. omega (arith, c.self.invariant.spare is);
+      entry = λ is. absurd cc;
       call = λ is. absurd cc;
     }
 

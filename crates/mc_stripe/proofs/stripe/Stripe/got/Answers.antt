@@ -17,8 +17,8 @@ invariant_of-self c =
     let told = ends_by stripe.history _ _ _ c.tell.ensures.all (ap (Get c.args.hand c.args.key) stamp) in
     record {
       legal = IsLegal-fields (after_got stripe c.args.hand c.args.key) _ _ _ _ refl refl told c.tell.ensures.from (IsLegal-after_got stripe c.args.hand c.args.key c.self.invariant.legal apart);
-      entry = c.self.invariant.entry;
-      known = λ is. absurd cc;
+      spare = c.self.invariant.spare;
+      entry = λ is. absurd cc;
       call = λ is. absurd cc;
     }
 

@@ -13,8 +13,8 @@ invariant_of-self c =
     let none = subst (λ (s : ReadyStripe). s.state.aside ≡ None) (sym c.self.view_is) c.requires.none in
     record {
       legal = IsLegal-fields (after_lift stripe c.args.key) _ _ _ _ c.take_entry-self-inside.ensures.entries c.take_entry-self-inside.ensures.entry refl refl (IsLegal-after_lift stripe c.args.key c.self.invariant.legal there none);
-      entry = λ is. omega (arith, c.self.invariant.entry is);
-      known = c.self.invariant.known;
+      spare = λ is. omega (arith, c.self.invariant.spare is);
+      entry = c.self.invariant.entry;
       call = c.self.invariant.call;
     }
 

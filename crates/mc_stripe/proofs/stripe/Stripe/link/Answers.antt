@@ -12,8 +12,8 @@ invariant_of-self c =
     let same = subst (λ (s : ReadyStripe). IfSome (key_aside s.state) (λ other. other ≡ c.args.key)) (sym c.self.view_is) c.requires.aside in
     record {
       legal = IsLegal-fields (after_link stripe c.args.hand c.args.key c.args.chunk c.args.stamp) _ _ _ _ c.put.ensures refl c.tell.ensures.all c.tell.ensures.from (IsLegal-after_link stripe c.args.hand c.args.key c.args.chunk c.args.stamp c.self.invariant.legal same);
+      spare = λ is. absurd cc;
       entry = λ is. absurd cc;
-      known = λ is. absurd cc;
       call = λ is. absurd cc;
     }
 

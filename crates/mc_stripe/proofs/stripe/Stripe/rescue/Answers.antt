@@ -20,8 +20,8 @@ invariant_of-self c =
     let is = subst (λ (s : ReadyStripe). key_aside s.state ≡ Some c.args.key) (sym c.self.view_is) c.requires.aside in
     record {
       legal = IsLegal-fields (after_rescue stripe c.args.hand c.args.key c.args.chunk) _ _ _ _ (c.put.ensures ∙ chunk_put stripe.index _ _ c.args.key c.args.chunk c.in-Some.is) refl c.tell.ensures.all c.tell.ensures.from (IsLegal-after_rescue stripe c.args.hand c.args.key c.args.chunk c.self.invariant.legal is);
+      spare = λ is. absurd cc;
       entry = λ is. absurd cc;
-      known = λ is. absurd cc;
       call = λ is. absurd cc;
     }
 

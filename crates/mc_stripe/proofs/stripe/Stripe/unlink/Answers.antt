@@ -15,8 +15,8 @@ invariant_of-self c =
     let told = ends_by stripe.history _ _ _ c.tell.ensures.all (ap (Delete c.args.hand c.args.key) was_there) in
     record {
       legal = IsLegal-fields (after_unlink stripe c.args.hand c.args.key) _ _ _ _ c.take.ensures.entries refl told c.tell.ensures.from (IsLegal-after_unlink stripe c.args.hand c.args.key c.self.invariant.legal apart);
-      entry = λ is. omega (arith, c.self.invariant.entry is);
-      known = λ is. absurd cc;
+      spare = λ is. omega (arith, c.self.invariant.spare is);
+      entry = λ is. absurd cc;
       call = λ is. absurd cc;
     }
 

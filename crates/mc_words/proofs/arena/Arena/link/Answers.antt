@@ -39,7 +39,7 @@ fetch_add-head-requires c =
     let chunk = c.args.fresh.chunk in
     let issue = issue_in view chunk in
     let words = words_in view chunk in
-    let may : MayStore view c.args.held.now.number value c.args.fresh.key = record { mine = c.requires.held; of_key = ap (λ (s : Setup). c.args.fresh.key % s.config.stripes) arena.setup ∙ c.requires.stripe; ready = c.requires.ready; new = c.requires.new; alone = c.requires.aside } in
+    let may : MayStore view c.args.held.now.number value c.args.fresh.key = record { mine = c.requires.held; of_key = ap (λ (s : Setup). c.args.fresh.key % s.config.stripes) arena.setup ∙ c.requires.stripe; room = c.requires.room; new = c.requires.new; alone = c.requires.aside } in
     let place : c.head_word-word.result ≡ head_word view.setup chunk = c.head_word-word.ensures.word ∙ ap (λ (s : Setup). head_word s chunk) (sym arena.setup) in
     (refl, (refl, (c.head_word-word.ensures.near, (arena, subst (λ (n : ℕ). MayWrite view (core.Link chunk) n (plus 65537)) (sym place) (may_link view c.args.held.now.number value c.args.fresh.key c.args.fresh.stamp a.number chunk issue words may c.requires.item a.noted.0 c.requires.stamp)))))
 
@@ -60,7 +60,7 @@ invariant_of-hand c =
     let chunk = c.args.fresh.chunk in
     let issue = issue_in view chunk in
     let words = words_in view chunk in
-    let may : MayStore view c.args.held.now.number value c.args.fresh.key = record { mine = c.requires.held; of_key = ap (λ (s : Setup). c.args.fresh.key % s.config.stripes) arena.setup ∙ c.requires.stripe; ready = c.requires.ready; new = c.requires.new; alone = c.requires.aside } in
+    let may : MayStore view c.args.held.now.number value c.args.fresh.key = record { mine = c.requires.held; of_key = ap (λ (s : Setup). c.args.fresh.key % s.config.stripes) arena.setup ∙ c.requires.stripe; room = c.requires.room; new = c.requires.new; alone = c.requires.aside } in
     let now = c.fetch_add-head.new.seat.me.0 in
     let h = c.fetch_add-head.ensures.happens.0 in
     let is = linked_view view c.args.held.now.number value c.args.fresh.key c.args.fresh.stamp a.number chunk issue words may c.requires.item a.noted.0 now h in
@@ -94,7 +94,7 @@ returns-clause-held c =
     let chunk = c.args.fresh.chunk in
     let issue = issue_in view chunk in
     let words = words_in view chunk in
-    let may : MayStore view c.args.held.now.number value c.args.fresh.key = record { mine = c.requires.held; of_key = ap (λ (s : Setup). c.args.fresh.key % s.config.stripes) arena.setup ∙ c.requires.stripe; ready = c.requires.ready; new = c.requires.new; alone = c.requires.aside } in
+    let may : MayStore view c.args.held.now.number value c.args.fresh.key = record { mine = c.requires.held; of_key = ap (λ (s : Setup). c.args.fresh.key % s.config.stripes) arena.setup ∙ c.requires.stripe; room = c.requires.room; new = c.requires.new; alone = c.requires.aside } in
     let now = c.fetch_add-head.new.seat.me.0 in
     let h = c.fetch_add-head.ensures.happens.0 in
     let is = linked_view view c.args.held.now.number value c.args.fresh.key c.args.fresh.stamp a.number chunk issue words may c.requires.item a.noted.0 now h in
@@ -114,7 +114,7 @@ returns-clause-linked c =
     let chunk = c.args.fresh.chunk in
     let issue = issue_in view chunk in
     let words = words_in view chunk in
-    let may : MayStore view c.args.held.now.number value c.args.fresh.key = record { mine = c.requires.held; of_key = ap (λ (s : Setup). c.args.fresh.key % s.config.stripes) arena.setup ∙ c.requires.stripe; ready = c.requires.ready; new = c.requires.new; alone = c.requires.aside } in
+    let may : MayStore view c.args.held.now.number value c.args.fresh.key = record { mine = c.requires.held; of_key = ap (λ (s : Setup). c.args.fresh.key % s.config.stripes) arena.setup ∙ c.requires.stripe; room = c.requires.room; new = c.requires.new; alone = c.requires.aside } in
     let now = c.fetch_add-head.new.seat.me.0 in
     let h = c.fetch_add-head.ensures.happens.0 in
     let is = linked_view view c.args.held.now.number value c.args.fresh.key c.args.fresh.stamp a.number chunk issue words may c.requires.item a.noted.0 now h in
@@ -132,7 +132,7 @@ returns-clause-same c =
     let chunk = c.args.fresh.chunk in
     let issue = issue_in view chunk in
     let words = words_in view chunk in
-    let may : MayStore view c.args.held.now.number value c.args.fresh.key = record { mine = c.requires.held; of_key = ap (λ (s : Setup). c.args.fresh.key % s.config.stripes) arena.setup ∙ c.requires.stripe; ready = c.requires.ready; new = c.requires.new; alone = c.requires.aside } in
+    let may : MayStore view c.args.held.now.number value c.args.fresh.key = record { mine = c.requires.held; of_key = ap (λ (s : Setup). c.args.fresh.key % s.config.stripes) arena.setup ∙ c.requires.stripe; room = c.requires.room; new = c.requires.new; alone = c.requires.aside } in
     let now = c.fetch_add-head.new.seat.me.0 in
     let h = c.fetch_add-head.ensures.happens.0 in
     let place : c.head_word-word.result ≡ head_word view.setup chunk = c.head_word-word.ensures.word ∙ ap (λ (s : Setup). head_word s chunk) (sym arena.setup) in
@@ -148,7 +148,7 @@ returns-clause-reference c =
     let chunk = c.args.fresh.chunk in
     let issue = issue_in view chunk in
     let words = words_in view chunk in
-    let may : MayStore view c.args.held.now.number value c.args.fresh.key = record { mine = c.requires.held; of_key = ap (λ (s : Setup). c.args.fresh.key % s.config.stripes) arena.setup ∙ c.requires.stripe; ready = c.requires.ready; new = c.requires.new; alone = c.requires.aside } in
+    let may : MayStore view c.args.held.now.number value c.args.fresh.key = record { mine = c.requires.held; of_key = ap (λ (s : Setup). c.args.fresh.key % s.config.stripes) arena.setup ∙ c.requires.stripe; room = c.requires.room; new = c.requires.new; alone = c.requires.aside } in
     let now = c.fetch_add-head.new.seat.me.0 in
     let h = c.fetch_add-head.ensures.happens.0 in
     let is = linked_view view c.args.held.now.number value c.args.fresh.key c.args.fresh.stamp a.number chunk issue words may c.requires.item a.noted.0 now h in

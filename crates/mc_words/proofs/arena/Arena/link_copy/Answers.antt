@@ -40,7 +40,7 @@ fetch_add-head-requires c =
     let chunk = c.args.fresh.chunk in
     let issue = issue_in view chunk in
     let words = words_in view chunk in
-    let may : MayStore view c.args.held.now.number value c.args.fresh.key = record { mine = c.requires.held; of_key = ap (λ (s : Setup). c.args.fresh.key % s.config.stripes) arena.setup ∙ c.requires.stripe; ready = c.requires.ready; new = c.requires.new; alone = (aside_alone value.state c.args.fresh.key c.requires.copy.old c.args.fresh.stamp c.requires.copy.aside).0 } in
+    let may : MayStore view c.args.held.now.number value c.args.fresh.key = record { mine = c.requires.held; of_key = ap (λ (s : Setup). c.args.fresh.key % s.config.stripes) arena.setup ∙ c.requires.stripe; room = c.requires.room; new = c.requires.new; alone = (aside_alone value.state c.args.fresh.key c.requires.copy.old c.args.fresh.stamp c.requires.copy.aside).0 } in
     let place : c.head_word-word.result ≡ head_word view.setup chunk = c.head_word-word.ensures.word ∙ ap (λ (s : Setup). head_word s chunk) (sym arena.setup) in
     (refl, (refl, (c.head_word-word.ensures.near, (arena, subst (λ (n : ℕ). MayWrite view (core.Link chunk) n (plus 65537)) (sym place) (may_link_copy view c.args.held.now.number value c.args.fresh.key c.args.fresh.stamp a.number chunk issue words may c.requires.copy)))))
 
@@ -61,7 +61,7 @@ invariant_of-hand c =
     let chunk = c.args.fresh.chunk in
     let issue = issue_in view chunk in
     let words = words_in view chunk in
-    let may : MayStore view c.args.held.now.number value c.args.fresh.key = record { mine = c.requires.held; of_key = ap (λ (s : Setup). c.args.fresh.key % s.config.stripes) arena.setup ∙ c.requires.stripe; ready = c.requires.ready; new = c.requires.new; alone = (aside_alone value.state c.args.fresh.key c.requires.copy.old c.args.fresh.stamp c.requires.copy.aside).0 } in
+    let may : MayStore view c.args.held.now.number value c.args.fresh.key = record { mine = c.requires.held; of_key = ap (λ (s : Setup). c.args.fresh.key % s.config.stripes) arena.setup ∙ c.requires.stripe; room = c.requires.room; new = c.requires.new; alone = (aside_alone value.state c.args.fresh.key c.requires.copy.old c.args.fresh.stamp c.requires.copy.aside).0 } in
     let now = c.fetch_add-head.new.seat.me.0 in
     let h = c.fetch_add-head.ensures.happens.0 in
     let is = linked_view view c.args.held.now.number value c.args.fresh.key c.args.fresh.stamp a.number chunk issue words may c.requires.copy a.noted.0 now h in
@@ -96,7 +96,7 @@ returns-clause-held c =
     let chunk = c.args.fresh.chunk in
     let issue = issue_in view chunk in
     let words = words_in view chunk in
-    let may : MayStore view c.args.held.now.number value c.args.fresh.key = record { mine = c.requires.held; of_key = ap (λ (s : Setup). c.args.fresh.key % s.config.stripes) arena.setup ∙ c.requires.stripe; ready = c.requires.ready; new = c.requires.new; alone = (aside_alone value.state c.args.fresh.key c.requires.copy.old c.args.fresh.stamp c.requires.copy.aside).0 } in
+    let may : MayStore view c.args.held.now.number value c.args.fresh.key = record { mine = c.requires.held; of_key = ap (λ (s : Setup). c.args.fresh.key % s.config.stripes) arena.setup ∙ c.requires.stripe; room = c.requires.room; new = c.requires.new; alone = (aside_alone value.state c.args.fresh.key c.requires.copy.old c.args.fresh.stamp c.requires.copy.aside).0 } in
     let now = c.fetch_add-head.new.seat.me.0 in
     let h = c.fetch_add-head.ensures.happens.0 in
     let is = linked_view view c.args.held.now.number value c.args.fresh.key c.args.fresh.stamp a.number chunk issue words may c.requires.copy a.noted.0 now h in
@@ -116,7 +116,7 @@ returns-clause-linked c =
     let chunk = c.args.fresh.chunk in
     let issue = issue_in view chunk in
     let words = words_in view chunk in
-    let may : MayStore view c.args.held.now.number value c.args.fresh.key = record { mine = c.requires.held; of_key = ap (λ (s : Setup). c.args.fresh.key % s.config.stripes) arena.setup ∙ c.requires.stripe; ready = c.requires.ready; new = c.requires.new; alone = (aside_alone value.state c.args.fresh.key c.requires.copy.old c.args.fresh.stamp c.requires.copy.aside).0 } in
+    let may : MayStore view c.args.held.now.number value c.args.fresh.key = record { mine = c.requires.held; of_key = ap (λ (s : Setup). c.args.fresh.key % s.config.stripes) arena.setup ∙ c.requires.stripe; room = c.requires.room; new = c.requires.new; alone = (aside_alone value.state c.args.fresh.key c.requires.copy.old c.args.fresh.stamp c.requires.copy.aside).0 } in
     let now = c.fetch_add-head.new.seat.me.0 in
     let h = c.fetch_add-head.ensures.happens.0 in
     let is = linked_view view c.args.held.now.number value c.args.fresh.key c.args.fresh.stamp a.number chunk issue words may c.requires.copy a.noted.0 now h in
@@ -134,7 +134,7 @@ returns-clause-same c =
     let chunk = c.args.fresh.chunk in
     let issue = issue_in view chunk in
     let words = words_in view chunk in
-    let may : MayStore view c.args.held.now.number value c.args.fresh.key = record { mine = c.requires.held; of_key = ap (λ (s : Setup). c.args.fresh.key % s.config.stripes) arena.setup ∙ c.requires.stripe; ready = c.requires.ready; new = c.requires.new; alone = (aside_alone value.state c.args.fresh.key c.requires.copy.old c.args.fresh.stamp c.requires.copy.aside).0 } in
+    let may : MayStore view c.args.held.now.number value c.args.fresh.key = record { mine = c.requires.held; of_key = ap (λ (s : Setup). c.args.fresh.key % s.config.stripes) arena.setup ∙ c.requires.stripe; room = c.requires.room; new = c.requires.new; alone = (aside_alone value.state c.args.fresh.key c.requires.copy.old c.args.fresh.stamp c.requires.copy.aside).0 } in
     let now = c.fetch_add-head.new.seat.me.0 in
     let h = c.fetch_add-head.ensures.happens.0 in
     let place : c.head_word-word.result ≡ head_word view.setup chunk = c.head_word-word.ensures.word ∙ ap (λ (s : Setup). head_word s chunk) (sym arena.setup) in
@@ -150,7 +150,7 @@ returns-clause-reference c =
     let chunk = c.args.fresh.chunk in
     let issue = issue_in view chunk in
     let words = words_in view chunk in
-    let may : MayStore view c.args.held.now.number value c.args.fresh.key = record { mine = c.requires.held; of_key = ap (λ (s : Setup). c.args.fresh.key % s.config.stripes) arena.setup ∙ c.requires.stripe; ready = c.requires.ready; new = c.requires.new; alone = (aside_alone value.state c.args.fresh.key c.requires.copy.old c.args.fresh.stamp c.requires.copy.aside).0 } in
+    let may : MayStore view c.args.held.now.number value c.args.fresh.key = record { mine = c.requires.held; of_key = ap (λ (s : Setup). c.args.fresh.key % s.config.stripes) arena.setup ∙ c.requires.stripe; room = c.requires.room; new = c.requires.new; alone = (aside_alone value.state c.args.fresh.key c.requires.copy.old c.args.fresh.stamp c.requires.copy.aside).0 } in
     let now = c.fetch_add-head.new.seat.me.0 in
     let h = c.fetch_add-head.ensures.happens.0 in
     let is = linked_view view c.args.held.now.number value c.args.fresh.key c.args.fresh.stamp a.number chunk issue words may c.requires.copy a.noted.0 now h in
