@@ -1,5 +1,5 @@
 -- What a look finds.
-use Rattle.std.proofs.Common.{◌≡◌, ◌∙◌, ℕ, Bool, true, false, List, [], Option, None, Some, Ok, Result, IfOk, IfSome, refl, sym, ap, subst, inl}
+use Rattle.std.proofs.Common.{◌≡◌, ◌∙◌, ℕ, Bool, true, false, List, [], Option, None, Some, Ok, Err, Result, IfOk, IfSome, OnErr, ◌⊎◌, refl, sym, ap, subst, inl, inr}
 use Rattle.mc_packing.specs.Packing.{IsPackingOf, packed, value_in}
 use Rattle.mc_words.specs.declared.arena.Arena.{Arena}
 use Rattle.mc_words.specs.declared.hand.Hand.{Hand}
@@ -11,10 +11,10 @@ use Rattle.mc_items.specs.declared.refs.Ref.{Ref}
 use Rattle.mc_items.specs.Calls.{Deletes}
 use Rattle.mc_items.specs.ItemRefs.{IsItemRef, item_key, item_stamp, item_words}
 use Rattle.mc_items.specs.Keeping.{HoldsToo, SaysNothing}
-use Rattle.mc_items.specs.OnKeys.{ActsOn, Gets}
+use Rattle.mc_items.specs.OnKeys.{ActsOn, FindsNoRoomFor, Gets}
 use Rattle.mc_words.specs.item.Items.{item_with}
 use Rattle.mc_items.proofs.Chains.{words_said}
-use Rattle.mc_byte_items.specs.Finding.{BumpsItem, DeletesKey, FindsItem, FindsKey, FindsOther, FindsWords, GetsUnder, TriesHint, GivesTouched, GivesTouchedIf, GivesValue, PutsValue, TouchesKey, TouchesValue}
+use Rattle.mc_byte_items.specs.Finding.{BumpsItem, DeletesKey, FindsFull, FindsSome, FindsItem, FindsKey, FindsOther, FindsWords, GetsUnder, TriesHint, GivesTouched, GivesTouchedIf, GivesValue, PutsValue, TouchesKey, TouchesValue}
 use Rattle.mc_byte_items.specs.Hands.{WereSaid, sayings_of}
 use Rattle.mc_byte_items.proofs.Idle.{alone}
 
@@ -116,3 +116,17 @@ gives_touched_if false arena hash key before got item found old new puts now bum
 -- two answers that are the same
 pub same_ok : {T E : Type 0} (x y : T) → ◌≡◌ {A = Result T E} (Ok x) (Ok y) → x ≡ y
 same_ok x y is = cc
+
+-- the stripe was found full, with no hint before
+pub full_at_once : (setup : Setup) (hash : ℕ) (before now : Hand) → FindsNoRoomFor setup hash before now → FindsFull setup hash before now
+full_at_once setup hash before now full = record { tried = before; tries = no_hint hash before; full = full }
+
+-- so, where a call was refused
+pub refused_full : {T E : Type 0} (result : Result T E) (setup : Setup) (hash : ℕ) (between now : Hand) → OnErr result (FindsNoRoomFor setup hash between now) → OnErr result ((x : Hand) × FindsFull setup hash x now)
+refused_full (Ok value) setup hash between now full = tt
+refused_full (Err error) setup hash between now full = (between, full_at_once setup hash between now full)
+
+-- an item was found, and what was wanted of it was refused
+pub refused_some : {T E : Type 0} (result : Result T E) (setup : Setup) (hash : ℕ) (before now : Hand) → FindsSome setup hash before → OnErr result (FindsFull setup hash before now ⊎ FindsSome setup hash before)
+refused_some (Ok value) setup hash before now some = tt
+refused_some (Err error) setup hash before now some = inr some

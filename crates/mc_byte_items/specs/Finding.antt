@@ -15,7 +15,7 @@ use Rattle.mc_words.specs.lock.Doing.{HoldsSlabs}
 use Rattle.mc_items.specs.declared.refs.Ref.{Ref}
 use Rattle.mc_items.specs.Current.{GetsCurrent}
 use Rattle.mc_items.specs.ItemRefs.{item_chunk, item_key, item_words}
-use Rattle.mc_items.specs.OnKeys.{ActsOn, Gets}
+use Rattle.mc_items.specs.OnKeys.{ActsOn, Gets, FindsNoRoomFor}
 use Rattle.mc_items.specs.Calls.{Bumps, Deletes}
 use Rattle.mc_items.specs.Keeping.{holding_by}
 use Rattle.mc_byte_items.specs.Hands.{WereSaid, sayings_of}
@@ -52,6 +52,16 @@ pub record FindsWords (setup : Setup) (hash : ℕ) (before : Hand) (words : Opti
   pub gets : GetsUnder setup hash item tried got
   pub words_are : words ≡ option_map (item_words (view got)) item
   pub said : IfSome words (λ words. (stamp : ℕ) × WereSaid setup (sayings_of before) stamp (item_with hash stamp words))
+
+-- some item was under the hash
+abbrev pub FindsSome : Setup → ℕ → Hand → Type 0
+FindsSome setup hash before = (words : List ℕ) × FindsWords setup hash before (Some words)
+
+-- the hand perhaps tried a hint in vain, and then found that the hash's stripe records its calls and has no room for one more
+pub record FindsFull (setup : Setup) (hash : ℕ) (before now : Hand) : Type 0 where
+  pub tried : Hand
+  pub tries : TriesHint hash before tried
+  pub full : FindsNoRoomFor setup hash tried now
 
 -- the hand got this item under the hash, whose words somebody said, and holds nothing else
 pub record FindsItem (arena : Arena) (hash : ℕ) (item : Ref) (before got : Hand) : Type 0 where

@@ -1,9 +1,10 @@
 //! Keys that are deleted.
-ghost use Rattle.std.specs.Prelude.{◌≡◌, Ok, false, true};
+ghost use Rattle.std.specs.Prelude.{◌≡◌, Ok, OnErr, false, true};
+ghost use Rattle.mc_words.specs.declared.hand.Hand.{Hand};
 ghost use Rattle.mc_words.specs.hand.Arenas.{setup_of, view};
 ghost use Rattle.mc_words.specs.hand.Observers.{number_of};
 ghost use Rattle.mc_items.specs.Keeping.{SaysNothing};
-ghost use Rattle.mc_byte_items.specs.Finding.{DeletesKey, DeletesNone};
+ghost use Rattle.mc_byte_items.specs.Finding.{DeletesKey, DeletesNone, FindsFull};
 ghost use Rattle.mc_byte_items.specs.Hands.{IsIdleHandOf};
 
 use crate::finding::contains;
@@ -27,6 +28,7 @@ pub fn delete<R: Wait>(
     ensures number { number_of hand.new ≡ number_of hand.old }
     ensures deletes { result ≡ Ok true → DeletesKey (setup_of arena.now) at.entry.hash at.entry.key.now true hand.old hand.new }
     ensures none { result ≡ Ok false → DeletesNone (setup_of arena.now) at.entry.hash at.entry.key.now hand.old hand.new }
+    ensures full { OnErr result ((between : Hand) × FindsFull (setup_of arena.now) at.entry.hash between hand.new) }
     ensures unsaid { SaysNothing (view hand.old) (view hand.new) }
 {
     match contains(rt, arena, hints, hand, at) {

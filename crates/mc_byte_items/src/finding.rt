@@ -1,12 +1,12 @@
 //! What is found under a hash.
-ghost use Rattle.std.specs.Prelude.{◌≡◌, [], ◌∷◌, Err, Ok, false, true};
+ghost use Rattle.std.specs.Prelude.{◌≡◌, [], ◌∷◌, ◌⊎◌, Err, Ok, OnErr, false, true};
 ghost use Rattle.mc_packing.specs.Packing.{IsPackingOf};
 ghost use Rattle.mc_words.specs.hand.Arenas.{setup_of, view};
 ghost use Rattle.mc_words.specs.hand.Observers.{number_of};
 ghost use Rattle.mc_items.specs.ItemRefs.{item_words};
 ghost use Rattle.mc_items.specs.Keeping.{SaysNothing, holding_by};
 ghost use Rattle.mc_items.specs.OnKeys.{FindsStripeHeld};
-ghost use Rattle.mc_byte_items.specs.Finding.{FindsKey, FindsOther, GivesValue, PutsValue};
+ghost use Rattle.mc_byte_items.specs.Finding.{FindsKey, FindsOther, GivesValue, PutsValue, FindsFull, FindsSome};
 ghost use Rattle.mc_byte_items.specs.declared.finding.TryGetError.TheVariants as try_error;
 ghost use Rattle.mc_byte_items.specs.Hands.{IsIdleHandOf};
 ghost use Rattle.mc_byte_items.specs.Reading.{LeavesSlabs, RefersTo};
@@ -46,6 +46,7 @@ pub fn try_get(
     ensures other { result ≡ Ok false → FindsOther (setup_of arena.now) at.entry.hash at.entry.key.now hand.old }
     ensures kept { (result ≡ Ok true → ⊥) → into.new.items ≡ into.old.items }
     ensures held { result ≡ Err try_error.Held → FindsStripeHeld (setup_of arena.now) at.entry.hash hand.old hand.new }
+    ensures full { result ≡ Err (try_error.NoMemory tt) → FindsFull (setup_of arena.now) at.entry.hash hand.old hand.new ⊎ FindsSome (setup_of arena.now) at.entry.hash hand.old }
     ensures unsaid { SaysNothing (view hand.old) (view hand.new) }
     ensures slabs { LeavesSlabs (view hand.old) (view hand.new) }
 {
@@ -74,6 +75,7 @@ pub fn contains<R: Wait>(
     ensures number { number_of hand.new ≡ number_of hand.old }
     ensures key { result ≡ Ok true → FindsKey (setup_of arena.now) at.entry.hash at.entry.key.now hand.old }
     ensures other { result ≡ Ok false → FindsOther (setup_of arena.now) at.entry.hash at.entry.key.now hand.old }
+    ensures full { OnErr result (FindsFull (setup_of arena.now) at.entry.hash hand.old hand.new) }
     ensures unsaid { SaysNothing (view hand.old) (view hand.new) }
     ensures slabs { LeavesSlabs (view hand.old) (view hand.new) }
 {

@@ -3,7 +3,7 @@ ghost use Rattle.std.specs.Prelude.{◌≡◌, IfOk, IfSome, None, Ok, OnErr};
 ghost use Rattle.mc_words.specs.hand.Arenas.{setup_of, view};
 ghost use Rattle.mc_words.specs.hand.Observers.{number_of};
 ghost use Rattle.mc_items.specs.Keeping.{SaysNothing};
-ghost use Rattle.mc_byte_items.specs.Finding.{FindsItem, FindsWords};
+ghost use Rattle.mc_byte_items.specs.Finding.{FindsItem, FindsWords, FindsFull};
 ghost use Rattle.mc_byte_items.specs.Hands.{IsIdleHandOf};
 ghost use Rattle.mc_byte_items.specs.Reading.{LeavesSlabs};
 
@@ -28,6 +28,7 @@ pub(crate) fn get_item<R: Wait>(
     ensures item { IfOk result (λ found. IfSome found (λ item. FindsItem arena.now hash item hand.old hand.new)) }
     ensures none { result ≡ Ok None → FindsWords (setup_of arena.now) hash hand.old None × IsIdleHandOf arena.now hand.new }
     ensures refused { OnErr result (IsIdleHandOf arena.now hand.new) }
+    ensures full { OnErr result (FindsFull (setup_of arena.now) hash hand.old hand.new) }
     ensures number { number_of hand.new ≡ number_of hand.old }
     ensures unsaid { SaysNothing (view hand.old) (view hand.new) }
     ensures slabs { LeavesSlabs (view hand.old) (view hand.new) }

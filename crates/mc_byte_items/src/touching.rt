@@ -1,11 +1,11 @@
 //! Keys that are got, and keys that are touched, as they are got or by themselves.
-ghost use Rattle.std.specs.Prelude.{◌≡◌, [], ◌∷◌, Ok, false, true};
+ghost use Rattle.std.specs.Prelude.{◌≡◌, [], ◌∷◌, ◌⊎◌, Ok, OnErr, false, true};
 ghost use Rattle.mc_packing.specs.Packing.{IsPackingOf};
 ghost use Rattle.mc_words.specs.hand.Arenas.{setup_of, view};
 ghost use Rattle.mc_words.specs.hand.Observers.{number_of};
 ghost use Rattle.mc_items.specs.ItemRefs.{item_words};
 ghost use Rattle.mc_items.specs.Keeping.{SaysNothing, holding_by};
-ghost use Rattle.mc_byte_items.specs.Finding.{BumpsItem, FindsOther, GivesTouchedIf, PutsValue, TouchesKey};
+ghost use Rattle.mc_byte_items.specs.Finding.{BumpsItem, FindsOther, GivesTouchedIf, PutsValue, TouchesKey, FindsFull, FindsSome};
 ghost use Rattle.mc_byte_items.specs.Hands.{IsIdleHandOf};
 ghost use Rattle.mc_byte_items.specs.Reading.{LeavesSlabs, RefersTo};
 
@@ -40,6 +40,7 @@ pub fn get<R: Wait>(
     ensures value { result ≡ Ok true → GivesTouchedIf touches (setup_of arena.now) at.entry.hash at.entry.key.now hand.old hand.new into.old.items into.new.items }
     ensures other { result ≡ Ok false → FindsOther (setup_of arena.now) at.entry.hash at.entry.key.now hand.old }
     ensures kept { (result ≡ Ok true → ⊥) → into.new.items ≡ into.old.items }
+    ensures full { OnErr result (FindsFull (setup_of arena.now) at.entry.hash hand.old hand.new ⊎ FindsSome (setup_of arena.now) at.entry.hash hand.old) }
     ensures unsaid { SaysNothing (view hand.old) (view hand.new) }
     ensures unasked { touches ≡ false → LeavesSlabs (view hand.old) (view hand.new) }
 {
@@ -63,6 +64,7 @@ pub fn touch<R: Wait>(
     ensures number { number_of hand.new ≡ number_of hand.old }
     ensures touches { result ≡ Ok true → TouchesKey (setup_of arena.now) at.entry.hash at.entry.key.now hand.old hand.new }
     ensures none { result ≡ Ok false → FindsOther (setup_of arena.now) at.entry.hash at.entry.key.now hand.old }
+    ensures full { OnErr result (FindsFull (setup_of arena.now) at.entry.hash hand.old hand.new) }
     ensures unsaid { SaysNothing (view hand.old) (view hand.new) }
 {
     let Some(item) = get_item(rt, arena, hints, hand, at.hash)? else {

@@ -1,7 +1,7 @@
-use Rattle.std.proofs.Common.{Err, Ok, ap, false, inl, true}
+use Rattle.std.proofs.Common.{Err, Ok, ap, false, inl, inr, true}
 use Rattle.mc_words.specs.hand.Arenas.{setup_of, view}
 use Rattle.mc_items.specs.ItemRefs.{item_words}
-use Rattle.mc_byte_items.proofs.Found.{finds_item, finds_none, finds_other, gives_value, no_hint, same_ok}
+use Rattle.mc_byte_items.proofs.Found.{full_at_once, finds_item, finds_none, finds_other, gives_value, no_hint, same_ok}
 use Rattle.mc_byte_items.proofs.Slabs.{got_leaves, held_leaves, no_room_leaves, still_left}
 use Rattle.mc_byte_items.proofs.finding.try_get.Goals as goal
 
@@ -39,3 +39,11 @@ returns-in-Err-NoMemory-clause-slabs c = no_room_leaves (setup_of c.args.arena.n
 
 pub returns-in-Err-Held-clause-slabs : goal.returns-in-Err-Held-clause-slabs
 returns-in-Err-Held-clause-slabs c = held_leaves (setup_of c.args.arena.now) c.args.at.hash c.args.hand.now c.try_get.new.hand (c.in-Err-Held.ensures.held (ap Err c.in-Err-Held.field-0-is))
+
+pub returns-in-Err-clause-full : goal.returns-in-Err-clause-full
+returns-in-Err-clause-full c = λ is.
+    let finds = finds_item c.args.arena.now c.args.at.hash c.args.hand.now c.args.hand.now c.try_get.new.hand _ c.in-Ok-Some.item (no_hint c.args.at.hash c.args.hand.now) c.try_get.ensures.arena c.try_get.ensures.unsaid c.in-Ok-Some.field-0-is (inl c.in-Ok-Some.ensures.gets) c.in-Ok-Some.ensures.item in
+    inr (item_words (view c.try_get.new.hand) c.in-Ok-Some.item, finds)
+
+pub returns-in-Err-NoMemory-clause-full : goal.returns-in-Err-NoMemory-clause-full
+returns-in-Err-NoMemory-clause-full c = λ is. inl (full_at_once (setup_of c.args.arena.now) c.args.at.hash c.args.hand.now c.try_get.new.hand (c.in-Err-NoMemory.ensures.no_memory (ap Err c.in-Err-NoMemory.field-0-is)))

@@ -36,3 +36,10 @@ pub returns-in-Err-NoMemory-clause-slabs : goal.returns-in-Err-NoMemory-clause-s
 returns-in-Err-NoMemory-clause-slabs g c =
     still_left (view c.args.hand.now) (view c.get_hinted.new.hand) (view c.get.new.hand) c.get_hinted.ensures.slabs
     (no_room_leaves (setup_of c.args.arena.now) c.args.hash c.get_hinted.new.hand c.get.new.hand (c.in-Err-NoMemory.ensures.no_memory (ap Err c.in-Err-NoMemory.field-0-is)))
+
+pub returns-in-Err-NoMemory-clause-full : goal.returns-in-Err-NoMemory-clause-full
+returns-in-Err-NoMemory-clause-full g c = record {
+  tried = c.get_hinted.new.hand;
+  tries = c.in_default.ensures.tries refl;
+  full = c.in-Err-NoMemory.ensures.no_memory (ap Err c.in-Err-NoMemory.field-0-is);
+}
