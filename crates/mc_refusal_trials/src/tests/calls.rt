@@ -26,7 +26,9 @@ pub enum Call {
     /// A move from a class or any to a class or the pool.
     Reassign(Option<ClassId>, ClassId),
     Turn,
-    /// The same, which waits for nobody.
+    /// The same, which takes no memory: it isn't made again where it is refused.
+    TurnWithoutMemory,
+    /// A turn that waits for nobody.
     TryTurn,
     /// With a sweep, or without.
     Survey(bool),
@@ -86,11 +88,19 @@ impl Call {
             Call::Delete(_) => "delete",
             Call::Touch(_) => "touch",
             Call::Reassign(..) => "reassign",
-            Call::Turn => "turn",
+            Call::Turn | Call::TurnWithoutMemory => "turn",
             Call::TryTurn => "try_turn",
             Call::Survey(_) => "survey",
             Call::Trim => "trim",
             Call::ModeTwo => "set_mode",
+        }
+    }
+
+    /// Whether it is to go through whatever is refused.
+    pub fn takes_no_memory(self) -> bool {
+        match self {
+            Call::TurnWithoutMemory => true,
+            _ => false,
         }
     }
 }
@@ -127,7 +137,7 @@ fn answer_of_mover<R: Wait>(rt: &R, arena: &Arena, hand: &mut Hand, call: Call) 
 {
     match call {
         Call::Reassign(src, dst) => reassigned(reassign(rt, arena, hand, src, dst)),
-        Call::Turn => answer_of_turn(turn(rt, arena, hand).ok()),
+        Call::Turn | Call::TurnWithoutMemory => answer_of_turn(turn(rt, arena, hand).ok()),
         Call::TryTurn => answer_of_try(try_turn(arena, hand)),
         Call::Trim => trimmed(trim(rt, arena, hand)),
         _ => {

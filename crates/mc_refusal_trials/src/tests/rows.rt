@@ -5,6 +5,7 @@ use super::calls::{Answer, Call, FOUR_RESCUED, ONE_EVICTED, ONE_HELD, ONE_RESCUE
 use super::holding::{has_words, hold};
 use super::opening::{Three, drop_three, opened};
 use super::steps::{Step, play_all, play_each};
+use mc_classes::Config;
 use mc_items::release;
 use mc_trial_values::FOUR_CLASSES;
 use std::alloc::Global;
@@ -36,7 +37,17 @@ pub fn run_each<R: Abort + Wait + Print>(
     alloc: Global,
     lists: &[&[Step]],
 ) -> Result<(), Fail> {
-    let mut all = opened(rt, alloc, &FOUR_CLASSES)?;
+    run_each_in(rt, alloc, &FOUR_CLASSES, lists)
+}
+
+/// The same, in a new arena of this configuration.
+pub fn run_each_in<R: Abort + Wait + Print>(
+    rt: &R,
+    alloc: Global,
+    config: &Config,
+    lists: &[&[Step]],
+) -> Result<(), Fail> {
+    let mut all = opened(rt, alloc, config)?;
     play_each(rt, &mut all, lists);
     drop_three(all);
     Ok(())
@@ -57,18 +68,17 @@ fn an_item_is_rescued_and_another_evicted(rt: HostRuntime) -> Result<(), Fail> {
     run_each(&rt, rt.alloc(), &[&eight(61), &RESCUED])
 }
 
-/// Gets fill the histories of two stripes up, and a page is to go to the pool.
-const FULL: [Step; 6] = [
+/// Gets fill the histories of two stripes up, which have the items of the first page, and another page has a dead chunk.
+pub const FULL: [Step; 5] = [
     (Call::Get(1), Answer::There(true)),
     (Call::Get(1), Answer::There(true)),
     (Call::Get(2), Answer::There(true)),
     (Call::Get(2), Answer::There(true)),
     (Call::Delete(8), Answer::There(true)),
-    (Call::Reassign(Some(4), 0), Answer::Done),
 ];
 
-/// What is there behind its move.
-const BEHIND: [Step; 3] = [
+/// What is there behind the move of that page.
+pub const BEHIND: [Step; 3] = [
     (Call::Touch(2), Answer::There(true)),
     (Call::Touch(1), Answer::There(false)),
     (Call::Survey(true), Answer::Surveyed(false, [1, 1, 1, 0])),
@@ -80,8 +90,11 @@ fn rescue_and_evict<R: Abort + Wait + Print>(
     alloc: Global,
     turn: Call,
 ) -> Result<(), Fail> {
-    let turns = [(turn, ONE_RESCUED)];
-    run_each(rt, alloc, &[&eight(61), &FULL, &turns, &BEHIND])
+    let moves = [
+        (Call::Reassign(Some(4), 0), Answer::Done),
+        (turn, ONE_RESCUED),
+    ];
+    run_each(rt, alloc, &[&eight(61), &FULL, &moves, &BEHIND])
 }
 
 #[test]

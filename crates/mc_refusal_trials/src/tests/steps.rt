@@ -34,7 +34,7 @@ fn goes_if(is_right: bool) -> Row {
     if is_right { Row::Goes } else { Row::Fails }
 }
 
-// Makes the call, and once more where it is refused memory.
+// Makes the call, and once more where it is refused memory, if it may be.
 fn play<R: Wait + Print>(rt: &R, all: &mut Three, step: Step) -> Row
     requires ready { AreReadyOf all.old.arena all.old.hand all.old.reader all.old.looker.hand }
     ensures ready { AreReadyOf all.new.arena all.new.hand all.new.reader all.new.looker.hand }
@@ -49,7 +49,7 @@ fn play<R: Wait + Print>(rt: &R, all: &mut Three, step: Step) -> Row
     if !look_after(&all.arena, &mut all.looker, &all.hand) {
         return Row::Fails;
     }
-    if answer != Answer::NoMemory {
+    if answer != Answer::NoMemory || call.takes_no_memory() {
         return behind_call(rt, call, &all.looker, answer == wanted);
     }
     tell_refused(rt, call.name());
