@@ -3,3 +3,4 @@ pub mod Begun
 pub mod Granted
 pub mod Popped
 pub mod Rising
+pub mod Misses

@@ -1,3 +1,4 @@
 pub mod Hands
 pub mod Preparing
 pub mod Closed
+pub mod Bounded

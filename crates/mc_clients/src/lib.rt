@@ -2,6 +2,7 @@
 //! would use them.
 #![tactic(auto)]
 
+mod bounded;
 pub mod cache;
 mod chained;
 mod closed;
@@ -10,6 +11,7 @@ mod held;
 mod own;
 mod trimmed;
 
+pub use bounded::{granted_within, recall_and_set, set_at_second_try, stamp_within};
 pub use chained::call_twice;
 pub use closed::set_and_close;
 pub use first::{first_header, header_from, pop_worn, worn_out};

@@ -1,0 +1,56 @@
+-- What a hand does that tries for a lock so many times, and what it finds; and items that it sets so.
+use Rattle.std.specs.Prelude.{◌≡◌, ◌%◌, ◌+◌, ◌≤◌, ℕ, List, length, Option, Some}
+use Rattle.mc_pages.specs.SlabState.{granted_count}
+use Rattle.mc_stripe.specs.StripeState.{ReadyStripe, stamp_of}
+use Rattle.mc_words.specs.declared.arena.Arena.{Arena}
+use Rattle.mc_words.specs.declared.hand.Hand.{Hand}
+use Rattle.mc_words.specs.hand.Arenas.{setup_of, view}
+use Rattle.mc_words.specs.hand.Observers.{last_given, number_of}
+use Rattle.mc_words.specs.hand.Tallies.{next_stamp}
+use Rattle.mc_words.specs.item.Items.{item_with}
+use Rattle.mc_words.specs.lock.Lent.{BeginsWithSeen}
+use Rattle.mc_items.specs.Keeping.{Says}
+use Rattle.mc_items.specs.Setting.{SetsItem}
+
+-- how many events the hand made so far
+abbrev pub event_count : Hand → ℕ
+event_count hand = length (view hand).events
+
+-- it made so many more
+abbrev pub Makes : ℕ → Hand → Hand → Type 0
+Makes count before now = event_count now ≡ event_count before + count
+
+-- it made so many more at most
+abbrev pub MakesAtMost : ℕ → Hand → Hand → Type 0
+MakesAtMost count before now = event_count now ≤ event_count before + count
+
+-- how many pages were ever granted, as the hand gave the slabs back
+abbrev pub granted_as_given : Hand → ℕ
+granted_as_given hand = granted_count (view hand).row.knows.hold.left
+
+-- the stripe of a key
+abbrev pub stripe_for : Arena → ℕ → ℕ
+stripe_for arena key = key % (setup_of arena).config.stripes
+
+-- the hand gave the key's stripe back, whose history begins with all that it had seen of it, and this is the key's stamp there
+pub record FindsStamp (arena : Arena) (key : ℕ) (before now : Hand) (stamp : Option ℕ) : Type 0 where
+  pub value : ReadyStripe
+  pub given : last_given (view now) (stripe_for arena key) ≡ Some value
+  pub begins : BeginsWithSeen (view before) (stripe_for arena key) value
+  pub is : stamp_of value.state key ≡ stamp
+
+-- the stamp is the hand's next
+abbrev pub IsNextStamp : Hand → ℕ → Type 0
+IsNextStamp hand stamp = next_stamp (view hand).row.ids ≡ Some stamp
+
+-- the hand gave no stamp out
+abbrev pub GivesNoStamp : Hand → Hand → Type 0
+GivesNoStamp before now = (view now).row.ids ≡ (view before).row.ids
+
+-- it said the item of this key and these words
+abbrev pub SaysItem : ℕ → List ℕ → Hand → Hand → ℕ → Type 0
+SaysItem key words before now stamp = Says (item_with key stamp words) stamp (view before) (view now)
+
+-- it set that item, by its own number
+abbrev pub SetsOwn : ℕ → List ℕ → Hand → Hand → ℕ → Type 0
+SetsOwn key words before now stamp = SetsItem (number_of before) key stamp words (view before) (view now)
