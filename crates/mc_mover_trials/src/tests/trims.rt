@@ -190,8 +190,12 @@ fn close_trimmed<R: Wait>(rt: &R, alloc: Global, steps: &[Step]) -> Result<Final
 
 /// Whether the chunks of a page have the same headers in both, however it is cut.
 fn has_same_heads(left: &Final, other: &Final, page: PageId) -> bool {
+    let classes = left.classes();
+    if classes.count() < 1 {
+        return false;
+    }
     let mut same = true;
-    for index in 0..left.classes().per_page(1) {
+    for index in 0..classes.per_page(1) {
         let chunk = ChunkId { page, index };
         same = same && head(left, chunk) == head(other, chunk);
     }
