@@ -45,6 +45,13 @@ pub answer_stays : {T D E : Type 0} (Q : E → Type 0) (r : Result T E) (m : Res
 answer_stays Q (Ok y) m x cases is = cases ∙ ap Ok (same_ok y x is)
 answer_stays Q (Err e) m x cases is = absurd (true≢false (sym (ap is_ok is)))
 
+-- what follows from a refusal follows from one that was named anew
+pub refused_so : {T D E : Type 0} (P R : Type 0) (r : Result T E) (m : Result T D) → is_ok m ≡ is_ok r → OnErr r P → (P → R) → OnErr m R
+refused_so P R (Ok y) (Ok x) variant p next = tt
+refused_so P R (Ok y) (Err e) variant p next = absurd (true≢false (sym variant))
+refused_so P R (Err e) (Ok x) variant p next = tt
+refused_so P R (Err e) (Err d) variant p next = next p
+
 -- what holds anyhow holds of a refusal
 pub on_refusal : {T E P : Type 0} (r : Result T E) → P → OnErr r P
 on_refusal (Ok x) p = tt

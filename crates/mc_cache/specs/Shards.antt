@@ -10,7 +10,7 @@ use Rattle.mc_items.specs.Keeping.{Says, SaysNothing}
 use Rattle.mc_items.specs.OnKeys.{FindsStripeHeld}
 use Rattle.mc_items.specs.Setting.{SetsItem}
 use Rattle.mc_items.specs.declared.setting.SetError.{SetError}
-use Rattle.mc_byte_items.specs.Finding.{DeletesKey, FindsKey, FindsOther, FindsValue, TouchesKey, TouchesValue}
+use Rattle.mc_byte_items.specs.Finding.{DeletesKey, FindsFull, FindsKey, FindsOther, FindsValue, TouchesKey, TouchesValue}
 use Rattle.mc_byte_items.specs.Hands.{IsIdleHandOf}
 use Rattle.mc_byte_items.specs.Reading.{LeavesSlabs}
 use Rattle.mc_byte_items.specs.Setting.{RefusesBytes}
@@ -69,6 +69,10 @@ TouchesThere hash key arena hand now = TouchesKey (setup_of arena) hash key hand
 -- it said nothing
 abbrev pub SaysNoMore : Arena → Hand → Hand → Type 0
 SaysNoMore arena hand now = SaysNothing (view hand) (view now)
+
+-- it said nothing, and found at last that the hash's stripe records its calls and has no room for one more
+abbrev pub LooksInVain : ℕ → Arena → Hand → Hand → Type 0
+LooksInVain hash arena hand now = SaysNothing (view hand) (view now) × ((between : Hand) × FindsFull (setup_of arena) hash between now)
 
 -- it touched nothing: it didn't take the lock of the slabs
 abbrev pub TouchesNothing : Arena → Hand → Hand → Type 0

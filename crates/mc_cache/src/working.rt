@@ -53,7 +53,7 @@ impl Worker {
     ghost use Rattle.std.specs.Prelude.{◌≡◌, ◌<◌, ◌↔◌, ◌⊎◌, Err, Ok, OnErr, OnOk, false, length, true};
     ghost use Rattle.mc_items.specs.declared.setting.SetError as items;
     ghost use Rattle.mc_cache.specs.Belonging.{ActsOnKey, BelongsTo, CountsAsk, DeletesNoneOf, GivesAndTouches, GivesValueOf, KeepsHands, NotesHashOf, RefusesValueOf, hash_in};
-    ghost use Rattle.mc_cache.specs.Shards.{DeletesThere, FindsHeld, IsKey, ReadsKey, ReadsOther, SaysNoMore, StoresValue, TouchesNothing, TouchesThere};
+    ghost use Rattle.mc_cache.specs.Shards.{DeletesThere, FindsHeld, IsKey, LooksInVain, ReadsKey, ReadsOther, SaysNoMore, StoresValue, TouchesNothing, TouchesThere};
     ghost use Rattle.mc_cache.specs.declared.working.CallError.TheVariants as call_error;
     ghost use Rattle.mc_cache.specs.declared.working.SetError.TheVariants as set_error;
     ghost use Rattle.mc_cache.specs.declared.working.TryGetError.TheVariants as try_error;
@@ -207,7 +207,7 @@ impl Worker {
         ensures same { result ≡ Err call_error.KeyLength → KeepsHands self.old self.new }
         ensures there { result ≡ Ok true → ActsOnKey cache.now key.now (ReadsKey (hash_in cache.now key.now) key.now) self.old self.new }
         ensures none { result ≡ Ok false → ActsOnKey cache.now key.now (ReadsOther (hash_in cache.now key.now) key.now) self.old self.new }
-        ensures refused { OnErr result (IsKey key.now → ActsOnKey cache.now key.now SaysNoMore self.old self.new) }
+        ensures refused { OnErr result (IsKey key.now → ActsOnKey cache.now key.now (LooksInVain (hash_in cache.now key.now)) self.old self.new) }
         ensures untouched { IsKey key.now → ActsOnKey cache.now key.now TouchesNothing self.old self.new }
     {
         let Some(at) = cache.place_of(key) else {
@@ -228,7 +228,7 @@ impl Worker {
         ensures same { result ≡ Err call_error.KeyLength → KeepsHands self.old self.new }
         ensures deletes { result ≡ Ok true → ActsOnKey cache.now key.now (DeletesThere (hash_in cache.now key.now) key.now true) self.old self.new }
         ensures none { result ≡ Ok false → DeletesNoneOf cache.now key.now self.old self.new }
-        ensures refused { OnErr result (IsKey key.now → ActsOnKey cache.now key.now SaysNoMore self.old self.new) }
+        ensures refused { OnErr result (IsKey key.now → ActsOnKey cache.now key.now (LooksInVain (hash_in cache.now key.now)) self.old self.new) }
     {
         let Some(at) = cache.place_of(key) else {
             return Err(CallError::KeyLength);
@@ -248,7 +248,7 @@ impl Worker {
         ensures same { result ≡ Err call_error.KeyLength → KeepsHands self.old self.new }
         ensures touches { result ≡ Ok true → ActsOnKey cache.now key.now (TouchesThere (hash_in cache.now key.now) key.now) self.old self.new }
         ensures none { result ≡ Ok false → ActsOnKey cache.now key.now (ReadsOther (hash_in cache.now key.now) key.now) self.old self.new }
-        ensures refused { OnErr result (IsKey key.now → ActsOnKey cache.now key.now SaysNoMore self.old self.new) }
+        ensures refused { OnErr result (IsKey key.now → ActsOnKey cache.now key.now (LooksInVain (hash_in cache.now key.now)) self.old self.new) }
     {
         let Some(at) = cache.place_of(key) else {
             return Err(CallError::KeyLength);

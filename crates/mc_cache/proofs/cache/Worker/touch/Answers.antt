@@ -1,6 +1,6 @@
 use Rattle.std.proofs.Common.{false, true, ℕ}
-use Rattle.mc_cache.specs.Shards.{ReadsOther, SaysNoMore, TouchesThere}
-use Rattle.mc_cache.proofs.Acts.{acted, idle_after, on_refusal, same_answer}
+use Rattle.mc_cache.specs.Shards.{ReadsOther, LooksInVain, TouchesThere}
+use Rattle.mc_cache.proofs.Acts.{acted, idle_after, refused_so, same_answer}
 use Rattle.mc_cache.proofs.cache.Worker.touch.Goals as goal
 
 pub returns-clause-belongs : goal.returns-clause-belongs
@@ -13,4 +13,4 @@ pub returns-clause-none : goal.returns-clause-none
 returns-clause-none g c = λ is. acted c.args.cache.now c.args.key.now c.args.self.now.hands.items c.in-Some.at c.index-arena.result.now c.index_mut-hand.result.now c.touch.new.hand (λ (hash : ℕ). ReadsOther hash c.args.key.now) c.requires c.in-Some.ensures.hash c.in-Some.ensures.shard c.in-Some.ensures.near c.index-arena.ensures c.index_mut-hand.ensures.value (c.touch.ensures.none (same_answer _ c.touch.result c.map_err.result false c.map_err.ensures.cases c.map_err.ensures.variant is), c.touch.ensures.unsaid)
 
 pub returns-clause-refused : goal.returns-clause-refused
-returns-clause-refused g c = on_refusal c.map_err.result (λ is_key. acted c.args.cache.now c.args.key.now c.args.self.now.hands.items c.in-Some.at c.index-arena.result.now c.index_mut-hand.result.now c.touch.new.hand (λ (hash : ℕ). SaysNoMore) c.requires c.in-Some.ensures.hash c.in-Some.ensures.shard c.in-Some.ensures.near c.index-arena.ensures c.index_mut-hand.ensures.value c.touch.ensures.unsaid)
+returns-clause-refused g c = refused_so _ _ c.touch.result c.map_err.result c.map_err.ensures.variant c.touch.ensures.full (λ full is_key. acted c.args.cache.now c.args.key.now c.args.self.now.hands.items c.in-Some.at c.index-arena.result.now c.index_mut-hand.result.now c.touch.new.hand (λ (hash : ℕ). LooksInVain hash) c.requires c.in-Some.ensures.hash c.in-Some.ensures.shard c.in-Some.ensures.near c.index-arena.ensures c.index_mut-hand.ensures.value (c.touch.ensures.unsaid, (c.index_mut-hand.result.now, full)))
