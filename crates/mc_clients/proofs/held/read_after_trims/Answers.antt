@@ -1,4 +1,4 @@
-use Rattle.std.proofs.Common.{◌≡◌, ℕ, List, Result, IfOk, subst}
+use Rattle.std.proofs.Common.{◌≡◌, ℕ, List, IfOk, subst}
 use Rattle.mc_words.specs.hand.Arenas.{view}
 use Rattle.mc_items.proofs.Chains.{keeping_goes_on, kept_refs_keep_items}
 use Rattle.mc_clients.proofs.held.read_after_trims.Goals as goal

@@ -1,4 +1,4 @@
-use Rattle.std.proofs.Common.{◌≡◌, [], ◌∷◌, ◌++◌, ◌∙◌, List, Contains, ap, drop, subst, sym}
+use Rattle.std.proofs.Common.{◌∙◌, List, Contains, ap, drop, subst, sym}
 use Rattle.std.proofs.lemmas.List.Elements.{Contains-push}
 use Rattle.mc_core.specs.Past.{Saying}
 use Rattle.mc_words.specs.hand.Arenas.{view}
