@@ -7,3 +7,5 @@ pub mod TurnCounts
 pub mod TurnsDone
 pub mod MovedLines
 pub mod DoneThreads
+pub mod SpentTurns
+pub mod EndedThreads

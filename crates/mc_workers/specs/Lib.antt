@@ -13,4 +13,6 @@ pub mod Threads
 pub mod WorkerCases
 pub mod Script
 pub mod Gates
+pub mod Spending
+pub mod Ends
 pub mod Hands

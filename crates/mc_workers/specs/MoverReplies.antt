@@ -42,7 +42,7 @@ statistics_text table survey = classes_text table survey ++ totals_text survey
 abbrev pub mover_text : Classes → MoverReply → List ℕ
 mover_text table (Answer answer) = line (told_name answer)
 mover_text table Mode = line (codes "OK")
-mover_text table (Window acted) = window_text acted
+mover_text table (Window acted trimmed) = window_text acted
 mover_text table (Turned ending counts) = turn_line ending counts
 mover_text table (Totals survey) = totals_text survey
 mover_text table (OfClasses survey) = classes_text table survey

@@ -1,14 +1,18 @@
 -- What a line of the mover does by its hand, as the reply tells it.
-use Rattle.std.specs.Prelude.{◌≡◌, ◌≢◌, ℕ, ◌+◌, ◌<◌, ◌≤◌, ◌==◌, true, false, ◌&&◌, is_none, is_some, if◌then◌else◌, List, [], ◌∷◌, ◌++◌, length, All, Option, Some, None, Result, Err}
+use Rattle.std.specs.Prelude.{◌≡◌, ◌≢◌, ℕ, ◌+◌, ◌<◌, ◌≤◌, ◌==◌, true, false, ◌&&◌, is_none, is_some, if◌then◌else◌, List, [], ◌∷◌, ◌++◌, length, All, Option, Some, None, Result, Ok, Err, ◌⊎◌, ⊤}
 use Rattle.mc_pages.specs.declared.moves.Reassign.{Reassign}
 use Rattle.mc_pages.specs.declared.moves.Reassign.TheVariants.{NoMemory}
 use Rattle.mc_words.specs.declared.hand.Hand.{Hand}
+use Rattle.mc_words.specs.hand.Arenas.{view}
+use Rattle.mc_words.specs.hand.Observers.{number_of}
 use Rattle.mc_words.specs.page.Moves.{Reassigns}
 use Rattle.mc_mover.specs.declared.counts.Turn.{Turn}
 use Rattle.mc_mover.specs.declared.counts.Turn.TheVariants as turn
 use Rattle.mc_mover.specs.declared.numbers.Survey.{Survey}
 use Rattle.mc_mover.specs.Acting.{ActsOnce, TellsTurn}
-use Rattle.mc_mover.specs.Recording.{Trims}
+use Rattle.mc_stripe.specs.declared.refusal.Trim.{Trim}
+use Rattle.mc_stripe.specs.declared.refusal.Trim.TheVariants as trim
+use Rattle.mc_mover.specs.Recording.{FindsFull, FindsNotFull, StopsTrimming, TrimsAll}
 use Rattle.mc_mover.specs.Reassigning.{SetsMode}
 use Rattle.mc_mover.specs.Surveying.{Surveys, evictions_in, free_in, pages_in}
 use Rattle.mc_mover.specs.Telling.{counts_in}
@@ -67,11 +71,28 @@ pub record ActsOnWindow (acted : Option Acted) (mover : Mover) (before : Hand) (
   pub feeds : left ≡ record mover { decider = decider_after mover.decider survey }
   pub acts : ActsOnDecision (decision_after mover.decider survey) acted surveyed now
 
--- a window ended: so it was, and then each stripe was trimmed and the ledger, or the first stripes until memory was refused
-pub record EndsWindow (acted : Option Acted) (mover : Mover) (before : Hand) (left : Mover) (now : Hand) : Type 0 where
+-- each stripe was trimmed and the ledger, or the first stripes, up to one that was full or for whose room memory was refused
+abbrev pub TrimsAs : Result (Unit {0}) Trim → Hand → Hand → Type 0
+TrimsAs (Ok all) before now = TrimsAll (number_of before) (view before).setup.config.stripes (view before) (view now)
+TrimsAs (Err trim.Full) before now = StopsTrimming (number_of before) FindsFull (view before) (view now)
+TrimsAs (Err (trim.NoMemory refused)) before now = StopsTrimming (number_of before) FindsNotFull (view before) (view now)
+
+-- a window ended: so it was, and then all was trimmed, as far as that is told
+pub record EndsWindow (acted : Option Acted) (trimmed : Result (Unit {0}) Trim) (mover : Mover) (before : Hand) (left : Mover) (now : Hand) : Type 0 where
   pub decided : Hand
   pub acts : ActsOnWindow acted mover before left decided
-  pub trims : Trims decided now
+  pub trims : TrimsAs trimmed decided now
+
+-- a page was asked for, and memory was refused
+abbrev pub RefusesPage : Hand → Hand → Type 0
+RefusesPage before now = (src : Option ℕ) × (dst : ℕ) × ActsOnce (λ number. Reassigns number src dst (Err (NoMemory tt))) before now
+
+-- memory was refused to a window: to its survey, behind that to the decider, or to the page of its decision; and nothing was trimmed
+abbrev pub RefusesWindow : Hand → Hand → Type 0
+RefusesWindow before now =
+    (view now ≡ view before)
+    ⊎ ((survey : Survey) × (surveyed : Hand) × ActsOnce (λ number. Surveys true survey) before surveyed
+    × ((view now ≡ view surveyed) ⊎ RefusesPage surveyed now))
 
 -- how a turn ended
 abbrev pub ending_of : Turn → Ending
@@ -136,7 +157,7 @@ pub record RunsOutOfTurns (asked : ℕ) (mover : Mover) (before : Hand) (left : 
 abbrev pub ServesMover : Command → MoverReply → Mover → Hand → Mover → Hand → Type 0
 ServesMover (command.Reassign src dst) (Answer answer) mover before left now = AsksForPage src dst answer before now × (left ≡ mover)
 ServesMover (command.Automove mode) Mode mover before left now = ActsOnce (λ number. SetsMode number mode) before now × (left ≡ mover)
-ServesMover command.Window (Window acted) mover before left now = EndsWindow acted mover before left now
+ServesMover command.Window (Window acted trimmed) mover before left now = EndsWindow acted trimmed mover before left now
 ServesMover (command.Turn asked) (Turned ending counts) mover before left now = DoesTurns asked ending counts mover before left now
 ServesMover command.Stats (Totals survey) mover before left now = ActsOnce (λ number. Surveys false survey) before now × (left ≡ mover)
 ServesMover command.StatsSlabs (Classes survey) mover before left now = ActsOnce (λ number. Surveys true survey) before now × (left ≡ mover)
@@ -146,3 +167,8 @@ ServesMover command reply mover before left now = ⊥
 abbrev pub StopsMover : Command → Mover → Hand → Mover → Hand → Type 0
 StopsMover (command.Turn asked) mover before left now = RunsOutOfTurns asked mover before left now
 StopsMover command mover before left now = ⊥
+
+-- a line of the mover that didn't end well: nothing is said of it, but that a window trimmed nothing
+abbrev pub RefusesMover : Command → Hand → Hand → Type 0
+RefusesMover command.Window before now = RefusesWindow before now
+RefusesMover command before now = ⊤

@@ -22,15 +22,19 @@ pub enum Pass {
 pub trait Gate {
     ghost use Rattle.std.specs.Prelude.{◌≡◌, ℕ, ⊤};
     ghost use Rattle.mc_workers.specs.declared.gate.Point.{Point};
-    ghost use Rattle.mc_workers.specs.declared.gate.Pass.TheVariants.{Go};
+    ghost use Rattle.mc_workers.specs.declared.gate.Pass.TheVariants.{Go, Stop};
 
     /// What is known where this worker was let on at this of its lines: nothing, unless the gate says more.
     ghost LetsOn: { Self → ℕ → ℕ → Point → Type 0 } = { λ _ _ _ _. ⊤ };
 
+    /// What is known where it was stopped there: nothing, unless the gate says more.
+    ghost Stops: { Self → ℕ → ℕ → Point → Type 0 } = { λ _ _ _ _. ⊤ };
+
     /// Called before and after each line's work, by the thread that does it. The mover is worker 0, and `nth` counts the worker's
     /// own lines from 1.
     fn pass(&self, worker: u64, nth: u64, point: Point) -> Pass
-        ensures lets_on { result ≡ Go → LetsOn self.now worker nth point };
+        ensures lets_on { result ≡ Go → LetsOn self.now worker nth point }
+        ensures stops { result ≡ Stop → Stops self.now worker nth point };
 }
 
 /// The gate that lets everybody go on.
@@ -38,7 +42,15 @@ pub trait Gate {
 pub struct Free;
 
 impl Gate for Free {
-    fn pass(&self, _worker: u64, _nth: u64, _point: Point) -> Pass {
+    ghost use Rattle.std.specs.Prelude.{◌≡◌};
+    ghost use Rattle.mc_workers.specs.declared.gate.Pass.TheVariants.{Go};
+
+    /// It stops nobody.
+    ghost Stops = { λ _ _ _ _. ⊥ };
+
+    fn pass(&self, _worker: u64, _nth: u64, _point: Point) -> Pass
+        ensures go { result ≡ Go }
+    {
         Pass::Go
     }
 }

@@ -1,12 +1,13 @@
 //! All lines of a worker, in order.
-ghost use Rattle.std.specs.Prelude.{◌≡◌, [], All, length, OnOk, Some, true};
+ghost use Rattle.std.specs.Prelude.{◌≡◌, [], All, Err, OnOk, Some, true};
 ghost use Rattle.std.specs.Option.{option_map};
 ghost use Rattle.mc_script.specs.Command.{IsValid};
 ghost use Rattle.mc_words.specs.hand.Arenas.{IsHandOf, setup_of, view};
 ghost use Rattle.mc_words.specs.hand.Idle.{is_idle};
 ghost use Rattle.mc_words.specs.hand.Observers.{number_of};
-ghost use Rattle.mc_workers.specs.Asking.{asked_by, is_asked_by, is_workers, lines_of};
-ghost use Rattle.mc_workers.specs.Gates.{Passed, PassedEach};
+ghost use Rattle.mc_workers.specs.Asking.{asked_by, is_asked_by, is_workers};
+ghost use Rattle.mc_workers.specs.Ends.{PassesLines, StopsLines};
+ghost use Rattle.mc_workers.specs.Gates.{Passed, StoppedAt};
 ghost use Rattle.mc_workers.specs.Hands.{IsKeeping, IsReadyHandOf, StaysKeeping};
 ghost use Rattle.mc_workers.specs.Lines.{DoesLines};
 ghost use Rattle.mc_workers.specs.OnHands.{AddsReplyBy, ServesLinesBy};
@@ -23,7 +24,7 @@ use mc_words::Hand;
 use std::sync::Wait;
 
 /// Does the worker's lines in order, each between two passes of the gate, adds their replies to an empty text, and gives back what the
-/// worker still holds then.
+/// worker still holds then. `Turns` where the gate stopped the worker, and nowhere else.
 pub fn serve_lines<R: Wait, G: Gate>(
     shared: &Shared<R, G>,
     worker: u64,
@@ -38,7 +39,10 @@ pub fn serve_lines<R: Wait, G: Gate>(
     ensures number { number_of hand.new ≡ number_of hand.old }
     ensures idle { OnOk result (is_idle (view hand.new) ≡ true) }
     ensures does { OnOk result (DoesLines (setup_of shared.now.arena.now) worker shared.now.commands.now hand.old text.new.items hand.new) }
-    ensures passed { OnOk result (PassedEach (G.LetsOn shared.now.gate.now) worker (length (lines_of worker shared.now.commands.now))) }
+    ensures passed { OnOk result
+        (PassesLines (G.LetsOn shared.now.gate.now) shared.now.commands.now worker) }
+    ensures stopped { result ≡ Err Ended.Turns → StopsLines (G.LetsOn shared.now.gate.now)
+        (G.Stops shared.now.gate.now) shared.now.commands.now worker }
 {
     let mut kept = Vec::new(shared.alloc);
     serve_each(shared, worker, hand, &mut kept, text)?;
@@ -59,7 +63,10 @@ fn serve_each<R: Wait, G: Gate>(
     ensures stays { StaysKeeping shared.now.arena.now hand.old hand.new kept.new.items }
     ensures serves { OnOk result
         (ServesLinesBy shared.now.arena.now worker shared.now.commands.now hand.old kept.old.items text.old.items hand.new kept.new.items text.new.items) }
-    ensures passed { OnOk result (PassedEach (G.LetsOn shared.now.gate.now) worker (length (lines_of worker shared.now.commands.now))) }
+    ensures passed { OnOk result
+        (PassesLines (G.LetsOn shared.now.gate.now) shared.now.commands.now worker) }
+    ensures stopped { result ≡ Err Ended.Turns → StopsLines (G.LetsOn shared.now.gate.now)
+        (G.Stops shared.now.gate.now) shared.now.commands.now worker }
 {
     let mut nth = 0u64;
     for command in shared.commands {
@@ -87,6 +94,8 @@ fn serve_gated<R: Wait, G: Gate>(
     ensures stays { StaysKeeping shared.now.arena.now hand.old hand.new kept.new.items }
     ensures adds { OnOk result (AddsReplyBy shared.now.arena.now command hand.old kept.old.items text.old.items hand.new kept.new.items text.new.items) }
     ensures passed { OnOk result (Passed (G.LetsOn shared.now.gate.now) worker nth) }
+    ensures stopped { result ≡ Err Ended.Turns
+        → StoppedAt (G.LetsOn shared.now.gate.now) (G.Stops shared.now.gate.now) worker nth }
 {
     if shared.gate.pass(worker, nth, Point::Before) == Pass::Stop {
         return Err(Ended::Turns);

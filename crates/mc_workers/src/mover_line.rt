@@ -1,11 +1,12 @@
 //! One line of the mover, on its hand.
-ghost use Rattle.std.specs.Prelude.{◌≡◌, ◌≤◌, Err, IfOk, false};
+ghost use Rattle.std.specs.Prelude.{◌≡◌, ◌+◌, ◌≤◌, Err, IfOk, OnErr, OnOk, false};
 ghost use Rattle.mc_script.specs.Command.{IsValid};
 ghost use Rattle.mc_words.specs.hand.Arenas.{setup_of};
 ghost use Rattle.mc_workers.specs.Asking.{is_workers};
 ghost use Rattle.mc_workers.specs.Hands.{IsReadyHandOf, StaysHolding};
 ghost use Rattle.mc_workers.specs.MoverReplies.{CanTell};
-ghost use Rattle.mc_workers.specs.Moving.{ServesMover, StopsMover};
+ghost use Rattle.mc_workers.specs.Moving.{RefusesMover, ServesMover, StopsMover, turns_of};
+ghost use Rattle.mc_workers.specs.Spending.{turns_asked};
 
 use crate::ended::Ended;
 use crate::mover::Mover;
@@ -22,7 +23,7 @@ use std::sync::Wait;
 /// of each stripe, one at a time.
 ///
 /// `Turns` where a turn would be the run's 1,000,001st: it isn't begun, and those of the line before it are done. Where memory runs out
-/// the line may be done in part.
+/// the line may be done in part; a window's was refused it before its trim. A trim that is refused ends nothing, and the reply has why.
 pub fn serve_mover_line<R: Wait>(
     rt: &R,
     alloc: Global,
@@ -38,6 +39,8 @@ pub fn serve_mover_line<R: Wait>(
     ensures moves { IfOk result (λ reply. ServesMover command reply mover.old hand.old mover.new hand.new) }
     ensures tellable { IfOk result (CanTell (setup_of arena.now).table) }
     ensures stopped { result ≡ Err Ended.Turns → StopsMover command mover.old hand.old mover.new hand.new }
+    ensures begun { OnOk result (turns_of mover.new ≤ turns_of mover.old + turns_asked command) }
+    ensures refused { OnErr result (RefusesMover command hand.old hand.new) }
 {
     match command {
         Command::Reassign { src, dst } => {
@@ -49,8 +52,8 @@ pub fn serve_mover_line<R: Wait>(
             Ok(MoverReply::Mode)
         }
         Command::Window => {
-            let acted = end_window(rt, alloc, arena, hand, mover)?;
-            Ok(MoverReply::Window(acted))
+            let (acted, trimmed) = end_window(rt, alloc, arena, hand, mover)?;
+            Ok(MoverReply::Window(acted, trimmed))
         }
         Command::Turn { turns } => {
             let (ending, counts) = do_turns(rt, arena, hand, mover, turns)?;

@@ -10,6 +10,7 @@ use mc_memory::Refused;
 use mc_mover::Survey;
 use mc_pages::Reassign;
 use mc_parts::{push_answer, push_turn_line, push_window_line};
+use mc_stripe::Trim;
 use mc_watch::Decision;
 use std::marker::Brand;
 use std::sync::ledger::Blank;
@@ -30,8 +31,8 @@ pub enum MoverReply {
     Answer(Result<(), Reassign>),
     /// The automover has the mode that was asked for.
     Mode,
-    /// A window ended, and what became of the decision, if one was acted on.
-    Window(Option<Acted>),
+    /// A window ended: what became of the decision, if one was acted on, and whether all was trimmed behind it, which isn't told.
+    Window(Option<Acted>, Result<(), Trim>),
     /// How the last turn ended, and what all turns of the line did.
     Turned(Ending, Counts),
     /// What all classes have together.
@@ -53,8 +54,8 @@ pub fn push_mover_reply(
     match reply {
         MoverReply::Answer(answer) => push_answer(text, name_of_answer(answer)),
         MoverReply::Mode => push_answer(text, b"OK"),
-        MoverReply::Window(None) => push_answer(text, b"WINDOW none"),
-        MoverReply::Window(Some(acted)) => {
+        MoverReply::Window(None, _) => push_answer(text, b"WINDOW none"),
+        MoverReply::Window(Some(acted), _) => {
             let Decision { src, dst } = acted.decision;
             push_window_line(text, src, dst, name_of_answer(&acted.answer))
         }

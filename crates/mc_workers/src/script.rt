@@ -1,9 +1,10 @@
 //! All lines of a script, by threads on an arena of its own.
-ghost use Rattle.std.specs.Prelude.{◌≡◌, ◌≤◌, [], All, IfOk, None};
+ghost use Rattle.std.specs.Prelude.{◌≡◌, ◌≤◌, [], All, Err, IfOk, None, OnOk};
 ghost use Rattle.mc_classes.specs.Refusals.{refusal_of};
 ghost use Rattle.mc_script.specs.Command.{IsValid};
 ghost use Rattle.mc_words.specs.hand.Arenas.{view};
 ghost use Rattle.mc_workers.specs.Asking.{greatest_worker, worker_of};
+ghost use Rattle.mc_workers.specs.Ends.{RunPasses, RunStops};
 ghost use Rattle.mc_workers.specs.Hands.{IsReadyHandOf};
 ghost use Rattle.mc_workers.specs.Script.{IsOpened, ServesScript, TellsAll};
 
@@ -24,7 +25,8 @@ use std::thread::Threads;
 /// replies to the workers from the lowest on, those to the mover, and the statistics of the classes and of the whole once all had
 /// ended.
 ///
-/// `Memory` goes before `Thread`, and that before `Turns`.
+/// `Memory` goes before `Thread`, and that before `Turns`: where it is `Turns`, the gate stopped a thread, or the mover's turns were spent,
+/// and each other thread was let on at all of its lines.
 pub fn serve_script<R: Threads + Wait + Sync, G: Gate + Sync>(
     rt: &R,
     alloc: Global,
@@ -37,6 +39,9 @@ pub fn serve_script<R: Threads + Wait + Sync, G: Gate + Sync>(
     requires mode { mode ≤ 2 }
     requires valid { All IsValid commands.now }
     ensures serves { IfOk result (λ text. ServesScript config.now mode commands.now text.items) }
+    ensures passed { OnOk result (RunPasses (G.LetsOn gate.now) commands.now) }
+    ensures stopped { result ≡ Err Ended.Turns
+        → RunStops (G.LetsOn gate.now) (G.Stops gate.now) commands.now }
 {
     let workers = greatest_worker(commands);
     let (arena, mover, hands) = open_arena(rt, alloc, config, mode, 1 + workers)?;

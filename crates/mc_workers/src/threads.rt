@@ -1,11 +1,13 @@
 //! Workers in threads of their own, and the mover beside them.
-ghost use Rattle.std.specs.Prelude.{◌≡◌, ◌≢◌, ◌≤◌, ◌+◌, [], ◌∷◌, All, Err, IfOk, IfSome, None, Ok, true, vec_len};
+ghost use Rattle.std.specs.Prelude.{◌≡◌, ◌≢◌, ◌≤◌, ◌+◌, [], ◌∷◌, All, Err, IfOk, IfSome, None, Ok, OnOk, length, true, vec_len};
 ghost use Rattle.std.specs.Thread.{IsSync};
 ghost use Rattle.mc_script.specs.Command.{IsValid};
 ghost use Rattle.mc_words.specs.hand.Arenas.{IsHandOf, view};
 ghost use Rattle.mc_words.specs.hand.Hands.{AreHandsFrom, IsNewHand};
 ghost use Rattle.mc_words.specs.hand.Idle.{is_idle};
+ghost use Rattle.mc_workers.specs.Ends.{AreTurns, EndsJoined, EndsServed, PassesAll, PassesLines, PassesMoves, StopsLines, StopsSome};
 ghost use Rattle.mc_workers.specs.Hands.{IsReadyHandOf};
+ghost use Rattle.mc_workers.specs.Spending.{StopsMoves};
 ghost use Rattle.mc_workers.specs.Threads.{AreDone, IsMoved, IsServed, JoinsBoth};
 
 use crate::ended::Ended;
@@ -38,26 +40,28 @@ pub struct Joined {
     pub mover: Vec<u8>,
 }
 
-// What a worker's thread promises: it did the worker's lines by the hand that it was given.
+// What a worker's thread promises: it did the worker's lines by the hand that it was given, where the gate let it on; or the gate stopped it.
 #[derive(Drop)]
-struct DoneBy<'a> {
+struct DoneBy<'a, G> {
     arena: &'a Arena,
+    gate: &'a G,
     commands: &'a [Command],
     worker: u64,
     hand: Snapshot<Hand>,
 }
 
-impl<'a> Promise<Result<Served, Ended>> for DoneBy<'a> {
-    ghost use Rattle.std.specs.Prelude.{IfOk};
-    ghost use Rattle.mc_workers.specs.Threads.{IsServed};
+impl<'a, G: Gate> Promise<Result<Served, Ended>> for DoneBy<'a, G> {
+    ghost use Rattle.mc_workers.specs.Ends.{EndsServed};
 
-    ghost kept_by = { λ p done. IfOk done (IsServed p.arena.now p.worker p.commands.now p.hand.value) };
+    ghost kept_by = { λ p ended. EndsServed (G.LetsOn p.gate.now) (G.Stops p.gate.now)
+        p.arena.now p.worker p.commands.now p.hand.value ended };
 }
 
 /// Does the lines of all workers, from this number on by these hands, each in a thread of its own, and those of the mover in this one.
 /// Once all have ended, the mover's hand takes the others over.
 ///
-/// `Memory` goes before `Thread`, and that before `Turns`.
+/// `Memory` goes before `Thread`, and that before `Turns`: where it is `Turns`, the gate stopped a thread, or the mover's turns were spent,
+/// and each other thread was let on at all of its lines.
 pub fn run_workers<R: Threads + Wait + Sync, G: Gate + Sync>(
     rt: &R,
     alloc: Global,
@@ -74,6 +78,10 @@ pub fn run_workers<R: Threads + Wait + Sync, G: Gate + Sync>(
     requires none { (view mover).row.holdings ≡ [] }
     requires valid { All IsValid commands.now }
     ensures done { IfOk result (AreDone arena.now worker commands.now hands.items mover) }
+    ensures passed { OnOk result
+        (PassesAll (G.LetsOn gate.now) commands.now worker (length hands.items)) }
+    ensures stopped { result ≡ Err Ended.Turns → StopsSome (G.LetsOn gate.now) (G.Stops gate.now)
+        commands.now worker (length hands.items) }
 {
     let Some(hand) = first_hand(arena, worker, &mut hands) else {
         return move_alone(rt, alloc, arena, gate, commands, mover);
@@ -85,10 +93,12 @@ pub fn run_workers<R: Threads + Wait + Sync, G: Gate + Sync>(
             requires { IsSync R.row × IsSync G.row
                 × IsNewHand arena.now worker hand × AreHandsFrom arena.now (1 + worker) hands.items × (worker + vec_len hands ≤ 63)
                 × IsReadyHandOf arena.now mover × ((view mover).row.holdings ≡ []) × All IsValid commands.now }
-            ensures { IfOk result (AreDone arena.entry.now worker commands.entry.now (hand ∷ hands.items) mover) }
+            ensures { EndsJoined (G.LetsOn gate.entry.now) (G.Stops gate.entry.now) arena.entry.now
+                worker commands.entry.now (hand ∷ hands.items) mover result }
         {
             let promise = DoneBy {
                 arena,
+                gate,
                 commands,
                 worker,
                 hand: Snapshot::of(&hand),
@@ -98,7 +108,8 @@ pub fn run_workers<R: Threads + Wait + Sync, G: Gate + Sync>(
                 promise,
                 move || -> Result<Served, Ended>
                     requires { IsSync R.row × IsSync G.row × IsNewHand arena.now worker hand × All IsValid commands.now }
-                    ensures { IfOk result (IsServed arena.entry.now worker commands.entry.now hand) }
+                    ensures { EndsServed (G.LetsOn gate.entry.now) (G.Stops gate.entry.now)
+                        arena.entry.now worker commands.entry.now hand result }
                 { serve_worker(rt, alloc, arena, gate, commands, worker, hand) },
             );
             match child {
@@ -136,6 +147,9 @@ fn serve_worker<R: Wait, G: Gate>(
     requires hand { IsNewHand arena.now worker hand }
     requires valid { All IsValid commands.now }
     ensures served { IfOk result (IsServed arena.now worker commands.now hand) }
+    ensures passed { OnOk result (PassesLines (G.LetsOn gate.now) commands.now worker) }
+    ensures stopped { result ≡ Err Ended.Turns
+        → StopsLines (G.LetsOn gate.now) (G.Stops gate.now) commands.now worker }
 {
     let shared = Shared {
         rt,
@@ -162,6 +176,9 @@ fn move_alone<R: Wait, G: Gate>(
     requires none { (view hand).row.holdings ≡ [] }
     requires valid { All IsValid commands.now }
     ensures moved { IfOk result (IsMoved arena.now commands.now hand) }
+    ensures passed { OnOk result (PassesMoves (G.LetsOn gate.now) commands.now) }
+    ensures stopped { result ≡ Err Ended.Turns
+        → StopsMoves (G.LetsOn gate.now) (G.Stops gate.now) 0 commands.now }
 {
     let shared = Shared {
         rt,
@@ -207,6 +224,7 @@ fn both_of(
     ensures memory_of_others { others ≡ Err (Ended.Memory tt) → result ≡ Err (Ended.Memory tt) }
     ensures unstarted { own ≡ Err (Ended.Thread tt) → result ≢ Err Ended.Turns }
     ensures unstarted_of_others { others ≡ Err (Ended.Thread tt) → result ≢ Err Ended.Turns }
+    ensures turns { result ≡ Err Ended.Turns → AreTurns own others }
 {
     let own = match own {
         Ok(own) => own,
@@ -245,6 +263,7 @@ fn join_both(arena: &Arena, own: Served, others: Joined) -> Result<Joined, Ended
     requires others { IsHandOf arena.now others.hand }
     requires idle { (is_idle (view others.hand) ≡ true) × (is_idle (view own.hand) ≡ true) }
     ensures joins { IfOk result (JoinsBoth arena.now own others) }
+    ensures unstopped { result ≢ Err Ended.Turns }
 {
     let Served { hand, text } = own;
     let Joined {

@@ -1,36 +1,39 @@
 //! The end of a window of the automover.
-ghost use Rattle.std.specs.Prelude.{IfOk};
+ghost use Rattle.std.specs.Prelude.{Err, IfOk, OnErr};
 ghost use Rattle.mc_workers.specs.Hands.{IsReadyHandOf, StaysHolding};
-ghost use Rattle.mc_workers.specs.Moving.{ActsOnDecision, AsksForPage, EndsWindow};
+ghost use Rattle.mc_workers.specs.Moving.{ActsOnDecision, AsksForPage, EndsWindow, RefusesPage, RefusesWindow};
 
 use crate::mover::Mover;
 use crate::mover_reply::Acted;
 use mc_memory::Refused;
 use mc_mover::{reassign, survey, trim};
 use mc_pages::Reassign;
+use mc_stripe::Trim;
 use mc_watch::Decision;
 use mc_words::{Arena, Hand};
 use std::alloc::Global;
 use std::sync::Wait;
 
 // Puts the dead of all classes back, feeds the decider what is left then, and asks for the page that it decides on, in mode 1 alone. Then
-// it trims each stripe and the ledger, as far as memory isn't refused. Says what became of the decision. (slabs.c's automover; the trim is own)
+// it trims each stripe and the ledger. Says what became of the decision, and of the trim, whose refusal ends nothing. (slabs.c's automover;
+// the trim is own)
 pub(crate) fn end_window<R: Wait>(
     rt: &R,
     alloc: Global,
     arena: &Arena,
     hand: &mut Hand,
     mover: &mut Mover,
-) -> Result<Option<Acted>, Refused>
+) -> Result<(Option<Acted>, Result<(), Trim>), Refused>
     requires ready { IsReadyHandOf arena.now hand.old }
     ensures stays { StaysHolding arena.now hand.old hand.new }
-    ensures ends { IfOk result (λ acted. EndsWindow acted mover.old hand.old mover.new hand.new) }
+    ensures ends { IfOk result (λ told. EndsWindow told.0 told.1 mover.old hand.old mover.new hand.new) }
+    ensures refused { OnErr result (RefusesWindow hand.old hand.new) }
 {
     let survey = survey(rt, alloc, arena, hand, true)?;
     let decided = mover.decide(alloc, &survey)?;
     let acted = act_on(rt, arena, hand, decided)?;
-    let _trimmed = trim(rt, arena, hand);
-    Ok(acted)
+    let trimmed = trim(rt, arena, hand);
+    Ok((acted, trimmed))
 }
 
 // Asks for the page of the decision, if there is one, and tells what became of it.
@@ -43,6 +46,7 @@ fn act_on<R: Wait>(
     requires ready { IsReadyHandOf arena.now hand.old }
     ensures stays { StaysHolding arena.now hand.old hand.new }
     ensures acts { IfOk result (λ acted. ActsOnDecision decided acted hand.old hand.new) }
+    ensures refused { OnErr result (RefusesPage hand.old hand.new) }
 {
     let Some(decision) = decided else {
         return Ok(None);
@@ -63,6 +67,7 @@ pub(crate) fn ask_for_page<R: Wait>(
     requires ready { IsReadyHandOf arena.now hand.old }
     ensures stays { StaysHolding arena.now hand.old hand.new }
     ensures asks { IfOk result (λ answer. AsksForPage src dst answer hand.old hand.new) }
+    ensures refused { OnErr result (RefusesPage hand.old hand.new) }
 {
     match reassign(rt, arena, hand, src, dst) {
         Err(Reassign::NoMemory(refused)) => Err(refused),

@@ -1,9 +1,10 @@
 use Rattle.std.proofs.Common.{ℕ, ◌+◌, List, [], append-nil, arith, length, take, refl, sym, subst, ◌∙◌}
+use Rattle.std.proofs.lemmas.Result.{err_from_is_err_and}
 use Rattle.mc_words.specs.declared.hand.Hand.{Hand}
 use Rattle.mc_items.specs.declared.refs.Ref.{Ref}
 use Rattle.mc_script.specs.declared.command.Command.TheVariants.{Set}
 use Rattle.mc_workers.specs.Asking.{is_asked_by, lines_of}
-use Rattle.mc_workers.proofs.GatedLines.{AreCounted, all_passed, line_counted, line_uncounted, none_counted}
+use Rattle.mc_workers.proofs.GatedLines.{AreCounted, all_passed, line_counted, line_stopped, line_uncounted, none_counted}
 use Rattle.mc_workers.proofs.ServedLines.{SoFar, line_done, line_passed}
 use Rattle.mc_workers.proofs.lines.serve_each.Goals as goal
 use Rattle.mc_workers.proofs.lines.serve_each.Goals.{then-is_line_of+in_ok-serve_gated, else-is_line_of}
@@ -58,3 +59,10 @@ loop-command-preserved g c =
 pub returns-clause-passed : goal.returns-clause-passed
 returns-clause-passed g c =
     all_passed (g.G.Gate.LetsOn c.args.shared.now.gate.now) c.args.worker (is_asked_by c.args.worker) c.args.shared.now.commands.now c.loop-command.command-index c.loop-command.nth c.loop-command.invariant.1 (omega arith)
+
+-- the gate stopped the worker at this line
+pub returns-in_err-serve_gated-clause-stopped : goal.returns-in_err-serve_gated-clause-stopped
+returns-in_err-serve_gated-clause-stopped g c =
+    let p = err_from_is_err_and c.from_residual.result c.from_residual.ensures.1 in
+    λ is. line_stopped (g.G.Gate.LetsOn c.args.shared.now.gate.now) c.args.worker (is_asked_by c.args.worker) c.args.shared.now.commands.now c.loop-command.command-index (Set 0 0 0 0) c.loop-command-test.true
+    c.loop-command.nth c.loop-command.invariant.1 (g.G.Gate.Stops c.args.shared.now.gate.now) (sym c.is_line_of.ensures ∙ c.if-is_line_of.true) (c.in_err-serve_gated.ensures.stopped (cc (p.1, p.2, is)))

@@ -1,4 +1,4 @@
-use Rattle.std.proofs.Common.{◌≡◌, ap, length, arith}
+use Rattle.std.proofs.Common.{ap, length, arith}
 use Rattle.mc_workers.proofs.script.open_arena.Goals as goal
 
 pub returns-clause-opened : goal.returns-clause-opened
