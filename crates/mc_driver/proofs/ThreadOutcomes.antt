@@ -3,12 +3,15 @@ use Rattle.std.proofs.Common.{◌≡◌, ℕ, List, take, Option, Some, None, Re
 use Rattle.std.specs.Prelude.{IfSome}
 use Rattle.std.proofs.KnownBytes.{Keeps-refl}
 use Rattle.mc_classes.specs.declared.config.ConfigError.{ConfigError}
+use Rattle.mc_classes.specs.declared.config.ConfigError.TheVariants.{PageSize, FirstSize, Factor, ChunkMax, Limit, Stripes, TooManyChunks, Bulk, NoMemory}
 use Rattle.mc_classes.specs.Refusals.{refusal_of}
 use Rattle.mc_options.specs.declared.settings.Run.{Run}
+use Rattle.mc_workers.specs.declared.ended.Ended.{Ended}
+use Rattle.mc_workers.specs.declared.ended.Ended.TheVariants as ended
 use Rattle.mc_driver.specs.declared.fault.RunFault.{RunFault}
 use Rattle.mc_driver.specs.declared.fault.RunFault.TheVariants.{Config as Refused, Script, TooLong, Read, Write, Memory, Thread, Turns}
 use Rattle.mc_driver.specs.Run.{config_fault}
-use Rattle.mc_driver.specs.Threads.{IsThreadsOutcome, IsToldOutcome}
+use Rattle.mc_driver.specs.Threads.{IsThreadsOutcome, IsToldOutcome, ended_fault}
 use Rattle.mc_driver.proofs.Outcomes.{front_all, front_long, no_memory_refusal, script_all, told_by_number}
 
 -- the outcome over the front of the bytes is the outcome over all of them
@@ -53,3 +56,21 @@ refused_threads run bytes held error is =
 pub refused_known : (run : Run) (all held : Option (List ℕ)) (error : ConfigError) → refusal_of run.config ≡ Some error → IfSome all (λ bytes. IsThreadsOutcome run bytes held held (Err (config_fault error)))
 refused_known run None held error is = tt
 refused_known run (Some bytes) held error is = refused_threads run bytes held error is
+
+-- a run is out of turns only where a thread ended so
+pub ended_by_turns : (end : Ended) → ended_fault end ≡ Turns → end ≡ ended.Turns
+ended_by_turns (ended.Memory refused) is = absurd (cc)
+ended_by_turns (ended.Thread unstarted) is = absurd (cc)
+ended_by_turns ended.Turns is = refl
+
+-- and not for its configuration
+pub config_unturned : (error : ConfigError) → config_fault error ≡ Turns → ⊥
+config_unturned PageSize is = absurd (cc)
+config_unturned FirstSize is = absurd (cc)
+config_unturned Factor is = absurd (cc)
+config_unturned ChunkMax is = absurd (cc)
+config_unturned Limit is = absurd (cc)
+config_unturned Stripes is = absurd (cc)
+config_unturned TooManyChunks is = absurd (cc)
+config_unturned Bulk is = absurd (cc)
+config_unturned (NoMemory refused) is = absurd (cc)

@@ -1,9 +1,10 @@
 //! A run by threads: each worker's lines in a thread of its own and the mover's beside them, on an arena that all share.
-ghost use Rattle.std.specs.Prelude.{◌≡◌, ◌<◌, ◌≤◌, ◌↔◌, ℕ, Some, None, Err, IfSome, IsSome};
+ghost use Rattle.std.specs.Prelude.{◌≡◌, ◌<◌, ◌≤◌, ◌↔◌, ℕ, Some, None, Err, IfSome, IsSome, OnOk};
 ghost use Rattle.std.specs.Io.KnownBytes.{Keeps};
 ghost use Rattle.mc_classes.specs.Refusals.{refusal_of};
+ghost use Rattle.mc_workers.specs.Ends.{RunPasses, RunStops};
 ghost use Rattle.mc_driver.specs.Reading.{GivesAtMost, TakesAtMost, since};
-ghost use Rattle.mc_driver.specs.Run.{IsReadWhole, refusal_number};
+ghost use Rattle.mc_driver.specs.Run.{IsReadWhole, OfScript, refusal_number};
 ghost use Rattle.mc_driver.specs.Threads.{IsThreadsOutcome, IsToldOutcome};
 
 use crate::fault::RunFault;
@@ -24,7 +25,8 @@ use std::thread::Threads;
 ///
 /// The configuration is tested before anything is read, and the whole script is read and checked before a thread is started. All is
 /// written in one write at the end: where memory or the turns of a run ran out, a thread couldn't be started, or the gate stopped one,
-/// nothing is. `Memory` goes before `Thread`, and that before `Turns`.
+/// nothing is. `Memory` goes before `Thread`, and that before `Turns`: where it is `Turns`, the gate stopped a thread, or the mover's turns
+/// were spent, and each other thread was let on at all of its lines.
 pub fn run_threads<T: Threads + Wait + Sync, G: Gate + Sync, R: Source, W: Sink>(
     rt: &T,
     alloc: Global,
@@ -54,6 +56,14 @@ pub fn run_threads<T: Threads + Wait + Sync, G: Gate + Sync, R: Source, W: Sink>
     // So it is of the bytes that the reader gave, which were all up to its end where a script was answered to.
     ensures answered { IsThreadsOutcome run.now (since (R.given reader.old) (R.given reader.new)) (W.contents writer.old) (W.contents writer.new) result }
     ensures whole { IsReadWhole (R.HasEnded reader.new) (Keeps (W.contents writer.old) (W.contents writer.new)) result }
+
+    // A run that is done was let on at each line, and one that is out of turns was stopped, by its gate or
+    // by its limit, while nobody's memory was refused.
+    ensures passed { OnOk result (OfScript (since (R.given reader.old) (R.given reader.new))
+        (RunPasses (G.LetsOn gate.now))) }
+    ensures stopped { result ≡ Err RunFault.Turns
+        → OfScript (since (R.given reader.old) (R.given reader.new))
+        (RunStops (G.LetsOn gate.now) (G.Stops gate.now)) }
 {
     if let Err(error) = run.config.test() {
         return Err(fault_of(error));
@@ -75,6 +85,9 @@ fn run_by_threads<T: Threads + Wait + Sync, G: Gate + Sync, W: Sink>(
     requires automove { run.now.automove ≤ 2 }
     ensures outcome { IsToldOutcome run.now bytes.now (W.contents writer.old) (W.contents writer.new) result }
     ensures write { (result ≡ Err RunFault.Write) ↔ (W.failures writer.old < W.failures writer.new) }
+    ensures passed { OnOk result (OfScript bytes.now (RunPasses (G.LetsOn gate.now))) }
+    ensures stopped { result ≡ Err RunFault.Turns
+        → OfScript bytes.now (RunStops (G.LetsOn gate.now) (G.Stops gate.now)) }
 {
     let commands = commands_of(alloc, bytes)?;
     let text = serve_script(rt, alloc, &run.config, run.automove, gate, &commands)?;
