@@ -11,7 +11,7 @@ use Rattle.mc_workers.specs.declared.ended.Ended.TheVariants as ended
 use Rattle.mc_workers.specs.Script.{ServesScript}
 use Rattle.mc_driver.specs.declared.fault.RunFault.{RunFault}
 use Rattle.mc_driver.specs.declared.fault.RunFault.TheVariants.{Config as Refused, Script, TooLong, Read, Write, Memory, Thread, Turns}
-use Rattle.mc_driver.specs.Run.{IsScript, OfScript, most_bytes, refusal_number}
+use Rattle.mc_driver.specs.Run.{OfScript, most_bytes, refusal_number}
 
 -- how a run ends in which a thread ended early
 abbrev pub ended_fault : Ended → RunFault
