@@ -9,3 +9,4 @@ pub mod MovedLines
 pub mod DoneThreads
 pub mod SpentTurns
 pub mod EndedThreads
+pub mod Trimmed

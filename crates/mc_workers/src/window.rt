@@ -1,7 +1,7 @@
 //! The end of a window of the automover.
 ghost use Rattle.std.specs.Prelude.{Err, IfOk, OnErr};
 ghost use Rattle.mc_workers.specs.Hands.{IsReadyHandOf, StaysHolding};
-ghost use Rattle.mc_workers.specs.Moving.{ActsOnDecision, AsksForPage, EndsWindow, RefusesPage, RefusesWindow};
+ghost use Rattle.mc_workers.specs.Moving.{ActsOnDecision, AsksForPage, EndsWindow, RefusesPage, RefusesWindow, TrimsAs};
 
 use crate::mover::Mover;
 use crate::mover_reply::Acted;
@@ -32,8 +32,18 @@ pub(crate) fn end_window<R: Wait>(
     let survey = survey(rt, alloc, arena, hand, true)?;
     let decided = mover.decide(alloc, &survey)?;
     let acted = act_on(rt, arena, hand, decided)?;
-    let trimmed = trim(rt, arena, hand);
+    let trimmed = trim_all(rt, arena, hand);
     Ok((acted, trimmed))
+}
+
+// Trims each stripe, and then the ledger, and says how far it came.
+#[tactic(auto, using(crate::proofs::Trimmed::trims_as))]
+fn trim_all<R: Wait>(rt: &R, arena: &Arena, hand: &mut Hand) -> Result<(), Trim>
+    requires ready { IsReadyHandOf arena.now hand.old }
+    ensures stays { StaysHolding arena.now hand.old hand.new }
+    ensures trims { TrimsAs result hand.old hand.new }
+{
+    trim(rt, arena, hand)
 }
 
 // Asks for the page of the decision, if there is one, and tells what became of it.
