@@ -14,7 +14,7 @@ use Rattle.mc_options.specs.declared.settings.Run.{Run}
 use Rattle.mc_script.specs.declared.command.Command.{Command}
 use Rattle.mc_driver.specs.declared.fault.RunFault.{RunFault}
 use Rattle.mc_driver.specs.declared.fault.RunFault.TheVariants.{Config as Refused, Script, TooLong, Read, Write, Memory, Thread, Turns}
-use Rattle.mc_machine.specs.Machine.{Machine, fresh_machine}
+use Rattle.mc_serial_spec.specs.Machine.{Machine, fresh_machine}
 use Rattle.mc_driver.specs.Reading.{IsReadFault, since}
 use Rattle.mc_driver.specs.Run.{IsOutcome, IsReadWhole, IsScript, IsScriptOutcome, config_fault, refusal_number}
 

@@ -9,8 +9,8 @@ use Rattle.mc_script.specs.declared.command.Command.{Command}
 use Rattle.mc_driver.specs.declared.fault.RunFault.{RunFault}
 use Rattle.mc_driver.specs.declared.fault.RunFault.TheVariants.{Config as Refused, Script, TooLong, Read, Write, Memory, Thread, Turns}
 use Rattle.mc_driver.specs.Run.{IsReplyFault, IsServeFault}
-use Rattle.mc_machine.specs.Machine.{Machine}
-use Rattle.mc_machine.specs.Lines.{Served, serve, replies_to, after_all, is_done}
+use Rattle.mc_serial_spec.specs.Machine.{Machine}
+use Rattle.mc_serial_spec.specs.Lines.{Served, serve, replies_to, after_all, is_done}
 
 -- some commands and then others, where the run isn't stopped at the first ones
 after_step : (found : Option Served) (commands more : List Command) (now : Machine)

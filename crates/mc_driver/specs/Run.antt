@@ -15,8 +15,8 @@ use Rattle.mc_driver.specs.declared.fault.RunFault.{RunFault}
 use Rattle.mc_driver.specs.declared.fault.RunFault.TheVariants.{Config as Refused, Script, TooLong, Read, Write, Memory, Thread, Turns}
 use Rattle.mc_keeper.specs.declared.keeper.serve.Stop.{Stop}
 use Rattle.mc_keeper.specs.declared.keeper.serve.Stop.TheVariants as stop
-use Rattle.mc_machine.specs.Machine.{Machine, fresh_machine}
-use Rattle.mc_machine.specs.Lines.{Served, is_done, replies_to, serve}
+use Rattle.mc_serial_spec.specs.Machine.{Machine, fresh_machine}
+use Rattle.mc_serial_spec.specs.Lines.{Served, is_done, replies_to, serve}
 
 -- the most bytes of a script
 abbrev pub most_bytes : ℕ

@@ -5,8 +5,8 @@ ghost use Rattle.mc_classes.specs.Refusals.{refusal_of};
 ghost use Rattle.mc_classes.specs.Classes.{IsSound};
 ghost use Rattle.mc_script.specs.Command.{IsValid};
 ghost use Rattle.mc_script.specs.Script.{script_of};
-ghost use Rattle.mc_machine.specs.Lines.{is_done, replies_to};
-ghost use Rattle.mc_machine.specs.Machine.{fresh_machine};
+ghost use Rattle.mc_serial_spec.specs.Lines.{is_done, replies_to};
+ghost use Rattle.mc_serial_spec.specs.Machine.{fresh_machine};
 ghost use Rattle.mc_driver.specs.Reading.{GivesAtMost, TakesAtMost, since};
 ghost use Rattle.mc_driver.specs.Run.{IsOutcome, IsReadWhole, IsScript, IsReplyFault, WroteReply, IsScriptFault, IsScriptOutcome, IsServeFault, config_fault, refusal_number};
 

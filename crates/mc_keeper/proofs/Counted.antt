@@ -15,18 +15,18 @@ use Rattle.mc_pages.specs.Changes.{after_cut, after_grow}
 use Rattle.mc_pages.specs.Moves.{after_begin}
 use Rattle.mc_pages.specs.SlabState.{SlabState, IsClass, class_at, class_of_owner, class_of_page}
 use Rattle.mc_pages.specs.Accounted.{truth, IsAccounted}
-use Rattle.mc_machine.specs.Holds.{Holds, held_by, is_held, with_hold, without_hold}
-use Rattle.mc_machine.specs.Item.{Item, unlinked}
-use Rattle.mc_machine.specs.Items.{Items, item_at, is_unlinked, linked_chunk, with_item, without_item, unlinked_items, at_chunk}
-use Rattle.mc_machine.specs.Machine.{Machine, is_dead}
-use Rattle.mc_machine.specs.Consistent.{IsConsistent, places}
+use Rattle.mc_serial_spec.specs.Holds.{Holds, held_by, is_held, with_hold, without_hold}
+use Rattle.mc_serial_spec.specs.Item.{Item, unlinked}
+use Rattle.mc_serial_spec.specs.Items.{Items, item_at, is_unlinked, linked_chunk, with_item, without_item, unlinked_items, at_chunk}
+use Rattle.mc_serial_spec.specs.Machine.{Machine, is_dead}
+use Rattle.mc_serial_spec.specs.Consistent.{IsConsistent, places}
 use Rattle.mc_keeper.specs.Kept.{AreCounted, dead_items, is_dead_item}
 use Rattle.mc_keeper.proofs.DeadItems.{linked_lives, dead-without_item, dead-with_item, dead-set_item, dead-held, dead-owned}
 use Rattle.mc_keeper.proofs.DeadOrders.{dead_few}
 use Rattle.mc_pages.proofs.NextPage.{classes-grown, class_at-grown}
 use Rattle.mc_keeper.proofs.HeldElsewhere.{held-taken, held-given_back, is_held-Contains}
-use Rattle.mc_machine.proofs.KeptChanges.{listed, place_once}
-use Rattle.mc_machine.proofs.Links.{LinkedIn, linked_in, some_places}
+use Rattle.mc_serial_spec.proofs.KeptChanges.{listed, place_once}
+use Rattle.mc_serial_spec.proofs.Links.{LinkedIn, linked_in, some_places}
 use Rattle.mc_pages.proofs.ClassChanges.{classes-cuts, order-cuts, order-with_class}
 use Rattle.mc_pages.proofs.ListedChunks.{page_of_listed}
 

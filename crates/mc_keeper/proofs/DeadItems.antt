@@ -9,13 +9,13 @@ use Rattle.mc_pages.specs.ClassState.{is_chunk}
 use Rattle.mc_pages.specs.Ledger.{owner_at}
 use Rattle.mc_pages.specs.SlabState.{class_of_owner}
 use Rattle.mc_pages.specs.Accounted.{truth}
-use Rattle.mc_machine.specs.Holds.{Holds, is_held}
-use Rattle.mc_machine.specs.Item.{Item}
-use Rattle.mc_machine.specs.Items.{Items, chunk_cmp, item_at, with_item, without_item, PlacedItem, at_chunk, with_changed_item}
-use Rattle.mc_machine.specs.Consistent.{places}
+use Rattle.mc_serial_spec.specs.Holds.{Holds, is_held}
+use Rattle.mc_serial_spec.specs.Item.{Item}
+use Rattle.mc_serial_spec.specs.Items.{Items, chunk_cmp, item_at, with_item, without_item, PlacedItem, at_chunk, with_changed_item}
+use Rattle.mc_serial_spec.specs.Consistent.{places}
 use Rattle.mc_keeper.specs.Kept.{dead_items, is_dead_item}
-use Rattle.mc_machine.proofs.Chunks.{chunk_cmp-self}
-use Rattle.mc_machine.proofs.KeptStore.{is_at-tells}
+use Rattle.mc_serial_spec.proofs.Chunks.{chunk_cmp-self}
+use Rattle.mc_serial_spec.proofs.KeptStore.{is_at-tells}
 
 -- a linked item isn't dead
 pub linked_lives : (owners : List Owner) (holds : Holds) (class : ℕ) (x : ChunkId) (item : Item) → item.linked ≡ true

@@ -12,17 +12,17 @@ use Rattle.mc_pages.specs.Ledger.{owner_at}
 use Rattle.mc_pages.specs.SlabState.{IsClass, class_at, class_of_owner, class_of_page}
 use Rattle.mc_pages.specs.Accounted.{truth}
 use Rattle.mc_pages.proofs.Chunks.{is_chunk-same, same_from_is_chunk, times-cons, times-without}
-use Rattle.mc_machine.specs.Holds.{Holds, is_held}
-use Rattle.mc_machine.specs.Item.{Item}
-use Rattle.mc_machine.specs.Items.{Items, chunk_cmp, item_at, is_unlinked}
-use Rattle.mc_machine.specs.Machine.{Machine, dead_chunks, is_dead}
-use Rattle.mc_machine.specs.Consistent.{places, IsConsistent}
+use Rattle.mc_serial_spec.specs.Holds.{Holds, is_held}
+use Rattle.mc_serial_spec.specs.Item.{Item}
+use Rattle.mc_serial_spec.specs.Items.{Items, chunk_cmp, item_at, is_unlinked}
+use Rattle.mc_serial_spec.specs.Machine.{Machine, dead_chunks, is_dead}
+use Rattle.mc_serial_spec.specs.Consistent.{places, IsConsistent}
 use Rattle.mc_keeper.specs.Kept.{dead_items}
-use Rattle.mc_machine.proofs.Bounds.{order_short}
-use Rattle.mc_machine.proofs.Chunks.{chunk_cmp-self}
-use Rattle.mc_machine.proofs.KeptChanges.{place_once}
-use Rattle.mc_machine.proofs.KeptStore.{is_at-tells}
-use Rattle.mc_machine.proofs.Links.{some_places}
+use Rattle.mc_serial_spec.proofs.Bounds.{order_short}
+use Rattle.mc_serial_spec.proofs.Chunks.{chunk_cmp-self}
+use Rattle.mc_serial_spec.proofs.KeptChanges.{place_once}
+use Rattle.mc_serial_spec.proofs.KeptStore.{is_at-tells}
+use Rattle.mc_serial_spec.proofs.Links.{some_places}
 use Rattle.mc_pages.proofs.ListedChunks.{page_of_listed}
 
 -- ---- two lists in which each chunk stands as often have as many chunks that pass a test

@@ -9,7 +9,7 @@ use Rattle.mc_pages.specs.declared.ids.ChunkId.{ChunkId}
 use Rattle.mc_pages.specs.ClassState.{is_chunk, times, without}
 use Rattle.mc_pages.specs.Accounted.{truth}
 use Rattle.mc_pages.proofs.Chunks.{times-cons, times-without, times_from_Contains}
-use Rattle.mc_machine.specs.Holds.{Holds, held_by, hold_count, is_held, with_hold, without_hold}
+use Rattle.mc_serial_spec.specs.Holds.{Holds, held_by, hold_count, is_held, with_hold, without_hold}
 
 -- a worker's list changes, and has another chunk as often
 count_same : (holds : Holds) (worker : ℕ) (chunks : List ChunkId) (y : ChunkId) → times y chunks ≡ times y (held_by holds worker)

@@ -7,13 +7,13 @@ use Rattle.std.specs.Map.{set_value}
 use Rattle.std.proofs.lemmas.Bool.Decides.{nat_tests}
 use Rattle.mc_pages.specs.declared.ids.ChunkId.{ChunkId}
 use Rattle.mc_pages.specs.Accounted.{truth}
-use Rattle.mc_machine.specs.Consistent.{links}
-use Rattle.mc_machine.specs.Item.{Item, is_linked_to, new_item}
-use Rattle.mc_machine.specs.Items.{Items, item_at, linked_chunk, unlinked_items, with_item, without_item}
-use Rattle.mc_machine.proofs.KeptMoverClear.{leads_nowhere, leads_without, links_without}
-use Rattle.mc_machine.proofs.KeptMoverRescue.{leads_from, leads_on, leads_to}
-use Rattle.mc_machine.proofs.Links.{linked_chunk-unlinked_items, linked_chunk-with_item}
-use Rattle.mc_parts.specs.Leads.{chunk_of, IsLed}
+use Rattle.mc_serial_spec.specs.Consistent.{links}
+use Rattle.mc_serial_spec.specs.Item.{Item, is_linked_to, new_item}
+use Rattle.mc_serial_spec.specs.Items.{Items, item_at, linked_chunk, unlinked_items, with_item, without_item}
+use Rattle.mc_serial_spec.proofs.KeptMoverClear.{leads_nowhere, leads_without, links_without}
+use Rattle.mc_serial_spec.proofs.KeptMoverRescue.{leads_from, leads_on, leads_to}
+use Rattle.mc_serial_spec.proofs.Links.{linked_chunk-unlinked_items, linked_chunk-with_item}
+use Rattle.mc_serial_parts.specs.Leads.{chunk_of, IsLed}
 use Rattle.mc_keeper.specs.Kept.{IsIndexed}
 
 -- nothing is stored yet

@@ -1,5 +1,5 @@
 -- What the keeper is as a plain machine.
-use Rattle.mc_machine.specs.Machine.{Machine}
+use Rattle.mc_serial_spec.specs.Machine.{Machine}
 use Rattle.mc_keeper.specs.declared.keeper.Keeper.TheInside.{Inside}
 
 -- the keeper as a machine

@@ -13,10 +13,10 @@ use Rattle.mc_pages.specs.SlabState.{IsClass, class_at, class_of_page}
 use Rattle.mc_pages.proofs.Chunks.{is_chunk-same, same_from_is_chunk, times-cons}
 use Rattle.mc_pages.proofs.ListedChunks.{page_of_listed}
 use Rattle.mc_pages.proofs.OneClass.{class_at-with_class_same}
-use Rattle.mc_machine.specs.Consistent.{IsConsistent}
-use Rattle.mc_machine.specs.Machine.{Machine, after_reclaim, dead_chunks, is_dead, swept}
-use Rattle.mc_machine.proofs.Bounds.{listed_once}
-use Rattle.mc_machine.proofs.Sweeps.{is_dead-reclaimed}
+use Rattle.mc_serial_spec.specs.Consistent.{IsConsistent}
+use Rattle.mc_serial_spec.specs.Machine.{Machine, after_reclaim, dead_chunks, is_dead, swept}
+use Rattle.mc_serial_spec.proofs.Bounds.{listed_once}
+use Rattle.mc_serial_spec.proofs.Sweeps.{is_dead-reclaimed}
 
 -- what passes first is in the list
 first_there : (p : ChunkId → Bool) (x : ChunkId) (xs order : List ChunkId) → filter p order ≡ x ∷ xs → (p x ≡ true) × (1 ≤ times x order)

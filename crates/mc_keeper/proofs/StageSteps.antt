@@ -3,10 +3,10 @@ use Rattle.std.proofs.Common.{◌≡◌, ℕ, ◌+◌, ◌-◌, ◌<◌, zero, s
 use Rattle.std.specs.Prelude.{OnErr, nat_lt, if◌then◌else◌}
 use Rattle.std.proofs.lemmas.Option.{same_Some}
 use Rattle.std.proofs.lemmas.List.Elements.{Contains-append_left, Contains-append_right}
-use Rattle.mc_machine.specs.Automove.{decision, with_window}
-use Rattle.mc_machine.specs.Lines.{acted}
-use Rattle.mc_machine.specs.Machine.{Machine, all_swept}
-use Rattle.mc_machine.specs.Mover.{Counted, Turned, is_went, most_turns, turned, turns_from, with_chunk, with_chunks}
+use Rattle.mc_serial_spec.specs.Automove.{decision, with_window}
+use Rattle.mc_serial_spec.specs.Lines.{acted}
+use Rattle.mc_serial_spec.specs.Machine.{Machine, all_swept}
+use Rattle.mc_serial_spec.specs.Mover.{Counted, Turned, is_went, most_turns, turned, turns_from, with_chunk, with_chunks}
 use Rattle.mc_keeper.specs.Stages.{look_stages, stages_from, turn_stages, window_stages, with_source_swept}
 
 -- what holds whatever the result

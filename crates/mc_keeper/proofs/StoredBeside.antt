@@ -4,9 +4,9 @@ use Rattle.std.specs.declared.cmp.Ordering.{Ordering}
 use Rattle.std.specs.declared.cmp.Ordering.TheVariants.{Less, Equal, Greater}
 use Rattle.std.specs.BTreeMap.{is_at}
 use Rattle.mc_pages.specs.declared.ids.ChunkId.{ChunkId}
-use Rattle.mc_machine.specs.Item.{Item, unlinked}
-use Rattle.mc_machine.specs.Items.{Items, chunk_cmp, item_at, unlinked_in, with_item, PlacedItem, with_changed_item}
-use Rattle.mc_machine.proofs.KeptStore.{is_at-tells}
+use Rattle.mc_serial_spec.specs.Item.{Item, unlinked}
+use Rattle.mc_serial_spec.specs.Items.{Items, chunk_cmp, item_at, unlinked_in, with_item, PlacedItem, with_changed_item}
+use Rattle.mc_serial_spec.proofs.KeptStore.{is_at-tells}
 
 -- the new chunk is found empty, and the old one is another
 module _ (old new : ChunkId) (item : Item) (apart : is_at (chunk_cmp old) new ≡ false) where

@@ -15,8 +15,8 @@ use Rattle.mc_pages.specs.declared.moves.Reassign.{Reassign}
 use Rattle.mc_pages.specs.Answer.{answer_of, MayAnswer}
 use Rattle.mc_pages.specs.Moves.{after_begin, released, finished}
 use Rattle.mc_watch.specs.Decider.{DeciderState, Window, after_window, evictions_of, fresh_decider, has_fallen, number_of, refusal_of}
-use Rattle.mc_machine.specs.Automove.{eviction_counts, free_counts, page_counts}
-use Rattle.mc_machine.specs.Machine.{with_mode}
+use Rattle.mc_serial_spec.specs.Automove.{eviction_counts, free_counts, page_counts}
+use Rattle.mc_serial_spec.specs.Machine.{with_mode}
 use Rattle.mc_keeper.specs.Kept.{IsWatched}
 use Rattle.mc_pages.proofs.NextPage.{classes-grown}
 

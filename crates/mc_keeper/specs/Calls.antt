@@ -6,11 +6,11 @@ use mathlib.Core.Option.{none}
 use Rattle.mc_pages.specs.declared.moves.Reassign.{Reassign}
 use Rattle.mc_pages.specs.Answer.{answer_of}
 use Rattle.mc_watch.specs.declared.decider.Decision.{Decision}
-use Rattle.mc_machine.specs.Holds.{is_full}
-use Rattle.mc_machine.specs.Items.{item_at, linked_chunk}
-use Rattle.mc_machine.specs.Lines.{last_hold}
-use Rattle.mc_machine.specs.Machine.{Machine}
-use Rattle.mc_machine.specs.Supply.{supply}
+use Rattle.mc_serial_spec.specs.Holds.{is_full}
+use Rattle.mc_serial_spec.specs.Items.{item_at, linked_chunk}
+use Rattle.mc_serial_spec.specs.Lines.{last_hold}
+use Rattle.mc_serial_spec.specs.Machine.{Machine}
+use Rattle.mc_serial_spec.specs.Supply.{supply}
 use Rattle.mc_keeper.specs.declared.keeper.store.Stored.{Stored}
 use Rattle.mc_keeper.specs.declared.keeper.store.Stored.TheVariants.{Yes, TooLarge, NoRoom}
 use Rattle.mc_keeper.specs.declared.keeper.refs.HoldError.{HoldError}

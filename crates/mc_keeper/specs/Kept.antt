@@ -6,11 +6,11 @@ use Rattle.mc_pages.specs.Ledger.{owner_at}
 use Rattle.mc_pages.specs.SlabState.{SlabState, class_of_owner}
 use Rattle.mc_pages.specs.Accounted.{truth}
 use Rattle.mc_watch.specs.Decider.{DeciderState, evictions_of, number_of}
-use Rattle.mc_machine.specs.Automove.{eviction_counts}
-use Rattle.mc_machine.specs.Consistent.{IsConsistent}
-use Rattle.mc_machine.specs.Holds.{Holds, is_held}
-use Rattle.mc_machine.specs.Items.{Items, linked_chunk, PlacedItem}
-use Rattle.mc_parts.specs.Leads.{chunk_of}
+use Rattle.mc_serial_spec.specs.Automove.{eviction_counts}
+use Rattle.mc_serial_spec.specs.Consistent.{IsConsistent}
+use Rattle.mc_serial_spec.specs.Holds.{Holds, is_held}
+use Rattle.mc_serial_spec.specs.Items.{Items, linked_chunk, PlacedItem}
+use Rattle.mc_serial_parts.specs.Leads.{chunk_of}
 use Rattle.mc_keeper.specs.declared.keeper.Keeper.TheInside.{Inside}
 
 -- the index leads each key to the chunk of its item, where it has one

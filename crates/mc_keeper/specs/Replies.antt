@@ -1,7 +1,7 @@
 -- The words of replies, by what the typed calls answer.
 use Rattle.std.specs.Prelude.{ℕ, List, codes, Result, Ok, Err}
 use Rattle.mc_pages.specs.declared.moves.Reassign.{Reassign}
-use Rattle.mc_machine.specs.Lines.{name_of}
+use Rattle.mc_serial_spec.specs.Lines.{name_of}
 use Rattle.mc_keeper.specs.declared.keeper.store.Stored.{Stored}
 use Rattle.mc_keeper.specs.declared.keeper.store.Stored.TheVariants.{Yes, TooLarge, NoRoom}
 

@@ -6,15 +6,15 @@ use Rattle.mc_pages.specs.declared.ids.Moving.{Moving}
 use Rattle.mc_pages.specs.Answer.{answer_of}
 use Rattle.mc_script.specs.declared.command.Command.{Command}
 use Rattle.mc_script.specs.declared.command.Command.TheVariants as command
-use Rattle.mc_machine.specs.declared.turn.Counts.{Counts}
-use Rattle.mc_machine.specs.declared.turn.Ending.TheVariants.{Idle}
-use Rattle.mc_machine.specs.Automove.{begun, decision, with_window}
-use Rattle.mc_machine.specs.Item.{item_bytes, words_from}
-use Rattle.mc_machine.specs.Items.{linked_chunk}
-use Rattle.mc_machine.specs.Lines.{acted, deleted, set_in, with_stored}
-use Rattle.mc_machine.specs.Machine.{Machine, all_swept, swept, with_mode}
-use Rattle.mc_machine.specs.Mover.{Counted, Turned, is_went, no_counts, turned, with_chunk}
-use Rattle.mc_machine.specs.Supply.{supplied, supply}
+use Rattle.mc_serial_spec.specs.declared.turn.Counts.{Counts}
+use Rattle.mc_serial_spec.specs.declared.turn.Ending.TheVariants.{Idle}
+use Rattle.mc_serial_spec.specs.Automove.{begun, decision, with_window}
+use Rattle.mc_serial_spec.specs.Item.{item_bytes, words_from}
+use Rattle.mc_serial_spec.specs.Items.{linked_chunk}
+use Rattle.mc_serial_spec.specs.Lines.{acted, deleted, set_in, with_stored}
+use Rattle.mc_serial_spec.specs.Machine.{Machine, all_swept, swept, with_mode}
+use Rattle.mc_serial_spec.specs.Mover.{Counted, Turned, is_went, no_counts, turned, with_chunk}
+use Rattle.mc_serial_spec.specs.Supply.{supplied, supply}
 
 -- the item is in this chunk, if there is one, and no page was asked for yet
 abbrev pub placed : Machine → ℕ → ℕ → List ℕ → Option ChunkId → Machine

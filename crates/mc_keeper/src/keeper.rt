@@ -1,7 +1,7 @@
 //! The plain keeper: what one thread stores.
 ghost use Rattle.std.specs.Prelude.{◌≡◌, ◌≤◌, IfOk};
 ghost use Rattle.mc_classes.specs.Classes.{IsSound};
-ghost use Rattle.mc_machine.specs.Machine.{fresh_machine};
+ghost use Rattle.mc_serial_spec.specs.Machine.{fresh_machine};
 
 mod automove;
 mod evict;
@@ -19,7 +19,7 @@ pub use automove::Acted;
 use mc_classes::ClassTable;
 use mc_memory::Refused;
 use mc_pages::Slabs;
-use mc_parts::{DeadCounts, Holds, ItemTable, KeyIndex};
+use mc_serial_parts::{DeadCounts, Holds, ItemTable, KeyIndex};
 use mc_watch::Decider;
 use noted::DeadHints;
 pub use refs::{HoldError, TooManyRefs};
@@ -52,7 +52,7 @@ pub struct Keeper {
 }
 
 impl Model for Keeper {
-    ghost use Rattle.mc_machine.specs.Machine.{Machine};
+    ghost use Rattle.mc_serial_spec.specs.Machine.{Machine};
 
     ghost Value = { Machine };
 

@@ -4,8 +4,8 @@ use Rattle.std.specs.Option.{is_some, option_and_then, option_map_or}
 use Rattle.mc_classes.specs.Classes.{Classes, class_of, per_page_of, size_of}
 use Rattle.mc_pages.specs.ClassState.{numbers_of}
 use Rattle.mc_pages.specs.SlabState.{class_at}
-use Rattle.mc_machine.specs.Item.{item_bytes}
-use Rattle.mc_machine.specs.Machine.{Machine}
+use Rattle.mc_serial_spec.specs.Item.{item_bytes}
+use Rattle.mc_serial_spec.specs.Machine.{Machine}
 use Rattle.mc_keeper.specs.Calls.{words_of}
 use Rattle.mc_map.specs.declared.kept.ClassLine.{ClassLine}
 

@@ -8,8 +8,8 @@ use Rattle.mc_pages.specs.ClassState.{numbers_of}
 use Rattle.mc_pages.specs.SlabState.{SlabState, class_at, totals_of}
 use Rattle.mc_script.specs.declared.command.Command.{Command}
 use Rattle.mc_script.specs.declared.command.Command.TheVariants as command
-use Rattle.mc_machine.specs.Item.{item_bytes}
-use Rattle.mc_machine.specs.Machine.{Machine}
+use Rattle.mc_serial_spec.specs.Item.{item_bytes}
+use Rattle.mc_serial_spec.specs.Machine.{Machine}
 use Rattle.mc_map.specs.declared.kept.ClassLine.{ClassLine}
 use Rattle.mc_map.specs.declared.map.Map.{Map}
 use Rattle.mc_map.specs.Agree.{Agrees}

@@ -1,7 +1,7 @@
 //! What each class keeps: its pages, and what is in its chunks.
 ghost use Rattle.std.specs.Prelude.{◌≡◌, ℕ, ◌≤◌, ◌^◌, length, IfOk, IfSome};
 ghost use Rattle.mc_pages.specs.SlabState.{IsClass};
-ghost use Rattle.mc_machine.specs.Item.{item_bytes};
+ghost use Rattle.mc_serial_spec.specs.Item.{item_bytes};
 ghost use Rattle.mc_map.specs.Kept.{asked_bytes, bytes_as, bytes_in, linked_count, IsLine};
 
 use crate::items::Items;

@@ -13,8 +13,8 @@ use Rattle.mc_mover.specs.declared.counts.Turn.{Turn}
 use Rattle.mc_mover.specs.declared.counts.Turn.TheVariants.{Idle, Went, Finished}
 use Rattle.mc_mover.specs.Telling.{counts_in}
 use Rattle.mc_mover.specs.Turning.{AreBelow, LooksFrom, Turns, counted, counts_of, no_counts}
-use Rattle.mc_machine.specs.declared.turn.Counts.{Counts}
-use Rattle.mc_machine.specs.Mover.{AreAtMost}
+use Rattle.mc_serial_spec.specs.declared.turn.Counts.{Counts}
+use Rattle.mc_serial_spec.specs.Mover.{AreAtMost}
 use Rattle.mc_workers.specs.Moving.{counts_of_all, counts_with}
 use Rattle.mc_workers.proofs.Tellable.{taken_of_table}
 

@@ -6,10 +6,10 @@ use Rattle.mc_words.specs.declared.hand.Hand.{Hand}
 use Rattle.mc_mover.specs.declared.counts.Turn.{Turn}
 use Rattle.mc_mover.specs.Acting.{ActsOnce, TellsTurn}
 use Rattle.mc_mover.specs.Turning.{Turns}
-use Rattle.mc_machine.specs.declared.turn.Counts.{Counts}
-use Rattle.mc_machine.specs.declared.turn.Ending.{Ending}
-use Rattle.mc_machine.specs.declared.turn.Ending.TheVariants.{Went}
-use Rattle.mc_machine.specs.Mover.{AreAtMost, no_counts}
+use Rattle.mc_serial_spec.specs.declared.turn.Counts.{Counts}
+use Rattle.mc_serial_spec.specs.declared.turn.Ending.{Ending}
+use Rattle.mc_serial_spec.specs.declared.turn.Ending.TheVariants.{Went}
+use Rattle.mc_serial_spec.specs.Mover.{AreAtMost, no_counts}
 use Rattle.mc_workers.specs.declared.mover.Mover.{Mover}
 use Rattle.mc_workers.specs.Moving.{DoesTurns, RunsOutOfTurns, TurnsEach, WentOn, counts_of_all, counts_with, ending_of}
 use Rattle.mc_workers.proofs.TurnCounts.{counts_push, more_counts, turn_few}

@@ -14,9 +14,9 @@ use Rattle.mc_watch.specs.declared.decider.Decision.{Decision}
 use Rattle.mc_watch.specs.declared.refusal.Feed.{Feed}
 use Rattle.mc_watch.specs.Decider.{DeciderState, after_window}
 use Rattle.mc_watch.specs.Texts.{line, stat_line}
-use Rattle.mc_machine.specs.declared.turn.Counts.{Counts}
-use Rattle.mc_machine.specs.declared.turn.Ending.{Ending}
-use Rattle.mc_machine.specs.declared.turn.Ending.TheVariants.{Idle, Went, Finished}
+use Rattle.mc_serial_spec.specs.declared.turn.Counts.{Counts}
+use Rattle.mc_serial_spec.specs.declared.turn.Ending.{Ending}
+use Rattle.mc_serial_spec.specs.declared.turn.Ending.TheVariants.{Idle, Went, Finished}
 use Rattle.mc_workers.specs.declared.mover.Mover.{Mover}
 use Rattle.mc_workers.specs.declared.mover_reply.Acted.{Acted}
 use Rattle.mc_workers.specs.declared.mover_reply.MoverReply.TheVariants as reply

@@ -6,8 +6,8 @@ use Rattle.mc_pages.specs.Accounted.{truth}
 use Rattle.mc_mover.specs.Surveying.{free_in, pages_in}
 use Rattle.mc_mover.specs.declared.numbers.Survey.{Survey}
 use Rattle.mc_watch.specs.Texts.{general_text, line, slabs_text}
-use Rattle.mc_machine.specs.Lines.{name_of}
-use Rattle.mc_machine.specs.Texts.{spaced, turn_line}
+use Rattle.mc_serial_spec.specs.Lines.{name_of}
+use Rattle.mc_serial_spec.specs.Texts.{spaced, turn_line}
 use Rattle.mc_workers.specs.declared.mover_reply.Acted.{Acted}
 use Rattle.mc_workers.specs.declared.mover_reply.MoverReply.{MoverReply}
 use Rattle.mc_workers.specs.declared.mover_reply.MoverReply.TheVariants.{Answer, Mode, Window, Turned, Totals, Classes as OfClasses}

@@ -22,10 +22,10 @@ use Rattle.mc_script.specs.declared.command.Command.TheVariants as command
 use Rattle.mc_watch.specs.declared.decider.Decision.{Decision}
 use Rattle.mc_watch.specs.declared.refusal.Feed.{Feed}
 use Rattle.mc_watch.specs.Decider.{DeciderState, after_window, decision_of, refusal_of}
-use Rattle.mc_machine.specs.declared.turn.Counts.{Counts}
-use Rattle.mc_machine.specs.declared.turn.Ending.{Ending}
-use Rattle.mc_machine.specs.declared.turn.Ending.TheVariants.{Idle, Went, Finished}
-use Rattle.mc_machine.specs.Mover.{no_counts}
+use Rattle.mc_serial_spec.specs.declared.turn.Counts.{Counts}
+use Rattle.mc_serial_spec.specs.declared.turn.Ending.{Ending}
+use Rattle.mc_serial_spec.specs.declared.turn.Ending.TheVariants.{Idle, Went, Finished}
+use Rattle.mc_serial_spec.specs.Mover.{no_counts}
 use Rattle.mc_workers.specs.declared.mover.Mover.{Mover}
 use Rattle.mc_workers.specs.declared.mover_reply.Acted.{Acted}
 use Rattle.mc_workers.specs.declared.mover_reply.MoverReply.{MoverReply}

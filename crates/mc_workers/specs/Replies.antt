@@ -1,6 +1,6 @@
 -- The text of a worker's reply.
 use Rattle.std.specs.Prelude.{ℕ, List, codes}
-use Rattle.mc_machine.specs.Texts.{key_line, words_line}
+use Rattle.mc_serial_spec.specs.Texts.{key_line, words_line}
 use Rattle.mc_workers.specs.declared.reply.Reply.{Reply}
 use Rattle.mc_workers.specs.declared.reply.Reply.TheVariants.{Stored, TooLarge, NoRoom, WornOut, Value, Held, Dropped, Deleted, Touched, NotFound, NotHeld, TooManyRefs}
 

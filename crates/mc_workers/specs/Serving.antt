@@ -14,7 +14,7 @@ use Rattle.mc_items.specs.ItemRefs.{item_chunk, item_len, item_stamp, item_words
 use Rattle.mc_items.specs.OnKeys.{ActsOn, Gets, TellsOfGet, TellsOn, stripe_of_key}
 use Rattle.mc_items.specs.Reading.{words_seen}
 use Rattle.mc_items.specs.Setting.{RefusesSet, SetsItem, TellsSet}
-use Rattle.mc_machine.specs.Item.{words_from}
+use Rattle.mc_serial_spec.specs.Item.{words_from}
 use Rattle.mc_script.specs.declared.command.Command.{Command}
 use Rattle.mc_script.specs.declared.command.Command.TheVariants as command
 use Rattle.mc_workers.specs.declared.reply.Reply.{Reply}

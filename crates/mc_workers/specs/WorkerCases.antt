@@ -5,7 +5,7 @@ use Rattle.mc_words.specs.hand.View.{Setup, View}
 use Rattle.mc_words.specs.hand.Views.{chunk_released}
 use Rattle.mc_items.specs.declared.refs.Ref.{Ref}
 use Rattle.mc_items.specs.ItemRefs.{item_chunk, item_key}
-use Rattle.mc_machine.specs.Texts.{key_line}
+use Rattle.mc_serial_spec.specs.Texts.{key_line}
 use Rattle.mc_script.specs.declared.command.Command.{Command}
 use Rattle.mc_script.specs.declared.command.Command.TheVariants.{Set, Get, Drop, Touch, Turn}
 use Rattle.mc_workers.specs.declared.reply.Reply.TheVariants.{Stored, NotFound, NotHeld, Held}

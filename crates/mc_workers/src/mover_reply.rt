@@ -5,11 +5,11 @@ ghost use Rattle.mc_workers.specs.MoverReplies.{CanTell, mover_text, told_name};
 
 use crate::statistics::{push_classes, push_totals};
 use mc_classes::ClassTable;
-use mc_machine::{Counts, Ending};
 use mc_memory::Refused;
 use mc_mover::Survey;
 use mc_pages::Reassign;
-use mc_parts::{push_answer, push_turn_line, push_window_line};
+use mc_serial_parts::{push_answer, push_turn_line, push_window_line};
+use mc_serial_spec::{Counts, Ending};
 use mc_stripe::Trim;
 use mc_watch::Decision;
 use std::marker::Brand;

@@ -1,6 +1,6 @@
 //! Lines that store an item.
 ghost use Rattle.std.specs.Prelude.{◌≡◌, ◌≤◌, IfOk, OnOk};
-ghost use Rattle.mc_machine.specs.Item.{words_from};
+ghost use Rattle.mc_serial_spec.specs.Item.{words_from};
 ghost use Rattle.mc_words.specs.hand.Arenas.{view};
 ghost use Rattle.mc_words.specs.item.Refs.{KeepsRefs};
 ghost use Rattle.mc_workers.specs.Hands.{IsReadyHandOf, StaysHolding};

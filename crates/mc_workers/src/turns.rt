@@ -1,6 +1,6 @@
 //! Turns of the mover, one after another.
 ghost use Rattle.std.specs.Prelude.{◌≡◌, ◌≢◌, ◌≤◌, ◌^◌, IfOk, Err};
-ghost use Rattle.mc_machine.specs.Mover.{AreAtMost};
+ghost use Rattle.mc_serial_spec.specs.Mover.{AreAtMost};
 ghost use Rattle.mc_mover.specs.Telling.{counts_in};
 ghost use Rattle.mc_mover.specs.Turning.{AreBelow};
 ghost use Rattle.mc_workers.specs.Hands.{IsReadyHandOf, StaysHolding};
@@ -8,8 +8,8 @@ ghost use Rattle.mc_workers.specs.Moving.{DoesTurns, RunsOutOfTurns, counts_with
 
 use crate::ended::Ended;
 use crate::mover::Mover;
-use mc_machine::{Counts, Ending};
 use mc_mover::{Turn, turn};
+use mc_serial_spec::{Counts, Ending};
 use mc_words::{Arena, Hand};
 use std::sync::Wait;
 

@@ -4,8 +4,8 @@ use Rattle.std.specs.Option.{option_map}
 use Rattle.std.specs.Prelude.{slice_range, OnOk, Result, Ok, Err}
 use Rattle.std.proofs.Math.Seq.{drop-cons}
 use Rattle.mc_script.specs.declared.command.Command.{Command}
-use Rattle.mc_machine.specs.Lines.{serve}
-use Rattle.mc_machine.specs.Machine.{Machine}
+use Rattle.mc_serial_spec.specs.Lines.{serve}
+use Rattle.mc_serial_spec.specs.Machine.{Machine}
 use Rattle.mc_map.specs.Books.{Book}
 use Rattle.mc_map.specs.Map.{books_after}
 use Rattle.mc_map.specs.declared.script.Mark.{Mark}

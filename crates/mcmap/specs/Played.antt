@@ -2,11 +2,11 @@
 use Rattle.std.specs.Prelude.{◌≡◌, ℕ, ◌==◌, if◌then◌else◌, List, [], ◌∷◌, ◌++◌, codes, decimal, length, max, min, slice_range, Some}
 use Rattle.std.specs.Option.{option_map}
 use Rattle.mc_script.specs.declared.command.Command.{Command}
-use Rattle.mc_machine.specs.Lines.{serve}
-use Rattle.mc_machine.specs.Machine.{Machine}
+use Rattle.mc_serial_spec.specs.Lines.{serve}
+use Rattle.mc_serial_spec.specs.Machine.{Machine}
 use Rattle.mc_classes.specs.declared.config.Config.{Config}
 use Rattle.mc_classes.specs.Classes.{Classes, IsTableOf, pages_of}
-use Rattle.mc_machine.specs.Machine.{fresh_machine}
+use Rattle.mc_serial_spec.specs.Machine.{fresh_machine}
 use Rattle.mc_options.specs.declared.settings.Run.{Run}
 use Rattle.mc_map.specs.Books.{Book, fresh_books}
 use Rattle.mc_map.specs.declared.map.Map.{Map}

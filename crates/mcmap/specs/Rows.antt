@@ -9,7 +9,7 @@ use Rattle.mc_map.specs.declared.map.Map.{Map}
 use Rattle.mc_map.specs.declared.script.Mark.{Mark}
 use Rattle.mcmap.specs.Checked.{wrong_count}
 use Rattle.mcmap.specs.Json.{class_json, entry_json, hang_json, map_members, moving_json, owner_json, totals_json}
-use Rattle.mc_machine.specs.Machine.{Machine}
+use Rattle.mc_serial_spec.specs.Machine.{Machine}
 use Rattle.mc_map.specs.Books.{Book}
 use Rattle.mcmap.specs.Played.{IsShown, ShowsMaps, done_at, place_text}
 use Rattle.mcmap.specs.declared.show.Form.{Form}

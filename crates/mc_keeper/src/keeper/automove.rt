@@ -1,9 +1,9 @@
 //! Pages that begin to move: as is asked, as an eviction asks, and as the automover decides at a window's end.
 ghost use Rattle.std.specs.Prelude.{◌≡◌, ◌≤◌, IfOk, OnErr, OnOk, None, Some, Contains};
 ghost use Rattle.mc_pages.specs.Answer.{answer_of, MayAnswer};
-ghost use Rattle.mc_machine.specs.Automove.{begun, decision, with_asked_page, with_window};
-ghost use Rattle.mc_machine.specs.Lines.{acted};
-ghost use Rattle.mc_machine.specs.Machine.{all_swept, with_mode};
+ghost use Rattle.mc_serial_spec.specs.Automove.{begun, decision, with_asked_page, with_window};
+ghost use Rattle.mc_serial_spec.specs.Lines.{acted};
+ghost use Rattle.mc_serial_spec.specs.Machine.{all_swept, with_mode};
 ghost use Rattle.mc_keeper.specs.Calls.{acted_answer, told_answer};
 ghost use Rattle.mc_keeper.specs.Stages.{reassign_stages, window_stages};
 

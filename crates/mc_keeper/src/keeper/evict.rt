@@ -2,8 +2,8 @@
 ghost use Rattle.std.specs.Prelude.{◌≡◌, true, Contains, IfOk, OnErr, OnOk, Some};
 ghost use Rattle.std.specs.Option.{is_some};
 ghost use Rattle.mc_pages.specs.SlabState.{IsClass, class_at};
-ghost use Rattle.mc_machine.specs.Machine.{is_linked_unheld, swept};
-ghost use Rattle.mc_machine.specs.Supply.{evicts, victim, with_eviction, supplied};
+ghost use Rattle.mc_serial_spec.specs.Machine.{is_linked_unheld, swept};
+ghost use Rattle.mc_serial_spec.specs.Supply.{evicts, victim, with_eviction, supplied};
 
 use super::Keeper;
 use mc_classes::ClassId;
@@ -15,7 +15,7 @@ const TRIES: u64 = 5;
 
 impl Keeper {
     /// Sees to it that the class has a free chunk, where there is a way to one. Says whether an item was evicted for it.
-    #[tactic(auto, using(mc_machine::proofs::Stocks::class_stays))]
+    #[tactic(auto, using(mc_serial_spec::proofs::Stocks::class_stays))]
     pub(super) fn supply(&mut self, class: ClassId) -> Result<bool, Refused>
         requires { IsClass self.old.slabs class }
         ensures evicted { IfOk result (λ evicted. evicted ≡ evicts self.old class) }

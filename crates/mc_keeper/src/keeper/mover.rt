@@ -4,20 +4,20 @@ ghost use Rattle.std.specs.Option.{option_map};
 ghost use Rattle.mc_pages.specs.SlabState.{IsClass, class_of_page, class_of_chunk};
 ghost use Rattle.mc_pages.specs.Accounted.{is_cleared, is_cut};
 ghost use Rattle.mc_pages.specs.Moves.{CanFinish, is_held_up};
-ghost use Rattle.mc_machine.specs.declared.turn.Counts.{Counts};
-ghost use Rattle.mc_machine.specs.Items.{item_at};
-ghost use Rattle.mc_machine.specs.Machine.{is_dead, is_linked_unheld, swept};
-ghost use Rattle.mc_machine.specs.Mover.{AreAtMost, after_turns, is_at_end, looked_at, no_counts, saved, target, turned, with_chunk, with_chunks, with_cleared, with_end, with_finish, with_saved};
+ghost use Rattle.mc_serial_spec.specs.declared.turn.Counts.{Counts};
+ghost use Rattle.mc_serial_spec.specs.Items.{item_at};
+ghost use Rattle.mc_serial_spec.specs.Machine.{is_dead, is_linked_unheld, swept};
+ghost use Rattle.mc_serial_spec.specs.Mover.{AreAtMost, after_turns, is_at_end, looked_at, no_counts, saved, target, turned, with_chunk, with_chunks, with_cleared, with_end, with_finish, with_saved};
 ghost use Rattle.mc_keeper.specs.Stages.{look_stages, turn_stages, turns_stages, with_source_swept};
 
 use super::Keeper;
 use super::pages::cut_page;
 use super::serve::Stop;
 use mc_classes::{ClassId, PageId};
-use mc_machine::{Counts, Ending};
 use mc_memory::Refused;
 use mc_pages::{ChunkId, Found, Moving};
-use mc_parts::class_of;
+use mc_serial_parts::class_of;
+use mc_serial_spec::{Counts, Ending};
 
 /// The most turns of a run (own).
 const MAX_TURNS: u64 = 1_000_000;

@@ -1,12 +1,12 @@
 //! Which chunks died since their class was swept last, so that a sweep finds them without a walk.
 ghost use Rattle.std.specs.Prelude.{◌≡◌, ◌-◌, ◌≤◌, if◌then◌else◌, Some, slice_set};
 ghost use Rattle.mc_pages.specs.SlabState.{IsClass, class_of_page};
-ghost use Rattle.mc_machine.specs.Holds.{is_held};
+ghost use Rattle.mc_serial_spec.specs.Holds.{is_held};
 
 use mc_classes::ClassId;
 use mc_memory::{Refused, filled};
 use mc_pages::{ChunkId, Slabs};
-use mc_parts::{Holds, LastDead, class_of};
+use mc_serial_parts::{Holds, LastDead, class_of};
 use std::alloc::Global;
 
 /// How many chunks of a class are noted. Where more die, a sweep walks (own).

@@ -3,7 +3,7 @@ ghost use Rattle.std.specs.Prelude.{◌≡◌, ◌≤◌, ◌<◌, None, Some, O
 ghost use Rattle.mc_pages.specs.SlabState.{IsClass, class_of_chunk};
 ghost use Rattle.mc_pages.specs.Changes.{after_cut, next_page};
 ghost use Rattle.mc_pages.specs.Accounted.{IsAccounted, first_chunks};
-ghost use Rattle.mc_machine.specs.Machine.{has_free, stocked, swept, with_new_page};
+ghost use Rattle.mc_serial_spec.specs.Machine.{has_free, stocked, swept, with_new_page};
 
 use super::Keeper;
 use mc_classes::{ClassId, PageId};
@@ -13,7 +13,7 @@ use mc_pages::{Grow, Slabs};
 impl Keeper {
     /// Sees to it that the class has a free chunk, where there is a way: its dead are put back, and else it
     /// gets a page.
-    #[tactic(auto, using(mc_machine::proofs::Stocks::class_stays))]
+    #[tactic(auto, using(mc_serial_spec::proofs::Stocks::class_stays))]
     pub(super) fn stock(&mut self, class: ClassId) -> Result<(), Refused>
         requires { IsClass self.old.slabs class }
         ensures after { OnOk result (self.new ≡ stocked self.old class) }

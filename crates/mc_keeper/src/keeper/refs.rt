@@ -4,16 +4,16 @@ ghost use Rattle.std.specs.Borrow.{sem};
 ghost use Rattle.std.specs.Option.{is_some, option_copied, option_map};
 ghost use Rattle.mc_pages.specs.declared.ids.ChunkId.{ChunkId};
 ghost use Rattle.mc_pages.specs.ClassState.{is_chunk};
-ghost use Rattle.mc_machine.specs.Holds.{held_by, is_full, without_hold};
-ghost use Rattle.mc_machine.specs.Items.{has_key, item_at, linked_chunk};
-ghost use Rattle.mc_machine.specs.Lines.{dropped, kept, last_hold, made_youngest};
+ghost use Rattle.mc_serial_spec.specs.Holds.{held_by, is_full, without_hold};
+ghost use Rattle.mc_serial_spec.specs.Items.{has_key, item_at, linked_chunk};
+ghost use Rattle.mc_serial_spec.specs.Lines.{dropped, kept, last_hold, made_youngest};
 ghost use Rattle.mc_keeper.specs.Calls.{held_words, hold_answer, words_of, EndsAs, MayHold};
 
 use super::Keeper;
 use super::noted::note_unheld;
 use mc_memory::Refused;
 use mc_pages::ChunkId;
-use mc_parts::count_unheld;
+use mc_serial_parts::count_unheld;
 
 /// The worker has as many holds as it may have, 255 (own; memcached's references have 16 bits).
 #[derive(Clone, Copy, Debug, PartialEq, Eq)]

@@ -5,11 +5,11 @@ ghost use Rattle.mc_classes.specs.Classes.{class_of};
 ghost use Rattle.mc_pages.specs.Answer.{answer_of};
 ghost use Rattle.mc_script.specs.Command.{IsValid};
 ghost use Rattle.mc_watch.specs.Texts.{line};
-ghost use Rattle.mc_machine.specs.Automove.{decision, with_window};
-ghost use Rattle.mc_machine.specs.Item.{item_bytes, words_from};
-ghost use Rattle.mc_machine.specs.Items.{linked_chunk};
-ghost use Rattle.mc_machine.specs.Lines.{acted, deleted, dropped, general_text_of, kept, last_hold, looked_up, made_youngest, reassigned, serve, set_in, slabs_text_of, IsServed};
-ghost use Rattle.mc_machine.specs.Machine.{all_swept, with_mode};
+ghost use Rattle.mc_serial_spec.specs.Automove.{decision, with_window};
+ghost use Rattle.mc_serial_spec.specs.Item.{item_bytes, words_from};
+ghost use Rattle.mc_serial_spec.specs.Items.{linked_chunk};
+ghost use Rattle.mc_serial_spec.specs.Lines.{acted, deleted, dropped, general_text_of, kept, last_hold, looked_up, made_youngest, reassigned, serve, set_in, slabs_text_of, IsServed};
+ghost use Rattle.mc_serial_spec.specs.Machine.{all_swept, with_mode};
 ghost use Rattle.mc_keeper.specs.Replies.{stored_name, told_name};
 ghost use Rattle.mc_keeper.specs.Stages.{reassign_stages, set_stages, stages, window_stages};
 ghost use Rattle.mc_keeper.specs.declared.keeper.serve.Stop.TheVariants.{NoMemory};
@@ -20,11 +20,11 @@ use super::store::Stored;
 use mc_classes::{Failures, Fault};
 use mc_memory::{Refused, reserve};
 use mc_pages::Reassign;
-use mc_parts::{
+use mc_script::Command;
+use mc_serial_parts::{
     NewWords, TextSink, push_answer, push_key_line, push_turn_line, push_window_line,
     push_words_line,
 };
-use mc_script::Command;
 use mc_watch::{stats_general, stats_slabs};
 use std::marker::Brand;
 use std::sync::ledger::{Blank, Ledger};

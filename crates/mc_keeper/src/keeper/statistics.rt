@@ -2,7 +2,7 @@
 ghost use Rattle.std.specs.Prelude.{◌≡◌, length, IfOk};
 ghost use Rattle.mc_pages.specs.ClassState.{numbers_of};
 ghost use Rattle.mc_pages.specs.SlabState.{IsClass, class_at, totals_of};
-ghost use Rattle.mc_machine.specs.Automove.{eviction_counts, free_counts, page_counts};
+ghost use Rattle.mc_serial_spec.specs.Automove.{eviction_counts, free_counts, page_counts};
 
 use super::Keeper;
 use mc_classes::{ClassId, ClassTable};

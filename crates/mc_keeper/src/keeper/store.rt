@@ -5,11 +5,11 @@ ghost use Rattle.mc_classes.specs.Classes.{class_of};
 ghost use Rattle.mc_pages.specs.ClassState.{first_free};
 ghost use Rattle.mc_pages.specs.SlabState.{IsClass, class_at};
 ghost use Rattle.mc_pages.specs.Changes.{after_pop};
-ghost use Rattle.mc_machine.specs.Items.{linked_chunk, unlinked_items, with_item};
-ghost use Rattle.mc_machine.specs.Item.{item_bytes, new_item};
-ghost use Rattle.mc_machine.specs.Lines.{deleted, set_in, stored};
-ghost use Rattle.mc_machine.specs.Supply.{asks_for_page, supplied, supply};
-ghost use Rattle.mc_parts.specs.NewWords.{words_in};
+ghost use Rattle.mc_serial_spec.specs.Items.{linked_chunk, unlinked_items, with_item};
+ghost use Rattle.mc_serial_spec.specs.Item.{item_bytes, new_item};
+ghost use Rattle.mc_serial_spec.specs.Lines.{deleted, set_in, stored};
+ghost use Rattle.mc_serial_spec.specs.Supply.{asks_for_page, supplied, supply};
+ghost use Rattle.mc_serial_parts.specs.NewWords.{words_in};
 ghost use Rattle.mc_keeper.specs.Calls.{stored_answer};
 ghost use Rattle.mc_keeper.specs.Stages.{set_stages, store_stages};
 
@@ -18,7 +18,7 @@ use super::noted::note_unheld;
 use mc_classes::ClassId;
 use mc_memory::Refused;
 use mc_pages::ChunkId;
-use mc_parts::{NewWords, count_unheld};
+use mc_serial_parts::{NewWords, count_unheld};
 
 /// Whether an item was stored.
 #[derive(Clone, Copy, Debug, PartialEq, Eq)]
@@ -69,7 +69,7 @@ impl Keeper {
     /// Stores an item of these words in a chunk of the class, in the place of the key's old one,
     /// and says whether there was a chunk for it. Where there is none, the old item stays, unless it was the one evicted. In
     /// mode 2 of the automover an eviction asks for a page (after memcached's `slabs automove 2`).
-    #[tactic(auto, using(mc_machine::proofs::Stocks::store_steps))]
+    #[tactic(auto, using(mc_serial_spec::proofs::Stocks::store_steps))]
     fn store(&mut self, class: ClassId, key: u64, words: NewWords) -> Result<bool, Refused>
         requires { IsClass self.old.slabs class }
         ensures stored { IfOk result (λ stored. stored ≡ is_some (supply self.old class)) }

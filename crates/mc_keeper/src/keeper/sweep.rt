@@ -1,13 +1,13 @@
 //! Dead chunks are put back: those that neither a key leads to nor anybody holds.
 ghost use Rattle.std.specs.Prelude.{◌≡◌, nat_lt, true, [], ◌∷◌, Contains, IfSome, length};
 ghost use Rattle.mc_pages.specs.SlabState.{IsClass, class_at, class_of_page, class_of_chunk};
-ghost use Rattle.mc_machine.specs.Machine.{dead_chunks, is_dead, is_linked_unheld, swept, all_swept, after_reclaim};
+ghost use Rattle.mc_serial_spec.specs.Machine.{dead_chunks, is_dead, is_linked_unheld, swept, all_swept, after_reclaim};
 
 use super::Keeper;
 use super::noted::DeadNotes;
 use mc_classes::ClassId;
 use mc_pages::ChunkId;
-use mc_parts::class_of;
+use mc_serial_parts::class_of;
 use std::mem;
 
 impl Keeper {

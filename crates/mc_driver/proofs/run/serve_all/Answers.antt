@@ -3,8 +3,8 @@ use Rattle.std.proofs.lemmas.Result.{err_from_is_err_and}
 use Rattle.std.proofs.KnownBytes.{Appends-trans}
 use Rattle.mc_script.specs.declared.command.Command.{Command}
 use Rattle.mc_script.specs.declared.command.Command.TheVariants.{Set}
-use Rattle.mc_machine.specs.Machine.{Machine}
-use Rattle.mc_machine.specs.Lines.{Served, serve, after_all}
+use Rattle.mc_serial_spec.specs.Machine.{Machine}
+use Rattle.mc_serial_spec.specs.Lines.{Served, serve, after_all}
 use Rattle.mc_driver.proofs.Replies.{replies_more, after_more, ends_there}
 use Rattle.mc_driver.proofs.run.serve_all.Goals as goal
 

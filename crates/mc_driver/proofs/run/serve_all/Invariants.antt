@@ -1,6 +1,6 @@
 use Rattle.std.proofs.Common.{◌≡◌, take, Some}
 use Rattle.std.specs.Io.KnownBytes.{Appends}
-use Rattle.mc_machine.specs.Lines.{replies_to, after_all}
+use Rattle.mc_serial_spec.specs.Lines.{replies_to, after_all}
 use Rattle.mc_driver.proofs.run.serve_all.Given as goal
 
 -- the commands so far are done, and their replies written

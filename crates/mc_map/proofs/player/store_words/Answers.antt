@@ -1,9 +1,9 @@
 use Rattle.std.proofs.Common.{◌≡◌, ℕ, ◌+◌, ◌%◌, ◌^◌, List, length, ap, ap₂, ◌∙◌}
 use Rattle.std.proofs.lemmas.List.FromFn.{length-map-range_with_len}
 use Rattle.mc_classes.specs.Classes.{class_of}
-use Rattle.mc_machine.specs.Item.{item_bytes, words_from}
-use Rattle.mc_machine.specs.Lines.{set_in}
-use Rattle.mc_machine.specs.Machine.{Machine}
+use Rattle.mc_serial_spec.specs.Item.{item_bytes, words_from}
+use Rattle.mc_serial_spec.specs.Lines.{set_in}
+use Rattle.mc_serial_spec.specs.Machine.{Machine}
 use Rattle.mc_map.proofs.player.store_words.Goals as goal
 
 -- the words that count up are as many as they are to be

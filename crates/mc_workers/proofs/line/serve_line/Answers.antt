@@ -1,7 +1,7 @@
 use Rattle.std.proofs.Common.{IfOk, sym, subst}
 use Rattle.std.proofs.lemmas.Result.{IfOk-weaker}
 use Rattle.mc_words.specs.hand.Arenas.{setup_of, view}
-use Rattle.mc_machine.specs.Item.{words_from}
+use Rattle.mc_serial_spec.specs.Item.{words_from}
 use Rattle.mc_script.specs.declared.command.Command.{Command}
 use Rattle.mc_script.specs.declared.command.Command.TheVariants.{Delete, Get, Set, Touch}
 use Rattle.mc_workers.specs.declared.reply.Reply.{Reply}

@@ -2,7 +2,7 @@ use Rattle.std.proofs.Common.{◌≡◌, List, [], ◌∷◌, ◌++◌, length, 
 use Rattle.std.proofs.lemmas.List.Elements.{All-nil, All-cons, All-head, All-same}
 use Rattle.mc_mover.specs.declared.counts.Turn.{Turn}
 use Rattle.mc_mover.specs.declared.counts.Turn.TheVariants.{Idle, Went, Finished}
-use Rattle.mc_machine.specs.declared.turn.Ending.TheVariants as ending
+use Rattle.mc_serial_spec.specs.declared.turn.Ending.TheVariants as ending
 use Rattle.mc_workers.specs.Moving.{AreTurnsOf, WentOn, ending_of}
 use Rattle.mc_workers.specs.MoverCases.{first_counts, last_counts}
 use Rattle.mc_workers.proofs.mover_laws.turns_go_on_until_done.Goals as goal

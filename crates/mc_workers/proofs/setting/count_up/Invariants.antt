@@ -1,5 +1,5 @@
 use Rattle.std.proofs.Common.{◌≡◌, ◌≤◌}
-use Rattle.mc_machine.specs.Item.{words_from}
+use Rattle.mc_serial_spec.specs.Item.{words_from}
 use Rattle.mc_workers.proofs.setting.count_up.Given as goal
 
 -- the words so far, and there is room for all

@@ -1,8 +1,8 @@
 use Rattle.std.proofs.Common.{◌≡◌, ◌+◌, true, false, not, refl, sym, subst, ◌∙◌, arith}
 use denote.Enum.Bare.{sameb}
-use Rattle.mc_machine.specs.contracts.turn.Ending.{the_type}
-use Rattle.mc_machine.specs.declared.turn.Ending.{Ending}
-use Rattle.mc_machine.specs.declared.turn.Ending.TheVariants.{Idle, Went, Finished}
+use Rattle.mc_serial_spec.specs.contracts.turn.Ending.{the_type}
+use Rattle.mc_serial_spec.specs.declared.turn.Ending.{Ending}
+use Rattle.mc_serial_spec.specs.declared.turn.Ending.TheVariants.{Idle, Went, Finished}
 use Rattle.mc_workers.specs.declared.mover.Mover.{Mover}
 use Rattle.mc_workers.specs.Moving.{DoesTurns, WentOn}
 use Rattle.mc_workers.proofs.TurnCounts.{turn_few}

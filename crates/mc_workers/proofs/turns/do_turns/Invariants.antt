@@ -1,7 +1,7 @@
 use Rattle.std.proofs.Common.{◌≡◌, ◌≤◌}
 use Rattle.mc_words.specs.hand.Arenas.{IsHandOf, view}
 use Rattle.mc_words.specs.hand.Ready.{IsReady}
-use Rattle.mc_machine.specs.declared.turn.Ending.TheVariants.{Went}
+use Rattle.mc_serial_spec.specs.declared.turn.Ending.TheVariants.{Went}
 use Rattle.mc_workers.proofs.TurnsDone.{HaveGone}
 use Rattle.mc_workers.proofs.turns.do_turns.Given as goal
 

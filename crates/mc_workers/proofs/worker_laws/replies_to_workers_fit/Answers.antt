@@ -1,5 +1,5 @@
 use Rattle.std.proofs.Common.{ℕ, List, ◌++◌, codes, ap, append-nil}
-use Rattle.mc_machine.specs.Texts.{key_line}
+use Rattle.mc_serial_spec.specs.Texts.{key_line}
 use Rattle.mc_workers.proofs.worker_laws.replies_to_workers_fit.Goals as goal
 
 pub returns-clause-told : goal.returns-clause-told

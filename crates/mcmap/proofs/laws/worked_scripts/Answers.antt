@@ -1,6 +1,6 @@
 use Rattle.std.proofs.Common.{◌≡◌, ℕ, List, refl, subst}
 use Rattle.std.specs.Fmt.{digits}
-use Rattle.mc_machine.specs.Machine.{Machine}
+use Rattle.mc_serial_spec.specs.Machine.{Machine}
 use Rattle.mc_map.specs.Books.{Book}
 use Rattle.mcmap.specs.Played.{IsShown, place_text}
 use Rattle.mcmap.specs.declared.show.Form.{Form}

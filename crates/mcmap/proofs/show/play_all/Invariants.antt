@@ -1,5 +1,5 @@
 use Rattle.std.proofs.Common.{drop}
-use Rattle.mc_machine.specs.Machine.{Machine}
+use Rattle.mc_serial_spec.specs.Machine.{Machine}
 use Rattle.mc_map.specs.Books.{Book}
 use Rattle.mcmap.specs.Played.{LeadTo}
 use Rattle.mcmap.proofs.show.play_all.Given as goal

@@ -1,11 +1,11 @@
 use Rattle.std.proofs.Common.{◌≡◌, Some, refl, codes}
-use Rattle.mc_machine.specs.Texts.{turn_line}
-use Rattle.mc_machine.specs.declared.turn.Ending.TheVariants.{Idle}
-use Rattle.mc_machine.specs.Mover.{Turned, after_turns, no_counts}
+use Rattle.mc_serial_spec.specs.Texts.{turn_line}
+use Rattle.mc_serial_spec.specs.declared.turn.Ending.TheVariants.{Idle}
+use Rattle.mc_serial_spec.specs.Mover.{Turned, after_turns, no_counts}
 use Rattle.mc_pages.specs.Answer.{answer_of}
 use Rattle.mc_watch.specs.Texts.{line}
-use Rattle.mc_machine.specs.Machine.{all_swept, with_mode}
-use Rattle.mc_machine.specs.Lines.{slabs_text_of, general_text_of, reassigned}
+use Rattle.mc_serial_spec.specs.Machine.{all_swept, with_mode}
+use Rattle.mc_serial_spec.specs.Lines.{slabs_text_of, general_text_of, reassigned}
 use Rattle.mc_keeper.proofs.StageSteps.{on_err, turns_done}
 use Rattle.mc_keeper.proofs.keeper.Keeper.answer.Goals as goal
 

@@ -1,5 +1,5 @@
 use Rattle.std.proofs.Common.{arith}
-use Rattle.mc_machine.proofs.KeptMoverClear.{class_of_item, cleared_after, dead_here, handed_item, kept_cleared}
+use Rattle.mc_serial_spec.proofs.KeptMoverClear.{class_of_item, cleared_after, dead_here, handed_item, kept_cleared}
 use Rattle.std.proofs.lemmas.List.{length-set}
 use Rattle.mc_keeper.proofs.Counted.{counted_reclaimed, dead_unheld, some_dead}
 use Rattle.mc_keeper.proofs.Watched.{watched-clear}

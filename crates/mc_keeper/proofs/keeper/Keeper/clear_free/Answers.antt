@@ -4,9 +4,9 @@ use Rattle.mc_pages.specs.ClassState.{times}
 use Rattle.mc_pages.specs.Changes.{after_clear}
 use Rattle.mc_pages.specs.Accounted.{is_cut, is_cleared, places_in}
 use Rattle.mc_pages.specs.SlabState.{IsClass, class_at, class_of_page}
-use Rattle.mc_machine.specs.Items.{item_at}
-use Rattle.mc_machine.specs.Machine.{Machine}
-use Rattle.mc_machine.proofs.KeptMoverClear.{cleared_after, cleared_there, kept_freed, not_handed, own_from_cut}
+use Rattle.mc_serial_spec.specs.Items.{item_at}
+use Rattle.mc_serial_spec.specs.Machine.{Machine}
+use Rattle.mc_serial_spec.proofs.KeptMoverClear.{cleared_after, cleared_there, kept_freed, not_handed, own_from_cut}
 use Rattle.mc_keeper.proofs.Watched.{watched-clear}
 use Rattle.std.proofs.lemmas.List.{length-set}
 use Rattle.mc_keeper.proofs.Counted.{counted_owned}

@@ -1,6 +1,6 @@
 use Rattle.std.proofs.Common.{◌≡◌, ◌<◌, ap, sym, ◌∙◌, arith, length}
 use Rattle.mc_pages.specs.ClassState.{ClassState}
-use Rattle.mc_machine.specs.Machine.{Machine}
+use Rattle.mc_serial_spec.specs.Machine.{Machine}
 use Rattle.mc_pages.proofs.ClassCounts.{counts_more}
 use Rattle.mc_keeper.proofs.keeper.Keeper.counts.Goals as goal
 

@@ -1,5 +1,5 @@
 use Rattle.std.proofs.Common.{◌≡◌, take}
-use Rattle.mc_machine.specs.Automove.{eviction_counts, free_counts, page_counts}
+use Rattle.mc_serial_spec.specs.Automove.{eviction_counts, free_counts, page_counts}
 use Rattle.mc_keeper.proofs.keeper.Keeper.counts.Given as goal
 
 -- the numbers of the classes below

@@ -5,7 +5,7 @@ use Rattle.std.proofs.lemmas.Option.{none-some}
 use Rattle.mc_watch.specs.declared.decider.Decision.{Decision}
 use Rattle.mc_watch.specs.declared.refusal.Feed.{Feed}
 use Rattle.mc_watch.specs.Decider.{refusal_of}
-use Rattle.mc_machine.specs.Machine.{Machine}
+use Rattle.mc_serial_spec.specs.Machine.{Machine}
 use Rattle.mc_keeper.proofs.Watched.{taken_fed, watched_fed}
 use Rattle.mc_keeper.proofs.keeper.Keeper.decide.Goals as goal
 

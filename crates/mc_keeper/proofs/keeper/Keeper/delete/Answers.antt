@@ -1,8 +1,8 @@
 use Rattle.std.proofs.Common.{◌≡◌, Some, None, sym, ◌∙◌, refl}
-use Rattle.mc_machine.specs.Items.{unlinked_items, linked_chunk}
+use Rattle.mc_serial_spec.specs.Items.{unlinked_items, linked_chunk}
 use Rattle.mc_keeper.proofs.Counted.{counted_unlinked, few_counted, leads_linked}
 use Rattle.mc_keeper.proofs.KeeperMachine.{machine_of}
-use Rattle.mc_machine.proofs.KeptChanges.{kept_unlink, unlinks_found}
+use Rattle.mc_serial_spec.proofs.KeptChanges.{kept_unlink, unlinks_found}
 use Rattle.mc_keeper.proofs.Indexed.{indexed_unlinked}
 use Rattle.mc_keeper.proofs.keeper.Keeper.delete.Goals as goal
 

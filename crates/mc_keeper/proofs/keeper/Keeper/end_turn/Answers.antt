@@ -4,7 +4,7 @@ use Rattle.mc_pages.specs.SlabState.{class_at}
 use Rattle.mc_pages.specs.Accounted.{IsMove, IsAccounted}
 use Rattle.mc_pages.proofs.Kept.{all_cleared_at_end}
 use Rattle.mc_pages.specs.Moves.{after_wrap}
-use Rattle.mc_machine.proofs.KeptMoverPass.{kept_moved, move_here}
+use Rattle.mc_serial_spec.proofs.KeptMoverPass.{kept_moved, move_here}
 use Rattle.mc_keeper.proofs.Counted.{counted_owned}
 use Rattle.mc_keeper.proofs.Watched.{watched-same}
 use Rattle.mc_keeper.proofs.keeper.Keeper.end_turn.Goals as goal

@@ -1,15 +1,15 @@
 use Rattle.std.proofs.Common.{◌≡◌, true, Option, Contains, sym, ap, subst, ◌∙◌, ℕ}
 use Rattle.std.specs.Option.{option_map}
 use Rattle.std.proofs.lemmas.Option.{same_Some}
-use Rattle.mc_machine.specs.Item.{Item}
+use Rattle.mc_serial_spec.specs.Item.{Item}
 use Rattle.std.proofs.lemmas.Bool.{and_parts}
 use Rattle.std.proofs.lemmas.List.{length-set}
 use Rattle.mc_pages.specs.SlabState.{IsClass, class_at}
 use Rattle.mc_pages.specs.Changes.{after_back}
 use Rattle.mc_pages.proofs.HandedOut.{class_of_handed_out}
-use Rattle.mc_machine.specs.Items.{is_linked}
-use Rattle.mc_machine.specs.Machine.{Machine}
-use Rattle.mc_machine.proofs.KeptEvict.{kept_evict, linked_item}
+use Rattle.mc_serial_spec.specs.Items.{is_linked}
+use Rattle.mc_serial_spec.specs.Machine.{Machine}
+use Rattle.mc_serial_spec.proofs.KeptEvict.{kept_evict, linked_item}
 use Rattle.mc_keeper.proofs.Watched.{watched-back, watched-evicted}
 use Rattle.mc_keeper.proofs.Counted.{counted_gone}
 use Rattle.mc_keeper.proofs.Indexed.{indexed_gone}

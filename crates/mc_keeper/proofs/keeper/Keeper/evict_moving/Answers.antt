@@ -1,8 +1,8 @@
 use Rattle.std.proofs.Common.{◌≡◌, Option, ap, ◌∙◌, arith}
 use Rattle.std.specs.Option.{option_map}
 use Rattle.std.proofs.lemmas.Option.{none-some, same_Some}
-use Rattle.mc_machine.specs.Item.{Item}
-use Rattle.mc_machine.proofs.KeptMoverClear.{cleared_after, idle_here, handed_item, kept_cleared}
+use Rattle.mc_serial_spec.specs.Item.{Item}
+use Rattle.mc_serial_spec.proofs.KeptMoverClear.{cleared_after, idle_here, handed_item, kept_cleared}
 use Rattle.mc_keeper.proofs.Watched.{watched-clear}
 use Rattle.std.proofs.lemmas.List.{length-set}
 use Rattle.mc_keeper.proofs.Counted.{counted_gone}

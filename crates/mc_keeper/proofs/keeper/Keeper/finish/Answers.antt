@@ -5,9 +5,9 @@ use Rattle.mc_pages.specs.Accounted.{IsMove, first_chunks}
 use Rattle.mc_pages.specs.Changes.{after_cut}
 use Rattle.mc_pages.specs.Moves.{CanFinish, after_finish, finished}
 use Rattle.mc_pages.specs.SlabState.{SlabState, IsClass}
-use Rattle.mc_machine.specs.Machine.{Machine}
-use Rattle.mc_machine.proofs.Grown.{per_page_kept}
-use Rattle.mc_machine.proofs.KeptMoverFinish.{Arrives, arrives, arrives_cut, finish_view, kept_pooled, kept_recut, per_page_finished, per_page_there}
+use Rattle.mc_serial_spec.specs.Machine.{Machine}
+use Rattle.mc_serial_spec.proofs.Grown.{per_page_kept}
+use Rattle.mc_serial_spec.proofs.KeptMoverFinish.{Arrives, arrives, arrives_cut, finish_view, kept_pooled, kept_recut, per_page_finished, per_page_there}
 use Rattle.mc_keeper.proofs.Watched.{watched-finished, watched-recut}
 use Rattle.mc_keeper.proofs.Counted.{counted_moved}
 use Rattle.mc_keeper.proofs.keeper.Keeper.finish.Goals as goal

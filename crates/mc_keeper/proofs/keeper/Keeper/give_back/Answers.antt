@@ -4,13 +4,13 @@ use Rattle.std.proofs.lemmas.Bool.Decides.{nat_tests}
 use Rattle.std.proofs.lemmas.Option.{same_Some}
 use Rattle.mc_pages.specs.declared.ids.ChunkId.{ChunkId}
 use Rattle.mc_pages.specs.ClassState.{is_chunk}
-use Rattle.mc_machine.specs.Item.{Item}
-use Rattle.mc_machine.specs.Items.{item_at}
-use Rattle.mc_machine.specs.Holds.{held_by}
-use Rattle.mc_machine.specs.Machine.{Machine}
-use Rattle.mc_machine.proofs.KeptChanges.{place_once}
-use Rattle.mc_machine.proofs.KeptMoverClear.{class_of_item}
-use Rattle.mc_parts.proofs.FoundHolds.{found_held}
+use Rattle.mc_serial_spec.specs.Item.{Item}
+use Rattle.mc_serial_spec.specs.Items.{item_at}
+use Rattle.mc_serial_spec.specs.Holds.{held_by}
+use Rattle.mc_serial_spec.specs.Machine.{Machine}
+use Rattle.mc_serial_spec.proofs.KeptChanges.{place_once}
+use Rattle.mc_serial_spec.proofs.KeptMoverClear.{class_of_item}
+use Rattle.mc_serial_parts.proofs.FoundHolds.{found_held}
 use Rattle.mc_keeper.proofs.Counted.{counted_given_back, counted_let_go, few_counted}
 use Rattle.mc_keeper.proofs.KeeperMachine.{machine_of}
 use Rattle.mc_keeper.proofs.keeper.Keeper.give_back.Goals as goal

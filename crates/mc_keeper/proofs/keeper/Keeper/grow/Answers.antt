@@ -3,9 +3,9 @@ use Rattle.std.specs.Prelude.{fold}
 use Rattle.mc_pages.specs.Accounted.{first_chunks}
 use Rattle.mc_pages.specs.Changes.{after_cut}
 use Rattle.mc_pages.specs.SlabState.{SlabState, IsClass}
-use Rattle.mc_machine.specs.Machine.{Machine}
-use Rattle.mc_machine.proofs.KeptChanges.{kept_grow}
-use Rattle.mc_machine.proofs.Grown.{per_page_kept, per_page_given, per_page_grown, new_page_view}
+use Rattle.mc_serial_spec.specs.Machine.{Machine}
+use Rattle.mc_serial_spec.proofs.KeptChanges.{kept_grow}
+use Rattle.mc_serial_spec.proofs.Grown.{per_page_kept, per_page_given, per_page_grown, new_page_view}
 use Rattle.mc_keeper.proofs.Watched.{watched-grown}
 use Rattle.mc_keeper.proofs.Counted.{counted_moved, classes_given, orders_given}
 use Rattle.mc_keeper.proofs.keeper.Keeper.grow.Goals as goal

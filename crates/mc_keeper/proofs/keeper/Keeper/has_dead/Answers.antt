@@ -1,7 +1,7 @@
 use Rattle.std.proofs.Common.{length, ap, ◌∙◌}
 use Rattle.std.specs.Prelude.{nat_lt}
 use Rattle.mc_pages.specs.SlabState.{IsClass}
-use Rattle.mc_machine.specs.Machine.{Machine, dead_chunks}
+use Rattle.mc_serial_spec.specs.Machine.{Machine, dead_chunks}
 use Rattle.mc_keeper.proofs.KeeperMachine.{machine_of}
 use Rattle.mc_keeper.proofs.DeadOrders.{dead_in_order}
 use Rattle.mc_keeper.proofs.keeper.Keeper.has_dead.Goals as goal

@@ -1,9 +1,9 @@
 use Rattle.std.proofs.Common.{◌≡◌, true, Some, Result, Ok, Err, sym, ◌∙◌, subst, length, arith}
 use Rattle.std.specs.Prelude.{OnOk, OnErr}
 use Rattle.std.proofs.lemmas.Bool.Decides.{nat_tests}
-use Rattle.mc_machine.proofs.KeptChanges.{place_once}
-use Rattle.mc_machine.specs.Holds.{Holds, with_hold}
-use Rattle.mc_machine.specs.Items.{linked_chunk}
+use Rattle.mc_serial_spec.proofs.KeptChanges.{place_once}
+use Rattle.mc_serial_spec.specs.Holds.{Holds, with_hold}
+use Rattle.mc_serial_spec.specs.Items.{linked_chunk}
 use Rattle.mc_keeper.specs.Kept.{AreCounted}
 use Rattle.mc_keeper.proofs.Counted.{counted_taken, leads_linked}
 use Rattle.mc_keeper.proofs.keeper.Keeper.hold.Goals as goal

@@ -1,10 +1,10 @@
 use Rattle.std.proofs.Common.{◌≡◌, List, Some, position, reverse, sym, ap, ◌∙◌, get_or}
 use Rattle.mc_pages.specs.declared.ids.ChunkId.{ChunkId}
 use Rattle.mc_pages.specs.ClassState.{is_chunk}
-use Rattle.mc_machine.specs.Items.{has_key}
-use Rattle.mc_machine.specs.Holds.{held_by}
-use Rattle.mc_machine.specs.Machine.{Machine}
-use Rattle.mc_parts.proofs.FoundHolds.{first_place, none_found}
+use Rattle.mc_serial_spec.specs.Items.{has_key}
+use Rattle.mc_serial_spec.specs.Holds.{held_by}
+use Rattle.mc_serial_spec.specs.Machine.{Machine}
+use Rattle.mc_serial_parts.proofs.FoundHolds.{first_place, none_found}
 use Rattle.mc_keeper.proofs.keeper.Keeper.last_hold.Goals as goal
 
 pub returns-in-Some-clause-hold : goal.returns-in-Some-clause-hold

@@ -1,8 +1,8 @@
 use Rattle.std.proofs.Common.{◌≡◌, true, false, Some, ap, sym, ◌∙◌, refl}
-use Rattle.mc_machine.specs.Holds.{is_held}
-use Rattle.mc_machine.specs.Items.{item_at}
-use Rattle.mc_machine.specs.Machine.{Machine, is_dead, is_linked_unheld}
-use Rattle.mc_machine.proofs.MoverSaves.{busy_if_held, dead_if_unlinked, idle_if_linked, looked_with_item, not_dead}
+use Rattle.mc_serial_spec.specs.Holds.{is_held}
+use Rattle.mc_serial_spec.specs.Items.{item_at}
+use Rattle.mc_serial_spec.specs.Machine.{Machine, is_dead, is_linked_unheld}
+use Rattle.mc_serial_spec.proofs.MoverSaves.{busy_if_held, dead_if_unlinked, idle_if_linked, looked_with_item, not_dead}
 use Rattle.mc_keeper.proofs.keeper.Keeper.look.Goals as goal
 
 pub returns-then-is_held-clause-looked : goal.returns-then-is_held-clause-looked

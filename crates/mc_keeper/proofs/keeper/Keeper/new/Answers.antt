@@ -1,9 +1,9 @@
 use Rattle.std.proofs.Common.{◌≡◌, ℕ, length, replicate, ap, ◌∙◌}
 use Rattle.std.proofs.lemmas.List.{length-map}
 use Rattle.mc_pages.specs.SlabState.{SlabState, fresh_slabs}
-use Rattle.mc_machine.specs.Machine.{with_mode}
+use Rattle.mc_serial_spec.specs.Machine.{with_mode}
 use Rattle.mc_keeper.proofs.Counted.{counted_fresh, counted_owned}
-use Rattle.mc_machine.proofs.KeptChanges.{kept_fresh}
+use Rattle.mc_serial_spec.proofs.KeptChanges.{kept_fresh}
 use Rattle.mc_keeper.proofs.Watched.{watched_fresh}
 use Rattle.mc_keeper.proofs.Indexed.{indexed_fresh}
 use Rattle.mc_keeper.proofs.keeper.Keeper.new.Goals as goal

@@ -2,9 +2,9 @@ use Rattle.std.proofs.Common.{◌≡◌, ◌≤◌, true, subst, sym, ap, ◌∙
 use Rattle.mc_pages.specs.ClassState.{times}
 use Rattle.mc_pages.specs.SlabState.{IsClass, class_at, class_of_page}
 use Rattle.mc_keeper.specs.Kept.{dead_items}
-use Rattle.mc_machine.specs.Machine.{Machine, is_dead}
+use Rattle.mc_serial_spec.specs.Machine.{Machine, is_dead}
 use Rattle.mc_keeper.proofs.DeadOrders.{only_dead}
-use Rattle.mc_machine.proofs.KeptMoverClear.{class_of_item, contains_counted, dead_here, handed_item}
+use Rattle.mc_serial_spec.proofs.KeptMoverClear.{class_of_item, contains_counted, dead_here, handed_item}
 use Rattle.mc_keeper.proofs.KeeperMachine.{machine_of}
 use Rattle.mc_keeper.proofs.keeper.Keeper.only_dead.Goals as goal
 

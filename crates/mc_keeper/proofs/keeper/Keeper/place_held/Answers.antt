@@ -3,9 +3,9 @@ use borrow.Author.Tests.{tests}
 use Rattle.std.proofs.lemmas.Iterator.Search.{position_from_yields_List}
 use Rattle.std.proofs.lemmas.Iterator.Adapters.{YieldsList-from_rev_slice}
 use Rattle.mc_pages.specs.declared.ids.ChunkId.{ChunkId}
-use Rattle.mc_machine.specs.Items.{has_key}
-use Rattle.mc_machine.specs.Holds.{held_by}
-use Rattle.mc_machine.specs.Machine.{Machine}
+use Rattle.mc_serial_spec.specs.Items.{has_key}
+use Rattle.mc_serial_spec.specs.Holds.{held_by}
+use Rattle.mc_serial_spec.specs.Machine.{Machine}
 use Rattle.mc_keeper.proofs.keeper.Keeper.place_held.Goals as goal
 
 pub returns : goal.returns

@@ -6,10 +6,10 @@ use Rattle.mc_pages.specs.declared.ledger.Owner.{Owner}
 use Rattle.mc_pages.specs.declared.numbers.Totals.{Totals}
 use Rattle.mc_pages.specs.SlabState.{SlabState, granted_count, is_untouched}
 use Rattle.mc_pages.proofs.GrantedPage.{length-owners}
-use Rattle.mc_machine.specs.Consistent.{IsConsistent}
-use Rattle.mc_machine.specs.Items.{Items}
-use Rattle.mc_machine.specs.Machine.{Machine}
-use Rattle.mc_machine.proofs.Bounds.{are_counts}
+use Rattle.mc_serial_spec.specs.Consistent.{IsConsistent}
+use Rattle.mc_serial_spec.specs.Items.{Items}
+use Rattle.mc_serial_spec.specs.Machine.{Machine}
+use Rattle.mc_serial_spec.proofs.Bounds.{are_counts}
 use Rattle.mc_keeper.proofs.keeper.Keeper.push_classes.Goals as goal
 
 pub stats_slabs-requires : goal.stats_slabs-requires

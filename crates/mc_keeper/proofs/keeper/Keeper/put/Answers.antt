@@ -3,18 +3,18 @@ use Rattle.std.proofs.lemmas.List.{length-set}
 use Rattle.mc_pages.specs.declared.ids.ChunkId.{ChunkId}
 use Rattle.mc_pages.specs.ClassState.{first_free}
 use Rattle.mc_pages.specs.SlabState.{IsClass, class_at}
-use Rattle.mc_machine.specs.Item.{Item, new_item}
-use Rattle.mc_parts.specs.NewWords.{words_in}
+use Rattle.mc_serial_spec.specs.Item.{Item, new_item}
+use Rattle.mc_serial_parts.specs.NewWords.{words_in}
 use Rattle.mc_pages.specs.Changes.{after_pop}
-use Rattle.mc_machine.specs.Items.{Items, item_at, linked_chunk, unlinked_in, unlinked_items, with_item, without_item}
-use Rattle.mc_machine.specs.Consistent.{IsConsistent}
+use Rattle.mc_serial_spec.specs.Items.{Items, item_at, linked_chunk, unlinked_in, unlinked_items, with_item, without_item}
+use Rattle.mc_serial_spec.specs.Consistent.{IsConsistent}
 use Rattle.mc_keeper.specs.Kept.{AreCounted, IsWatched}
-use Rattle.mc_machine.specs.Machine.{Machine}
+use Rattle.mc_serial_spec.specs.Machine.{Machine}
 use Rattle.mc_keeper.proofs.Counted.{counted_come, counted_unlinked, few_counted, leads_linked}
-use Rattle.mc_machine.proofs.KeptChanges.{kept_unlink, unlinks_found, unlinks_none}
-use Rattle.mc_machine.proofs.KeptStore.{is_next, kept_store}
-use Rattle.mc_machine.proofs.Links.{without_item-with_item}
-use Rattle.mc_machine.proofs.Stocks.{nowhere-unlinked}
+use Rattle.mc_serial_spec.proofs.KeptChanges.{kept_unlink, unlinks_found, unlinks_none}
+use Rattle.mc_serial_spec.proofs.KeptStore.{is_next, kept_store}
+use Rattle.mc_serial_spec.proofs.Links.{without_item-with_item}
+use Rattle.mc_serial_spec.proofs.Stocks.{nowhere-unlinked}
 use Rattle.mc_keeper.proofs.Watched.{watched-pop}
 use Rattle.mc_keeper.specs.declared.keeper.Keeper.TheInside.{Inside}
 use Rattle.mc_keeper.proofs.KeeperMachine.{machine_of}

@@ -1,4 +1,4 @@
-use Rattle.mc_machine.proofs.KeptBegin.{kept_reassign}
+use Rattle.mc_serial_spec.proofs.KeptBegin.{kept_reassign}
 use Rattle.mc_keeper.proofs.Watched.{watched_begun}
 use Rattle.mc_keeper.proofs.Counted.{counted_begun}
 use Rattle.mc_keeper.proofs.keeper.Keeper.reassign.Goals as goal

@@ -2,11 +2,11 @@ use Rattle.std.proofs.Common.{◌≡◌, true, ap}
 use Rattle.std.proofs.lemmas.Bool.{and_parts}
 use Rattle.std.proofs.lemmas.List.{length-set}
 use Rattle.mc_pages.specs.SlabState.{IsClass, class_of_page}
-use Rattle.mc_machine.specs.Items.{is_unlinked}
-use Rattle.mc_machine.specs.Machine.{Machine}
-use Rattle.mc_machine.proofs.KeptChanges.{kept_reclaim}
+use Rattle.mc_serial_spec.specs.Items.{is_unlinked}
+use Rattle.mc_serial_spec.specs.Machine.{Machine}
+use Rattle.mc_serial_spec.proofs.KeptChanges.{kept_reclaim}
 use Rattle.mc_keeper.proofs.Counted.{counted_reclaimed, dead_unheld, some_dead}
-use Rattle.mc_machine.proofs.KeptMoverClear.{dead_here}
+use Rattle.mc_serial_spec.proofs.KeptMoverClear.{dead_here}
 use Rattle.mc_keeper.proofs.Watched.{watched-back}
 use Rattle.mc_keeper.proofs.Indexed.{indexed_dead}
 use Rattle.mc_keeper.proofs.keeper.Keeper.reclaim.Goals as goal

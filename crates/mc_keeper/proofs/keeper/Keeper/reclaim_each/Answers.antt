@@ -1,5 +1,5 @@
 use Rattle.std.proofs.Common.{◌∙◌}
-use Rattle.mc_machine.proofs.KeptMoverClear.{contains_counted}
+use Rattle.mc_serial_spec.proofs.KeptMoverClear.{contains_counted}
 use Rattle.mc_keeper.proofs.KeeperMachine.{machine_of}
 use Rattle.mc_keeper.proofs.ReclaimsEach.{first_from}
 use Rattle.mc_keeper.proofs.keeper.Keeper.reclaim_each.Goals as goal

@@ -1,6 +1,6 @@
 use Rattle.std.proofs.Common.{◌≡◌, drop}
 use Rattle.mc_pages.specs.SlabState.{IsClass}
-use Rattle.mc_machine.specs.Machine.{dead_chunks, swept}
+use Rattle.mc_serial_spec.specs.Machine.{dead_chunks, swept}
 use Rattle.mc_keeper.proofs.keeper.Keeper.reclaim_each.Given as goal
 
 -- those from here on are dead still, and the rest of the sweep makes what the whole would

@@ -1,13 +1,13 @@
 use Rattle.std.proofs.Common.{◌≡◌, ap, sym, ◌∙◌, Contains, Option, refl}
 use Rattle.std.specs.Option.{option_map}
 use Rattle.std.proofs.lemmas.Option.{same_Some}
-use Rattle.mc_machine.specs.Item.{Item}
-use Rattle.mc_machine.specs.Items.{with_found_item, with_item, without_item}
-use Rattle.mc_machine.specs.Machine.{Machine}
+use Rattle.mc_serial_spec.specs.Item.{Item}
+use Rattle.mc_serial_spec.specs.Items.{with_found_item, with_item, without_item}
+use Rattle.mc_serial_spec.specs.Machine.{Machine}
 use Rattle.mc_pages.specs.SlabState.{SlabState, class_of_chunk}
 use Rattle.mc_pages.specs.Changes.{after_clear, after_replace}
-use Rattle.mc_machine.proofs.KeptMoverClear.{cleared_after, idle_here, handed_item, contains_counted}
-use Rattle.mc_machine.proofs.KeptMoverRescue.{kept_rescued, listed_still, vacant}
+use Rattle.mc_serial_spec.proofs.KeptMoverClear.{cleared_after, idle_here, handed_item, contains_counted}
+use Rattle.mc_serial_spec.proofs.KeptMoverRescue.{kept_rescued, listed_still, vacant}
 use Rattle.mc_keeper.proofs.Watched.{watched-clear, watched-replace}
 use Rattle.std.proofs.lemmas.List.{length-set}
 use Rattle.mc_keeper.proofs.Counted.{counted_come, counted_gone}

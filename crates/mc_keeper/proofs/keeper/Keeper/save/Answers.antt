@@ -1,6 +1,6 @@
 use Rattle.std.proofs.Common.{ap, sym, ◌∙◌}
 use Rattle.mc_pages.specs.Accounted.{is_cleared}
-use Rattle.mc_machine.proofs.MoverSaves.{class_swept, idle_swept, moving-swept, own_swept, target_free}
+use Rattle.mc_serial_spec.proofs.MoverSaves.{class_swept, idle_swept, moving-swept, own_swept, target_free}
 use Rattle.mc_keeper.proofs.keeper.Keeper.save.Goals as goal
 
 pub target-requires : goal.target-requires

@@ -5,12 +5,12 @@ use Rattle.std.proofs.lemmas.List.Elements.{Contains-push}
 use Rattle.std.proofs.lemmas.Result.{err_from_is_err_and}
 use Rattle.mc_classes.specs.Classes.{class_of}
 use Rattle.mc_pages.specs.declared.ids.ChunkId.{ChunkId}
-use Rattle.mc_machine.specs.Item.{item_bytes, words_from}
-use Rattle.mc_machine.specs.Lines.{set_in, stored}
-use Rattle.mc_machine.specs.Machine.{Machine}
-use Rattle.mc_machine.specs.Supply.{asks_for_page, supplied, supply}
-use Rattle.mc_machine.specs.Texts.{key_line}
-use Rattle.mc_parts.proofs.NewWordsCount.{length-words_from}
+use Rattle.mc_serial_spec.specs.Item.{item_bytes, words_from}
+use Rattle.mc_serial_spec.specs.Lines.{set_in, stored}
+use Rattle.mc_serial_spec.specs.Machine.{Machine}
+use Rattle.mc_serial_spec.specs.Supply.{asks_for_page, supplied, supply}
+use Rattle.mc_serial_spec.specs.Texts.{key_line}
+use Rattle.mc_serial_parts.proofs.NewWordsCount.{length-words_from}
 use Rattle.mc_keeper.specs.declared.keeper.store.Stored.TheVariants.{Yes, NoRoom}
 use Rattle.mc_keeper.specs.Calls.{stored_answer}
 use Rattle.mc_keeper.specs.Replies.{stored_name}

@@ -2,9 +2,9 @@ use Rattle.std.proofs.Common.{◌≡◌, ℕ, ◌++◌, List, Option, Some, None
 use Rattle.std.specs.Prelude.{OnOk}
 use Rattle.mc_watch.specs.declared.decider.Decision.{Decision}
 use Rattle.mc_watch.specs.Texts.{line}
-use Rattle.mc_machine.specs.Automove.{decision, with_window}
-use Rattle.mc_machine.specs.Lines.{acted}
-use Rattle.mc_machine.specs.Machine.{Machine, all_swept}
+use Rattle.mc_serial_spec.specs.Automove.{decision, with_window}
+use Rattle.mc_serial_spec.specs.Lines.{acted}
+use Rattle.mc_serial_spec.specs.Machine.{Machine, all_swept}
 use Rattle.mc_keeper.specs.Calls.{acted_answer}
 use Rattle.mc_keeper.proofs.StageSteps.{on_err}
 use Rattle.mc_keeper.proofs.keeper.Keeper.serve_window.Goals as goal

@@ -2,10 +2,10 @@ use Rattle.std.proofs.Common.{◌≡◌, ℕ, List, [], ◌∷◌, length, Some,
 use Rattle.std.proofs.lemmas.List.Elements.{Contains-append_left}
 use Rattle.std.proofs.lemmas.Result.{err_from_is_err_and}
 use Rattle.mc_classes.specs.Classes.{class_of}
-use Rattle.mc_machine.specs.Item.{item_bytes}
-use Rattle.mc_machine.specs.Lines.{set_in}
-use Rattle.mc_machine.specs.Machine.{Machine}
-use Rattle.mc_parts.specs.NewWords.{words_in}
+use Rattle.mc_serial_spec.specs.Item.{item_bytes}
+use Rattle.mc_serial_spec.specs.Lines.{set_in}
+use Rattle.mc_serial_spec.specs.Machine.{Machine}
+use Rattle.mc_serial_parts.specs.NewWords.{words_in}
 use Rattle.mc_keeper.specs.Stages.{store_stages}
 use Rattle.mc_keeper.proofs.keeper.Keeper.set_words.Goals as goal
 

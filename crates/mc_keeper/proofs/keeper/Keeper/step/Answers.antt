@@ -2,8 +2,8 @@ use Rattle.std.proofs.Common.{◌≡◌, ◌<◌, ap, sym, arith, refl, Some}
 use Rattle.std.proofs.lemmas.Bool.Decides.{nat_tests}
 use Rattle.mc_pages.specs.SlabState.{class_at}
 use Rattle.mc_pages.specs.Moves.{CanPass, after_passed}
-use Rattle.mc_machine.specs.Machine.{Machine}
-use Rattle.mc_machine.proofs.KeptMoverPass.{kept_moved, can_pass, move_here, position_cut}
+use Rattle.mc_serial_spec.specs.Machine.{Machine}
+use Rattle.mc_serial_spec.proofs.KeptMoverPass.{kept_moved, can_pass, move_here, position_cut}
 use Rattle.mc_keeper.proofs.Watched.{watched-same}
 use Rattle.mc_keeper.proofs.Counted.{counted_owned}
 use Rattle.mc_keeper.proofs.keeper.Keeper.step.Goals as goal

@@ -1,8 +1,8 @@
 use Rattle.std.proofs.Common.{◌≡◌, ◌*◌, ◌+◌, ◌-◌, suc, Contains, subst, Ok, arith, sym, ap, ap₂, ◌∙◌}
-use Rattle.mc_machine.specs.declared.turn.Counts.{Counts}
-use Rattle.mc_machine.specs.Machine.{Machine}
-use Rattle.mc_machine.specs.Mover.{Counted}
-use Rattle.mc_machine.proofs.MoverTurns.{at_most_more, chunks_done, chunks_more, counts_now}
+use Rattle.mc_serial_spec.specs.declared.turn.Counts.{Counts}
+use Rattle.mc_serial_spec.specs.Machine.{Machine}
+use Rattle.mc_serial_spec.specs.Mover.{Counted}
+use Rattle.mc_serial_spec.proofs.MoverTurns.{at_most_more, chunks_done, chunks_more, counts_now}
 use Rattle.std.proofs.lemmas.Result.{err_from_is_err_and}
 use Rattle.mc_keeper.specs.Stages.{look_stages}
 use Rattle.mc_keeper.proofs.StageSteps.{look_stage}

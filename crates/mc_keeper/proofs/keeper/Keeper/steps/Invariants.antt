@@ -1,5 +1,5 @@
 use Rattle.std.proofs.Common.{◌≡◌}
-use Rattle.mc_machine.specs.Mover.{Counted, with_chunks}
+use Rattle.mc_serial_spec.specs.Mover.{Counted, with_chunks}
 use Rattle.mc_keeper.proofs.keeper.Keeper.steps.Given as goal
 
 -- so many chunks were looked at

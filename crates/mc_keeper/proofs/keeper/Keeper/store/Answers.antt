@@ -1,11 +1,11 @@
 use Rattle.std.proofs.Common.{◌≡◌, Some, ap, refl, sym, ◌∙◌, arith}
 use Rattle.std.proofs.lemmas.Result.{err_from_is_err_and}
-use Rattle.mc_parts.specs.NewWords.{words_in}
-use Rattle.mc_machine.specs.Machine.{Machine}
-use Rattle.mc_machine.specs.Supply.{supply}
+use Rattle.mc_serial_parts.specs.NewWords.{words_in}
+use Rattle.mc_serial_spec.specs.Machine.{Machine}
+use Rattle.mc_serial_spec.specs.Supply.{supply}
 use Rattle.mc_pages.specs.ClassState.{first_free}
 use Rattle.mc_pages.specs.SlabState.{class_at}
-use Rattle.mc_machine.proofs.StoredItems.{stored_asking, stored_in_mode, stored_quietly}
+use Rattle.mc_serial_spec.proofs.StoredItems.{stored_asking, stored_in_mode, stored_quietly}
 use Rattle.mc_keeper.proofs.keeper.Keeper.store.Goals.{then-not-evicted-via-else-not-evicted+then-automove-ne2, then-not-evicted-via-then-not-evicted}
 use Rattle.mc_keeper.proofs.keeper.Keeper.store.Goals as goal
 

@@ -1,7 +1,7 @@
 use Rattle.std.proofs.Common.{◌≡◌, ap, sym, ◌∙◌, arith, length}
 use Rattle.std.specs.List.{range_with_len}
-use Rattle.mc_machine.specs.Machine.{Machine}
-use Rattle.mc_machine.proofs.Stocks.{classes-sweeps, sweeps_more}
+use Rattle.mc_serial_spec.specs.Machine.{Machine}
+use Rattle.mc_serial_spec.proofs.Stocks.{classes-sweeps, sweeps_more}
 use Rattle.mc_keeper.proofs.keeper.Keeper.sweep.Goals as goal
 
 pub sweep_class-requires : goal.sweep_class-requires

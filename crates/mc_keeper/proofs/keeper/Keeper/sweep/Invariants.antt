@@ -1,7 +1,7 @@
 use Rattle.std.proofs.Common.{◌≡◌}
 use Rattle.std.specs.Prelude.{fold}
 use Rattle.std.specs.List.{range_with_len}
-use Rattle.mc_machine.specs.Machine.{swept}
+use Rattle.mc_serial_spec.specs.Machine.{swept}
 use Rattle.mc_keeper.proofs.keeper.Keeper.sweep.Given as goal
 
 -- the classes below are swept

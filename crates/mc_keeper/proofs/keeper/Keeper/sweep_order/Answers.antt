@@ -5,10 +5,10 @@ use Rattle.std.proofs.lemmas.Option.{slice_get_within, get_or_from_slice_get}
 use Rattle.mc_pages.specs.declared.ids.ChunkId.{ChunkId}
 use Rattle.mc_pages.specs.ClassState.{times, behind}
 use Rattle.mc_pages.specs.SlabState.{IsClass, class_at, class_of_chunk, class_of_page}
-use Rattle.mc_machine.specs.Consistent.{IsConsistent}
-use Rattle.mc_machine.specs.Machine.{Machine, after_reclaim}
-use Rattle.mc_machine.proofs.Bounds.{listed_own, listed_once}
-use Rattle.mc_machine.proofs.Sweeps.{SweepsOn, sweeps_on, none_more, swept_none, past_none}
+use Rattle.mc_serial_spec.specs.Consistent.{IsConsistent}
+use Rattle.mc_serial_spec.specs.Machine.{Machine, after_reclaim}
+use Rattle.mc_serial_spec.proofs.Bounds.{listed_own, listed_once}
+use Rattle.mc_serial_spec.proofs.Sweeps.{SweepsOn, sweeps_on, none_more, swept_none, past_none}
 use Rattle.mc_pages.proofs.RestOfList.{behind_there, rest_from, rest_long, rest_short}
 use Rattle.mc_keeper.proofs.keeper.Keeper.sweep_order.Goals as goal
 

@@ -1,7 +1,7 @@
 use Rattle.std.proofs.Common.{◌≡◌, ℕ, ◌≤◌, [], length, take}
 use Rattle.std.specs.Prelude.{filter, slice_get}
 use Rattle.mc_pages.specs.SlabState.{IsClass, class_at}
-use Rattle.mc_machine.specs.Machine.{is_dead, swept}
+use Rattle.mc_serial_spec.specs.Machine.{is_dead, swept}
 use Rattle.mc_pages.proofs.RestOfList.{rest_from}
 use Rattle.mc_keeper.proofs.keeper.Keeper.sweep_order.Given as goal
 

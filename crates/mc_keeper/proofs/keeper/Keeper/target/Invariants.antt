@@ -1,7 +1,7 @@
 use Rattle.std.proofs.Common.{◌≡◌, ℕ, not, length, drop}
 use Rattle.std.specs.Prelude.{find, ◌==◌, slice_get}
 use Rattle.mc_pages.specs.SlabState.{class_at}
-use Rattle.mc_machine.specs.Mover.{target}
+use Rattle.mc_serial_spec.specs.Mover.{target}
 use Rattle.mc_pages.proofs.RestOfList.{rest_from}
 use Rattle.mc_keeper.proofs.keeper.Keeper.target.Given as goal
 

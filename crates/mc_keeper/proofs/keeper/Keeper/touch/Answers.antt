@@ -1,9 +1,9 @@
 use Rattle.std.proofs.Common.{◌≡◌, Some, sym, ◌∙◌}
-use Rattle.mc_machine.proofs.KeptTouch.{leads_to_handed_out, kept_touch}
+use Rattle.mc_serial_spec.proofs.KeptTouch.{leads_to_handed_out, kept_touch}
 use Rattle.mc_keeper.proofs.Watched.{watched-touch}
 use Rattle.std.proofs.lemmas.List.{length-set}
 use Rattle.mc_keeper.proofs.Counted.{counted_owned}
-use Rattle.mc_machine.specs.Items.{linked_chunk}
+use Rattle.mc_serial_spec.specs.Items.{linked_chunk}
 use Rattle.mc_keeper.proofs.keeper.Keeper.touch.Goals as goal
 
 pub touch-requires : goal.touch-requires

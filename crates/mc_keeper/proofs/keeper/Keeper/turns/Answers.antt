@@ -1,12 +1,12 @@
 use Rattle.std.proofs.Common.{◌≡◌, ◌*◌, ◌+◌, ◌<◌, ◌≤◌, true, false, not, refl, ap, sym, ◌∙◌, arith}
 use Rattle.std.proofs.lemmas.Bool.{not-true, not-false}
 use denote.Enum.Bare.{sameb}
-use Rattle.mc_machine.specs.contracts.turn.Ending.{the_type}
-use Rattle.mc_machine.specs.declared.turn.Ending.{Ending}
-use Rattle.mc_machine.specs.declared.turn.Ending.TheVariants.{Idle, Went, Finished}
-use Rattle.mc_machine.specs.Machine.{Machine}
-use Rattle.mc_machine.specs.Mover.{Turned, is_went}
-use Rattle.mc_machine.proofs.MoverTurns.{at_most_more, most_turned, turns_end, turns_on, turns_out}
+use Rattle.mc_serial_spec.specs.contracts.turn.Ending.{the_type}
+use Rattle.mc_serial_spec.specs.declared.turn.Ending.{Ending}
+use Rattle.mc_serial_spec.specs.declared.turn.Ending.TheVariants.{Idle, Went, Finished}
+use Rattle.mc_serial_spec.specs.Machine.{Machine}
+use Rattle.mc_serial_spec.specs.Mover.{Turned, is_went}
+use Rattle.mc_serial_spec.proofs.MoverTurns.{at_most_more, most_turned, turns_end, turns_on, turns_out}
 use Rattle.std.proofs.lemmas.Result.{err_from_is_err_and}
 use Rattle.mc_keeper.proofs.StageSteps.{turn_behind, turn_ends, turn_waits}
 use Rattle.mc_keeper.proofs.keeper.Keeper.turns.Goals as goal

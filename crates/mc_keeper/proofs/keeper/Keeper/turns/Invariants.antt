@@ -1,6 +1,6 @@
 use Rattle.std.proofs.Common.{◌≡◌, ◌-◌, ◌*◌, Contains}
-use Rattle.mc_machine.specs.Machine.{Machine}
-use Rattle.mc_machine.specs.Mover.{AreAtMost, after_turns, turns_from}
+use Rattle.mc_serial_spec.specs.Machine.{Machine}
+use Rattle.mc_serial_spec.specs.Mover.{AreAtMost, after_turns, turns_from}
 use Rattle.mc_keeper.specs.Stages.{stages_from, turns_stages}
 use Rattle.mc_keeper.proofs.keeper.Keeper.turns.Given as goal
 

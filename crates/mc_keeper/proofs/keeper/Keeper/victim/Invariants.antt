@@ -1,7 +1,7 @@
 use Rattle.std.proofs.Common.{◌≡◌, None, take}
 use Rattle.std.specs.Prelude.{find}
 use Rattle.mc_pages.specs.SlabState.{class_at}
-use Rattle.mc_machine.specs.Machine.{is_linked_unheld}
+use Rattle.mc_serial_spec.specs.Machine.{is_linked_unheld}
 use Rattle.mc_keeper.proofs.keeper.Keeper.victim.Given as goal
 
 -- no chunk below is idle

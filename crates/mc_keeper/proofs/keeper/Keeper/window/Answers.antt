@@ -1,9 +1,9 @@
 use Rattle.std.proofs.Common.{◌≡◌, Option, Some, ap, sym, ◌∙◌, subst}
 use Rattle.std.specs.Prelude.{IfOk, OnOk}
 use Rattle.mc_watch.specs.declared.decider.Decision.{Decision}
-use Rattle.mc_machine.specs.Automove.{decision, with_window}
-use Rattle.mc_machine.specs.Lines.{Served, acted}
-use Rattle.mc_machine.specs.Machine.{Machine, all_swept}
+use Rattle.mc_serial_spec.specs.Automove.{decision, with_window}
+use Rattle.mc_serial_spec.specs.Lines.{Served, acted}
+use Rattle.mc_serial_spec.specs.Machine.{Machine, all_swept}
 use Rattle.mc_keeper.specs.declared.keeper.automove.Acted.{Acted}
 use Rattle.mc_keeper.specs.Calls.{acted_answer}
 use Rattle.mc_keeper.proofs.StageSteps.{fed_stage, on_err_map}

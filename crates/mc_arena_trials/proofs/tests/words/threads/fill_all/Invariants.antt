@@ -1,7 +1,0 @@
-use Rattle.std.proofs.Common.{◌≡◌}
-use Rattle.mc_words.specs.hand.Arenas.{IsHandOf, view}
-use Rattle.mc_words.specs.item.Fresh.{IsFreshOf}
-use Rattle.mc_arena_trials.proofs.tests.words.threads.fill_all.Given as goal
-
-abbrev pub invariant-loop-place : goal.invariant-loop-place
-invariant-loop-place l = IsHandOf l.arena l.hand × IsFreshOf (view l.hand) l.fresh.chunk l.fresh.room × (l.place-end ≡ l.fresh.room)

@@ -1,5 +1,0 @@
-use Rattle.mc_byte_items.specs.Hands.{IsIdleHandOf}
-use Rattle.mc_bytes_cache_trials.proofs.tests.collided.act_often.Given as goal
-
-abbrev pub invariant-loop : goal.invariant-loop
-invariant-loop g l = IsIdleHandOf l.arena l.hand

@@ -1,5 +1,0 @@
-use Rattle.mc_cache.specs.Belonging.{BelongsTo}
-use Rattle.mc_bytes_cache_trials.proofs.tests.drawn.act_often.Given as goal
-
-abbrev pub invariant-loop : goal.invariant-loop
-invariant-loop g l = BelongsTo l.cache l.worker

@@ -1,5 +1,0 @@
-use Rattle.mc_cache.specs.Tending.{IsTenderOf}
-use Rattle.mc_bytes_cache_trials.proofs.tests.eight.tend_beside.Given as goal
-
-abbrev pub invariant-loop : goal.invariant-loop
-invariant-loop g l = IsTenderOf l.cache l.tender

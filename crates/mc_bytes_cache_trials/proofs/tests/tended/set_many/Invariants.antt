@@ -1,5 +1,0 @@
-use Rattle.mc_cache.specs.Belonging.{BelongsTo}
-use Rattle.mc_bytes_cache_trials.proofs.tests.tended.set_many.Given as goal
-
-abbrev pub invariant-loop-number : goal.invariant-loop-number
-invariant-loop-number g l = BelongsTo l.cache l.worker

@@ -1,6 +1,0 @@
-use Rattle.std.proofs.Common.{◌≤◌}
-use Rattle.mc_cache.specs.Belonging.{BelongsTo}
-use Rattle.mc_bytes_cache_trials.proofs.tests.threads.work.Given as goal
-
-abbrev pub invariant-loop : goal.invariant-loop
-invariant-loop g l = BelongsTo l.cache l.worker × (l.wrong ≤ l.counter)

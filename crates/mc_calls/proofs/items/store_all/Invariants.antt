@@ -1,5 +1,0 @@
-use Rattle.mc_calls.specs.Hands.{IsReadyHandOf}
-use Rattle.mc_calls.proofs.items.store_all.Given as goal
-
-abbrev pub invariant-loop-key : goal.invariant-loop-key
-invariant-loop-key g l = IsReadyHandOf l.arena l.hand

@@ -1,5 +1,0 @@
-use Rattle.mc_laws.proofs.WholeReplies.{reply_whole}
-use Rattle.mc_laws.proofs.laws.replies_are_whole.Goals as goal
-
-pub returns : goal.returns
-returns c = reply_whole

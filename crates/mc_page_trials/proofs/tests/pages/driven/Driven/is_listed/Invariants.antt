@@ -1,7 +1,0 @@
-use Rattle.std.proofs.Common.{◌≡◌}
-use Rattle.mc_page_trials.proofs.Looked.{times_before}
-use Rattle.mc_page_trials.proofs.tests.pages.driven.Driven.is_listed.Given as goal
-
--- the chunk is at none of the places so far
-abbrev pub invariant-loop-place : goal.invariant-loop-place
-invariant-loop-place l = times_before l.self.slabs.state l.class l.chunk l.place ≡ 0

@@ -1,5 +1,0 @@
-use Rattle.mc_page_trials.proofs.Sized.{sized_pop}
-use Rattle.mc_page_trials.proofs.tests.pages.shared.Boxed.pop.Goals as goal
-
-pub invariant_of-self : goal.invariant_of-self
-invariant_of-self c = record { sized = sized_pop _ _ _ c.args.class c.args.self.now.sized c.hand_out.ensures.popped }

@@ -1,8 +1,0 @@
--- What stands in a chunk's place.
-use Rattle.std.specs.Prelude.{if◌then◌else◌, Option, Some, None}
-use Rattle.mc_machine.specs.Item.{Item}
-use Rattle.mc_parts.specs.declared.place.Place.TheInside.{Inside}
-
--- the item, where the place is filled
-abbrev pub item_in : Inside → Option Item
-item_in place = if place.filled then Some place.item else None

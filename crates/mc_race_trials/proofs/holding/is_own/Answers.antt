@@ -1,8 +1,0 @@
-use Rattle.mc_words.specs.hand.Arenas.{view}
-use Rattle.mc_race_trials.proofs.KeptRefs.{kept_beside}
-use Rattle.mc_race_trials.proofs.holding.is_own.Goals as goal
-
-pub returns : goal.returns
-returns c = record {
-  keeper = ((c.read.ensures.arena, c.read.ensures.ready), kept_beside (view c.args.hand.now) (view c.read.new.hand) c.args.kept.now c.requires.keeper.1 c.read.ensures.keeps c.read.ensures.holdings);
-}

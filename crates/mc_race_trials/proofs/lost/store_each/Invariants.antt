@@ -1,5 +1,0 @@
-use Rattle.mc_calls.specs.Hands.{IsIdleHandOf}
-use Rattle.mc_race_trials.proofs.lost.store_each.Given as goal
-
-abbrev pub invariant-loop-key : goal.invariant-loop-key
-invariant-loop-key g l = IsIdleHandOf l.arena l.hand

@@ -1,5 +1,0 @@
-use Rattle.mc_race_trials.specs.Keepers.{AreNear, IsKeeperOf}
-use Rattle.mc_race_trials.proofs.workers.WorkerJob.work.Given as goal
-
-abbrev pub invariant-loop-round : goal.invariant-loop-round
-invariant-loop-round g l = IsKeeperOf l.arena l.keeper.hand l.keeper.kept.items × AreNear l.arena l.keeper.hints.items

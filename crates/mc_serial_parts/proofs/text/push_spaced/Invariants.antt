@@ -1,0 +1,10 @@
+use Rattle.std.proofs.Common.{◌≡◌, ◌++◌, drop}
+use Rattle.std.specs.Io.{StartsWith}
+use Rattle.mc_serial_spec.specs.Texts.{spaced}
+use Rattle.mc_serial_parts.proofs.text.push_spaced.Given as goal
+
+-- the numbers so far, and those that are left; what stood there stays
+abbrev pub invariant-loop-number : goal.invariant-loop-number
+invariant-loop-number l =
+    (l.text.items ++ spaced (drop l.number-index l.numbers) ≡ l.initial.text.items ++ spaced l.numbers)
+    × StartsWith l.text.items l.initial.text.items

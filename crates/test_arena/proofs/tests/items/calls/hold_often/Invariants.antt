@@ -1,0 +1,5 @@
+use Rattle.testlib_hands.specs.Hands.{IsReadyHandOf}
+use Rattle.test_arena.proofs.tests.items.calls.hold_often.Given as goal
+
+abbrev pub invariant-loop-time : goal.invariant-loop-time
+invariant-loop-time g l = IsReadyHandOf l.arena l.hand

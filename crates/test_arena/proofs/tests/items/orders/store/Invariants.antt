@@ -1,0 +1,5 @@
+use Rattle.testlib_hands.specs.Hands.{IsReadyHandOf}
+use Rattle.test_arena.proofs.tests.items.orders.store.Given as goal
+
+abbrev pub invariant-loop-place : goal.invariant-loop-place
+invariant-loop-place g l = IsReadyHandOf l.arena l.hand

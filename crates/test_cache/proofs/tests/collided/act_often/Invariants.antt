@@ -1,0 +1,5 @@
+use Rattle.mc_byte_items.specs.Hands.{IsIdleHandOf}
+use Rattle.test_cache.proofs.tests.collided.act_often.Given as goal
+
+abbrev pub invariant-loop : goal.invariant-loop
+invariant-loop g l = IsIdleHandOf l.arena l.hand

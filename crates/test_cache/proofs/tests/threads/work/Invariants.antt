@@ -1,0 +1,6 @@
+use Rattle.std.proofs.Common.{◌≤◌}
+use Rattle.mc_cache.specs.Belonging.{BelongsTo}
+use Rattle.test_cache.proofs.tests.threads.work.Given as goal
+
+abbrev pub invariant-loop : goal.invariant-loop
+invariant-loop g l = BelongsTo l.cache l.worker × (l.wrong ≤ l.counter)

@@ -1,0 +1,5 @@
+use Rattle.testlib_hands.specs.Hands.{IsReadyHandOf}
+use Rattle.test_refusals.proofs.tests.looking.see.Given as goal
+
+abbrev pub invariant-loop-page : goal.invariant-loop-page
+invariant-loop-page l = IsReadyHandOf l.arena l.looker

@@ -1,0 +1,5 @@
+use Rattle.test_refusals.specs.Threes.{AreReadyOf}
+use Rattle.test_refusals.proofs.tests.steps.play_each.Given as goal
+
+abbrev pub invariant-loop-place : goal.invariant-loop-place
+invariant-loop-place g l = AreReadyOf l.all.arena l.all.hand l.all.reader l.all.looker.hand

@@ -1,0 +1,5 @@
+use Rattle.testlib_hands.specs.Hands.{IsReadyHandOf}
+use Rattle.testlib_hands.proofs.steps.play_all.Given as goal
+
+abbrev pub invariant-loop-place : goal.invariant-loop-place
+invariant-loop-place g l = IsReadyHandOf l.arena l.hand

@@ -1,0 +1,5 @@
+use Rattle.testlib_hands.specs.Hands.{IsReadyHandOf}
+use Rattle.testlib_threads.proofs.threads.driver.end_move.Given as goal
+
+abbrev pub invariant-loop-turn : goal.invariant-loop-turn
+invariant-loop-turn g l = IsReadyHandOf l.arena l.hand
