@@ -5,8 +5,8 @@ use Rattle.mc_words.specs.declared.arena.Arena.{Arena}
 use Rattle.mc_words.specs.declared.hand.Hand.{Hand}
 use Rattle.mc_words.specs.hand.Arenas.{setup_of, view}
 use Rattle.mc_items.specs.Keeping.{SaysNothing}
-use Rattle.mc_byte_items.specs.Finding.{GivesTouchedIf}
-use Rattle.mc_byte_items.specs.Hands.{IsIdleHandOf}
+use Rattle.mc_cache.specs.shard.Finding.{GivesTouchedIf}
+use Rattle.mc_cache.specs.shard.Hands.{IsIdleHandOf}
 use Rattle.mc_cache.specs.declared.cache.Cache.{Cache}
 use Rattle.mc_cache.specs.declared.place.Place.{Place}
 use Rattle.mc_cache.specs.Belonging.{hash_in, shard_in}

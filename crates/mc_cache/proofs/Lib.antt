@@ -1,3 +1,4 @@
+pub mod Shards
 pub mod Pairs
 pub mod Dealt
 pub mod Acts

@@ -1,3 +1,4 @@
+pub mod shard
 pub mod Hashing
 pub mod HasherInside
 pub mod Pairs

@@ -10,10 +10,10 @@ use Rattle.mc_items.specs.Keeping.{Says, SaysNothing}
 use Rattle.mc_items.specs.OnKeys.{FindsStripeHeld}
 use Rattle.mc_items.specs.Setting.{SetsItem}
 use Rattle.mc_items.specs.declared.setting.SetError.{SetError}
-use Rattle.mc_byte_items.specs.Finding.{DeletesKey, FindsFull, FindsKey, FindsOther, FindsValue, TouchesKey, TouchesValue}
-use Rattle.mc_byte_items.specs.Hands.{IsIdleHandOf}
-use Rattle.mc_byte_items.specs.Reading.{LeavesSlabs}
-use Rattle.mc_byte_items.specs.Setting.{RefusesBytes}
+use Rattle.mc_cache.specs.shard.Finding.{DeletesKey, FindsFull, FindsKey, FindsOther, FindsValue, TouchesKey, TouchesValue}
+use Rattle.mc_cache.specs.shard.Hands.{IsIdleHandOf}
+use Rattle.mc_cache.specs.shard.Reading.{LeavesSlabs}
+use Rattle.mc_cache.specs.shard.Setting.{RefusesBytes}
 use Rattle.mc_cache.specs.Pairs.{ArePaired}
 
 -- there is one hand for each arena: an idle one of that arena

@@ -4,7 +4,7 @@ ghost use Rattle.mc_cache.specs.Shards.{AreIdleHands};
 
 use crate::hashing::KeyedHasher;
 use crate::recent::Recent;
-use mc_byte_items::HintTable;
+use crate::shard::HintTable;
 use mc_words::{Arena, Hand};
 
 /// The memory of a cache that threads share: 1 to 4,096 arenas side by side, of which each has the keys of some hashes.

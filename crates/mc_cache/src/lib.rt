@@ -10,6 +10,7 @@ mod hashing;
 mod opening;
 mod place;
 mod recent;
+pub mod shard;
 mod stats;
 mod tended;
 mod tending;

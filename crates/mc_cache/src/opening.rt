@@ -15,8 +15,8 @@ ghost use Rattle.mc_cache.specs.declared.opening.NewError.TheVariants as refused
 use crate::cache::{Cache, Worker};
 use crate::hashing::{HashKey, KeyedHasher};
 use crate::recent::Recent;
+use crate::shard::HintTable;
 use crate::tending::Tender;
-use mc_byte_items::HintTable;
 use mc_classes::{Config, ConfigError};
 use mc_memory::{Refused, push};
 use mc_mover::forget;

@@ -2,7 +2,7 @@
 ghost use Rattle.std.specs.Prelude.{◌≡◌, ◌≤◌, ◌-◌, ◌^◌, ◌∷◌, [], OnOk, length, max, slice_index_or, ℕ};
 ghost use Rattle.mc_words.specs.hand.Arenas.{view};
 ghost use Rattle.mc_items.specs.Keeping.{SaysNothing};
-ghost use Rattle.mc_byte_items.specs.Hands.{IsIdleHandOf};
+ghost use Rattle.mc_cache.specs.shard.Hands.{IsIdleHandOf};
 ghost use Rattle.mc_cache.specs.Stats.{AddsNumbers, AddsSurvey, CountsShard, SumsSurveys, class_in_all, class_with, most_classes, no_class, sum_in_all};
 
 use mc_memory::{Refused, push};

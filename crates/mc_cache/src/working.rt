@@ -2,7 +2,8 @@
 ghost use Rattle.mc_cache.specs.Cases.{AskedAgain};
 
 use crate::cache::{Cache, Worker};
-use mc_byte_items::Label;
+use crate::shard;
+use crate::shard::Label;
 use mc_memory::Refused;
 use std::sync::Wait;
 use thiserror::Error;
@@ -84,7 +85,7 @@ impl Worker {
         let arena = &cache.arenas[at.shard];
         let hand = &mut self.hands[at.shard];
         let label = Label { hash: at.hash, key };
-        match mc_byte_items::set(rt, arena, hand, label, value, &mut self.words) {
+        match shard::set(rt, arena, hand, label, value, &mut self.words) {
             Ok(_stamp) => Ok(()),
             Err(error) => Err(SetError::Item(error)),
         }
@@ -116,9 +117,7 @@ impl Worker {
         let arena = &cache.arenas[at.shard];
         let hand = &mut self.hands[at.shard];
         let label = Label { hash: at.hash, key };
-        mc_byte_items::get(rt, arena, &cache.hints, hand, label, into, false).map_err(
-            CallError::NoMemory,
-        )
+        shard::get(rt, arena, &cache.hints, hand, label, into, false).map_err(CallError::NoMemory)
     }
 
     /// The same as `get`; and where the key has a value, it is touched then, as by `touch`, unless this worker did so lately: it notes one
@@ -151,7 +150,7 @@ impl Worker {
         let hand = &mut self.hands[at.shard];
         let due = self.recent.is_due(at.hash);
         let label = Label { hash: at.hash, key };
-        match mc_byte_items::get(rt, arena, &cache.hints, hand, label, into, due) {
+        match shard::get(rt, arena, &cache.hints, hand, label, into, due) {
             Ok(true) => {
                 self.recent.note(at.hash);
                 Ok(true)
@@ -185,12 +184,10 @@ impl Worker {
         let arena = &cache.arenas[at.shard];
         let hand = &mut self.hands[at.shard];
         let label = Label { hash: at.hash, key };
-        match mc_byte_items::try_get(arena, hand, label, into) {
+        match shard::try_get(arena, hand, label, into) {
             Ok(found) => Ok(found),
-            Err(mc_byte_items::TryGetError::NoMemory(refused)) => {
-                Err(TryGetError::NoMemory(refused))
-            }
-            Err(mc_byte_items::TryGetError::Held) => Err(TryGetError::Held),
+            Err(shard::TryGetError::NoMemory(refused)) => { Err(TryGetError::NoMemory(refused)) }
+            Err(shard::TryGetError::Held) => Err(TryGetError::Held),
         }
     }
 
@@ -216,7 +213,7 @@ impl Worker {
         let arena = &cache.arenas[at.shard];
         let hand = &mut self.hands[at.shard];
         let label = Label { hash: at.hash, key };
-        mc_byte_items::contains(rt, arena, &cache.hints, hand, label).map_err(CallError::NoMemory)
+        shard::contains(rt, arena, &cache.hints, hand, label).map_err(CallError::NoMemory)
     }
 
     /// Deletes the key, and says whether it had a value. An item of another key with the same hash stays; where one is stored between the
@@ -236,7 +233,7 @@ impl Worker {
         let arena = &cache.arenas[at.shard];
         let hand = &mut self.hands[at.shard];
         let label = Label { hash: at.hash, key };
-        mc_byte_items::delete(rt, arena, &cache.hints, hand, label).map_err(CallError::NoMemory)
+        shard::delete(rt, arena, &cache.hints, hand, label).map_err(CallError::NoMemory)
     }
 
     /// Makes the key's item the one of its class that is evicted last, and says whether the key has a value. It waits for locks of the
@@ -256,7 +253,7 @@ impl Worker {
         let arena = &cache.arenas[at.shard];
         let hand = &mut self.hands[at.shard];
         let label = Label { hash: at.hash, key };
-        mc_byte_items::touch(rt, arena, &cache.hints, hand, label).map_err(CallError::NoMemory)
+        shard::touch(rt, arena, &cache.hints, hand, label).map_err(CallError::NoMemory)
     }
 }
 

@@ -1,6 +1,6 @@
 use Rattle.std.proofs.Common.{◌<◌, length, rules, subst, sym}
 use Rattle.mc_words.specs.hand.Hands.{IsNewHand}
-use Rattle.mc_byte_items.specs.Hands.{IsIdleHandOf}
+use Rattle.mc_cache.specs.shard.Hands.{IsIdleHandOf}
 use Rattle.mc_cache.proofs.Dealt.{each_set}
 use Rattle.mc_cache.proofs.Opened.{first_is_new, new_hands_are_idle, stays_idle}
 use Rattle.mc_cache.proofs.opening.open_arena.Goals as goal

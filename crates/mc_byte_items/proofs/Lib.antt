@@ -1,5 +1,0 @@
-pub mod Idle
-pub mod Found
-pub mod WordsRead
-pub mod Appended
-pub mod Slabs

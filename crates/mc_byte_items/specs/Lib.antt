@@ -1,4 +1,0 @@
-pub mod Hands
-pub mod Reading
-pub mod Finding
-pub mod Setting

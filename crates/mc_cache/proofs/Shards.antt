@@ -1,0 +1,6 @@
+-- Items of bytes in one arena.
+pub mod Idle
+pub mod Found
+pub mod WordsRead
+pub mod Appended
+pub mod Slabs

@@ -1,0 +1,13 @@
+use Rattle.std.proofs.Common.{ap, false, inr, Ok, true}
+use Rattle.mc_words.specs.hand.Arenas.{setup_of}
+use Rattle.mc_cache.proofs.Shards.Found.{deletes_key, refused_full}
+use Rattle.mc_cache.proofs.shard.deleting.delete.Goals as goal
+
+pub returns-in-Ok-true-clause-deletes : goal.returns-in-Ok-true-clause-deletes
+returns-in-Ok-true-clause-deletes g c = λ is. deletes_key (setup_of c.args.arena.now) c.args.at.hash c.args.at.key.now true c.args.hand.now c.contains.new.hand c.delete.new.hand c.delete.result (c.in-Ok-true.ensures.key (ap Ok c.in-Ok-true.field-0-test)) is c.delete.ensures.deletes
+
+pub returns-in-Ok-true-clause-none : goal.returns-in-Ok-true-clause-none
+returns-in-Ok-true-clause-none g c = λ is. inr (deletes_key (setup_of c.args.arena.now) c.args.at.hash c.args.at.key.now false c.args.hand.now c.contains.new.hand c.delete.new.hand c.delete.result (c.in-Ok-true.ensures.key (ap Ok c.in-Ok-true.field-0-test)) is c.delete.ensures.deletes)
+
+pub returns-in-Ok-true-clause-full : goal.returns-in-Ok-true-clause-full
+returns-in-Ok-true-clause-full g c = refused_full c.delete.result (setup_of c.args.arena.now) c.args.at.hash c.contains.new.hand c.delete.new.hand c.delete.ensures.no_memory

@@ -1,0 +1,5 @@
+-- Items of bytes in one arena.
+pub mod Hands
+pub mod Reading
+pub mod Finding
+pub mod Setting

@@ -1,0 +1,130 @@
+-- What is found under a hash: the words of an item, and whether they are a packing of a key.
+use Rattle.std.specs.Prelude.{◌≡◌, ◌≢◌, ◌⊎◌, ℕ, Bool, false, true, List, [], ◌∷◌, ◌++◌, Option, None, Some, IfSome}
+use Rattle.std.specs.Option.{option_map}
+use Rattle.mc_packing.specs.Packing.{IsPackingOf, packed}
+use Rattle.mc_words.specs.declared.arena.Arena.{Arena}
+use Rattle.mc_words.specs.declared.hand.Hand.{Hand}
+use Rattle.mc_words.specs.hand.Arenas.{setup_of, view}
+use Rattle.mc_words.specs.item.Again.{FindsContended, FindsGone}
+use Rattle.mc_words.specs.item.Items.{item_with}
+use Rattle.mc_words.specs.declared.item.refs.Hint.{Hint}
+use Rattle.mc_words.specs.hand.Observers.{hint_chunk, hint_issue, number_of}
+use Rattle.mc_words.specs.hand.View.{Setup, View}
+use Rattle.mc_words.specs.hand.Views.{chunk_released}
+use Rattle.mc_words.specs.lock.Doing.{HoldsSlabs}
+use Rattle.mc_items.specs.declared.refs.Ref.{Ref}
+use Rattle.mc_items.specs.Current.{GetsCurrent}
+use Rattle.mc_items.specs.ItemRefs.{item_chunk, item_key, item_words}
+use Rattle.mc_items.specs.OnKeys.{ActsOn, Gets, FindsNoRoomFor}
+use Rattle.mc_items.specs.Calls.{Bumps, Deletes}
+use Rattle.mc_items.specs.Keeping.{holding_by}
+use Rattle.mc_cache.specs.shard.Hands.{WereSaid, sayings_of}
+use Rattle.mc_cache.specs.shard.Reading.{RefersTo}
+
+-- the item of this hash was got by a hint, with no lock; and it was the current item of the hash at the one exchange by which it was got
+abbrev pub GetsHinted : ℕ → Option Ref → Hand → Hand → Type 0
+GetsHinted hash None before got = ⊥
+GetsHinted hash (Some item) before got = (hint : Hint) × GetsCurrent hint item (view before) (view got) × (item_key item ≡ hash)
+
+-- what is under the hash was got: by the lock of its stripe, or by a hint
+abbrev pub GetsUnder : Setup → ℕ → Option Ref → Hand → Hand → Type 0
+GetsUnder setup hash item before got = Gets setup hash item before got ⊎ GetsHinted hash item before got
+
+-- a hint led to nothing: to no item that is there still, or others came between, or to an item of another hash, which was released
+abbrev pub FollowsInVain : Hint → ℕ → View → View → Type 0
+FollowsInVain hint hash view now =
+    FindsGone view (hint_chunk hint) (hint_issue hint) now
+    ⊎ FindsContended view (hint_chunk hint) (hint_issue hint) now
+    ⊎ ((got : View) × (item : Ref) × GetsCurrent hint item view got × (item_key item ≢ hash) × (now ≡ chunk_released (item_chunk item) got))
+
+-- the hand tried a hint of the hash in vain, or had none
+pub record TriesHint (hash : ℕ) (before tried : Hand) : Type 0 where
+  pub number : number_of tried ≡ number_of before
+  pub did : (view tried ≡ view before) ⊎ ((hint : Hint) × FollowsInVain hint hash (view before) (view tried))
+
+-- the hand got the item under the hash, perhaps once it had tried a hint in vain, and these are its words, which somebody said; or there was
+-- none
+pub record FindsWords (setup : Setup) (hash : ℕ) (before : Hand) (words : Option (List ℕ)) : Type 0 where
+  pub tried : Hand
+  pub tries : TriesHint hash before tried
+  pub got : Hand
+  pub item : Option Ref
+  pub gets : GetsUnder setup hash item tried got
+  pub words_are : words ≡ option_map (item_words (view got)) item
+  pub said : IfSome words (λ words. (stamp : ℕ) × WereSaid setup (sayings_of before) stamp (item_with hash stamp words))
+
+-- some item was under the hash
+abbrev pub FindsSome : Setup → ℕ → Hand → Type 0
+FindsSome setup hash before = (words : List ℕ) × FindsWords setup hash before (Some words)
+
+-- the hand perhaps tried a hint in vain, and then found that the hash's stripe records its calls and has no room for one more
+pub record FindsFull (setup : Setup) (hash : ℕ) (before now : Hand) : Type 0 where
+  pub tried : Hand
+  pub tries : TriesHint hash before tried
+  pub full : FindsNoRoomFor setup hash tried now
+
+-- the hand got this item under the hash, whose words somebody said, and holds nothing else
+pub record FindsItem (arena : Arena) (hash : ℕ) (item : Ref) (before got : Hand) : Type 0 where
+  pub finds : FindsWords (setup_of arena) hash before (Some (item_words (view got) item))
+  pub is_item : finds.item ≡ Some item
+  pub refers : RefersTo arena item got
+  pub alone : (view got).row.holdings ≡ holding_by (view got) item ∷ []
+
+-- it is of this key and this value
+abbrev pub FindsValue : Setup → ℕ → List ℕ → List ℕ → Hand → Type 0
+FindsValue setup hash key value before = FindsWords setup hash before (Some (packed key value))
+
+-- these words are the packing of the key and a value, which stands behind the bytes that were there
+abbrev pub PutsValue : List ℕ → List ℕ → List ℕ → List ℕ → Type 0
+PutsValue key words old new = (value : List ℕ) × (words ≡ packed key value) × (new ≡ old ++ value)
+
+-- the item under the hash is of this key and a value, which stands behind the bytes that were there
+abbrev pub GivesValue : Setup → ℕ → List ℕ → Hand → List ℕ → List ℕ → Type 0
+GivesValue setup hash key before old new = (value : List ℕ) × FindsValue setup hash key value before × (new ≡ old ++ value)
+
+-- it is of this key, with some value
+abbrev pub FindsKey : Setup → ℕ → List ℕ → Hand → Type 0
+FindsKey setup hash key before = (value : List ℕ) × FindsValue setup hash key value before
+
+-- there is no item under the hash, or it is of another key
+pub record FindsOther (setup : Setup) (hash : ℕ) (key : List ℕ) (before : Hand) : Type 0 where
+  pub words : Option (List ℕ)
+  pub finds : FindsWords setup hash before words
+  pub other : IfSome words (λ words. ¬ IsPackingOf key words)
+
+-- the item under the hash was of this key; and then it was deleted, if it was still there
+pub record DeletesKey (setup : Setup) (hash : ℕ) (key : List ℕ) (there : Bool) (before now : Hand) : Type 0 where
+  pub finds : FindsKey setup hash key before
+  pub between : Hand
+  pub deletes : ActsOn setup hash (λ number stripe. Deletes number stripe hash there) between now
+
+-- by the hand of this number the chunk of the item went to the back of its hand-out order, under the lock of the slabs, and was released
+pub record BumpsItem (number : ℕ) (item : Ref) (now : Hand) : Type 0 where
+  pub read : Hand
+  pub bumped : View
+  pub bumps : HoldsSlabs (Bumps number (item_chunk item)) (view read) bumped
+  pub released : view now ≡ chunk_released (item_chunk item) bumped
+
+-- the item under the hash is of this key and this value, and became the newest of its class
+pub record TouchesValue (setup : Setup) (hash : ℕ) (key value : List ℕ) (before now : Hand) : Type 0 where
+  pub finds : FindsValue setup hash key value before
+  pub item : Ref
+  pub is_item : finds.item ≡ Some item
+  pub bumps : BumpsItem (number_of before) item now
+
+-- it is of this key, with some value, and became the newest of its class
+abbrev pub TouchesKey : Setup → ℕ → List ℕ → Hand → Hand → Type 0
+TouchesKey setup hash key before now = (value : List ℕ) × TouchesValue setup hash key value before now
+
+-- the item under the hash is of this key and a value, which stands behind the bytes that were there, and it became the newest of its class
+abbrev pub GivesTouched : Setup → ℕ → List ℕ → Hand → Hand → List ℕ → List ℕ → Type 0
+GivesTouched setup hash key before now old new = (value : List ℕ) × TouchesValue setup hash key value before now × (new ≡ old ++ value)
+
+-- so it is, and it became the newest of its class if that was asked
+abbrev pub GivesTouchedIf : Bool → Setup → ℕ → List ℕ → Hand → Hand → List ℕ → List ℕ → Type 0
+GivesTouchedIf true setup hash key before now old new = GivesTouched setup hash key before now old new
+GivesTouchedIf false setup hash key before now old new = GivesValue setup hash key before old new
+
+-- there was no item of this key, or it was gone when it was to be deleted
+abbrev pub DeletesNone : Setup → ℕ → List ℕ → Hand → Hand → Type 0
+DeletesNone setup hash key before now = FindsOther setup hash key before ⊎ DeletesKey setup hash key false before now

@@ -1,0 +1,42 @@
+//! Items of bytes that are set.
+ghost use Rattle.std.specs.Prelude.{◌≡◌, IfErr, IfOk, OnErr};
+ghost use Rattle.mc_packing.specs.Packing.{packed};
+ghost use Rattle.mc_words.specs.hand.Arenas.{view};
+ghost use Rattle.mc_words.specs.item.Items.{item_with};
+ghost use Rattle.mc_words.specs.hand.Observers.{number_of};
+ghost use Rattle.mc_items.specs.Keeping.{Says, SaysNothing};
+ghost use Rattle.mc_items.specs.Setting.{RefusesSet, SetsItem};
+ghost use Rattle.mc_cache.specs.shard.Hands.{IsIdleHandOf};
+ghost use Rattle.mc_cache.specs.shard.Setting.{RefusesBytes};
+
+use crate::shard::label::Label;
+use mc_items::SetError;
+use mc_packing::pack;
+use mc_stripe::Stamp;
+use mc_words::{Arena, Hand};
+use std::sync::Wait;
+
+/// Stores an item of this key and this value under its hash, in place of what was there, and says its stamp. It is packed into `words`,
+/// which takes memory only where it has too little; what stood there is gone. A packing of `n` words goes to the lowest class with
+/// chunks of `24 + 8 n` bytes. It waits for the locks of the slabs and of the hash's stripe. (memcached's `process_update_command`)
+pub fn set<R: Wait>(
+    rt: &R,
+    arena: &Arena,
+    hand: &mut Hand,
+    at: Label,
+    value: &[u8],
+    words: &mut Vec<u64>,
+) -> Result<Stamp, SetError>
+    requires { IsIdleHandOf arena.now hand.old }
+    ensures idle { IsIdleHandOf arena.now hand.new }
+    ensures number { number_of hand.new ≡ number_of hand.old }
+    ensures sets { IfOk result (λ stamp. SetsItem (number_of hand.old) at.entry.hash stamp (packed at.entry.key.now value.now) (view hand.old) (view hand.new)) }
+    ensures said { IfOk result (λ stamp. Says (item_with at.entry.hash stamp (packed at.entry.key.now value.now)) stamp (view hand.old) (view hand.new)) }
+    ensures refused { IfErr result (λ error. RefusesBytes (number_of hand.old) at.entry.hash (packed at.entry.key.now value.now) error (view hand.old) (view hand.new)) }
+    ensures unsaid { OnErr result (SaysNothing (view hand.old) (view hand.new)) }
+{
+    match pack(words, at.key, value) {
+        Ok(()) => mc_items::set(rt, arena, hand, at.hash, words),
+        Err(refused) => Err(SetError::NoMemory(refused)),
+    }
+}
