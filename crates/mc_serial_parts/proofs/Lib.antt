@@ -4,5 +4,4 @@ pub mod ItemPlaces
 pub mod CountPlaces
 pub mod CountedHolds
 pub mod LeadsByKey
-pub mod Starts
 pub mod NewWordsCount

@@ -8,7 +8,7 @@ use mc_classes::ClassTable;
 use mc_memory::Refused;
 use mc_mover::Survey;
 use mc_pages::Reassign;
-use mc_serial_parts::{push_answer, push_turn_line, push_window_line};
+use mc_replies::{push_answer, push_turn_line, push_window_line};
 use mc_serial_spec::{Counts, Ending};
 use mc_stripe::Trim;
 use mc_watch::Decision;

@@ -3,7 +3,7 @@ ghost use Rattle.std.specs.Prelude.{◌≡◌, ◌++◌, OnOk};
 ghost use Rattle.mc_workers.specs.Replies.{reply_text};
 
 use mc_memory::Refused;
-use mc_serial_parts::{push_key_line, push_words_line};
+use mc_replies::{push_key_line, push_words_line};
 
 /// The answer to a worker's line, which is about its key.
 #[derive(Drop)]

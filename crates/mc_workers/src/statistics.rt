@@ -7,7 +7,7 @@ ghost use Rattle.mc_workers.specs.Surveyed.{AreTellable};
 use mc_classes::{ClassTable, Failures, Fault};
 use mc_memory::Refused;
 use mc_mover::Survey;
-use mc_serial_parts::TextSink;
+use mc_replies::TextSink;
 use mc_watch::{stats_general, stats_slabs};
 use std::marker::Brand;
 use std::sync::ledger::{Blank, Ledger};

@@ -20,11 +20,11 @@ use super::store::Stored;
 use mc_classes::{Failures, Fault};
 use mc_memory::{Refused, reserve};
 use mc_pages::Reassign;
-use mc_script::Command;
-use mc_serial_parts::{
-    NewWords, TextSink, push_answer, push_key_line, push_turn_line, push_window_line,
-    push_words_line,
+use mc_replies::{
+    TextSink, push_answer, push_key_line, push_turn_line, push_window_line, push_words_line,
 };
+use mc_script::Command;
+use mc_serial_parts::NewWords;
 use mc_watch::{stats_general, stats_slabs};
 use std::marker::Brand;
 use std::sync::ledger::{Blank, Ledger};

@@ -1,7 +1,7 @@
 use Rattle.std.proofs.Common.{◌++◌, codes, decimal, length}
 use Rattle.mc_serial_spec.specs.Texts.{spaced, words_line}
-use Rattle.mc_serial_parts.proofs.Starts.{appends, line_of_three, starts_append, starts_on}
-use Rattle.mc_serial_parts.proofs.text.push_words_line.Goals as goal
+use Rattle.mc_replies.proofs.Starts.{appends, line_of_three, starts_append, starts_on}
+use Rattle.mc_replies.proofs.text.push_words_line.Goals as goal
 
 pub returns-in_err-push_number-2-clause-kept : goal.returns-in_err-push_number-2-clause-kept
 returns-in_err-push_number-2-clause-kept c =

@@ -1,7 +1,7 @@
 use Rattle.std.proofs.Common.{◌≡◌, ◌∙◌, ◌++◌, [], ◌∷◌, ap, codes, List, ℕ}
 use Rattle.mc_serial_spec.specs.Texts.{spaced, turn_line, word_of}
-use Rattle.mc_serial_parts.proofs.Starts.{line_of_three, starts_append, starts_on}
-use Rattle.mc_serial_parts.proofs.text.push_turn_line.Goals as goal
+use Rattle.mc_replies.proofs.Starts.{line_of_three, starts_append, starts_on}
+use Rattle.mc_replies.proofs.text.push_turn_line.Goals as goal
 
 pub returns-clause-line : goal.returns-clause-line
 returns-clause-line c =

@@ -1,7 +1,7 @@
 use Rattle.std.proofs.Common.{◌≡◌, ◌++◌, drop}
 use Rattle.std.specs.Io.{StartsWith}
 use Rattle.mc_serial_spec.specs.Texts.{spaced}
-use Rattle.mc_serial_parts.proofs.text.push_spaced.Given as goal
+use Rattle.mc_replies.proofs.text.push_spaced.Given as goal
 
 -- the numbers so far, and those that are left; what stood there stays
 abbrev pub invariant-loop-number : goal.invariant-loop-number

@@ -1,5 +1,5 @@
-use Rattle.mc_serial_parts.proofs.Starts.{starts_append, starts_on}
-use Rattle.mc_serial_parts.proofs.text.push_spaced.Goals as goal
+use Rattle.mc_replies.proofs.Starts.{starts_append, starts_on}
+use Rattle.mc_replies.proofs.text.push_spaced.Goals as goal
 
 pub returns-in_err-push_number-clause-kept : goal.returns-in_err-push_number-clause-kept
 returns-in_err-push_number-clause-kept c =
