@@ -42,8 +42,8 @@ pub record TriesHint (hash : ℕ) (before tried : Hand) : Type 0 where
   pub number : number_of tried ≡ number_of before
   pub did : (view tried ≡ view before) ⊎ ((hint : Hint) × FollowsInVain hint hash (view before) (view tried))
 
--- the hand got the item under the hash, perhaps once it had tried a hint in vain, and these are its words, which somebody said; or there was
--- none
+-- the hand got the item under the hash, perhaps once it had tried a hint in vain, and these are the item's words, which some hand stored;
+-- or there was none
 pub record FindsWords (setup : Setup) (hash : ℕ) (before : Hand) (words : Option (List ℕ)) : Type 0 where
   pub tried : Hand
   pub tries : TriesHint hash before tried
@@ -63,30 +63,30 @@ pub record FindsFull (setup : Setup) (hash : ℕ) (before now : Hand) : Type 0 w
   pub tries : TriesHint hash before tried
   pub full : FindsNoRoomFor setup hash tried now
 
--- the hand got this item under the hash, whose words somebody said, and holds nothing else
+-- the hand got this item under the hash, whose words some hand stored, and holds nothing else
 pub record FindsItem (arena : Arena) (hash : ℕ) (item : Ref) (before got : Hand) : Type 0 where
   pub finds : FindsWords (setup_of arena) hash before (Some (item_words (view got) item))
   pub is_item : finds.item ≡ Some item
   pub refers : RefersTo arena item got
   pub alone : (view got).row.holdings ≡ holding_by (view got) item ∷ []
 
--- it is of this key and this value
+-- the item under the hash is of this key and this value
 abbrev pub FindsValue : Setup → ℕ → List ℕ → List ℕ → Hand → Type 0
 FindsValue setup hash key value before = FindsWords setup hash before (Some (packed key value))
 
--- these words are the packing of the key and a value, which stands behind the bytes that were there
+-- the words are the packing of the key and a value, which was added behind the old bytes
 abbrev pub PutsValue : List ℕ → List ℕ → List ℕ → List ℕ → Type 0
 PutsValue key words old new = (value : List ℕ) × (words ≡ packed key value) × (new ≡ old ++ value)
 
--- the item under the hash is of this key and a value, which stands behind the bytes that were there
+-- the item under the hash is of this key and a value, which was added behind the old bytes
 abbrev pub GivesValue : Setup → ℕ → List ℕ → Hand → List ℕ → List ℕ → Type 0
 GivesValue setup hash key before old new = (value : List ℕ) × FindsValue setup hash key value before × (new ≡ old ++ value)
 
--- it is of this key, with some value
+-- the item under the hash is of this key, with some value
 abbrev pub FindsKey : Setup → ℕ → List ℕ → Hand → Type 0
 FindsKey setup hash key before = (value : List ℕ) × FindsValue setup hash key value before
 
--- there is no item under the hash, or it is of another key
+-- no item is under the hash, or one of another key
 pub record FindsOther (setup : Setup) (hash : ℕ) (key : List ℕ) (before : Hand) : Type 0 where
   pub words : Option (List ℕ)
   pub finds : FindsWords setup hash before words
@@ -112,19 +112,20 @@ pub record TouchesValue (setup : Setup) (hash : ℕ) (key value : List ℕ) (bef
   pub is_item : finds.item ≡ Some item
   pub bumps : BumpsItem (number_of before) item now
 
--- it is of this key, with some value, and became the newest of its class
+-- the item under the hash is of this key, with some value, and became the newest of its class
 abbrev pub TouchesKey : Setup → ℕ → List ℕ → Hand → Hand → Type 0
 TouchesKey setup hash key before now = (value : List ℕ) × TouchesValue setup hash key value before now
 
--- the item under the hash is of this key and a value, which stands behind the bytes that were there, and it became the newest of its class
+-- the item under the hash is of this key and a value, which was added behind the old bytes, and the item became the newest of its class
 abbrev pub GivesTouched : Setup → ℕ → List ℕ → Hand → Hand → List ℕ → List ℕ → Type 0
 GivesTouched setup hash key before now old new = (value : List ℕ) × TouchesValue setup hash key value before now × (new ≡ old ++ value)
 
--- so it is, and it became the newest of its class if that was asked
+-- the item under the hash is of this key and a value, which was added behind the old bytes; if that was asked, the item became the newest
+-- of its class
 abbrev pub GivesTouchedIf : Bool → Setup → ℕ → List ℕ → Hand → Hand → List ℕ → List ℕ → Type 0
 GivesTouchedIf true setup hash key before now old new = GivesTouched setup hash key before now old new
 GivesTouchedIf false setup hash key before now old new = GivesValue setup hash key before old new
 
--- there was no item of this key, or it was gone when it was to be deleted
+-- no item under the hash was of this key, or it was gone when the hand came to delete it
 abbrev pub DeletesNone : Setup → ℕ → List ℕ → Hand → Hand → Type 0
 DeletesNone setup hash key before now = FindsOther setup hash key before ⊎ DeletesKey setup hash key false before now

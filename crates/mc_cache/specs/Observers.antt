@@ -4,11 +4,11 @@ use Rattle.mc_words.specs.declared.arena.Arena.{Arena}
 use Rattle.mc_cache.specs.declared.cache.Cache.{Cache}
 use Rattle.mc_cache.specs.declared.hashing.HashKey.{HashKey}
 
--- its arenas, shard by shard
+-- the arenas of a cache, shard by shard
 abbrev pub arenas_of : Cache → List Arena
 arenas_of cache = cache.arenas.items
 
--- how many shards it has
+-- how many shards a cache has
 abbrev pub shard_count : Cache → ℕ
 shard_count cache = length (arenas_of cache)
 

@@ -85,7 +85,7 @@ class_with row numbers = record {
   evictions = count_with numbers.evictions row.evictions;
 }
 
--- there is a row for each of these classes, and it has their numbers, too; the other rows are as they were
+-- the rows have one for each of these classes, with the class's numbers added; the other rows are as they were
 pub record AddsNumbers (classes : List Numbers) (before now : List ClassStats) : Type 0 where
   pub count : length now ≡ max (length before) (length classes)
   pub added : (place : ℕ) → place < length classes → slice_index_or now place no_class ≡ class_with (slice_index_or before place no_class) (numbers_at place classes)

@@ -16,7 +16,7 @@ use Rattle.mc_cache.specs.Windows.{TendsShard, count_with, nothing_tended}
 abbrev pub hands_of : Tender → List Hand
 hands_of tender = tender.worker.hands.items
 
--- and its deciders
+-- the tender's deciders, shard by shard
 abbrev pub deciders_of : Tender → List DeciderState
 deciders_of tender = tender.deciders.items
 
@@ -54,6 +54,6 @@ pub record TendsCache (cache : Cache) (done : Tended) (before now : Tender) : Ty
   pub tends : TendsFirst (shard_count cache) (hands_of before) (deciders_of before) (hands_of now) (deciders_of now) shares
   pub counted : done ≡ tended_in_all shares
 
--- none of its hands said anything
+-- none of the hands stored anything
 abbrev pub SayNothing : List Hand → List Hand → Type 0
 SayNothing before now = (shard : ℕ) (hand after : Hand) → shard < length before → SaysNothing (view (slice_index_or before shard hand)) (view (slice_index_or now shard after))

@@ -53,7 +53,7 @@ is_under_way other = false
 abbrev pub MakesTurn : Turn → Hand → Hand → Type 0
 MakesTurn turn before now = ActsOnce (λ number. Turns number turn) before now × TellsTurn before now turn
 
--- these turns were done, one after another; the newest stands first
+-- the hand did these turns, one after another; the newest is first in the list
 unfoldable pub DoesTurns : List Turn → Hand → Hand → Type 0
 DoesTurns [] before now = now ≡ before
 DoesTurns (turn ∷ turns) before now = (between : Hand) × DoesTurns turns before between × MakesTurn turn between now

@@ -14,7 +14,7 @@ pub record Classes : Type 0 where
 abbrev pub pages_of : Classes → ℕ
 pages_of classes = classes.limit / classes.page
 
--- how many pages there are: those within the limit, and for each class one more that it may get as its first
+-- how many pages there are: those within the limit, and for each class one more, which it may get as its first
 abbrev pub arena_pages_of : Classes → ℕ
 arena_pages_of classes = pages_of classes + length classes.sizes
 
@@ -30,11 +30,11 @@ size_of classes class = slice_index classes.sizes (class - 1)
 abbrev pub per_page_of : Classes → ℕ → ℕ
 per_page_of classes class = classes.page / size_of classes class
 
--- the lowest class whose size is at least so many bytes
+-- the lowest class whose size is at least n bytes
 abbrev pub class_of : Classes → ℕ → Option ℕ
 class_of classes bytes = option_map (λ place. place + 1) (position (λ size. nat_le bytes size) classes.sizes)
 
--- before the last class: the raw size is still below, is raised to the size, and the factor gives the next raw size
+-- one class before the last: its raw size is low enough, its size is the raw size rounded up, and the factor gives the next raw size
 pub record IsStep (config : Config) (raw size next : ℕ) : Type 0 where
   pub below : IsTrue (is_below_max config raw)
   pub raised : size ≡ rounded_up raw

@@ -12,7 +12,7 @@ is_between low high n = nat_le low n && nat_le n high
 abbrev pub rounded_up : ℕ → ℕ
 rounded_up n = (n + 7) / 8 * 8
 
--- a class of this raw size still stands before the last one
+-- a class of this raw size comes before the last class
 abbrev pub is_below_max : Config → ℕ → Bool
 is_below_max config raw = nat_lt (raw * config.num) (config.max * config.den)
 

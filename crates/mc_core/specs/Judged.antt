@@ -20,11 +20,11 @@ use Rattle.mc_core.specs.Lawful.{IsLawful}
 abbrev pub is_seen_unfit : List Look → ℕ → ChunkId → Bool
 is_seen_unfit looks page chunk = chunk.page == page || option_map_or (λ head. not (nat_lt head.issue most_issue)) (seen_head looks chunk) false
 
--- as the hand saw, no free chunk of the page's class can take an item of the page
+-- by the hand's looks, no free chunk of the page's class can take an item of the page
 abbrev pub sees_no_target : SlabState → List Look → ℕ → Bool
 sees_no_target slabs looks page = list_all (is_seen_unfit looks page) (class_at slabs (class_of_page slabs page)).free
 
--- this is the first free chunk of the page's class that an item of the page can be taken to, as the hand saw
+-- by the hand's looks, this is the first free chunk of the page's class that can take an item of the page
 pub record SeesTarget (slabs : SlabState) (looks : List Look) (page : ℕ) (chunk : ChunkId) : Type 0 where
   pub before : List ChunkId
   pub after : List ChunkId
@@ -49,10 +49,10 @@ pub record IsJudged (m : Moment) (hand : ℕ) : Type 0 where
   -- a target that was seen can be handed out in an old chunk's place
   pub pop_off : (old chunk : ChunkId) → is_on_the_move m.state.slabs old.page ≡ true → is_handed_out m.state.slabs old ≡ true → has_place m.state hand ≡ true →
       SeesTarget m.state.slabs (looks_at m.state hand) old.page chunk → can_pop_off m.state hand old ≡ true
-  -- where no target was seen there is none
+  -- where the looks show no target for a moving page, there is none
   pub none : (page : ℕ) → is_on_the_move m.state.slabs page ≡ true → sees_no_target m.state.slabs (looks_at m.state hand) page ≡ true →
       target_of m.state.table m.state.heads m.state.slabs page ≡ None
-  -- where no target was seen, and each chunk that the class handed out was found not dead, the item must leave
+  -- where the looks show no target, and no dead one among the chunks that the class handed out, the item must leave
   pub leave : (chunk : ChunkId) → is_on_the_move m.state.slabs chunk.page ≡ true → none_dead m.state.slabs (looks_at m.state hand) chunk ≡ true →
       sees_no_target m.state.slabs (looks_at m.state hand) chunk.page ≡ true → must_leave m.state.table m.state.heads m.state.slabs (looks_at m.state hand) chunk ≡ true
   -- what was seen dead is as it was seen, and can go back

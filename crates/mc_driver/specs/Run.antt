@@ -97,7 +97,7 @@ IsServeFault machine commands old new failures_old failures_new (Script number) 
 IsServeFault machine commands old new failures_old failures_new TooLong = ⊥
 IsServeFault machine commands old new failures_old failures_new Read = ⊥
 
--- what is said of the commands of a script
+-- the bytes are a script, whose commands have the property
 abbrev pub OfScript : List ℕ → (List Command → Type 0) → Type 0
 OfScript bytes Says = (commands : List Command) × IsScript bytes commands × Says commands
 
@@ -114,12 +114,12 @@ IsScriptOutcome bytes machine old new (Err (Script number)) = (length bytes ≤ 
 IsScriptOutcome bytes machine old new (Err Write) = OfScript bytes (λ commands. WroteBroken machine commands old new)
 -- memory ran out before the first command, or at one of them
 IsScriptOutcome bytes machine old new (Err (Memory refused)) = Keeps old new ⊎ OfScript bytes (λ commands. WroteFirst machine commands old new)
--- it ends in no other way
+-- a run ends in no other way
 IsScriptOutcome bytes machine old new (Err (Refused number)) = ⊥
 IsScriptOutcome bytes machine old new (Err (Thread unstarted)) = ⊥
 IsScriptOutcome bytes machine old new (Err Read) = ⊥
 
--- what is said of the plain machine with the size classes and the mode that a run is started with
+-- the plain machine with the size classes and the mode of the run has the property
 abbrev pub OfMachine : Run → (Machine → Type 0) → Type 0
 OfMachine run Says = (table : Classes) × IsTableOf run.config table × Says (fresh_machine table run.config.bulk run.automove)
 

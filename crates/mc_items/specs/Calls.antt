@@ -48,7 +48,7 @@ pub record FindsStripe (Is : ReadyStripe → Type 0) (stripe : ℕ) (view now : 
   pub full : Is value
   pub given : now ≡ stripe_given stripe value taken
 
--- it records its calls, and had no room for one more
+-- the hand waited for the stripe's lock, found that the stripe records calls and has no room for one more, and gave the lock back
 abbrev pub OnlyWaits : ℕ → View → View → Type 0
 OnlyWaits stripe view now = FindsStripe IsFull stripe view now
 

@@ -1,4 +1,4 @@
--- Sets: what they do, what they tell, and why they are refused.
+-- Sets: what they do, what they record, and why they are refused.
 use Rattle.std.specs.Prelude.{◌≡◌, ◌⊎◌, ℕ, ◌+◌, ◌*◌, List, length, Option, Some, None}
 use Rattle.mc_classes.specs.Classes.{class_of}
 use Rattle.mc_pages.specs.declared.ids.ChunkId.{ChunkId}

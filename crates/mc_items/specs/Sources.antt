@@ -44,7 +44,7 @@ AsksMove number class supply view slabs now left =
     ((asks_move supply slabs ≡ true) × (answer : Result (Unit {0}) Reassign) × Reassigns number None class answer view slabs now left)
     ⊎ ((asks_move supply slabs ≡ false) × (now ≡ view) × (left ≡ slabs))
 
--- so, and it was handed out, and then a move to the class was asked for in mode 2
+-- the class came to a free chunk by this supply, which was handed out, and then a move of a page to the class was asked for in mode 2
 pub record SuppliesMade (number class : ℕ) (chunk : ChunkId) (view : View) (slabs : SlabState) (now : View) (left : SlabState) : Type 0 where
   pub supply : Supply
   pub made : View
@@ -84,7 +84,7 @@ abbrev pub FindsWornOut : ℕ → ℕ → SlabsDoing
 FindsWornOut number class view slabs now left =
     FindsWorn class view slabs now left ⊎ MakesWorn number class view slabs now left
 
--- there was no memory for the class's next page, or for the entry of an eviction, and nothing was changed
+-- there was no memory for the class's next page, or for the entry of an eviction, and pages and lists weren't changed
 abbrev pub LacksMore : ℕ → ℕ → SlabsDoing
 LacksMore number class view slabs now left =
     (((is_some (next_page slabs class) ≡ true) × (now ≡ view)) ⊎ ((next_page slabs class ≡ None) × LacksEntry number (first_five slabs class) view now)) × (left ≡ slabs)

@@ -1,4 +1,4 @@
--- The stages of a command: the machines between its steps. Where memory runs out, one of them is what stands.
+-- The stages of a command: the machines between its steps. Where memory runs out, one of them is what remains.
 use Rattle.std.specs.Prelude.{ℕ, zero, suc, ◌+◌, if◌then◌else◌, List, [], ◌∷◌, ◌++◌, Option, Some, None}
 use Rattle.mc_classes.specs.Classes.{class_of}
 use Rattle.mc_pages.specs.declared.ids.ChunkId.{ChunkId}
@@ -44,7 +44,7 @@ abbrev pub with_source_swept : Machine → Option Moving → Machine
 with_source_swept m None = m
 with_source_swept m (Some move) = swept m move.src
 
--- at most so many chunks are looked at: each may be where it ends
+-- the stages of at most n looks at chunks: the command may end at each of them
 abbrev pub look_stages : ℕ → Counted → List Machine
 look_stages zero c = []
 look_stages (suc count) c =
@@ -54,13 +54,13 @@ look_stages (suc count) c =
 abbrev pub turn_stages : Machine → Counts → List Machine
 turn_stages m counts = look_stages m.bulk (record { machine = record m { turns = m.turns + 1 }; counts = counts })
 
--- so many turns after these: each is about to begin, or ends early
+-- the stages of n more turns: each turn is about to begin, or ends early
 abbrev pub stages_from : ℕ → Turned → List Machine
 stages_from zero t = t.machine ∷ []
 stages_from (suc count) t = let next = turned t.machine t.counts in
     t.machine ∷ (turn_stages t.machine t.counts ++ (if is_went next.ending then stages_from count next else next.machine ∷ []))
 
--- so many turns
+-- the stages of n turns
 abbrev pub turns_stages : Machine → ℕ → List Machine
 turns_stages m count = stages_from count (record { machine = m; counts = no_counts; ending = Idle })
 

@@ -1,4 +1,4 @@
--- Commands with the replies to them, and what these alone tell: the words stored last, and the words held.
+-- Commands with the replies to them, and what these alone show: the words stored last, and the words held.
 use Rattle.std.specs.Prelude.{ℕ, ◌==◌, not, ◌&&◌, if◌then◌else◌, List, [], ◌∷◌, codes, Option, Some, None}
 use Rattle.std.specs.Option.{option_map_or}
 use Rattle.std.specs.Str.{bytes_eq}
@@ -14,7 +14,7 @@ pub record Answered : Type 0 where
   pub command : Command
   pub reply : List ℕ
 
--- these commands with their replies, before which others were answered; the last first
+-- these commands with their replies, behind those that were answered before; the last is first in the list
 abbrev pub answers : Machine → List Command → List Answered → List Answered
 answers m [] before = before
 answers m (command ∷ commands) before =

@@ -1,4 +1,4 @@
--- The automover: what a window tells the decider, and what is done with its decision.
+-- The automover: what a window feeds the decider, and what is done with the decision.
 use Rattle.std.specs.Prelude.{ℕ, ◌==◌, if◌then◌else◌, List, length, map, Option, None, Result, Ok, Err}
 use Rattle.mc_pages.specs.declared.moves.Reassign.{Reassign}
 use Rattle.mc_pages.specs.SlabState.{SlabState}
@@ -12,15 +12,15 @@ use Rattle.mc_machine.specs.Machine.{Machine}
 abbrev pub eviction_counts : SlabState → List ℕ
 eviction_counts slabs = map (λ class. class.evictions) slabs.classes
 
--- its pages
+-- how many pages each class has
 abbrev pub page_counts : SlabState → List ℕ
 page_counts slabs = map (λ class. length class.pages) slabs.classes
 
--- and its free chunks
+-- how many free chunks each class has
 abbrev pub free_counts : SlabState → List ℕ
 free_counts slabs = map (λ class. length class.free) slabs.classes
 
--- a page begins to move, where the answer says so
+-- the machine after a page began to move, where the answer allows that
 abbrev pub begun : Machine → Option ℕ → ℕ → Result ℕ Reassign → Machine
 begun m src dst (Err refusal) = m
 begun m src dst (Ok source) = record m { slabs = after_begin m.slabs src source dst }

@@ -41,11 +41,11 @@ fresh_machine table bulk mode = record {
 abbrev pub has_free : Machine → ℕ → Bool
 has_free m class = nat_lt 0 (length (class_at m.slabs class).free)
 
--- neither does a key lead to the chunk's item nor does anybody hold it
+-- no key leads to the chunk's item, and nobody holds it
 abbrev pub is_dead : Machine → ChunkId → Bool
 is_dead m chunk = is_unlinked m.items chunk && not (is_held m.holds chunk)
 
--- its key leads to the chunk's item, and nobody holds it
+-- a key leads to the chunk's item, and nobody holds it
 abbrev pub is_linked_unheld : Machine → ChunkId → Bool
 is_linked_unheld m chunk = is_linked m.items chunk && not (is_held m.holds chunk)
 

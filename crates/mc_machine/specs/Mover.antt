@@ -53,7 +53,7 @@ looked_at m class chunk =
 abbrev pub no_counts : Counts
 no_counts = record { cleared = 0; rescued = 0; evicted = 0; busy = 0; locked = 0 }
 
--- no more than so many of each kind
+-- no count is above n
 pub record AreAtMost (most : ℕ) (counts : Counts) : Type 0 where
   pub cleared : counts.cleared ≤ most
   pub rescued : counts.rescued ≤ most
@@ -91,7 +91,7 @@ abbrev pub with_chunk : Counted → Option Moving → Counted
 with_chunk c None = c
 with_chunk c (Some move) = if is_at_end c.machine move then c else with_looked c.counts (looked_at c.machine move.src (chunk_at_position move))
 
--- at most so many chunks are looked at
+-- the state after at most n looks at chunks
 abbrev pub with_chunks : ℕ → Counted → Counted
 with_chunks zero c = c
 with_chunks (suc count) c = with_chunks count (with_chunk c c.machine.slabs.moving)
@@ -131,7 +131,7 @@ abbrev pub is_went : Ending → Bool
 is_went Went = true
 is_went ending = false
 
--- one turn and then more, until so many are done or one is idle or ends a move; none where the run has no turns left
+-- one turn and then more, until n are done or one is idle or ends a move; none where the run has no turns left
 abbrev pub turns_from : ℕ → Turned → Option Turned
 turns_from zero t = Some t
 turns_from (suc count) t =
@@ -140,6 +140,6 @@ turns_from (suc count) t =
     if is_went next.ending then turns_from count next else Some next)
     else None
 
--- so many turns, as far as there is something to do
+-- n turns, as far as there is something to do
 abbrev pub after_turns : Machine → ℕ → Option Turned
 after_turns m count = turns_from count (record { machine = m; counts = no_counts; ending = Idle })

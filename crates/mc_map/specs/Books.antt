@@ -1,4 +1,4 @@
--- What the books say of all pages, and what each change makes of it.
+-- What the books record of all pages, and what each change adds to that.
 use Rattle.std.specs.Prelude.{ℕ, ◌-◌, ◌/◌, ◌==◌, ◌||◌, nat_le, nat_lt, if◌then◌else◌, List, [], ◌∷◌, ◌++◌, length, take, position, slice_get, slice_set, Option, Some, None}
 use Rattle.mc_classes.specs.Classes.{Classes, arena_pages_of, pages_of}
 use Rattle.mc_pages.specs.declared.ids.Moving.{Moving}
@@ -11,8 +11,8 @@ use Rattle.mc_pages.specs.Ledger.{all_untouched}
 use Rattle.mc_pages.specs.SlabState.{SlabState, is_untouched, granted_count}
 use Rattle.mc_map.specs.declared.glance.Glance.{Glance}
 
--- how many pages may be granted within the limit, the owner of each page, the pool with the page that came last standing last, and each
--- change of an owner
+-- how many pages may be granted within the limit, the owner of each page, the pool with the page that came last at the end, and each change
+-- of an owner
 pub record Book : Type 0 where
   pub within : ℕ
   pub owners : List Owner

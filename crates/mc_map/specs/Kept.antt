@@ -9,7 +9,7 @@ use Rattle.mc_machine.specs.Machine.{Machine}
 use Rattle.mc_keeper.specs.Calls.{words_of}
 use Rattle.mc_map.specs.declared.kept.ClassLine.{ClassLine}
 
--- an item of so many words comes into the class
+-- an item of n words goes to the class
 abbrev pub is_of : Classes → ℕ → ℕ → Bool
 is_of table class words = option_map_or (λ own. own == class) (class_of table (item_bytes words)) false
 
@@ -33,7 +33,8 @@ asked_bytes m class keys = sum_by (λ key. unwrap_or (bytes_in m class key) 0) k
 abbrev pub chunks_of : Classes → ℕ → ℕ
 chunks_of table class = if class == 0 || nat_lt (length table.sizes) class then 0 else per_page_of table class
 
--- the line tells what the class has of the items of these keys; each chunk of its pages is free, cleared, linked, held without a key, or dead
+-- the line has the class's numbers, with the items of these keys; each chunk of its pages is free, cleared, linked, held without a key, or
+-- dead
 pub record IsLine (m : Machine) (keys : List ℕ) (line : ClassLine) : Type 0 where
   pub size : line.size ≡ size_of m.table line.class
   pub per_page : line.per_page ≡ per_page_of m.table line.class

@@ -28,7 +28,7 @@ StripeDoing = ℕ → ReadyStripe → View → SlabState → View → SlabState 
 abbrev pub ReadsKey : ChunkId → ℕ → View → View → Type 0
 ReadsKey chunk key view now = Happens view [] (step.WordHeld chunk 0) now × (now ≡ key_seen chunk key view)
 
--- so, and another hand has the lock of its key's stripe
+-- the chunk's key was read, and another hand has the lock of the key's stripe
 pub record FindsLocked (chunk : ChunkId) (view now : View) : Type 0 where
   pub key : ℕ
   pub read : View
@@ -37,7 +37,8 @@ pub record FindsLocked (chunk : ChunkId) (view now : View) : Type 0 where
   pub busy : word ≢ 0
   pub is : now ≡ stripe_missed (key % view.setup.config.stripes) word read
 
--- so, the lock of its key's stripe was taken at once, whose history began with all that the hand had seen of it, and then this was done
+-- the chunk's key was read, and the lock of its stripe was taken at once. The stripe's history began with all that the hand had seen of it.
+-- Then this was done
 pub record ReachesStripe (chunk : ChunkId) (Does : ℕ → StripeDoing) (view : View) (slabs : SlabState) (now : View) (left : SlabState) : Type 0 where
   pub key : ℕ
   pub value : ReadyStripe
@@ -54,7 +55,7 @@ pub record ReachesStripe (chunk : ChunkId) (Does : ℕ → StripeDoing) (view : 
 abbrev pub OnlyGives : StripeDoing
 OnlyGives stripe value taken slabs now left = (now ≡ stripe_given stripe value taken) × (left ≡ slabs)
 
--- so, since the key leads to another chunk by now, or nowhere
+-- the lock was given back, and nothing was changed, since the key leads to another chunk by now, or nowhere
 abbrev pub FindsGone : ChunkId → ℕ → StripeDoing
 FindsGone chunk key stripe value taken slabs now left = (option_map (λ place. place.0) (place_of value.state key) ≢ Some chunk) × OnlyGives stripe value taken slabs now left
 
@@ -82,7 +83,7 @@ SavesAs number class chunk sweep Busy stripe value taken slabs now left =
     ⊎ GivesCopyUp number class chunk sweep stripe value taken slabs now left
 SavesAs number class chunk sweep found stripe value taken slabs now left = ⊥
 
--- so, and then the chunk, which is dead, was cleared
+-- the chunk's key was read, its stripe was taken, the item was saved as was found, and then the dead chunk was cleared
 pub record SavesAndClears (number class : ℕ) (chunk : ChunkId) (sweep : Sweep) (found : Found) (view : View) (slabs : SlabState) (now : View) (left : SlabState) : Type 0 where
   pub saved : View
   pub kept : SlabState

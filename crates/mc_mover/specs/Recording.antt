@@ -27,7 +27,7 @@ Leaves found taken left last = (left ≡ found) × (last ≡ taken)
 abbrev pub IsFull : ReadyStripe → Type 0
 IsFull stripe = (is_some stripe.state.recorded_from ≡ true) × (2 ^ 64 ≤ length stripe.state.history)
 
--- that was found, and nothing was done
+-- the stripe was found recording calls and unable to count one more, and nothing was done
 abbrev pub FindsFull : Doing
 FindsFull found taken left last = IsFull found × Leaves found taken left last
 

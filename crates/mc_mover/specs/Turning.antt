@@ -87,7 +87,7 @@ EndsTurn number counts Idle view slabs now left = ⊥
 EndsTurn number counts (Went same) view slabs now left = (same ≡ counts) × GoesOn number view slabs now left
 EndsTurn number counts (Finished same) view slabs now left = (same ≡ counts) × Finishes number view slabs now left
 
--- as many sections as a turn has from the move's position, which found these; its sweep is due at first
+-- as many sections as a turn has were done from the move's position, and found these; the sweep is due at first
 pub record LooksFrom (number : ℕ) (counts : Counts) (view : View) (slabs : SlabState) (now : View) (left : SlabState) : Type 0 where
   pub move : Moving
   pub runs : slabs.moving ≡ Some move
@@ -97,7 +97,7 @@ pub record LooksFrom (number : ℕ) (counts : Counts) (view : View) (slabs : Sla
   pub last : Sweep
   pub sections : Sections number Due found last view slabs now left
 
--- so, and then this
+-- as many sections as a turn has were done, and then this was done
 pub record Looks (number : ℕ) (counts : Counts) (Ends : SlabsDoing) (view : View) (slabs : SlabState) (now : View) (left : SlabState) : Type 0 where
   pub looked : View
   pub kept : SlabState
@@ -123,7 +123,7 @@ pub record LacksMemory (number : ℕ) (view : View) (slabs : SlabState) (now : V
   pub sections : Sections number Due found last view slabs looked kept
   pub move : Moving
   pub runs : kept.moving ≡ Some move
-  -- it is as many chunks further on the same page
+  -- the move is further on the same page, by a chunk for each section
   pub further : (move.page ≡ first.page) × (move.src ≡ first.src) × (move.at ≡ first.at + length found)
   pub within : move.at < (class_at kept move.src).per_page
   pub lacks : LacksCall (chunk_at_position move) looked kept now left

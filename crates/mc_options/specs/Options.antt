@@ -83,7 +83,7 @@ written (joined name value) = (codes "--" ++ name ++ (61 ∷ value)) ∷ []
 written (apart name value) = (codes "--" ++ name) ∷ value ∷ []
 written flag = codes "--threads" ∷ []
 
--- the name that stands behind the hyphens
+-- the name behind the hyphens
 abbrev pub name_of : Choice → List ℕ
 name_of (joined name value) = name
 name_of (apart name value) = name

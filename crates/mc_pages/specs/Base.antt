@@ -9,14 +9,14 @@ use Rattle.mc_pages.specs.declared.ledger.Entry.TheVariants.{Granted}
 use Rattle.mc_pages.specs.Ledger.{owner_after, page_of}
 use Rattle.mc_pages.specs.SlabState.{SlabState, is_untouched, page_count}
 
--- all entries of a ledger, how many aren't recorded any more, of how many pages they tell, and the room to record more
+-- all entries of a ledger, how many of them aren't recorded any more, how many pages they are about, and the room to record more
 pub record Entries : Type 0 where
   -- all that there were, the oldest first
   pub all : List Entry
-  -- so many, the oldest, aren't recorded
+  -- how many entries, the oldest, aren't recorded
   pub trimmed : ℕ
   pub pages : ℕ
-  -- there is room to record so many more
+  -- room to record n more entries
   pub room : ℕ
 
 -- the entries that are recorded

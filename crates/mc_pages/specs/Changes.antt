@@ -67,9 +67,9 @@ next_page slabs class = option_or (pooled_page slabs) (granted_page slabs class)
 pub record HasNoPageFor (slabs : SlabState) (class : ℕ) : Type 0 where
   -- the pool is empty
   pub pool : slabs.pool ≡ []
-  -- as many pages were granted within the limit as it has room for
+  -- as many pages were granted within the limit as fit into it
   pub limit : slabs.limit / slabs.page ≤ ordinary_count slabs.ledger
-  -- and the class has a page
+  -- the class has a page, so that the grace isn't open to it
   pub page : 1 ≤ length (class_at slabs class).pages
 
 -- an untouched page is given to the class, beyond the limit where none is left within it

@@ -56,7 +56,7 @@ abbrev pub with_before : ChunkId → ChunkId → List ChunkId → List ChunkId
 with_before new old [] = []
 with_before new old (c ∷ chunks) = if is_chunk c old then new ∷ c ∷ chunks else c ∷ with_before new old chunks
 
--- a free chunk takes the place of a handed-out one, which stands directly behind it then
+-- a free chunk takes the place of a handed-out one, which is directly behind it then
 abbrev pub replaced : ClassState → ChunkId → ChunkId → ClassState
 replaced class new old = record class { free = without new class.free; order = with_before new old class.order }
 
@@ -76,7 +76,7 @@ with_page class page = record class { pages = class.pages ++ page ∷ [] }
 abbrev pub without_page : ClassState → ℕ → ClassState
 without_page class page = record class { pages = filter (λ p. not (p == page)) class.pages }
 
--- a counter that counts on by so many, and stays at its greatest value once there
+-- a counter after n more, which stops at its greatest value
 abbrev pub counted : ℕ → ℕ → ℕ
 counted counter more = min (counter + more) (2 ^ 64 - 1)
 
@@ -84,7 +84,7 @@ counted counter more = min (counter + more) (2 ^ 64 - 1)
 abbrev pub evicted : ClassState → ClassState
 evicted class = record class { evictions = counted class.evictions 1 }
 
--- its numbers
+-- the numbers of a class: its pages, its free chunks and its evictions
 abbrev pub numbers_of : ClassState → Numbers
 numbers_of class = record { pages = length class.pages; free = length class.free; evictions = class.evictions }
 

@@ -26,7 +26,7 @@ pub record RowsState : Type 0 where
 abbrev pub no_row : Row
 no_row = record { next = None; previous = None; mark = Unlisted }
 
--- so many rows, and lists of so many classes, all empty
+-- this many rows, and lists of this many classes, all empty
 abbrev pub fresh_rows : ℕ → ℕ → ℕ → RowsState
 fresh_rows most rows classes = record {
   most = most;
@@ -38,7 +38,7 @@ fresh_rows most rows classes = record {
   writes = 0;
 }
 
--- where a chunk's row stands
+-- the place of a chunk's row
 abbrev pub row_place : ℕ → ChunkId → ℕ
 row_place most chunk = chunk.page * most + chunk.index
 
@@ -104,7 +104,7 @@ abbrev pub with_change : RowsState → Change → RowsState
 with_change rows (change.Link field link) = with_field rows field link
 with_change rows (change.Mark chunk mark) = with_mark rows chunk mark
 
--- it is written into one of the rows, and leads to none or to one of them
+-- the change writes into one of the rows, and a link that it writes leads to one of them or to none
 abbrev pub IsChange : RowsState → Change → Type 0
 IsChange rows (change.Link field link) = IsField rows field × IfSome link (IsRow rows)
 IsChange rows (change.Mark chunk mark) = IsRow rows chunk

@@ -20,7 +20,7 @@ pub record SlabState : Type 0 where
   pub classes : List ClassState
   -- page 0 first
   pub owners : List Owner
-  -- the page that came last into the pool stands last
+  -- the pages of the pool, the one that came last at the end
   pub pool : List ℕ
   -- all entries, the oldest first, and how many of them, the oldest, aren't recorded any more
   pub ledger : List Entry

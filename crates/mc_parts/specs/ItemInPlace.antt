@@ -1,4 +1,4 @@
--- What stands in a chunk's place.
+-- What is in a chunk's place.
 use Rattle.std.specs.Prelude.{if◌then◌else◌, Option, Some, None}
 use Rattle.mc_machine.specs.Item.{Item}
 use Rattle.mc_parts.specs.declared.place.Place.TheInside.{Inside}

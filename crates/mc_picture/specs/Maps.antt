@@ -10,11 +10,11 @@ use Rattle.mc_picture.specs.Aligned.{left, right}
 use Rattle.mc_picture.specs.Lines.{ledger_text}
 use Rattle.mc_picture.specs.Moves.{move_text}
 
--- where in the script, and how many commands are done
+-- the heading of a map: its place in the script, and how many commands are done
 unfoldable pub heading_text : List ℕ → ℕ → List ℕ
 heading_text heading done = codes "map " ++ heading ++ codes ", " ++ decimal done ++ codes " commands done\n\n"
 
--- how many pages of so many bytes are where
+-- the line that counts the pages: granted, in the pool, and moved
 unfoldable pub totals_text : ℕ → ℕ → Totals → List ℕ
 totals_text page pages totals =
     codes "pages of " ++ decimal page ++ codes " bytes: " ++ decimal totals.granted ++ codes " of " ++ decimal pages ++ codes " granted, "
@@ -31,7 +31,7 @@ owner_text (Moving src dst) = if dst == 0 then right 5 src ++ codes ">p" else ri
 unfoldable pub start_text : ℕ → List ℕ
 start_text page = if page % 8 == 0 then right 4 page else []
 
--- the end of a line, behind eight pages and behind the last of so many
+-- the end of a line, behind eight pages and behind the last of n
 unfoldable pub end_text : ℕ → ℕ → List ℕ
 end_text page pages = if page % 8 == 7 || page == pages - 1 then codes "\n" else []
 
@@ -39,7 +39,7 @@ end_text page pages = if page % 8 == 7 || page == pages - 1 then codes "\n" else
 unfoldable pub page_text : List Owner → ℕ → List ℕ
 page_text owners page = start_text page ++ owner_text (slice_index_or owners page Untouched) ++ end_text page (length owners)
 
--- the first so many pages of these
+-- the first n pages of these owners
 abbrev pub pages_text : List Owner → ℕ → List ℕ
 pages_text owners count = flat_map (page_text owners) (range_with_len 0 count)
 

@@ -1,4 +1,4 @@
--- The lines of a map's text that say where a page is on its move, and what holds it up.
+-- The lines of a map's text that show where a page is on its move, and what holds the move up.
 use Rattle.std.specs.Prelude.{ℕ, Bool, if◌then◌else◌, List, [], ◌∷◌, ◌++◌, codes, decimal, flat_map, Option, Some, None}
 use Rattle.mc_pages.specs.declared.ids.Moving.{Moving}
 use Rattle.mc_map.specs.declared.hang.Blocker.{Blocker}
@@ -10,7 +10,7 @@ use Rattle.mc_picture.specs.Lines.{goal_text}
 abbrev pub chunk_text : ℕ → ℕ → List ℕ
 chunk_text chunk key = codes "  chunk " ++ (decimal chunk ++ (codes " hangs: key " ++ decimal key))
 
--- that it is held, and whether its key leads to it
+-- the text that an item is held, and whether its key leads to it
 abbrev pub held_text : Bool → List ℕ
 held_text linked = if linked then codes " is held by worker" else codes ", which leads to it no more, is held by worker"
 
@@ -37,12 +37,12 @@ hang_text Unknown = codes "  what holds it up takes too many looks to find\n"
 abbrev pub page_text : Moving → List ℕ
 page_text moving = codes "  page " ++ (decimal moving.page ++ (codes " moves from class " ++ decimal moving.src))
 
--- at which of so many chunks the mover is, and how many were held in this pass
+-- the text of the mover's place among n chunks, and of how many were held in this pass
 abbrev pub position_text : Moving → ℕ → List ℕ
 position_text moving chunks =
     codes ": the mover is at chunk " ++ (decimal moving.at ++ (codes " of " ++ (decimal chunks ++ (codes ", " ++ (decimal moving.busy ++ codes " held it up in this pass\n")))))
 
--- where the move hangs
+-- the text of the move: its page, its goal, its place, and what holds it up
 abbrev pub move_text : Option Moving → ℕ → Hang → List ℕ
 move_text None chunks hang = codes "\nmove\n  no page moves\n"
 move_text (Some moving) chunks hang = codes "\nmove\n" ++ (page_text moving ++ (goal_text moving.dst ++ (position_text moving chunks ++ hang_text hang)))

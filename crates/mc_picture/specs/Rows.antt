@@ -15,6 +15,6 @@ row_of table class = record {
   rest = table.page % size_of table class;
 }
 
--- that of the first so many classes, class 1 first
+-- the rows of the first n classes, class 1 first
 abbrev pub rows_of : Classes → ℕ → List ClassRow
 rows_of table count = map (λ place. row_of table (place + 1)) (range_with_len 0 count)

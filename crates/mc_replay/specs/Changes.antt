@@ -22,7 +22,7 @@ found_of name =
     else if bytes_eq name (codes "Already") then Some found.Already
     else None
 
--- those with a class, a mode, a stripe or a key
+-- the change of this name on a class, a mode, a stripe or a key
 unfoldable pub number_change : List ℕ → ℕ → Option Change
 number_change name number =
     if bytes_eq name (codes "Grow") then Some (change.Grow number)
@@ -71,6 +71,6 @@ abbrev pub changes_in : List (List ℕ) → Option (List Change)
 changes_in [] = Some []
 changes_in (part ∷ parts) = followed_by (change_of (words_of part)) (changes_in parts)
 
--- the changes of a text, which stand between commas
+-- the changes of a text, which commas separate
 unfoldable pub changes_of : List ℕ → Option (List Change)
 changes_of text = changes_in (slice_split (λ byte. byte == 44) text)

@@ -26,6 +26,6 @@ words_for (Turn turns) = codes "turn" ∷ decimal turns ∷ []
 words_for Stats = codes "stats" ∷ []
 words_for StatsSlabs = codes "stats" ∷ codes "slabs" ∷ []
 
--- its line: the words with one space between them, and LF
+-- the line of a command: its words with one space between them, and LF
 abbrev pub text_of : Command → List ℕ
 text_of command = join_with_byte space (words_for command) ++ 10 ∷ []

@@ -10,10 +10,10 @@ pub record Calls : Type 0 where
   pub all : List Call
   -- the place of the first call that is recorded, none where no call is
   pub recorded_from : Option ℕ
-  -- there is room to record so many more
+  -- room to record n more calls
   pub room : ℕ
 
--- one more call can be told
+-- where calls are recorded, there is room to record one more
 abbrev pub CanTell : Calls → Type 0
 CanTell calls = IfSome calls.recorded_from (λ from. 0 < calls.room)
 
@@ -29,6 +29,6 @@ recorded all recorded_from = drop (count_trimmed all recorded_from) all
 abbrev pub left_by_trimmed : List Call → Option ℕ → Stamps
 left_by_trimmed all recorded_from = option_map_or (λ stamps. stamps) (replay [] (take (count_trimmed all recorded_from) all)) []
 
--- where calls are recorded, those are that come after this many
+-- where calls are recorded, those are recorded that come behind the first n
 abbrev pub recorded_behind : Option ℕ → ℕ → Option ℕ
 recorded_behind recorded_from count = option_map (λ from. count) recorded_from

@@ -23,7 +23,7 @@ DefaultSizes = (table_of (small 2 1 512)).sizes ≡ 48 ∷ 96 ∷ 192 ∷ 512 �
 abbrev pub DefaultWastes : Type 0
 DefaultWastes = wastes_of (table_of (small 2 1 512)) ≡ Some 24 ∷ Some 40 ∷ Some 88 ∷ Some 312 ∷ []
 
--- the same with a factor of 5/4
+-- the class sizes with a factor of 5/4 and a greatest size of 512
 abbrev pub FinerSizes : Type 0
 FinerSizes = (table_of (small 5 4 512)).sizes ≡ 48 ∷ 64 ∷ 80 ∷ 104 ∷ 136 ∷ 176 ∷ 224 ∷ 280 ∷ 352 ∷ 512 ∷ []
 

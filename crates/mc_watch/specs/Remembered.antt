@@ -21,7 +21,7 @@ fresh_class per_page = record {
   quiet = false ∷ false ∷ false ∷ [];
 }
 
--- before any window nothing was evicted, no class was quiet and none led
+-- what is remembered before any window: nothing was evicted, no class was quiet and none led
 abbrev pub nothing_remembered : List ℕ → Remembered
 nothing_remembered per_page = record { classes = map fresh_class per_page; leaders = None ∷ None ∷ None ∷ [] }
 
@@ -64,7 +64,7 @@ abbrev pub remembered : List ℕ → List Window → Remembered
 remembered per_page [] = nothing_remembered per_page
 remembered per_page (newest ∷ before) = after_noted (remembered per_page before) newest
 
--- each window has a number of each kind for each of so many classes
+-- each window has a number of each kind for each of n classes
 abbrev pub AreWhole : ℕ → List Window → Type 0
 AreWhole count [] = Unit {0}
 AreWhole count (newest ∷ before) = (length newest.evictions ≡ count) × (length newest.pages ≡ count) × (length newest.free ≡ count) × AreWhole count before

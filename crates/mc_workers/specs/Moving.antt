@@ -1,4 +1,4 @@
--- What a line of the mover does by its hand, as the reply tells it.
+-- What a line of the mover does by its hand, as the reply reports it.
 use Rattle.std.specs.Prelude.{◌≡◌, ◌≢◌, ℕ, ◌+◌, ◌<◌, ◌≤◌, ◌==◌, true, false, ◌&&◌, is_none, is_some, if◌then◌else◌, List, [], ◌∷◌, ◌++◌, length, All, Option, Some, None, Result, Ok, Err, ◌⊎◌, ⊤}
 use Rattle.mc_pages.specs.declared.moves.Reassign.{Reassign}
 use Rattle.mc_pages.specs.declared.moves.Reassign.TheVariants.{NoMemory}
@@ -43,7 +43,8 @@ turns_of mover = mover.turns
 abbrev pub AsksForPage : Option ℕ → ℕ → Result (Unit {0}) Reassign → Hand → Hand → Type 0
 AsksForPage src dst answer before now = ActsOnce (λ number. Reassigns number src dst answer) before now × (answer ≢ Err (NoMemory tt))
 
--- why the decider doesn't take the numbers of a survey. In a run it takes all, as classes stay and evictions never fall, but no contract says so
+-- why the decider doesn't take the numbers of a survey. In a run it takes all, as classes stay and evictions never fall, but no contract
+-- states this
 abbrev pub refusal_for : DeciderState → Survey → Option Feed
 refusal_for decider survey = refusal_of decider (evictions_in survey) (pages_in survey) (free_in survey)
 
@@ -77,7 +78,7 @@ TrimsAs (Ok all) before now = TrimsAll (number_of before) (view before).setup.co
 TrimsAs (Err trim.Full) before now = StopsTrimming (number_of before) FindsFull (view before) (view now)
 TrimsAs (Err (trim.NoMemory refused)) before now = StopsTrimming (number_of before) FindsNotFull (view before) (view now)
 
--- a window ended: so it was, and then all was trimmed, as far as that is told
+-- a window ended: the decision was acted on as `acted` reports, and then all was trimmed, as far as `trimmed` reports
 pub record EndsWindow (acted : Option Acted) (trimmed : Result (Unit {0}) Trim) (mover : Mover) (before : Hand) (left : Mover) (now : Hand) : Type 0 where
   pub decided : Hand
   pub acts : ActsOnWindow acted mover before left decided
@@ -104,13 +105,13 @@ ending_of (turn.Finished counts) = Finished
 abbrev pub WentOn : Turn → Type 0
 WentOn turn = ending_of turn ≡ Went
 
--- these turns were done one after another, each in one hold of the lock of the slabs, and each tells its evictions and rescues
+-- the turns were done one after another, each in one hold of the slabs lock, and each records its evictions and rescues
 abbrev pub TurnsEach : List Turn → Hand → Hand → Type 0
 TurnsEach [] before now = now ≡ before
 TurnsEach (turn ∷ turns) before now =
     (next : Hand) × ActsOnce (λ number. Turns number turn) before next × TellsTurn before next turn × TurnsEach turns next now
 
--- these counts, and those of a turn
+-- the counts with those of a turn added
 abbrev pub counts_with : Turn → Counts → Counts
 counts_with turn counts = record {
   cleared = counts.cleared + (counts_in turn).cleared;
@@ -125,7 +126,7 @@ abbrev pub counts_of_all : List Turn → Counts
 counts_of_all [] = no_counts
 counts_of_all (turn ∷ turns) = counts_with turn (counts_of_all turns)
 
--- the turns of a line that asks for so many: all but the last went on, and where the last did, too, there are as many as that
+-- the turns of a line that asks for n: all but the last went on, and where the last went on, too, there are n
 pub record AreTurnsOf (asked : ℕ) (turns : List Turn) (ending : Ending) : Type 0 where
   pub earlier : List Turn
   pub last : Turn
@@ -135,7 +136,7 @@ pub record AreTurnsOf (asked : ℕ) (turns : List Turn) (ending : Ending) : Type
   pub most : length turns ≤ asked
   pub enough : WentOn last → length turns ≡ asked
 
--- so many turns were asked for, and these were done, of the 1,000,000 that a run has; their sums are told, and how the last one ended
+-- n turns were asked for, and these were done, of the 1,000,000 that a run has. The reply has their sums, and how the last one ended
 pub record DoesTurns (asked : ℕ) (ending : Ending) (counts : Counts) (mover : Mover) (before : Hand) (left : Mover) (now : Hand) : Type 0 where
   pub turns : List Turn
   pub are : AreTurnsOf asked turns ending
@@ -168,7 +169,7 @@ abbrev pub StopsMover : Command → Mover → Hand → Mover → Hand → Type 0
 StopsMover (command.Turn asked) mover before left now = RunsOutOfTurns asked mover before left now
 StopsMover command mover before left now = ⊥
 
--- a line of the mover that didn't end well: nothing is said of it, but that a window trimmed nothing
+-- a line of the mover that didn't end well: all that is known is that a window trimmed nothing
 abbrev pub RefusesMover : Command → Hand → Hand → Type 0
 RefusesMover command.Window before now = RefusesWindow before now
 RefusesMover command before now = ⊤

@@ -1,4 +1,4 @@
--- Worked cases of what a worker's lines do and tell.
+-- Worked cases of what a worker's lines do and reply.
 use Rattle.std.specs.Prelude.{◌≡◌, ℕ, List, [], ◌∷◌, ◌++◌, codes}
 use Rattle.mc_words.specs.declared.hand.Hand.{Hand}
 use Rattle.mc_words.specs.hand.View.{Setup, View}
@@ -14,7 +14,7 @@ use Rattle.mc_workers.specs.Kept.{Hold, IsLastOf}
 use Rattle.mc_workers.specs.Lines.{all_released, replies_to}
 use Rattle.mc_workers.specs.Serving.{Serves}
 
--- of holds of keys 5, 6 and 5 the third is dropped by key 5, and the others stay as they stood
+-- of holds of keys 5, 6 and 5 the third is dropped by key 5, and the others stay
 abbrev pub TheLastHoldIsDropped : Type 0
 TheLastHoldIsDropped = (first other third last : Hold) (left : List Hold) → item_key first.item ≡ 5 → item_key other.item ≡ 6 → item_key third.item ≡ 5
     → IsLastOf 5 (first ∷ other ∷ third ∷ []) last left → (last ≡ third) × (left ≡ first ∷ other ∷ [])
@@ -31,7 +31,7 @@ LinesComeApart = (lines_of 1 some_lines ≡ Set 1 5 3 0 ∷ Drop 1 5 ∷ []) × 
 abbrev pub TheGreatestIsFound : Type 0
 TheGreatestIsFound = (greatest_worker some_lines ≡ 2) × (greatest_worker (Turn 2 ∷ []) ≡ 0) × (worker_of (Get 2 5) ≡ 2)
 
--- each reply is told about its own line's key
+-- each reply is about the key of its own line
 abbrev pub RepliesAreTold : Type 0
 RepliesAreTold = replies_to (Set 1 7 3 0 ∷ Touch 1 8 ∷ []) (Stored ∷ NotFound ∷ []) ≡ key_line (codes "STORED") 7 ++ key_line (codes "NOT_FOUND") 8
 

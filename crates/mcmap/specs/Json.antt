@@ -27,11 +27,11 @@ abbrev pub with_members : Members → List (List ℕ × Data) → Members
 with_members members [] = members
 with_members members (pair ∷ pairs) = with_members (put pair.0 pair.1 members) pairs
 
--- these by their names
+-- the JSON object of these members, by their names
 abbrev pub object_json : List (List ℕ × Data) → Data
 object_json pairs = object (with_members no_members pairs)
 
--- these numbers by their names
+-- the JSON object of these numbers, by their names
 abbrev pub pairs_json : List (List ℕ × ℕ) → Data
 pairs_json pairs = object_json (map (λ pair. (pair.0, number_json pair.1)) pairs)
 
@@ -49,7 +49,7 @@ chunk_counts line =
     ∷ (codes "free", line.free) ∷ (codes "cleared", line.cleared) ∷ (codes "asked", line.asked) ∷ (codes "bytes", line.bytes)
     ∷ (codes "evictions", line.evictions) ∷ []
 
--- what the line of a class says
+-- the numbers of a class's line, by their names
 abbrev pub class_counts : ClassLine → List (List ℕ × ℕ)
 class_counts line = (codes "class", line.class) ∷ (codes "size", line.size) ∷ (codes "per_page", line.per_page) ∷ (codes "pages", line.pages) ∷ chunk_counts line
 
@@ -83,7 +83,7 @@ abbrev pub moving_json : Option Moving → Data
 moving_json None = null
 moving_json (Some moving) = pairs_json (moving_counts moving)
 
--- what is told of a chunk that holds a move up, by its names
+-- the members of a chunk that holds a move up, by their names
 abbrev pub blocker_members : Blocker → List (List ℕ × Data)
 blocker_members blocker =
     (codes "chunk", number_json blocker.chunk) ∷ (codes "key", number_json blocker.key) ∷ (codes "linked", boolean blocker.linked)

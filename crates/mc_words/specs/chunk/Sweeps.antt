@@ -41,7 +41,7 @@ abbrev pub LooksAlong : ℕ → ℕ → ℕ → View → View → Type 0
 LooksAlong page from until view now =
     (looked : List ChunkId) × SeesHeaders looked view now × ((index : ℕ) → from ≤ index → index < until → is_among looked (record { page = page; index = index }) ≡ true)
 
--- the chunks stand in the order in this sequence, with or without others between
+-- the order has these chunks in this sequence, with or without others between
 abbrev pub follows : List ChunkId → List ChunkId → Bool
 follows order [] = true
 follows [] (chunk ∷ chunks) = false

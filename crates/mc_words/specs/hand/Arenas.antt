@@ -1,4 +1,4 @@
--- What clauses say of an arena and of a hand.
+-- What clauses see of an arena and of a hand.
 use Rattle.std.specs.Prelude.{◌≡◌}
 use Rattle.atomic_table.specs.Seated.{TableId}
 use Rattle.mc_words.specs.declared.arena.Arena.{Arena}

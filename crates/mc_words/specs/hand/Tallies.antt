@@ -7,7 +7,7 @@ use Rattle.mc_core.specs.Holdings.{is_fresh}
 use Rattle.mc_core.specs.Items.{most_stamps}
 use Rattle.mc_words.specs.rule.Told.{Sits}
 
--- how many of these are fresh
+-- how many of the holdings are fresh
 abbrev pub fresh_count : List Holding → ℕ
 fresh_count [] = 0
 fresh_count (holding ∷ holdings) = truth (is_fresh holding) + fresh_count holdings

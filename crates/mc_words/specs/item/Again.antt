@@ -22,7 +22,7 @@ pub record RefersAgain (view : View) (chunk : ChunkId) (issue room : ℕ) (now :
   -- the item that the hand finds in the chunk
   pub item : List ℕ
   pub held : held_item now chunk ≡ item
-  -- has as many words as it says
+  -- the item has as many words as its length counts
   pub whole : length item ≡ length_of item
   pub happens : Happens view [] (step.Again chunk issue) now
   pub is : now ≡ with_event [] (step.Again chunk issue) (item_referred (reference_to chunk issue item) room view)

@@ -14,7 +14,7 @@ use Rattle.mc_words.specs.hand.View.{View}
 abbrev pub item_with : ℕ → ℕ → List ℕ → List ℕ
 item_with key stamp words = key ∷ stamp ∷ length words ∷ words
 
--- the words of the item in this chunk: key, stamp, length, and as many as that says; none where the hand doesn't hold the chunk
+-- the words of the item in this chunk: key, stamp, length, and as many as the length counts; none where the hand doesn't hold the chunk
 abbrev pub held_item : View → ChunkId → List ℕ
 held_item view chunk = option_map_or item_of (holding_of chunk view.row.holdings) []
 
@@ -30,7 +30,8 @@ words_in view chunk = option_map_or words_of (holding_of chunk view.row.holdings
 abbrev pub issue_in : View → ChunkId → ℕ
 issue_in view chunk = option_map_or (λ (holding : Holding). holding.issue) (holding_of chunk view.row.holdings) 0
 
--- some hand knows an item of this chunk, whose words it said itself or some other did, and this is its word at the place, if it has so many
+-- some hand knows an item of this chunk, whose words some hand stored, and this is the item's word at the place, if the item reaches that
+-- far
 pub record IsWordOfItem (moment : Moment) (chunk : ChunkId) (place word : ℕ) : Type 0 where
   pub hand : ℕ
   pub item : Known

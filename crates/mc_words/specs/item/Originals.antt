@@ -27,7 +27,7 @@ pub record CondemnsOriginal (stripe : ℕ) (chunk : ChunkId) (value : ReadyStrip
   pub is_key : key_read view chunk ≡ Some key
   pub stamp : ℕ
   pub led : place_of value.state key ≡ Some (chunk, stamp)
-  -- the item has as many words as it says, and is the one that the stripe knew
+  -- the item has as many words as its length counts, and is the one to which the stripe led
   pub item : List ℕ
   pub whole : length item ≡ length_of item
   pub key_is : key_of item ≡ key

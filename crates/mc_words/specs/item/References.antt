@@ -23,7 +23,7 @@ pub record GetsItem (view : View) (number stripe : ℕ) (value : ReadyStripe) (k
   -- the item that the hand finds in the chunk
   pub item : List ℕ
   pub held : held_item now chunk ≡ item
-  -- has as many words as it says, and is the one that the stripe knows
+  -- the item has as many words as its length counts, and is the one to which the stripe leads
   pub whole : length item ≡ length_of item
   pub key_is : key_of item ≡ key
   pub stamp_is : stamp_of item ≡ stamp

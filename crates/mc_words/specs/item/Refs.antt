@@ -7,14 +7,14 @@ use Rattle.mc_core.specs.Holdings.{holding_of, is_fresh}
 use Rattle.mc_core.specs.Past.{Known, known_by}
 use Rattle.mc_words.specs.hand.View.{View}
 
--- the first of these holdings that is of this chunk is a reference, and is known to have room for so many words
+-- the first of these holdings that is of this chunk is a reference, and is known to have room for n words
 pub record IsRefIn (holdings : List Holding) (known : List Known) (chunk : ChunkId) (room : ℕ) : Type 0 where
   pub holding : Holding
   pub found : holding_of chunk holdings ≡ Some holding
   pub linked : is_fresh holding ≡ false
   pub knows : Contains known (known_by room holding)
 
--- the hand has a reference to this chunk, with room for so many words
+-- the hand has a reference to this chunk, which has room for n words
 abbrev pub IsRefOf : View → ChunkId → ℕ → Type 0
 IsRefOf view chunk room = IsRefIn view.row.holdings view.row.knows.known chunk room
 

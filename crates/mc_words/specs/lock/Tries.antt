@@ -59,12 +59,13 @@ can_give Empty = false
 abbrev pub HasStripes : View → (ℕ → Bool) → Type 0
 HasStripes view has = map is_some view.stripes ≡ map has (range_with_len 0 view.setup.config.stripes)
 
--- the hand has the lock, which it hadn't, and otherwise what it had; of a stripe's lock this is said where it had no other stripe's
+-- the hand got the lock, which it hadn't, and has otherwise what it had; for a stripe's lock this holds where the hand had no other
+-- stripe's
 abbrev pub Gains : Lock → View → View → Type 0
 Gains SlabsLock view now = (is_some view.slabs ≡ false) × (is_some now.slabs ≡ true) × (map is_some now.stripes ≡ map is_some view.stripes)
 Gains (StripeLock stripe) view now = (is_some now.slabs ≡ is_some view.slabs) × (HasStripes view (λ other. false) → HasStripes now (λ other. stripe == other))
 
--- the hand hasn't the lock any more, and otherwise what it had; of a stripe's lock this is said where it had no other stripe's
+-- the hand hasn't the lock any more, and has otherwise what it had; for a stripe's lock this holds where the hand had no other stripe's
 abbrev pub Loses : Lock → View → View → Type 0
 Loses SlabsLock view now = (is_some now.slabs ≡ false) × (map is_some now.stripes ≡ map is_some view.stripes)
 Loses (StripeLock stripe) view now = (is_some now.slabs ≡ is_some view.slabs) × (HasStripes view (λ other. stripe == other) → HasStripes now (λ other. false))

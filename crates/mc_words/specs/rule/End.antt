@@ -72,7 +72,7 @@ left_of setup words slots = record {
   stripes = map (stripe_left words slots) (range_with_len 0 setup.config.stripes);
 }
 
--- there are as many words and slots as the setup says, and pages and lists, where they are left, are accounted for
+-- there are as many words and slots as the setup asks for, and pages and lists, where they are left, are accounted for
 pub record IsLeftOf (setup : Setup) (words : List ℕ) (slots : List Slot) : Type 0 where
   pub wide : length words ≡ word_count setup
   pub small : word_count setup < 2 ^ 63

@@ -21,7 +21,7 @@ pub record LawfulView (view : View) : Type 0 where
   pub hands : length moment.state.ids ≡ view.setup.hands
   pub stripes : length moment.state.stripes ≡ view.setup.config.stripes
   pub there : is_hand moment.state hand ≡ true
-  -- it comes after these events, from the arena's beginning on, of which the view has those that the hand made
+  -- the events that lead to the moment from the arena's beginning, of which the view has those that the hand made
   pub run : List Event
   pub reached : LeadsTo view.setup run moment
   pub is : view ≡ view_at view.setup view.spare (events_of hand run) moment hand
@@ -34,8 +34,8 @@ pub record LawfulView (view : View) : Type 0 where
 abbrev pub event_of : ℕ → List Change → Step → Event
 event_of hand before step = record { hand = hand; before = before; step = step }
 
--- these changes and this step were one event of the core by this hand, in a lawful moment in which it was allowed: the hand knew
--- the one view before it, and the other after it
+-- the changes and the step were one event of the model by this hand, allowed in a lawful moment: the hand's view was the one before it, and
+-- is the other after it
 pub record Happens (view : View) (before : List Change) (step : Step) (now : View) : Type 0 where
   pub was : LawfulView view
   pub allowed : is_allowed was.moment.state (event_of was.hand before step) ≡ true

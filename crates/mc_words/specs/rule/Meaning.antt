@@ -86,7 +86,7 @@ pub record Means (setup : Setup) (cuts : List ℕ) (run : List Event) (t : Words
 pub record Ruled (setup : Setup) (t : Words) : Type 0 where
   pub moment : Moment
   pub run : List Event
-  -- what the words of the pages say
+  -- the words of the pages: for each the class that has it
   pub cuts : List ℕ
   pub means : Means setup cuts run t moment
   pub lawful : IsLawful moment

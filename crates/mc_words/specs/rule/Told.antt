@@ -1,4 +1,4 @@
--- What a step on the table tells the hand that makes it.
+-- What a step on the table shows the hand that makes it.
 use Rattle.std.specs.Prelude.{◌≡◌, ◌≢◌, ℕ, [], ◌∷◌}
 use Rattle.atomic_table.specs.Table as table
 use Rattle.mc_core.specs.declared.event.Change.{Change}
