@@ -21,16 +21,16 @@ use Rattle.mc_items.specs.Keeping.{holding_by}
 use Rattle.mc_byte_items.specs.Hands.{WereSaid, sayings_of}
 use Rattle.mc_byte_items.specs.Reading.{RefersTo}
 
--- the item of this hash was got by a hint, with no lock; and it was the current item of the hash at the one exchange by which it was got
+-- the hand got the item of this hash by a hint, with no lock. It was the hash's current item at the exchange by which the hand got it
 abbrev pub GetsHinted : ℕ → Option Ref → Hand → Hand → Type 0
 GetsHinted hash None before got = ⊥
 GetsHinted hash (Some item) before got = (hint : Hint) × GetsCurrent hint item (view before) (view got) × (item_key item ≡ hash)
 
--- what is under the hash was got: by the lock of its stripe, or by a hint
+-- the hand got what is under the hash: by the lock of its stripe, or by a hint
 abbrev pub GetsUnder : Setup → ℕ → Option Ref → Hand → Hand → Type 0
 GetsUnder setup hash item before got = Gets setup hash item before got ⊎ GetsHinted hash item before got
 
--- a hint led to nothing: to no item that is there still, or others came between, or to an item of another hash, which was released
+-- a hint led to nothing: its item is gone, other hands changed its header meanwhile, or the item is of another hash and was released
 abbrev pub FollowsInVain : Hint → ℕ → View → View → Type 0
 FollowsInVain hint hash view now =
     FindsGone view (hint_chunk hint) (hint_issue hint) now
@@ -42,8 +42,8 @@ pub record TriesHint (hash : ℕ) (before tried : Hand) : Type 0 where
   pub number : number_of tried ≡ number_of before
   pub did : (view tried ≡ view before) ⊎ ((hint : Hint) × FollowsInVain hint hash (view before) (view tried))
 
--- the hand got the item under the hash, perhaps once it had tried a hint in vain, and these are the item's words, which some hand stored;
--- or there was none
+-- the hand got the item under the hash, perhaps after a hint led to nothing, and these are its words, which some hand stored; or there was
+-- none
 pub record FindsWords (setup : Setup) (hash : ℕ) (before : Hand) (words : Option (List ℕ)) : Type 0 where
   pub tried : Hand
   pub tries : TriesHint hash before tried
@@ -92,7 +92,7 @@ pub record FindsOther (setup : Setup) (hash : ℕ) (key : List ℕ) (before : Ha
   pub finds : FindsWords setup hash before words
   pub other : IfSome words (λ words. ¬ IsPackingOf key words)
 
--- the item under the hash was of this key; and then it was deleted, if it was still there
+-- the item under the hash was of this key; then the hash was deleted, if its item was still there
 pub record DeletesKey (setup : Setup) (hash : ℕ) (key : List ℕ) (there : Bool) (before now : Hand) : Type 0 where
   pub finds : FindsKey setup hash key before
   pub between : Hand
@@ -116,12 +116,12 @@ pub record TouchesValue (setup : Setup) (hash : ℕ) (key value : List ℕ) (bef
 abbrev pub TouchesKey : Setup → ℕ → List ℕ → Hand → Hand → Type 0
 TouchesKey setup hash key before now = (value : List ℕ) × TouchesValue setup hash key value before now
 
--- the item under the hash is of this key and a value, which was added behind the old bytes, and the item became the newest of its class
+-- the item under the hash is of this key and a value, which was added behind the old bytes; the item became the newest of its class
 abbrev pub GivesTouched : Setup → ℕ → List ℕ → Hand → Hand → List ℕ → List ℕ → Type 0
 GivesTouched setup hash key before now old new = (value : List ℕ) × TouchesValue setup hash key value before now × (new ≡ old ++ value)
 
--- the item under the hash is of this key and a value, which was added behind the old bytes; if that was asked, the item became the newest
--- of its class
+-- the item under the hash is of this key and a value, which was added behind the old bytes; the item became the newest of its class, if
+-- that was asked
 abbrev pub GivesTouchedIf : Bool → Setup → ℕ → List ℕ → Hand → Hand → List ℕ → List ℕ → Type 0
 GivesTouchedIf true setup hash key before now old new = GivesTouched setup hash key before now old new
 GivesTouchedIf false setup hash key before now old new = GivesValue setup hash key before old new

@@ -19,7 +19,7 @@ pub record IsIdleHandOf (arena : Arena) (hand : Hand) : Type 0 where
 abbrev pub sayings_of : Hand → List Saying
 sayings_of hand = (view hand).row.knows.said
 
--- some hand stored these words with the stamp: so a hand saw it that had stored this much, in a lawful moment of such an arena
+-- a hand that had stored this much saw, in a lawful moment of such an arena, that these words were stored with the stamp
 pub record WereSaid (setup : Setup) (own : List Saying) (stamp : ℕ) (words : List ℕ) : Type 0 where
   pub seen : View
   pub setup_is : seen.setup ≡ setup

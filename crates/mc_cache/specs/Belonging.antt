@@ -14,7 +14,7 @@ use Rattle.mc_cache.specs.Shards.{ActsOnShard, AreIdleHands, DeletesThere, Reads
 abbrev pub BelongsTo : Cache → Worker → Type 0
 BelongsTo cache worker = AreIdleHands cache.arenas.items worker.hands.items
 
--- each of the workers has an idle hand of each of these arenas
+-- each worker has an idle hand of each of these arenas
 abbrev pub HaveIdleHands : List Arena → List Worker → Type 0
 HaveIdleHands arenas workers = All (λ worker. AreIdleHands arenas worker.hands.items) workers
 
@@ -26,7 +26,7 @@ hash_in cache key = hash_of cache.hashing key
 abbrev pub shard_in : Cache → List ℕ → ℕ
 shard_in cache key = shard_of (length cache.arenas.items) (hash_in cache key)
 
--- the worker did this with its hand of the key's shard, and its other hands are as they were
+-- the worker did this with its hand of the key's shard, and its other hands are unchanged
 abbrev pub ActsOnKey : Cache → List ℕ → (Arena → Hand → Hand → Type 0) → Worker → Worker → Type 0
 ActsOnKey cache key Does before now = ActsOnShard cache.arenas.items (shard_in cache key) Does before.hands.items now.hands.items
 

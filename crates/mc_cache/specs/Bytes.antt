@@ -23,8 +23,8 @@ classes_from (suc more) config raw = if is_below_max config raw then classes_fro
 abbrev pub class_count : Config → ℕ
 class_count config = classes_from 62 config config.first
 
--- the words of an arena's table: those of the locks, of all pages, of which each class has one beyond the limit, and the eight numbers of
--- the configuration
+-- the words of an arena's table: those of the locks, of all pages, one beyond the limit for each class counted in, and eight for the
+-- configuration
 abbrev pub words_an_arena : Config → ℕ
 words_an_arena config = words_apart * (2 + config.stripes) + (config.limit / config.page + class_count config) * words_a_page config + 8
 

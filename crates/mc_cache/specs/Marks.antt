@@ -17,11 +17,11 @@ mark_of hash = hash / mark_count + 1
 abbrev pub no_marks : List ℕ
 no_marks = replicate mark_count 0
 
--- the hash is noted among these marks
+-- the marks note the hash
 abbrev pub is_noted : List ℕ → ℕ → Bool
 is_noted marks hash = slice_index marks (place_of hash) == mark_of hash
 
--- the hash is noted, too, in the place of another of its remainder
+-- the marks after the hash was noted, in the place of another hash with its remainder
 abbrev pub with_mark : ℕ → List ℕ → List ℕ
 with_mark hash marks = slice_set marks (place_of hash) (mark_of hash)
 

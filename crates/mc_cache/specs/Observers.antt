@@ -12,6 +12,6 @@ arenas_of cache = cache.arenas.items
 abbrev pub shard_count : Cache → ℕ
 shard_count cache = length (arenas_of cache)
 
--- the numbers that its keys are hashed with
+-- the numbers with which the cache hashes keys
 abbrev pub hash_key : Cache → HashKey
 hash_key cache = cache.hashing

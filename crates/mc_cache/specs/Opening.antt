@@ -33,6 +33,6 @@ pub record IsNewShard (config : CacheConfig) (arena : Arena) : Type 0 where
   pub made : IsMadeWith config.arena (config.workers + 1) 0 (setup_of arena)
   pub history : KeepsNoHistory arena
 
--- the configuration is accepted, and each of these arenas is made so
+-- the configuration is accepted, and each of the arenas is a new shard by it
 abbrev pub AreNewShards : CacheConfig → List Arena → Type 0
 AreNewShards config arenas = (cache_refusal config ≡ None) × All (IsNewShard config) arenas

@@ -24,7 +24,7 @@ AreIdleHands arenas hands = ArePaired IsIdleHandOf arenas hands
 abbrev pub AreIdleHandsOf : Arena → List Hand → Type 0
 AreIdleHandsOf arena hands = All (IsIdleHandOf arena) hands
 
--- the hand of one shard did this on its arena; the hands of the others are as they were
+-- the hand of one shard did this on its arena; the hands of the other shards are unchanged
 pub record ActsOnShard (arenas : List Arena) (shard : ℕ) (Does : Arena → Hand → Hand → Type 0) (before now : List Hand) : Type 0 where
   pub arena : Arena
   pub is_arena : slice_get arenas shard ≡ Some arena

@@ -18,7 +18,7 @@ HoldsNothing view = view.row.holdings ≡ []
 abbrev pub IsIdleHandOf : Arena → Hand → Type 0
 IsIdleHandOf arena hand = IsReadyHandOf arena hand × HoldsNothing (view hand)
 
--- all are such hands of the arena
+-- all these hands are hands of the arena that another may take over
 abbrev pub AreHandsOf : Arena → List Hand → Type 0
 AreHandsOf arena [] = ⊤
 AreHandsOf arena (hand ∷ hands) = IsIdleHandOf arena hand × AreHandsOf arena hands

@@ -40,7 +40,7 @@ pub record IsStep (config : Config) (raw size next : ℕ) : Type 0 where
   pub raised : size ≡ rounded_up raw
   pub grown : next ≡ size * config.num / config.den
 
--- the sizes of the classes come from these raw sizes
+-- the class sizes come from these raw sizes by the configuration's steps
 pub record ComesFrom (config : Config) (raws sizes : List ℕ) : Type 0 where
   pub paired : length raws ≡ length sizes
   pub begins : slice_get raws 0 ≡ Some config.first
@@ -56,7 +56,8 @@ pub record IsTableOf (config : Config) (classes : Classes) : Type 0 where
   pub raws : List ℕ
   pub comes : ComesFrom config raws classes.sizes
 
--- what every table keeps: from 1 to 63 classes of 24 bytes to a page, none smaller than a lower one, at most 256 chunks and 64 pages within the limit
+-- what every table keeps: 1 to 63 classes, with chunks of 24 bytes to a page, none smaller than a lower class's; at most 256 chunks a page,
+-- and at most 64 pages within the limit
 pub record IsSound (classes : Classes) : Type 0 where
   pub page : (64 ≤ classes.page) × (classes.page ≤ 16384)
   pub limit : classes.limit < 2 ^ 64

@@ -32,7 +32,7 @@ granted_as_given hand = granted_count (view hand).row.knows.hold.left
 abbrev pub stripe_for : Arena → ℕ → ℕ
 stripe_for arena key = key % (setup_of arena).config.stripes
 
--- the hand gave the key's stripe back, whose history begins with all that it had seen of it, and this is the key's stamp there
+-- the hand gave the key's stripe back, whose history begins with all that the hand had seen of it and gives the key this stamp
 pub record FindsStamp (arena : Arena) (key : ℕ) (before now : Hand) (stamp : Option ℕ) : Type 0 where
   pub value : ReadyStripe
   pub given : last_given (view now) (stripe_for arena key) ≡ Some value

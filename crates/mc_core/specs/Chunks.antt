@@ -62,7 +62,7 @@ next_free state class = first_free (class_at state.slabs class)
 abbrev pub can_pop : State → ℕ → ℕ → Bool
 can_pop state hand class = has_slabs state hand && is_class state.table class && has_place state hand && can_hand_out state (next_free state class)
 
--- header, holdings and looks after this chunk went to the hand for its own item; without one nothing changes
+-- the state after this chunk went to the hand for its own item; where there is no chunk, nothing changes
 abbrev pub popped : State → ℕ → Option ChunkId → State
 popped state hand None = state
 popped state hand (Some chunk) = with_look (with_fresh state hand chunk Item) hand (Popped chunk (handed_out (head_at state chunk)))

@@ -21,7 +21,7 @@ abbrev pub place_in : Classes → SlabState → ChunkId → ℕ → ℕ
 place_in table slabs chunk place =
     chunk.page * page_words table + chunk.index * room_in table (class_of_page slabs chunk.page) + place
 
--- the known words are the data words of the chunk, and fit it
+-- the known words are data words of the chunk, and fit into it
 pub record Shows (table : Classes) (slabs : SlabState) (words : List ℕ) (chunk : ChunkId) (known : Words) : Type 0 where
   pub fits : length known ≤ room_in table (class_of_page slabs chunk.page)
   pub known_words : (place word : ℕ) → slice_get known place ≡ Some (Some word) → slice_index words (place_in table slabs chunk place) ≡ word

@@ -38,7 +38,7 @@ pub record WriteOneWord : Type 0 where
   pub steps : (moment : Moment) (hand : ℕ) (step : Step) → MayStep moment hand step → (written : Place) × IsSameBut moment.state (moment_stepped moment hand step).state written
   pub events : (moment : Moment) (event : Event) → IsLawful moment → is_allowed moment.state event ≡ true → (written : Place) × IsSameBut moment.state (moment_after moment event).state written
 
--- some calls came in behind those of before, each of this number
+-- the calls grew at their end, by calls of this number alone
 pub record HasGrown (number : ℕ) (before now : List Call) : Type 0 where
   pub more : List Call
   pub grown : now ≡ before ++ more

@@ -72,7 +72,7 @@ condemned head = record { issue = head.issue; tag = Unlinked; count = 0 }
 abbrev pub as_rescue : ChunkId → List ℕ → Holding → Holding
 as_rescue old item holding = record holding { kind = Fresh (Rescue old item) (words_of holding) }
 
--- the stripe after a key's item was taken away: the key's entry is put aside for a rescue, and else evicted
+-- the stripe after a key's item was taken away: for a rescue the key's entry was put aside, and otherwise evicted
 abbrev pub stripe_condemned : ReadyStripe → Bool → ℕ → ℕ → ReadyStripe
 stripe_condemned stripe rescues writer key =
     if rescues then record stripe { state = after_lift stripe.state key } else used_up (after_evict stripe.state writer key)

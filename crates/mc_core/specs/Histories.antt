@@ -37,7 +37,7 @@ abbrev pub set_count : ℕ → List ReadyStripe → ℕ
 set_count stamp [] = 0
 set_count stamp (stripe ∷ stripes) = count_by (is_set_of stamp) stripe.state.history + set_count stamp stripes
 
--- the history of the key's stripe has the set of these words, with their stamp and the number of the hand that gave the stamp out
+-- the history of the key's stripe has the set of these words, with their stamp and its hand's number
 abbrev pub IsStored : List ReadyStripe → Saying → Type 0
 IsStored stripes s = Contains (stripe_for stripes (key_of s.words)).state.history (Set (s.stamp / 2 ^ 48) (key_of s.words) s.stamp)
 

@@ -16,7 +16,7 @@ Words = List (Option ℕ)
 abbrev pub all_known : List ℕ → Words
 all_known item = map (λ word. Some word) item
 
--- the known words as numbers, with 0 for each other
+-- the known words as numbers, with 0 for each unknown one
 abbrev pub numbers : Words → List ℕ
 numbers words = map (λ word. unwrap_or word 0) words
 
@@ -48,7 +48,7 @@ stamp_in words = word_in words 1
 abbrev pub item_length : Words → ℕ
 item_length words = 3 + word_in words 2
 
--- the words of the item among these: as many as it takes, or all where there are fewer
+-- the item's words among these: as many as the item takes, or all where there are fewer
 abbrev pub item_in : Words → Words
 item_in words = take (item_length words) words
 
@@ -73,7 +73,7 @@ abbrev pub lose : (Holding → Bool) → List Holding → List Holding
 lose test [] = []
 lose test (holding ∷ holdings) = if test holding then holdings else holding ∷ lose test holdings
 
--- each holding that passes the test is changed so, and keeps its place
+-- the holdings where each that passes the test is changed, and keeps its place
 abbrev pub change_each : (Holding → Bool) → (Holding → Holding) → List Holding → List Holding
 change_each test change holdings = map (λ holding. if test holding then change holding else holding) holdings
 

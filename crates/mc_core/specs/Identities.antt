@@ -31,7 +31,7 @@ pub record AreHands (ids : List Ids) (slabs_lock : ℕ) (locks : List ℕ) (hold
   pub stripes : All (IsFreeOrHeld ids) locks
   pub nothing : (hand : ℕ) → number_in ids hand ≡ None → slice_index_or holdings hand [] ≡ []
 
--- rows: there is a row for each hand, and a live hand saw a history of each stripe, if an empty one
+-- rows: there is a row for each hand, and a live hand's row has a history of each stripe, perhaps an empty one
 pub record HaveRows (ids : List Ids) (stripes : ℕ) (past : Past) : Type 0 where
   pub saw : length past.saw ≡ length ids
   pub holds : length past.holds ≡ length ids

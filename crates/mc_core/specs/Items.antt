@@ -61,8 +61,8 @@ is_entry_aside stripe key chunk stamp = option_map_or (λ entry. entry.0 == key 
 abbrev pub is_none_else_aside : StripeState → ℕ → Bool
 is_none_else_aside stripe key = is_none stripe.aside || is_aside stripe key
 
--- the words suit what the chunk is for. Of an item that is being rescued they are those that were condemned, and its entry is aside; any other that
--- a hand fills has its next stamp, and no other key's entry is aside; a reference never suits
+-- the item's words are allowed for this kind of chunk. A rescue has the words that were condemned, and its entry is aside. Any other item
+-- that a hand fills has the hand's next stamp, and no other key's entry is aside. A reference never is allowed
 abbrev pub suits : State → ℕ → Words → Kind → Bool
 suits state hand words (Reference own) = false
 suits state hand words (Fresh (Rescue old item) own) =

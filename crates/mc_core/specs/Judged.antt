@@ -16,7 +16,7 @@ use Rattle.mc_core.specs.Seen.{seen_head, last_read}
 use Rattle.mc_core.specs.Past.{Moment}
 use Rattle.mc_core.specs.Lawful.{IsLawful}
 
--- no item of the page can be taken to the chunk, as the hand saw: it is on that page, or used up
+-- by the hand's looks, no item of the page can be taken to the chunk: the chunk is on that page, or used up
 abbrev pub is_seen_unfit : List Look → ℕ → ChunkId → Bool
 is_seen_unfit looks page chunk = chunk.page == page || option_map_or (λ head. not (nat_lt head.issue most_issue)) (seen_head looks chunk) false
 
@@ -35,7 +35,7 @@ pub record SeesTarget (slabs : SlabState) (looks : List Look) (page : ℕ) (chun
   pub last : seen_head looks chunk ≡ Some seen
   pub unused : seen.issue < most_issue
 
--- what the hand saw is so, and allows its steps
+-- what the hand saw holds, and allows the hand's steps
 pub record IsJudged (m : Moment) (hand : ℕ) : Type 0 where
   -- the header of the chunk that is handed out next is the one that was seen
   pub next : (class : ℕ) (chunk : ChunkId) (seen : Head) → is_class m.state.table class ≡ true → next_free m.state class ≡ Some chunk → seen_head (looks_at m.state hand) chunk ≡ Some seen →

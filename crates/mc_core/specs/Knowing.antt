@@ -19,8 +19,8 @@ use Rattle.mc_core.specs.Columns.{head_in, Shows, Each, IsHandedOut}
 abbrev pub IsSaid : List (List Saying) → ℕ → List ℕ → Type 0
 IsSaid said stamp words = (hand : ℕ) × (s : Saying) × Contains (slice_index_or said hand []) s × (s.stamp ≡ stamp) × (s.words ≡ words)
 
--- a known item: it is whole; its chunk was handed out with this issue at the latest, no fresh chunk has it; and as long as the chunk
--- is handed out with this issue, its words are the item's, and it has the room of its page's class
+-- a known item is whole; its chunk was handed out with this issue at the latest, and no fresh chunk has it. While the chunk is handed out
+-- with this issue, its words are the item's, and it has the room of its page's class
 pub record IsTrueStill (table : Classes) (slabs : SlabState) (heads : List Head) (words : List ℕ) (holdings : List (List Holding)) (k : Known) : Type 0 where
   pub inside : has_chunk table k.chunk ≡ true
   pub whole : length k.words ≡ length_of k.words

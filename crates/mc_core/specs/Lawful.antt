@@ -46,7 +46,7 @@ LegalIn m = AreLegal m.state.stripes m.state.stripe_locks
 abbrev pub HandsIn : Moment → Type 0
 HandsIn m = AreHands m.state.ids m.state.slabs_lock m.state.stripe_locks m.state.holdings m.state.looks
 
--- in this moment there is a row for each hand, and in that of a live one a history for each stripe
+-- in this moment there is a row for each hand, and a live hand's row has a history for each stripe
 abbrev pub RowsIn : Moment → Type 0
 RowsIn m = HaveRows m.state.ids (length m.state.stripes) m.past
 

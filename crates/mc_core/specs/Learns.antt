@@ -14,7 +14,7 @@ both_know a b = record a { mine = a.mine ++ b.mine; seen = longer_each a.seen b.
 abbrev pub knows_nothing : Knowledge
 knows_nothing = record { saw = []; hold = no_hold; mine = []; seen = []; said = []; known = [] }
 
--- a change adds to the hand's own calls alone, a step adds what it teaches its hand, and a join gives one hand the knowledge of both
+-- a change adds to the hand's own calls alone, a step adds what it teaches, and a join gives one hand the knowledge of both
 pub record AreLearned : Type 0 where
   pub changes : (moment : Moment) (hand : ℕ) (change : Change) → MayChange moment hand change →
       let now = moment_changed moment hand change in

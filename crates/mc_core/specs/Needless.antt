@@ -33,9 +33,9 @@ pub record AreNeedless (m : Moment) : Type 0 where
   -- a target is free
   pub target : (page : ℕ) (chunk : ChunkId) → is_on_the_move m.state.slabs page ≡ true → target_of m.state.table m.state.heads m.state.slabs page ≡ Some chunk →
       (has_chunk m.state.table chunk ≡ true) × ((head_at m.state chunk).tag ≡ Free)
-  -- what is dead is in its class's hand-out order
+  -- each dead chunk is in its class's hand-out order
   pub dead : (chunk : ChunkId) → has_chunk m.state.table chunk ≡ true → is_dead (head_at m.state chunk) ≡ true → is_handed_out m.state.slabs chunk ≡ true
-  -- what is free or dead is in one of its class's lists
+  -- each free or dead chunk is in one of its class's lists
   pub unused : (chunk : ChunkId) → has_chunk m.state.table chunk ≡ true → (is_free (head_at m.state chunk).tag || is_dead (head_at m.state chunk)) ≡ true →
       is_listed m.state.slabs (class_of_page m.state.slabs chunk.page) chunk ≡ true
   -- what is cut next is out

@@ -40,7 +40,7 @@ pub record Known : Type 0 where
   pub room : ℕ
   pub words : List ℕ
 
--- some hand knows such an item
+-- some hand knows an item with this property
 abbrev pub IsKnownToSome : List (List Known) → (Known → Type 0) → Type 0
 IsKnownToSome known P = (hand : ℕ) × (k : Known) × Contains (slice_index_or known hand []) k × P k
 
@@ -63,8 +63,8 @@ pub record Own : Type 0 where
   pub number : ℕ
   pub calls : List (List Call)
 
--- for each hand: the words that its looks found, its holds of locks, its numbers with their calls, the history of each stripe that it saw,
--- what it stored, and the items that it ever held
+-- for each hand, six rows: the words that its looks found; its holds of locks; its numbers with their calls; the history of each stripe
+-- that it saw; what it stored; and the items that it ever held
 pub record Past : Type 0 where
   pub saw : List (List Sight)
   pub holds : List Hold
@@ -103,7 +103,7 @@ begin_hold stripe value hold = record hold { stripes = record { stripe = stripe;
 abbrev pub end_hold : ℕ → ReadyStripe → Hold → Hold
 end_hold stripe value hold = record hold { stripes = record { stripe = stripe; found = (last_of stripe hold.stripes).found; left = Some value } ∷ hold.stripes }
 
--- the hand's holds after its step: one begins as a lock is taken, and ends as it is given back
+-- the hand's holds after its step: a hold begins where the hand takes a lock, and ends where it gives the lock back
 abbrev pub hold_after : State → Step → Hold → Hold
 hold_after state TakeSlabs hold = record hold { found = state.slabs; count = hold.count + 1 }
 hold_after state GiveSlabs hold = record hold { left = state.slabs }
@@ -111,7 +111,7 @@ hold_after state (TakeStripe stripe) hold = begin_hold stripe (stripe_at state s
 hold_after state (GiveStripe stripe) hold = end_hold stripe (stripe_at state stripe) hold
 hold_after state other hold = hold
 
--- the item's stamp and words, unless it was rescued
+-- the item's stamp and words; nothing where the item was rescued
 abbrev pub saying_of : Kind → Words → List Saying
 saying_of (Fresh (Rescue old item) own) words = []
 saying_of kind words = record { stamp = stamp_in words; words = numbers (item_in words) } ∷ []

@@ -113,7 +113,7 @@ rescues =
 abbrev pub ends : List Event
 ends = does (FinishMove ∷ []) GiveSlabs ∷ does [] (GiveStripe 0) ∷ []
 
--- the item is deleted, a chunk is handed out for a copy of it, its page leaves the class and comes again, and its chunk has a new item
+-- the item is deleted, and a chunk is handed out for its copy; its page leaves the class and comes again, and its chunk has a new item
 abbrev pub comes_again : List Event
 comes_again =
     does (OfStripe 0 Reserve ∷ []) (Unlink 1) ∷ begins_rescue ++ does [] (Clear (chunk_at 0 1)) ∷ does [] (Clear (chunk_at 0 0)) ∷ does (FinishMove ∷ Grow 1 ∷ []) (Cut 0 0) ∷ does [] (Cut 0 1) ∷ stores (chunk_at 0 1) 2
@@ -145,8 +145,7 @@ abbrev pub moment_behind : Moment → List Event → Moment
 moment_behind moment [] = moment
 moment_behind moment (event ∷ events) = moment_behind (moment_after moment event) events
 
--- whether there was room for a call in this stripe, as hand 0 last took it and as it last gave it back, after it did this in an arena of two
--- stripes
+-- after these events in an arena of two stripes: whether this stripe had room for a call, as hand 0 last took it and last gave it back
 abbrev pub room_in_hold : ℕ → List Event → Option Bool × Option Bool
 room_in_hold stripe events =
     let hold = last_of stripe (knowledge_at (moment_behind (first_moment (one_class 1) 2 1 0) events).past 0).hold.stripes in

@@ -46,7 +46,7 @@ has_listed slabs class page = has_page (class_at slabs class).free page || has_p
 abbrev pub none_half_cut : SlabState → Bool
 none_half_cut slabs = is_none slabs.uncut
 
--- the class may get a page: there is such a class, no page is half cut, and one is to be had for it
+-- the class may get a page: the table has the class, no page is half cut, and there is a page for the class
 abbrev pub can_grow : Classes → SlabState → ℕ → Bool
 can_grow table slabs class = is_class table class && none_half_cut slabs && is_some (next_page slabs class)
 
@@ -119,14 +119,14 @@ is_aside stripe key = option_map_or (λ other. other == key) (key_aside stripe) 
 abbrev pub can_tell_none : ReadyStripe → ℕ → Bool
 can_tell_none stripe key = stripe.ready && not (is_aside stripe.state key) && is_none (place_of stripe.state key)
 
--- a stripe may be changed so: trimmed only where the place of the next call can be counted, if calls are recorded
+-- the change of the stripe is allowed: a trim only where the place of the next call can be counted, if calls are recorded
 abbrev pub can_change_stripe : StripeChange → StripeState → Bool
 can_change_stripe Reserve stripe = true
 can_change_stripe ReserveCall stripe = true
 can_change_stripe Trim stripe = is_none stripe.recorded_from || nat_lt (length stripe.history) (2 ^ 64)
 can_change_stripe Forget stripe = true
 
--- a stripe after such a change
+-- a stripe after this change
 abbrev pub stripe_after : StripeChange → ReadyStripe → ReadyStripe
 stripe_after Reserve stripe = after_reserve stripe
 stripe_after ReserveCall stripe = after_reserve_call stripe

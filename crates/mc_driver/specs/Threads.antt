@@ -42,7 +42,7 @@ IsToldOutcome run bytes old new (Err Write) = OfScript bytes (λ commands. OfTex
 IsToldOutcome run bytes old new (Err (Refused number)) = ⊥
 IsToldOutcome run bytes old new (Err Read) = ⊥
 
--- A run by threads that is started so over these bytes ends so.
+-- How a run by threads over these bytes ends, where the writer held `old` before it and holds `new` after it.
 abbrev pub IsThreadsOutcome : Run → List ℕ → Option (List ℕ) → Option (List ℕ) → Result (Unit {0}) RunFault → Type 0
 -- the configuration is refused: nothing was written
 IsThreadsOutcome run bytes old new (Err (Refused number)) = (refusal_number run.config ≡ Some number) × Keeps old new

@@ -19,11 +19,11 @@ use Rattle.mc_items.specs.Storing.{LeavesDead, StoresItem, item_filled}
 abbrev pub IsFreshFor : Setup → ℕ → View → Fresh → Type 0
 IsFreshFor setup class view fresh = (fresh_room fresh ≡ room_in setup.table class) × IsFreshOf view (fresh_chunk fresh) (fresh_room fresh)
 
--- the hand filled it with a whole item of this key and stamp
+-- the hand filled the fresh chunk with a whole item of this key and stamp
 abbrev pub IsFilledWith : View → Fresh → ℕ → ℕ → Type 0
 IsFilledWith view fresh key stamp = IsItemFilled view (fresh_chunk fresh) (issue_in view (fresh_chunk fresh)) (words_in view (fresh_chunk fresh)) key stamp
 
--- the hand wrote the item of these words into it
+-- the view after the hand wrote the item of these words into the fresh chunk
 abbrev pub filled_with : Fresh → ℕ → ℕ → List ℕ → View → View
 filled_with fresh key stamp words view = item_filled (fresh_chunk fresh) (item_with key stamp words) view
 

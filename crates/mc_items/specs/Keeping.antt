@@ -14,7 +14,7 @@ use Rattle.mc_words.specs.item.Refs.{KeepsHeld, KeepsRefs}
 use Rattle.mc_items.specs.declared.refs.Ref.{Ref}
 use Rattle.mc_items.specs.ItemRefs.{IsItemRef, item_chunk, item_issue, item_stamp, item_words}
 
--- the hand holds what it held
+-- the hand holds what it held before
 abbrev pub HoldsTheSame : View → View → Type 0
 HoldsTheSame view now = now.row.holdings ≡ view.row.holdings
 
@@ -69,6 +69,6 @@ HeldRefsKeepItems = (view now : View) (item : Ref) → KeepsHeld view now → Is
 abbrev pub KeepingGoesOn : Type 0
 KeepingGoesOn = (view next now : View) → KeepsRefs view next → KeepsRefs next now → KeepsRefs view now
 
--- *what a hand got and released leaves it what it referred to before*, whatever calls that keep references came between
+-- *what a hand got and released leaves it what it referred to before*, whatever calls came between that keep references
 abbrev pub ReleasingKeepsOthers : Type 0
 ReleasingKeepsOthers = (view got next now : View) (item : Ref) → KeepsRefs view next → HoldsToo (Some item) view got → HoldsTheSame got next → KeepsHeld next now → HoldsLess item next now → KeepsRefs view now

@@ -36,7 +36,7 @@ KeyDoing = ℕ → ℕ → Doing
 abbrev pub ActsOn : Setup → ℕ → KeyDoing → Hand → Hand → Type 0
 ActsOn setup key Does before now = CallsOn (number_of before) (stripe_of_key setup key) (Does (number_of before) (stripe_of_key setup key)) (view before) (view now)
 
--- the hand looked the key up under the lock of its stripe, and read key, stamp and length of the item that it got, if it got one
+-- the hand looked the key up under its stripe's lock, and read key, stamp and length of the item, if it got one
 abbrev pub Gets : Setup → ℕ → Option Ref → Hand → Hand → Type 0
 Gets setup key found before now =
     let number = number_of before in
@@ -51,11 +51,11 @@ FindsNoRoomFor setup key before now = OnlyWaits (stripe_of_key setup key) (view 
 abbrev pub FindsStripeHeld : Setup → ℕ → Hand → Hand → Type 0
 FindsStripeHeld setup key before now = (word : ℕ) × (word ≢ 0) × (view now ≡ stripe_missed (stripe_of_key setup key) word (view before))
 
--- of its own calls on keys of that stripe this one came last, and of no others came any
+-- the hand's own calls on keys of the key's stripe got this call, as the last, and no other call came
 abbrev pub TellsOn : Setup → ℕ → (ℕ → Call) → Hand → Hand → Type 0
 TellsOn setup key call before now = TellsCall (number_of before) (stripe_of_key setup key) (call (number_of before)) (view before) (view now)
 
--- with a stripe's lock it made room for a call, did this, and gave the lock back
+-- with a stripe's lock the hand made room for a call, did this, and gave the lock back
 abbrev pub DoesOn : KeyDoing → Hand → StripeHeld → Hand → Type 0
 DoesOn doing before held now = IsDone (number_of before) (stripe_number held) (stripe_lent held) (doing (number_of before) (stripe_number held)) (view before) (view now)
 
@@ -67,19 +67,18 @@ StoresOn doing before held now = IsStored (number_of before) (stripe_number held
 abbrev pub GivesBack : Hand → StripeHeld → Hand → Type 0
 GivesBack before held now = view now ≡ stripe_given (stripe_number held) (stripe_lent held) (view before)
 
--- with a stripe's lock the hand looked the key up, gave the lock back, and read key, stamp and length of the item that it got, if it got
--- one
+-- with a stripe's lock the hand looked the key up and gave the lock back; then it read key, stamp and length of the item, if it got one
 abbrev pub GetsAt : StripeHeld → ℕ → Option Ref → Hand → Hand → Type 0
 GetsAt held key found before now =
     let number = number_of before in
     let stripe = stripe_number held in
     AndReads (option_map item_chunk found) (IsDone number stripe (stripe_lent held) (LooksUp number stripe key (option_map item_reference found))) (view before) (view now)
 
--- of its own calls there this one came last, and of no others came any
+-- the hand's own calls on keys of the held stripe got this call, as the last, and no other call came
 abbrev pub TellsAt : StripeHeld → (ℕ → Call) → Hand → Hand → Type 0
 TellsAt held call before now = TellsCall (number_of before) (stripe_number held) (call (number_of before)) (view before) (view now)
 
--- of the hand's own calls on the key's stripe a get of the key came last, which found a stamp or none, and no other call came
+-- the hand's own calls got a get of the key, which found a stamp or none, and no other call
 abbrev pub TellsOfGet : Setup → ℕ → Bool → Hand → Hand → Type 0
 TellsOfGet setup key there before now = (stamp : Option ℕ) × (is_some stamp ≡ there) × TellsOn setup key (λ number. call.Get number key stamp) before now
 
@@ -111,6 +110,6 @@ ActsOnce doing before now = HoldsSlabs doing (view before) (view now)
 abbrev pub AreUnchanged : SlabsHeld → SlabsHeld → Type 0
 AreUnchanged found left = slabs_lent left ≡ slabs_lent found
 
--- the hand saw more, and has other pages and lists; else all is as before
+-- the hand saw more, and has other pages and lists; all else is as before
 abbrev pub SeesMore : Hand → Hand → Type 0
 SeesMore before now = view now ≡ with_seen (view before) (view now)

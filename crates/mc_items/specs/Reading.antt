@@ -10,7 +10,7 @@ abbrev pub reads_of : ChunkId → ℕ → ℕ → List OwnEvent
 reads_of chunk place zero = []
 reads_of chunk place (suc count) = made [] (step.Word chunk place) ∷ reads_of chunk (place + 1) count
 
--- the hand read them, one after another
+-- the view after the hand read n words of the chunk from a place on, one after another
 abbrev pub words_seen : ChunkId → ℕ → ℕ → View → View
 words_seen chunk place count view = record view { events = view.events ++ reads_of chunk place count }
 

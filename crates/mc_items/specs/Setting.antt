@@ -19,7 +19,8 @@ use Rattle.mc_items.specs.declared.setting.SetError.TheVariants.{TooLarge, NoRoo
 abbrev pub class_for_words : View → List ℕ → Option ℕ
 class_for_words view words = class_of view.setup.table (24 + 8 * length words)
 
--- under one hold of the slabs lock a chunk of the words' class was got; then the item was written into it, and stored under its key
+-- under one hold of the slabs lock the hand got a chunk of the words' class; then it wrote the item into the chunk, and stored it under its
+-- key
 pub record SetsItem (number key stamp : ℕ) (words : List ℕ) (view now : View) : Type 0 where
   pub class : ℕ
   pub fits : class_for_words view words ≡ Some class

@@ -17,8 +17,7 @@ use Rattle.mc_keeper.specs.declared.keeper.Keeper.TheInside.{Inside}
 abbrev pub IsIndexed : List (ℕ × ChunkId) → Items → Type 0
 IsIndexed index items = (key : ℕ) → chunk_of index key ≡ linked_chunk items key
 
--- the decider has as many classes as the memory, and its last window no more evictions of a class than the class has, so it refuses no
--- window
+-- the decider has as many classes as the memory, and no class has fewer evictions than in its last window, so it refuses no window
 pub record IsWatched (slabs : SlabState) (decider : DeciderState) : Type 0 where
   pub of_each : length decider.per_page ≡ length slabs.classes
   pub risen : (class : ℕ) → evictions_of decider.windows class ≤ number_of (eviction_counts slabs) class

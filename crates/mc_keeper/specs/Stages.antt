@@ -16,12 +16,13 @@ use Rattle.mc_machine.specs.Machine.{Machine, all_swept, swept, with_mode}
 use Rattle.mc_machine.specs.Mover.{Counted, Turned, is_went, no_counts, turned, with_chunk}
 use Rattle.mc_machine.specs.Supply.{supplied, supply}
 
--- the item is in this chunk, if there is one, and no page was asked for yet
+-- the machine with the item in this chunk, before a page is asked for; unchanged where there is no chunk
 abbrev pub placed : Machine → ℕ → ℕ → List ℕ → Option ChunkId → Machine
 placed m class key words None = m
 placed m class key words (Some chunk) = with_stored m class key words chunk
 
--- an item is stored: the class's dead are put back, then it has a free chunk where there is a way to one, then the item is in it
+-- the stages of storing an item: the class's dead chunks are put back; the class has a free chunk, if it can get one; and the item is in
+-- the chunk
 abbrev pub store_stages : Machine → ℕ → ℕ → List ℕ → List Machine
 store_stages m class key words =
     swept m class ∷ supplied m class ∷ placed (supplied m class) class key words (supply m class) ∷ []
@@ -39,7 +40,7 @@ reassign_stages m src dst = m ∷ begun m src dst (answer_of m.slabs src dst) �
 abbrev pub window_stages : Machine → List Machine
 window_stages m = let fed = with_window (all_swept m) in all_swept m ∷ fed ∷ (acted fed (decision fed)).machine ∷ []
 
--- the dead of the moving page's class are put back, and its next chunk is as before
+-- the machine after the dead chunks of the moving page's class were put back, before the next chunk is looked at
 abbrev pub with_source_swept : Machine → Option Moving → Machine
 with_source_swept m None = m
 with_source_swept m (Some move) = swept m move.src

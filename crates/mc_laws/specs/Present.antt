@@ -34,7 +34,7 @@ reply_to_hold holds key item = unless_full holds key (found_or_none (codes "HELD
 abbrev pub holds_of : ℕ → List Answered → ℕ
 holds_of worker told = length (held_words worker told)
 
--- whoever asks now for the key finds these words, or finds no item
+-- get, hold, touch and delete, asked now, find these words for the key, or find no item
 pub record Finds (m : Machine) (told : List Answered) (key : ℕ) (item : Option (List ℕ)) : Type 0 where
   pub get : (worker : ℕ) (served : Served) → serve m (Get worker key) ≡ Some served → served.reply ≡ reply_to_get (holds_of worker told) key item
   pub hold : (worker : ℕ) (served : Served) → serve m (Hold worker key) ≡ Some served → served.reply ≡ reply_to_hold (holds_of worker told) key item

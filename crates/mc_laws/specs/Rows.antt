@@ -172,13 +172,13 @@ WordsFromAnswers = let told = answers (fresh_machine four_classes 64 0) (
     (last_words 1 told ≡ Some (50 ∷ 51 ∷ [])) × (last_words 2 told ≡ None)
     × (held_words 1 told ≡ record { key = 2; words = 9 ∷ [] } ∷ record { key = 1; words = 7 ∷ 8 ∷ 9 ∷ [] } ∷ []) × (held_words 2 told ≡ [])
 
--- what these commands were answered, the last first
+-- these commands with their replies, the last first
 abbrev told_of : List Command → List Answered
 told_of commands = answers (fresh_machine four_classes 64 0) commands []
 
--- what the answers show of key 1. It is seen behind windows, statistics, a refused drop and a refused set; not behind a
--- stored set of another key, a turn or a delete; and again behind a get. A hold of it counts until it is dropped, and no
--- more behind a stored set of it or a delete, where a drop gives back the newer hold first
+-- what the answers show of key 1. The key is seen after windows, statistics, a refused drop and a refused set; not after another key's
+-- stored set, a turn or a delete; and again after a get. A hold of the key counts until it is dropped, and not after a stored set of the
+-- key or a delete
 abbrev pub SeenFromAnswers : Type 0
 SeenFromAnswers =
     (is_seen 1 (told_of (Set 1 1 3 7 ∷ Window ∷ Stats ∷ StatsSlabs ∷ Drop 1 1 ∷ Set 1 1 100 0 ∷ Reassign (Some 4) 1 ∷ Automove 1 ∷ [])) ≡ true)

@@ -19,8 +19,8 @@ shows key (Hold worker own) reply = own == key && bytes_eq reply (key_line (code
 shows key (Touch worker own) reply = own == key && bytes_eq reply (key_line (codes "TOUCHED") key)
 shows key command reply = false
 
--- the line may have taken the key's item away: a stored set, which may evict another key's; a delete of the key that
--- found it; and turns, which evict what they can't rescue
+-- the line may have taken the key's item away: a stored set, which may evict another key's item; a delete that found the key; and turns,
+-- which evict what they can't rescue
 abbrev pub may_take : ℕ → Command → List ℕ → Bool
 may_take key (Set worker own count base) reply = bytes_eq reply (key_line (codes "STORED") own)
 may_take key (Delete worker own) reply = own == key && bytes_eq reply (key_line (codes "DELETED") key)

@@ -8,8 +8,7 @@ use Rattle.mc_machine.specs.Lines.{Served, serve, after_all}
 use Rattle.mc_machine.specs.Texts.{key_line, words_line}
 use Rattle.mc_laws.specs.Answered.{HeldWords, answers, last_words, held_words}
 
--- the reply to a get of a key whose last words are these: the worker holds too much, or the key has no item, or it has
--- these words
+-- the reply to a get of a key with these last words: the worker holds too much, the key has no item, or it has these words
 pub data IsReplyToGet (key : ℕ) (last : Option (List ℕ)) (reply : List ℕ) : Type 0 where
   full : reply ≡ key_line (codes "TOO_MANY_REFS") key → IsReplyToGet key last reply
   absent : reply ≡ key_line (codes "NOT_FOUND") key → IsReplyToGet key last reply

@@ -8,7 +8,7 @@ use Rattle.mc_watch.specs.declared.decider.Decision.{Decision}
 use Rattle.mc_watch.specs.Decider.{after_window, decision_of}
 use Rattle.mc_machine.specs.Machine.{Machine}
 
--- of each class, how many of its items were ever evicted to make room
+-- how many items of each class were ever evicted to make room
 abbrev pub eviction_counts : SlabState → List ℕ
 eviction_counts slabs = map (λ class. class.evictions) slabs.classes
 
@@ -29,7 +29,7 @@ begun m src dst (Ok source) = record m { slabs = after_begin m.slabs src source 
 abbrev pub with_asked_page : Machine → ℕ → Machine
 with_asked_page m class = begun m None class (answer_of m.slabs None class)
 
--- a window ends: the automover is fed its numbers
+-- the machine after a window ended, with its numbers fed to the automover
 abbrev pub with_window : Machine → Machine
 with_window m = record m { decider = after_window m.decider (eviction_counts m.slabs) (page_counts m.slabs) (free_counts m.slabs) }
 

@@ -20,7 +20,7 @@ words_from base words = map (λ i. (base + i) % 2 ^ 64) (range_with_len 0 words)
 abbrev pub new_item : ℕ → List ℕ → Item
 new_item key words = record { key = key; words = words; linked = true }
 
--- the key leads to it
+-- the item's key is this key, and leads to the item
 abbrev pub is_linked_to : ℕ → Item → Bool
 is_linked_to key item = item.linked && item.key == key
 

@@ -41,7 +41,7 @@ abbrev pub without_item : Items → ChunkId → Items
 without_item [] chunk = []
 without_item (placed ∷ items) chunk = cond (is_at (chunk_cmp chunk) placed.chunk) items (placed ∷ without_item items chunk)
 
--- the chunk's item, if it has one, is another
+-- the items after the item of this chunk, if it has one, was replaced
 abbrev pub with_changed_item : Items → ChunkId → Item → Items
 with_changed_item [] chunk item = []
 with_changed_item (placed ∷ items) chunk item =

@@ -122,7 +122,7 @@ moved m src dst answer = record {
   machine = begun m (Some src) dst answer;
 }
 
--- the decision, if there is one, is acted on
+-- what a decision does, if there is one: the machine after it, and the reply
 abbrev pub acted : Machine → Option Decision → Served
 acted m None = told m (line (codes "WINDOW none"))
 acted m (Some d) = moved m d.src d.dst (answer_of m.slabs (Some d.src) d.dst)

@@ -78,6 +78,6 @@ with_new_page m class (Some page) = record m { slabs = with_cut_page (after_grow
 abbrev pub extended : Machine → ℕ → Machine
 extended m class = if has_free m class then m else with_new_page m class (next_page m.slabs class)
 
--- with no free chunk its dead are put back, and if there is none it gets a page
+-- the machine after a class without a free chunk got its dead chunks back, and a page where it had none dead
 abbrev pub stocked : Machine → ℕ → Machine
 stocked m class = if has_free m class then m else extended (swept m class) class

@@ -28,7 +28,8 @@ target m class page = find (λ chunk. not (chunk.page == page)) (class_at m.slab
 abbrev pub with_cleared : Machine → ChunkId → Machine
 with_cleared m chunk = record m { slabs = after_clear m.slabs chunk; items = without_item m.items chunk }
 
--- the item goes into this chunk, if there is one, in the old one's place of the hand-out order; else it is evicted
+-- an item's chunk is cleared: the item goes to the new chunk, in the old one's place of the hand-out order, or is evicted where there is no
+-- new chunk
 abbrev pub with_saved : Machine → ChunkId → Option ChunkId → Looked
 with_saved m old None = record { machine = with_cleared m old; found = Evicted }
 with_saved m old (Some new) = record {
@@ -36,11 +37,11 @@ with_saved m old (Some new) = record {
   found = Rescued;
 }
 
--- an idle item's chunk is cleared: its class's dead are put back before, so that the item may come into one of them
+-- an idle item's chunk is cleared: the class's dead chunks are put back before, so that the item may go to one of them
 abbrev pub saved : Machine → ℕ → ChunkId → Looked
 saved m class chunk = let ready = swept m class in with_saved ready chunk (target ready class chunk.page)
 
--- what is done with a chunk of the moving page, and its class
+-- what the mover does with this chunk of the moving page and of the class
 abbrev pub looked_at : Machine → ℕ → ChunkId → Looked
 looked_at m class chunk =
     if is_cleared m.slabs class chunk then record { machine = m; found = Already }
@@ -61,7 +62,7 @@ pub record AreAtMost (most : ℕ) (counts : Counts) : Type 0 where
   pub busy : counts.busy ≤ most
   pub locked : counts.locked ≤ most
 
--- one more chunk; those whose item was rescued or evicted were cleared too
+-- the counts after one more chunk was found; a rescued or evicted one counts as cleared, too
 abbrev pub with_count : Counts → Found → Counts
 with_count counts Cleared = record counts { cleared = counts.cleared + 1 }
 with_count counts Rescued = record counts { cleared = counts.cleared + 1; rescued = counts.rescued + 1 }

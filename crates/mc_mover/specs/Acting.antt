@@ -67,7 +67,8 @@ HasBlankCopy hand chunk fresh = (issue : ℕ) × (holding_of (fresh_chunk fresh)
 abbrev pub EvictsAs : ChunkId → Found → ℕ → StripeDoing
 EvictsAs chunk found number stripe value view slabs now left = GivesEvicted number stripe value chunk found view now
 
--- by what was found: the item was moved to the fresh chunk; or it was unlinked or held, and that chunk given up
+-- what became of a rescue, by what was found: the item was moved to the fresh chunk; or the item was unlinked or held, and the fresh chunk
+-- was given up
 abbrev pub RescuesAs : ChunkId → Fresh → Found → ℕ → StripeDoing
 RescuesAs chunk fresh found number stripe value = GivesRescued number stripe value chunk (fresh_chunk fresh) (fresh_room fresh) found
 

@@ -59,7 +59,7 @@ OnlyGives stripe value taken slabs now left = (now ≡ stripe_given stripe value
 abbrev pub FindsGone : ChunkId → ℕ → StripeDoing
 FindsGone chunk key stripe value taken slabs now left = (option_map (λ place. place.0) (place_of value.state key) ≢ Some chunk) × OnlyGives stripe value taken slabs now left
 
--- room was made for a call on the key and its entry, the class was swept as it had to be, and then this was done
+-- the hand made room for a call on the key and its entry, swept the class if a sweep was due, and then did this
 abbrev pub SavesWith : ℕ → SlabsDoing → (ℕ → BothDoing) → StripeDoing
 SavesWith number Swept Does stripe value taken slabs now left =
     IsStored number stripe value (λ ready view last after. Sweeping Swept (Does stripe) slabs ready view left last after) taken now
@@ -91,8 +91,8 @@ pub record SavesAndClears (number class : ℕ) (chunk : ChunkId) (sweep : Sweep)
   pub clears : Clears saved kept chunk now
   pub left_is : left ≡ after_clear kept chunk
 
--- why a linked chunk holds up the move, which was seen unheld or held: it was held; its key leads elsewhere by now; or it was held or
--- unlinked before its item could be taken away. In this last case alone the turn's sweep is done then
+-- why a linked chunk, seen unheld or held, holds up the move: it was held; its key leads elsewhere by now; or it was held or unlinked
+-- before its item could be taken away. The turn's sweep is done only in the last case
 abbrev pub HoldsUp : ℕ → ℕ → ChunkId → Sweep → Bool → Sweep → SlabsDoing
 HoldsUp number class chunk sweep false next view slabs now left = ReachesStripe chunk (λ key. OnlyGives) view slabs now left × (next ≡ sweep)
 HoldsUp number class chunk sweep true next view slabs now left =

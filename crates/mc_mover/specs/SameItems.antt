@@ -14,7 +14,7 @@ pub record KeepsItem (chunk copy : ChunkId) (item : List ℕ) (value left : Read
   -- the item's key led to the one chunk, and leads to the other
   pub led : place_of value.state (key_of item) ≡ Some (chunk, stamp_of item)
   pub leads : place_of left.state (key_of item) ≡ Some (copy, stamp_of item)
-  -- the hand held the other with just its words
+  -- the hand held the copy with just the item's words
   pub known : Known
   pub is_copy : known.chunk ≡ copy
   pub has_words : known.words ≡ item

@@ -115,7 +115,7 @@ GivesEvicted number stripe value chunk Evicted view now =
 GivesEvicted number stripe value chunk Busy view now = (last : View) × FindsHeld view chunk last × (now ≡ stripe_given stripe value last)
 GivesEvicted number stripe value chunk found view now = ⊥
 
--- the item was moved to its copy; or the copy was given up, and then put back, or seen in use
+-- the item was moved to its copy; or the copy was given up, and then its chunk was put back, or seen in use
 abbrev pub GivesRescued : ℕ → ℕ → ReadyStripe → ChunkId → ChunkId → ℕ → Found → SlabsDoing
 GivesRescued number stripe value chunk copy room Rescued view slabs now left =
     (after : ReadyStripe) × (last : View) × MovesItem number stripe chunk copy room value view after last × (now ≡ stripe_given stripe after last) × (left ≡ slabs)
@@ -137,7 +137,7 @@ pub record EvictsWithoutTarget (number : ℕ) (chunk : ChunkId) (found : Found) 
   pub gives : GivesEvicted number stripe value chunk found passed now
   pub same : left ≡ slabs
 
--- the dead of the class were put back, and then came the one or the other
+-- the dead chunks of the class were put back, and then the item was rescued to a free chunk, or evicted as there was none
 pub record SweepsAndSaves (number class : ℕ) (chunk : ChunkId) (found : Found) (stripe : ℕ) (value : ReadyStripe) (view : View) (slabs : SlabState) (now : View) (left : SlabState) : Type 0 where
   pub swept : View
   pub between : SlabState

@@ -55,7 +55,7 @@ pub record TellsAsCounted (number : ℕ) (counts : Counts) (view now : View) : T
   pub own : All (IsSaving number) calls
   pub evicted : count_by is_eviction calls ≡ counts.evicted
   pub rescued : count_by is_rescue calls ≡ counts.rescued
-  -- just these came
+  -- the hand's own calls got just these calls
   pub come : now.row.knows.mine ≡ with_own_calls number view.setup.config.stripes calls view.row.knows.mine
   -- the hand's own calls of each kind grew by those of that kind that came
   pub more : (is : Call → Bool) → calls_told is now ≡ calls_told is view + count_by is calls
@@ -73,7 +73,8 @@ TellingsAreCounted = (number : ℕ) (counts : Counts) (view now : View) → Tell
 abbrev pub own_of : ℕ → List Call → List Call → Own
 own_of number even odd = record { number = number; calls = even ∷ odd ∷ [] }
 
--- a hand of number 7 that took number 5 over: each call comes behind those on keys of the same stripe, under its own number
+-- a worked case of a hand of number 7 that took number 5 over: each call comes behind those on keys of the same stripe, under its own
+-- number
 abbrev pub OwnCallsComeApart : Type 0
 OwnCallsComeApart =
     with_own_calls 7 2 (Evict 7 4 ∷ Rescue 7 9 ∷ Evict 7 2 ∷ []) (own_of 5 [] (Evict 5 3 ∷ []) ∷ own_of 7 (Set 7 4 1 ∷ []) [] ∷ []) ≡

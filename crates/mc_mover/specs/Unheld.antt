@@ -21,7 +21,7 @@ use Rattle.mc_mover.specs.Visiting.{Visits}
 abbrev pub IsUnheldAt : (chunk : ChunkId) (view : View) (step : Step) (now : View) → Happens view [] step now → Type 0
 IsUnheldAt chunk view step now happens = holders chunk happens.was.moment.state.holdings ≡ 0
 
--- no hand held the chunk in the lawful moment in which it was cleared, nor in the one in which its item was taken away before
+-- no hand held the chunk in the lawful moment in which it was cleared, nor when its item was taken away before
 abbrev pub NobodyHolds : (number class : ℕ) (chunk : ChunkId) (sweep : Sweep) (found : Found) (next : Sweep) (view : View) (slabs : SlabState) (now : View) (left : SlabState) →
     Visits number class chunk sweep found next view slabs now left → Type 0
 NobodyHolds number class chunk sweep Cleared next view slabs now left visits = IsUnheldAt chunk _ _ _ visits.0.clears.happens

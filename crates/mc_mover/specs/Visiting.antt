@@ -18,7 +18,7 @@ use Rattle.mc_mover.specs.declared.sweep.Sweep.{Sweep}
 use Rattle.mc_mover.specs.Linked as linked
 use Rattle.mc_mover.specs.Linked.{VisitsLinked}
 
--- the hand saw the chunk's header, and it is so
+-- the hand saw the chunk's header, and the property holds of the header
 pub record SeesHead (chunk : ChunkId) (is_so : Head → Bool) (view now : View) : Type 0 where
   pub head : Head
   pub so : is_so head ≡ true

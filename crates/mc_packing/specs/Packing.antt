@@ -10,7 +10,7 @@ AreBytes bytes = (place : ℕ) → slice_index bytes place < 256
 abbrev pub AreWords : List ℕ → Type 0
 AreWords words = (place : ℕ) → slice_index words place < 2 ^ 64
 
--- the word of the first eight of these bytes, the first lowest: where bytes are wanting, it has zeros
+-- the word of the first eight of these bytes, the first lowest; missing bytes are 0
 unfoldable pub word_of : List ℕ → ℕ
 word_of bytes = from_le_bytes w64 bytes
 

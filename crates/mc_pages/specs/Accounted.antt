@@ -96,9 +96,9 @@ pub record IsAccounted (slabs : SlabState) : Type 0 where
   -- no page is moving but that of the move that runs
   pub one_move : (page : ℕ) → IsTrue (is_moving (owner_at slabs.owners page)) → option_map (λ move. move.page) slabs.moving ≡ Some page
   pub move : (move : Moving) → slabs.moving ≡ Some move → IsMove slabs move
-  -- no more pages were granted within the limit than it has room for
+  -- no more pages were granted within the limit than fit into it
   pub limit : ordinary_count slabs.ledger ≤ slabs.limit / slabs.page
-  -- beyond it each class got one at most, and has one to stay from then on
+  -- beyond the limit each class got one page at most, and has one to stay from then on
   pub grace : KeepsGrace slabs.owners slabs.ledger
   -- each cut chunk is in one place: once in the free list or in the hand-out order, or cleared; and no other chunk is
   pub chunks : (class : ℕ) (chunk : ChunkId) → IsClass slabs class →

@@ -11,7 +11,7 @@ use Rattle.mc_pages.specs.SlabState.{SlabState, is_untouched, page_count}
 
 -- all entries of a ledger, how many of them aren't recorded any more, how many pages they are about, and the room to record more
 pub record Entries : Type 0 where
-  -- all that there were, the oldest first
+  -- all entries that there were, the oldest first
   pub all : List Entry
   -- how many entries, the oldest, aren't recorded
   pub trimmed : ℕ
@@ -27,7 +27,7 @@ recorded all trimmed = drop trimmed all
 abbrev pub never_granted : BasePage
 never_granted = record { owner = Untouched; grace = None }
 
--- the class that got the page beyond the limit, if one did, where before the entry this was known of it
+-- the class that got the page beyond the limit after the entry, if one did, by what was known before the entry
 abbrev pub grace_after : Entry → Option ℕ → Option ℕ
 grace_after (Granted page class grace) known = if grace then Some class else None
 grace_after entry known = known

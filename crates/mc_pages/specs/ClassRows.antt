@@ -13,7 +13,7 @@ IsPlace rows place = IsList rows (Free place) × IsList rows (HandedOut place)
 abbrev pub with_lists : ClassState → RowsState → ℕ → ClassState
 with_lists class rows place = record class { free = chunks_of rows (Free place); order = chunks_of rows (HandedOut place) }
 
--- the class at this place has changed so, and no other has
+-- the class at this place changed by this function, and no other class changed
 pub record HasBecome (before after : RowsState) (place : ℕ) (change : ClassState → ClassState) : Type 0 where
   pub linked : AreLinked after
   pub sizes : sizes_of after ≡ sizes_of before

@@ -80,7 +80,7 @@ without_page class page = record class { pages = filter (λ p. not (p == page)) 
 abbrev pub counted : ℕ → ℕ → ℕ
 counted counter more = min (counter + more) (2 ^ 64 - 1)
 
--- one of its items was evicted to make room
+-- the class after one of its items was evicted to make room
 abbrev pub evicted : ClassState → ClassState
 evicted class = record class { evictions = counted class.evictions 1 }
 

@@ -38,7 +38,7 @@ slabs_of slabs = record {
   automove = slabs.automove;
 }
 
--- the whole as its callers see it
+-- the slab memory as its callers see it
 abbrev pub value_of : Inside → SlabValue
 value_of slabs = record { state = slabs_of slabs; writes = slabs.rows.writes }
 
@@ -78,7 +78,7 @@ is_awaited moving class = option_map_or (λ move. move.dst == class) moving fals
 abbrev pub room_at : List RoomyClass → ℕ → ℕ
 room_at classes class = (slice_index_or classes (class - 1) no_class).room
 
--- the rows are enough for n pages, each with the most chunks of a class, and there is a free list and a hand-out order for each class
+-- the rows are enough for n pages of the most chunks, and for a free list and a hand-out order of each class
 pub record HasRows (classes : List ClassState) (pages : ℕ) (sizes : Sizes) : Type 0 where
   pub rows : sizes.rows ≡ pages * sizes.most
   pub most : (class : ℕ) → 1 ≤ class → (slice_index_or classes (class - 1) (new_class 0 0)).per_page ≤ sizes.most

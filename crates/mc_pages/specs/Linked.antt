@@ -31,7 +31,7 @@ abbrev pub back : ListName → Option ChunkId → Field
 back list None = Tail list
 back list (Some chunk) = Previous chunk
 
--- each chunk leads to the one behind it, and that one back
+-- the list runs from here: each chunk leads to the next one, and each leads back
 abbrev pub IsRun : (Option ChunkId → Option ChunkId) → (Option ChunkId → Option ChunkId) → Option ChunkId → List ChunkId → Type 0
 IsRun next previous from [] = (next from ≡ None) × (previous None ≡ from)
 IsRun next previous from (chunk ∷ chunks) = (next from ≡ Some chunk) × (previous (Some chunk) ≡ from) × IsRun next previous (Some chunk) chunks
@@ -79,7 +79,7 @@ pub record Sizes : Type 0 where
   pub free_lengths : ℕ
   pub handed_out_lengths : ℕ
 
--- how many rows, own rows of lists and lengths there are here, and the most chunks of a page
+-- the sizes of the rows: how many rows, own rows of lists and lengths there are, and the most chunks of a page
 abbrev pub sizes_of : RowsState → Sizes
 sizes_of rows = record {
   most = rows.most;

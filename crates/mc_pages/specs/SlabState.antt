@@ -86,7 +86,7 @@ class_of_owner (variants.Moving src dst) = src
 abbrev pub class_of_page : SlabState → ℕ → ℕ
 class_of_page slabs page = class_of_owner (owner_at slabs.owners page)
 
--- the class whose chunk it is
+-- the class that has the chunk's page
 abbrev pub class_of_chunk : SlabState → ChunkId → ClassState
 class_of_chunk slabs chunk = class_at slabs (class_of_page slabs chunk.page)
 

@@ -19,7 +19,7 @@ colour_of class = slice_index_or colours (class % 10) []
 abbrev pub place_text : ℕ → ℕ → List ℕ
 place_text x y = codes "<rect x=\"" ++ decimal x ++ codes "\" y=\"" ++ decimal y ++ codes "\""
 
--- a box that is filled so
+-- a box with this fill
 abbrev pub box_text : ℕ → ℕ → List ℕ → List ℕ
 box_text x y fill = place_text x y ++ codes " width=\"24\" height=\"17\" fill=\"" ++ fill ++ codes "\"/>\n"
 

@@ -35,7 +35,7 @@ start_text page = if page % 8 == 0 then right 4 page else []
 unfoldable pub end_text : ℕ → ℕ → List ℕ
 end_text page pages = if page % 8 == 7 || page == pages - 1 then codes "\n" else []
 
--- a page of these, by its number
+-- the text of one of these pages, by its number
 unfoldable pub page_text : List Owner → ℕ → List ℕ
 page_text owners page = start_text page ++ owner_text (slice_index_or owners page Untouched) ++ end_text page (length owners)
 
@@ -84,6 +84,6 @@ unfoldable pub front_text : List ℕ → Map → List ℕ
 front_text heading map =
     heading_text heading map.done ++ totals_text map.page (length map.owners.items) map.totals ++ owners_text map.owners.items ++ lines_text map.classes.items
 
--- a map under this heading: its pages and classes, how pages changed hands, and where a move hangs
+-- the text of a map under this heading: its pages and classes, how pages changed hands, and what holds a move up
 unfoldable pub map_text : List ℕ → Map → List ℕ
 map_text heading map = front_text heading map ++ ledger_text map.ledger.items ++ move_text map.moving map.chunks map.hang ++ codes "\n"

@@ -6,7 +6,7 @@ use Rattle.mc_map.specs.declared.hang.Hang.{Hang}
 use Rattle.mc_map.specs.declared.hang.Hang.TheVariants.{Idle, Found, Unknown}
 use Rattle.mc_picture.specs.Lines.{goal_text}
 
--- the chunk and the key of its item
+-- the text of a chunk that holds a move up, and of the key of its item
 abbrev pub chunk_text : ℕ → ℕ → List ℕ
 chunk_text chunk key = codes "  chunk " ++ (decimal chunk ++ (codes " hangs: key " ++ decimal key))
 
@@ -14,7 +14,7 @@ chunk_text chunk key = codes "  chunk " ++ (decimal chunk ++ (codes " hangs: key
 abbrev pub held_text : Bool → List ℕ
 held_text linked = if linked then codes " is held by worker" else codes ", which leads to it no more, is held by worker"
 
--- who holds it, once for each hold
+-- the numbers of the workers that hold the item, once for each hold
 abbrev pub workers_text : List ℕ → List ℕ
 workers_text workers = flat_map (λ worker. codes " " ++ decimal worker) workers
 

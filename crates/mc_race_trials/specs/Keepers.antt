@@ -10,7 +10,7 @@ use Rattle.mc_items.specs.declared.refs.Ref.{Ref}
 use Rattle.mc_items.specs.ItemRefs.{AreKept}
 use Rattle.mc_calls.specs.Hands.{IsReadyHandOf}
 
--- the hand may make any call, and keeps these references
+-- the hand may make any call, and keeps these references and no others
 abbrev pub IsKeeperOf : Arena → Hand → List Ref → Type 0
 IsKeeperOf arena hand kept = IsReadyHandOf arena hand × AreKept (view hand) kept
 

@@ -60,7 +60,7 @@ change_of (name ∷ one ∷ two ∷ []) =
     else None
 change_of words = None
 
--- one change and those that follow
+-- the list of one change and those that follow, if each is one
 abbrev pub followed_by : Option Change → Option (List Change) → Option (List Change)
 followed_by None rest = None
 followed_by (Some change) None = None

@@ -23,7 +23,7 @@ pub record IsRecorded (calls : RecordedInside) : Type 0 where
   pub trimmed : calls.trimmed ≡ min (length calls.past.calls) (2 ^ 64 - 1)
   -- where calls are recorded, the count of those that aren't in memory is below 2^64
   pub fits : calls.is_recorded ≡ true → length calls.past.calls < 2 ^ 64
-  -- the base is what these left
+  -- the base is what the calls that aren't in memory left
   pub base : calls.is_recorded ≡ true → replay [] calls.past.calls ≡ Some (by_key calls.base.items)
   -- which has no key twice
   pub once : HasEachKeyOnce calls.base.items

@@ -6,7 +6,7 @@ use Rattle.mc_stripe.specs.History.{Stamps, replay}
 
 -- all calls of a stripe, which of them are recorded, and the room to record more
 pub record Calls : Type 0 where
-  -- all that there were, the oldest first
+  -- all calls that there were, the oldest first
   pub all : List Call
   -- the place of the first call that is recorded, none where no call is
   pub recorded_from : Option ℕ
@@ -25,7 +25,7 @@ count_trimmed all recorded_from = option_map_or (λ from. from) recorded_from (l
 abbrev pub recorded : List Call → Option ℕ → List Call
 recorded all recorded_from = drop (count_trimmed all recorded_from) all
 
--- the stamps that the others leave
+-- the stamps that the calls leave which aren't recorded
 abbrev pub left_by_trimmed : List Call → Option ℕ → Stamps
 left_by_trimmed all recorded_from = option_map_or (λ stamps. stamps) (replay [] (take (count_trimmed all recorded_from) all)) []
 

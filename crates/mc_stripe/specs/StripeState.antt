@@ -70,6 +70,6 @@ trimmed_of stripe = count_trimmed stripe.history stripe.recorded_from
 abbrev pub tail_of : StripeState → List Call
 tail_of stripe = recorded stripe.history stripe.recorded_from
 
--- the stamps of the keys as the others left them
+-- the stamps of the keys as the calls that aren't recorded left them
 abbrev pub base_of : StripeState → Stamps
 base_of stripe = left_by_trimmed stripe.history stripe.recorded_from

@@ -82,7 +82,7 @@ quiet_class decider = lowest (length decider.per_page) (λ class. in_all_three (
 abbrev pub steady_class : DeciderState → Option ℕ
 steady_class decider = lowest (length decider.per_page) (λ class. in_all_three (λ windows. is_led_by (length decider.per_page) windows class) decider.windows)
 
--- a page goes from the one to the other, where there are both
+-- a page goes from the quiet class to the steady one, where there are both
 abbrev pub eviction_rule : DeciderState → Option Decision
 eviction_rule decider = option_and_then (λ dst. option_map (λ src. record { src = src; dst = dst }) (quiet_class decider)) (steady_class decider)
 

@@ -41,7 +41,7 @@ all_noted (class ∷ classes) (evictions ∷ more_evictions) (pages ∷ more_pag
     noted class evictions pages free ∷ all_noted classes more_evictions more_pages more_free
 all_noted classes evictions pages free = []
 
--- the lowest class that passes a test: they are numbered from 1
+-- the lowest class that passes a test; classes are numbered from 1
 abbrev pub lowest_watched : (Watched → Bool) → List Watched → Option ℕ
 lowest_watched test classes = option_map (λ place. place + 1) (position test classes)
 

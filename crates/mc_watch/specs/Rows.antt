@@ -25,7 +25,7 @@ abbrev pub after_all_evictions : DeciderState → List (List ℕ) → DeciderSta
 after_all_evictions decider [] = decider
 after_all_evictions decider (evictions ∷ more) = after_all_evictions (after_evictions decider evictions) more
 
--- what is decided after each of them
+-- the decision after each of these windows, the first window's first
 abbrev pub decisions : DeciderState → List (List ℕ) → List (Option Decision)
 decisions decider [] = []
 decisions decider (evictions ∷ more) =

@@ -53,8 +53,8 @@ pub record ArePagesOwned (setup : Setup) (slabs : SlabState) : Type 0 where
   pub pool : (page : ℕ) → count_by (λ p. p == page) slabs.pool ≡ truth (is_pool (owner_at slabs.owners page))
   pub move : (a b : ℕ) → IsTrue (is_moving (owner_at slabs.owners a)) → IsTrue (is_moving (owner_at slabs.owners b)) → a ≡ b
 
--- granted bytes keep limit and grace: the bytes of the pages that were granted within the limit are at most the limit; beyond it a class got one
--- page at most, and it always has a page of its own from then on, which isn't moving
+-- granted bytes keep limit and grace: the pages that were granted within the limit have at most its bytes. Beyond it a class got one page
+-- at most, and has a page of its own from then on, which isn't moving
 pub record KeepLimitAndGrace (setup : Setup) (slabs : SlabState) : Type 0 where
   pub limit : ordinary_count slabs.ledger * setup.table.page ≤ setup.table.limit
   pub grace : KeepsGrace slabs.owners slabs.ledger
@@ -98,8 +98,8 @@ pub record IsKeptIn (setup : Setup) (words : List ℕ) (holding : Holding) : Typ
   pub owned : 1 ≤ class_in setup words holding.chunk
   pub shows : (place word : ℕ) → slice_get (words_of holding) place ≡ Some (Some word) → data_in setup words holding.chunk place ≡ word
 
--- between any two atomic steps: with the slabs lock free, pages, bytes and chunks are accounted for by the value at home; each header counts
--- exactly its holders, and one more where a key leads to it; and what anybody holds is kept
+-- the promise between any two atomic steps. With the slabs lock free, the value at home accounts for pages, bytes and chunks. Each header
+-- counts exactly its holders, and one more where a key leads to the chunk. What anybody holds is kept
 pub record Headline (setup : Setup) (t : Words) : Type 0 where
   pub free : slice_index t.words slabs_word ≡ 0 → (slabs : SlabState) × (get_elem? t.homes 0 ≡ some (some (OfSlabs slabs))) × IsAccountedFor setup t.words slabs
   pub counts : (chunk : ChunkId) → has_chunk setup.table chunk ≡ true →
@@ -147,8 +147,8 @@ ViewsGiveHeadline = (view : View) (was : LawfulView view) → HeadlineOf view wa
 abbrev pub HasSameData : Setup → List ℕ → List ℕ → ChunkId → Type 0
 HasSameData setup before now chunk = (place : ℕ) → place < room_in setup.table (class_in setup before chunk) → data_in setup now chunk place ≡ data_in setup before chunk place
 
--- the chunk is handed out with its issue, its page is of the same class, and the words that the hand itself doesn't write are the same; of a
--- reference they all are
+-- the chunk is handed out with its issue, and its page is of the same class. The words that the hand itself doesn't write are the same;
+-- those of a reference all are
 pub record StaysThroughout (setup : Setup) (before now : List ℕ) (moment : Moment) (hand : ℕ) (chunk : ChunkId) (issue : ℕ) (run : List Event) : Type 0 where
   pub handed_out : IsHandedOut (header_in setup now chunk) issue
   pub owned : 1 ≤ class_in setup now chunk
@@ -156,14 +156,13 @@ pub record StaysThroughout (setup : Setup) (before now : List ℕ) (moment : Mom
   pub unfilled : list_all (λ event. not (fills hand chunk event)) run ≡ true → HasSameData setup before now chunk
   pub referred : (held : Holds moment hand chunk issue) → is_fresh held.holding ≡ false → HasSameData setup before now chunk
 
--- *what a hand keeps over a run stays so in each state of it*: whatever events come behind those of one state, each of them allowed, while the
--- hand holds the chunk before and behind each, in any state that some of them lead to, from the first on, the chunk was handed out all along with
--- this issue, for one class, with the same words
+-- *what a hand keeps over a run stays so in each state of the run*. Events lead from one state to another, each allowed, and the hand holds
+-- the chunk before and after each. Then in each state between, the chunk is handed out with this issue, for one class, with the same words
 abbrev pub HeldStaysThroughout : Type 0
 HeldStaysThroughout = (setup : Setup) (before now : Words) (was : Rule setup before) (is : Rule setup now) (hand : ℕ) (chunk : ChunkId) (issue : ℕ) (run more : List Event) →
     is.ruled.run ≡ was.ruled.run ++ run → KeepsHolding was.ruled.moment hand chunk issue (run ++ more) → StaysThroughout setup before.words now.words was.ruled.moment hand chunk issue run
 
--- *and so in each moment of which some hand knows its view*
+-- *what a hand keeps over a run stays so in each moment of which some hand knows its view*
 abbrev pub ViewsStayThroughout : Type 0
 ViewsStayThroughout = (first last : View) (was : LawfulView first) (is : LawfulView last) (hand : ℕ) (chunk : ChunkId) (issue : ℕ) (run more : List Event) → last.setup ≡ first.setup →
     is.run ≡ was.run ++ run → KeepsHolding was.moment hand chunk issue (run ++ more) → StaysThroughout first.setup was.words is.words was.moment hand chunk issue run

@@ -29,7 +29,7 @@ pub record PassesAll (lets_on : LetsOn) (commands : List Command) (worker count 
   pub workers : (own : ℕ) → worker ≤ own → own < worker + count → PassesLines lets_on commands own
   pub mover : PassesMoves lets_on commands
 
--- one of these workers was stopped, or the mover was
+-- one of n workers from this number on was stopped, or the mover was
 abbrev pub StopsOne : LetsOn → Stops → List Command → ℕ → ℕ → Type 0
 StopsOne lets_on stops commands worker count =
     ((own : ℕ) × (worker ≤ own) × (own < worker + count) × StopsLines lets_on stops commands own)
@@ -50,7 +50,7 @@ RunPasses lets_on commands = PassesAll lets_on commands 1 (greatest_worker comma
 abbrev pub RunStops : LetsOn → Stops → List Command → Type 0
 RunStops lets_on stops commands = StopsSome lets_on stops commands 1 (greatest_worker commands)
 
--- a worker's thread ended so: its lines were done, each let on; or it was stopped at one; or neither, where memory was refused
+-- how a worker's thread ended: its lines were done, each let on; the gate stopped it at one; or memory was refused
 pub record EndsServed (lets_on : LetsOn) (stops : Stops) (arena : Arena) (worker : ℕ) (commands : List Command) (hand : Hand) (ended : Result Served Ended) : Type 0 where
   pub served : IfOk ended (IsServed arena worker commands hand)
   pub passed : OnOk ended (PassesLines lets_on commands worker)
@@ -63,7 +63,7 @@ pub record EndsJoined (lets_on : LetsOn) (stops : Stops) (arena : Arena) (worker
   pub passed : OnOk ended (PassesAll lets_on commands worker (length hands))
   pub stopped : ended ≡ Err Turns → StopsSome lets_on stops commands worker (length hands)
 
--- one of two ends is a stop, and the other that or none
+-- one of two ends is `Turns`, and the other is `Turns`, too, or no error
 abbrev pub AreTurns : Result Served Ended → Result Joined Ended → Type 0
 AreTurns (Ok served) (Err Turns) = ⊤
 AreTurns (Err Turns) (Ok joined) = ⊤

@@ -39,7 +39,7 @@ decider_of mover = mover.decider
 abbrev pub turns_of : Mover → ℕ
 turns_of mover = mover.turns
 
--- a page was asked for, and this was answered; it wasn't memory that was wanting
+-- a page was asked for, and got this answer, which isn't that memory was missing
 abbrev pub AsksForPage : Option ℕ → ℕ → Result (Unit {0}) Reassign → Hand → Hand → Type 0
 AsksForPage src dst answer before now = ActsOnce (λ number. Reassigns number src dst answer) before now × (answer ≢ Err (NoMemory tt))
 
@@ -48,23 +48,24 @@ AsksForPage src dst answer before now = ActsOnce (λ number. Reassigns number sr
 abbrev pub refusal_for : DeciderState → Survey → Option Feed
 refusal_for decider survey = refusal_of decider (evictions_in survey) (pages_in survey) (free_in survey)
 
--- the decider at the end of a window with these numbers, in whatever mode; it stays where it doesn't take them
+-- the decider at the end of a window with these numbers, in any mode; a decider that refuses the numbers stays
 abbrev pub decider_after : DeciderState → Survey → DeciderState
 decider_after decider survey =
     if is_some (refusal_for decider survey) then decider else after_window decider (evictions_in survey) (pages_in survey) (free_in survey)
 
--- the decision that is acted on then: in mode 1 alone there may be one, and none where the decider didn't take the numbers
+-- the decision at a window's end: in mode 1 alone there may be one, and none where the decider refuses the numbers
 abbrev pub decision_after : DeciderState → Survey → Option Decision
 decision_after decider survey = if is_none (refusal_for decider survey) && survey.mode == 1 then decision_of (decider_after decider survey) else None
 
--- the page of the decision was asked for, and that is what became of it; or there is none, and nothing was done
+-- the page of the decision was asked for, and got the recorded answer; or there is no decision, and nothing was done
 abbrev pub ActsOnDecision : Option Decision → Option Acted → Hand → Hand → Type 0
 ActsOnDecision None None before now = now ≡ before
 ActsOnDecision (Some decision) (Some acted) before now =
     (acted.decision ≡ decision) × AsksForPage (Some decision.src) decision.dst acted.answer before now
 ActsOnDecision decision acted before now = ⊥
 
--- at a window's end the dead of all classes were put back, the decider was fed what was left then, and its decision was acted on
+-- at a window's end the dead chunks of all classes were put back; the decider got the numbers of what was left, and its decision was acted
+-- on
 pub record ActsOnWindow (acted : Option Acted) (mover : Mover) (before : Hand) (left : Mover) (now : Hand) : Type 0 where
   pub survey : Survey
   pub surveyed : Hand
@@ -101,7 +102,7 @@ ending_of turn.Idle = Idle
 ending_of (turn.Went counts) = Went
 ending_of (turn.Finished counts) = Finished
 
--- the page that it found on the move is so still
+-- the turn went on: it found a move and didn't end it
 abbrev pub WentOn : Turn → Type 0
 WentOn turn = ending_of turn ≡ Went
 

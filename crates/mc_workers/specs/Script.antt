@@ -38,8 +38,7 @@ pub record TellsAll (arena : Arena) (joined : Joined) (text : List ℕ) : Type 0
   pub surveys : ActsOnce (λ number. SurveysWhole (setup_of arena).table survey) joined.hand last
   pub told : text ≡ joined.workers.items ++ joined.mover.items ++ statistics_text (setup_of arena).table survey
 
--- the script's lines were done on a new arena, with a hand for the mover and one for each worker up to the greatest, and the text has their
--- replies
+-- the script's lines were done on a new arena, with a hand for the mover and one for each worker. The text has their replies
 pub record ServesScript (config : Config) (mode : ℕ) (commands : List Command) (text : List ℕ) : Type 0 where
   pub arena : Arena
   pub mover : Hand

@@ -39,7 +39,7 @@ abbrev pub Finds : Setup → ℕ → Option Ref → Hand → Hand → Type 0
 Finds setup key found before now =
     Gets setup key found before now × TellsOn setup key (λ number. call.Get number key (option_map item_stamp found)) before now
 
--- the hand holds as many chunks as it may, and nothing was done
+-- the hand holds 255 chunks or more, and did nothing
 abbrev pub HoldsMost : Hand → Hand → Type 0
 HoldsMost before now = (255 ≤ length (view before).row.holdings) × (view now ≡ view before)
 

@@ -34,8 +34,8 @@ pub record JoinsBoth (arena : Arena) (own : Served) (others : Joined) (joined : 
   pub workers : joined.workers.items ≡ own.text.items ++ others.workers.items
   pub mover : joined.mover.items ≡ others.mover.items
 
--- the workers from this number on, each by a hand of its own, did their lines, and the text has their replies, one worker's behind the
--- other's. Then the first hand took the others over, the last worker's before all
+-- the workers from this number on did their lines, each by a hand of its own. The text has their replies, one worker's behind the other's.
+-- Then the first hand took the others over, the last worker's before all
 abbrev pub RunsWorkers : Setup → List Command → ℕ → List Hand → Hand → List ℕ → Hand → Type 0
 RunsWorkers setup commands worker [] first text last = (text ≡ []) × (last ≡ first)
 RunsWorkers setup commands worker (hand ∷ hands) first text last =

@@ -169,10 +169,10 @@ slabs_changed slabs change word view = slabs_told (change ∷ []) word (looked (
 abbrev pub stripe_changed : StripeChange → ℕ → ReadyStripe → ℕ → View → View
 stripe_changed how stripe value word view = stripe_told (change.OfStripe stripe how ∷ []) stripe word (record view { stripes = slice_set view.stripes stripe (Some (stripe_after how value)) })
 
--- the view after the hand made room in a stripe for a call that stores no entry, and recorded the change by a look at the word of the lock
+-- the view after the hand made room in a stripe for a call that stores no entry. The hand recorded the change by a look at the lock's word
 abbrev pub call_reserved : ℕ → ReadyStripe → ℕ → View → View
 call_reserved stripe value word view = stripe_changed ReserveCall stripe value word view
 
--- the view after the hand made room in a stripe for a call and an entry, and recorded the change by a look at the word of the lock
+-- the view after the hand made room in a stripe for a call and an entry. The hand recorded the change by a look at the lock's word
 abbrev pub stripe_reserved : ℕ → ReadyStripe → ℕ → View → View
 stripe_reserved stripe value word view = stripe_changed Reserve stripe value word view

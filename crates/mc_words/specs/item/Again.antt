@@ -34,7 +34,7 @@ pub record GetsAgain (view : View) (chunk : ChunkId) (issue room : ℕ) (now : V
   pub looks : Happens view [] (step.Head chunk) (head_seen chunk head view)
   pub refers : RefersAgain (head_seen chunk head view) chunk issue room now
 
--- the hand saw the item there by a first header of its chunk, and then another header, and this is so of the two
+-- the hand saw the item there by a first header of its chunk, and then another header; the property holds of the two
 pub record FindsOther (view : View) (chunk : ChunkId) (issue : ℕ) (IsOther : Head → Head → Type 0) (now : View) : Type 0 where
   pub head : Head
   pub there : is_there issue head ≡ true

@@ -18,11 +18,11 @@ item_with key stamp words = key ∷ stamp ∷ length words ∷ words
 abbrev pub held_item : View → ChunkId → List ℕ
 held_item view chunk = option_map_or item_of (holding_of chunk view.row.holdings) []
 
--- a word of a chunk, as the hand read it under this hold of the slabs lock; none where it didn't
+-- a word of a chunk, as the hand read it under this hold of the slabs lock; none where the hand didn't read it
 abbrev pub word_read : View → ChunkId → ℕ → Option ℕ
 word_read view chunk place = fold (last_read chunk place) None view.row.looks
 
--- the words of the chunk that the hand holds, as far as they are known; none where it doesn't
+-- the words of the chunk that the hand holds, as far as they are known; none where the hand doesn't hold the chunk
 abbrev pub words_in : View → ChunkId → Words
 words_in view chunk = option_map_or words_of (holding_of chunk view.row.holdings) []
 
@@ -30,8 +30,7 @@ words_in view chunk = option_map_or words_of (holding_of chunk view.row.holdings
 abbrev pub issue_in : View → ChunkId → ℕ
 issue_in view chunk = option_map_or (λ (holding : Holding). holding.issue) (holding_of chunk view.row.holdings) 0
 
--- some hand knows an item of this chunk, whose words some hand stored, and this is the item's word at the place, if the item reaches that
--- far
+-- some hand knows an item of this chunk, whose words some hand stored; this is the item's word at the place, if it has one
 pub record IsWordOfItem (moment : Moment) (chunk : ChunkId) (place word : ℕ) : Type 0 where
   pub hand : ℕ
   pub item : Known

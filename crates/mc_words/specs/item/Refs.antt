@@ -22,12 +22,12 @@ IsRefOf view chunk room = IsRefIn view.row.holdings view.row.knows.known chunk r
 abbrev pub IsIssueOf : View → ChunkId → ℕ → Type 0
 IsIssueOf view chunk issue = option_map (λ holding. holding.issue) (holding_of chunk view.row.holdings) ≡ Some issue
 
--- each chunk that the hand refers to it refers to still: it finds the same holding of it
+-- the hand still refers to each chunk that it referred to, by the same holding
 pub record KeepsRefs (view now : View) : Type 0 where
   pub refers : (chunk : ChunkId) (room : ℕ) → IsRefOf view chunk room → IsRefOf now chunk room
   pub same : (chunk : ChunkId) (room : ℕ) → IsRefOf view chunk room → holding_of chunk now.row.holdings ≡ holding_of chunk view.row.holdings
 
--- each chunk that the hand refers to, and still holds, it refers to still, whatever it gave up: it finds the same holding of it
+-- the hand still refers to each chunk that it referred to and still holds, by the same holding, whatever it gave up
 pub record KeepsHeld (view now : View) : Type 0 where
   pub refers : (chunk : ChunkId) (room : ℕ) → IsRefOf view chunk room → is_some (holding_of chunk now.row.holdings) ≡ true → IsRefOf now chunk room
   pub same : (chunk : ChunkId) (room : ℕ) → IsRefOf view chunk room → is_some (holding_of chunk now.row.holdings) ≡ true →

@@ -13,7 +13,7 @@ use Rattle.mc_words.specs.lock.Wait.{WaitsForSlabs, WaitsForStripe}
 abbrev pub Doing : Type 1
 Doing = ReadyStripe → View → ReadyStripe → View → Type 0
 
--- under the stripe's lock, whose value was this: room was made so, this was done, and the lock was given back
+-- under the stripe's lock, with this value behind it: room was made by this change, this was done, and the lock was given back
 pub record IsDoneBehind (room : StripeChange) (number stripe : ℕ) (value : ReadyStripe) (Does : Doing) (view now : View) : Type 0 where
   pub left : ReadyStripe
   pub last : View

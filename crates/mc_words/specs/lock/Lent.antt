@@ -30,13 +30,13 @@ pub record IsLentStripe (view : View) (number : ℕ) (stripe : ReadyStripe) : Ty
   pub whole : stripe.state.aside ≡ None
   -- each key that leads somewhere is one of the stripe's
   pub keys : (key : ℕ) (place : ChunkId × ℕ) → place_of stripe.state key ≡ Some place → key % view.setup.config.stripes ≡ number
-  -- of each number of the hand its entries are the hand's own calls
+  -- for each number of the hand, the hand's own calls are the history's calls of that number
   pub own : All (λ (own : Own). slice_index_or own.calls number [] ≡ filter (λ call. hand_of call == own.number) stripe.state.history) view.row.knows.mine
 
 -- the history that was found begins with all that the hand had seen of it
 abbrev pub BeginsWithSeen : View → ℕ → ReadyStripe → Type 0
 BeginsWithSeen view number stripe = (seen : List Call) → slice_get view.row.knows.seen number ≡ Some seen → IsBeginning seen stripe.state.history
 
--- the stripe of this number that the hand has; a new one where it hasn't its lock
+-- the stripe of this number that the hand has; a new one where the hand hasn't the stripe's lock
 abbrev pub lent_stripe : View → ℕ → ReadyStripe
 lent_stripe view number = unwrap_or (slice_index_or view.stripes number None) new_stripe

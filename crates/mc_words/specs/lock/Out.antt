@@ -111,12 +111,12 @@ is_behind (StripeLast stripe) zero = true
 is_behind (StripeLast stripe) (suc number) = false
 is_behind other number = false
 
--- two locks in the other order; one, or none, as it is
+-- two locks in the other order; one lock, or none, unchanged
 abbrev pub turned_locks : Locks → Locks
 turned_locks (SlabsLast stripe) = StripeLast stripe
 turned_locks (StripeLast stripe) = SlabsLast stripe
 turned_locks other = other
 
--- the lock of this number, which is one of them, as the one that was taken last
+-- these locks with the one of this number, which is among them, as the last taken
 abbrev pub with_last : ℕ → Locks → Locks
 with_last number locks = if is_behind locks number then turned_locks locks else locks

@@ -40,7 +40,7 @@ sight_of (StripeLock stripe) word = past.stripe_word stripe word
 abbrev pub IsLockOf : Setup → Lock → Type 0
 IsLockOf setup lock = number_of lock ≤ setup.config.stripes
 
--- the hand has the value behind the lock, and it is this one
+-- the hand has this value behind the lock
 abbrev pub HasValue : View → Lock → Slot → Type 0
 HasValue view SlabsLock (OfSlabs slabs) = view.slabs ≡ Some slabs
 HasValue view SlabsLock (OfStripe stripe) = ⊥
@@ -84,7 +84,7 @@ pub record TakesValue (lock : Lock) (me now : Sits) : Type 0 where
   pub lawful : LawfulView now.0
   pub happens : Happens me.0 [] (take_of lock) now.0
 
--- a try of the lock: where its word was 0 the hand took it, and otherwise it saw the word
+-- a try of the lock: where the lock's word was 0 the hand took the lock, and otherwise it saw the word
 abbrev pub Takes : Lock → At → Sits → ℕ → Sits → Type 0
 Takes lock at me found now = (found ≡ 0 → TakesValue lock me now) × (found ≢ 0 → StaysOut me now × HappensAt at.word found me.0 [] (miss_of lock) now.0)
 

@@ -30,8 +30,8 @@ pub record Left : Type 0 where
 abbrev pub at_home : {X : Type 0} → ℕ → X → Option X
 at_home word value = if word == 0 then Some value else None
 
--- at the close, this hand's view is of a lawful moment that the arena's events lead to. It is the moment that the table means, whose views are
--- those of all hands; the promise holds of that table; and these headers and values are left of it
+-- a hand closes the arena. Its view is of a lawful moment, to which the arena's events lead and which the table means, with the views of
+-- all hands. The promise holds of that table, and these headers and values are left of it
 pub record Closes (view : View) (left : Left) : Type 0 where
   pub was : LawfulView view
   pub table : Words

@@ -12,8 +12,8 @@ use Rattle.mc_words.specs.rule.Meaning.{Words, Ruled}
 use Rattle.mc_words.specs.rule.Happens.{LawfulView, event_of}
 use Rattle.mc_words.specs.rule.Told.{Sits, At}
 
--- a hand took over another one, whose row and events these were: one event of the core, in a lawful moment in which it was allowed; the hand knew
--- the one view before it, and the other after it
+-- a hand took over another one, which had this row and these events: one event of the model, allowed in a lawful moment. The hand knew the
+-- one view before it, and the other after it
 pub record Joins (view : View) (row : Row) (events : List OwnEvent) (now : View) : Type 0 where
   pub was : LawfulView view
   pub spent : ℕ
