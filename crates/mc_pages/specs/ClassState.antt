@@ -21,7 +21,7 @@ new_class size per_page = record { size = size; per_page = per_page; pages = [];
 abbrev pub is_chunk : ChunkId → ChunkId → Bool
 is_chunk a b = a.page == b.page && a.index == b.index
 
--- how often the chunk stands in the list
+-- how often the chunk is in the list
 abbrev pub times : ChunkId → List ChunkId → ℕ
 times chunk chunks = count_by (λ c. is_chunk c chunk) chunks
 

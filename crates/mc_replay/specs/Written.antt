@@ -171,7 +171,7 @@ keys_text number stripe keys = flat_map (λ key. key_line number key (place_of s
 abbrev pub left_keys : StripeState → List ℕ
 left_keys stripe = if is_some stripe.recorded_from then map (λ entry. entry.0) (base_of stripe) else []
 
--- the line that says how many calls aren't recorded, none where all are
+-- the line that counts the calls that aren't recorded, none where all are
 abbrev pub trimmed_line : ℕ → ℕ → List ℕ
 trimmed_line number count = if count == 0 then [] else codes "trimmed " ++ decimal number ++ codes " " ++ decimal count ++ codes "\n"
 

@@ -53,8 +53,8 @@ pub record ArePagesOwned (setup : Setup) (slabs : SlabState) : Type 0 where
   pub pool : (page : ℕ) → count_by (λ p. p == page) slabs.pool ≡ truth (is_pool (owner_at slabs.owners page))
   pub move : (a b : ℕ) → IsTrue (is_moving (owner_at slabs.owners a)) → IsTrue (is_moving (owner_at slabs.owners b)) → a ≡ b
 
--- granted bytes keep limit and grace: the pages that were granted within the limit have at most its bytes. Beyond it a class got one page
--- at most, and has a page of its own from then on, which isn't moving
+-- granted bytes keep limit and grace: the pages that were granted within the limit have at most the limit's bytes. Beyond the limit a class
+-- got one page at most, and has a page of its own from then on, which isn't moving
 pub record KeepLimitAndGrace (setup : Setup) (slabs : SlabState) : Type 0 where
   pub limit : ordinary_count slabs.ledger * setup.table.page ≤ setup.table.limit
   pub grace : KeepsGrace slabs.owners slabs.ledger
