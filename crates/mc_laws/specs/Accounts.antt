@@ -33,7 +33,7 @@ pub record AddUp (table : Classes) (malloced : ℕ) (slabs general : List ℕ) :
       (total - slice_index free (class - 1)) + slice_index free (class - 1) ≡ total
   -- the pages of the classes and of the pool are all that was granted
   pub granted : (sum pages + pool) * table.page ≡ malloced
-  -- which keep the limit, but for the first pages of classes, of which each has a page
+  -- the granted bytes keep the limit, but for the first page of each class that has a page
   pub within : malloced ≤ table.limit + count_by (nat_lt 0) pages * table.page
 
 -- `stats slabs` after these commands, and `stats` directly behind it, add up

@@ -43,7 +43,7 @@ abbrev pub with_held : ℕ → Option (List ℕ) → List HeldWords → List Hel
 with_held key None held = held
 with_held key (Some words) held = record { key = key; words = words } ∷ held
 
--- without the first hold of this key
+-- the holds without the first of this key
 abbrev pub without_held : ℕ → List HeldWords → List HeldWords
 without_held key [] = []
 without_held key (first ∷ held) = if first.key == key then held else first ∷ without_held key held

@@ -7,7 +7,7 @@ use Rattle.std.specs.BTreeMap.{is_at}
 use Rattle.mc_pages.specs.declared.ids.ChunkId.{ChunkId}
 use Rattle.mc_machine.specs.Item.{Item, is_linked_to, unlinked}
 
--- by page, then by index
+-- the order of chunks: by page, then by index
 abbrev pub chunk_cmp : ChunkId → ChunkId → Ordering
 chunk_cmp a b = ordering_then (nat_cmp a.page b.page) (nat_cmp a.index b.index)
 

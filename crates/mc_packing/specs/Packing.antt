@@ -56,7 +56,7 @@ value_in words = bytes_of (slice_index words 1) (drop (2 + words_for (slice_inde
 abbrev pub IsPackingOf : List ℕ → List ℕ → Type 0
 IsPackingOf key words = words ≡ packed key (value_in words)
 
--- behind the lengths, as many words as the key fills
+-- the words behind the two lengths, as many as the key fills
 abbrev pub key_words : List ℕ → List ℕ → List ℕ
 key_words key words = take (words_for (length key)) (drop 2 words)
 

@@ -99,7 +99,7 @@ with_field rows (Tail list) link = with_ends rows list (record (ends_of rows lis
 abbrev pub with_mark : RowsState → ChunkId → Mark → RowsState
 with_mark rows chunk mark = with_row rows chunk (record (row_at rows chunk) { mark = mark })
 
--- one thing is written
+-- the rows after this change was written
 abbrev pub with_change : RowsState → Change → RowsState
 with_change rows (change.Link field link) = with_field rows field link
 with_change rows (change.Mark chunk mark) = with_mark rows chunk mark

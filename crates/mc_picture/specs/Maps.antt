@@ -79,7 +79,7 @@ line_columns = codes "\nclass   size  pages  linked  held  dead  free  cleared  
 unfoldable pub lines_text : List ClassLine → List ℕ
 lines_text lines = if length lines == 0 then codes "\nno class has a page\n" else line_columns ++ flat_map line_text lines
 
--- who owns each page, and what each class has
+-- the text of who owns each page, and of what each class has
 unfoldable pub front_text : List ℕ → Map → List ℕ
 front_text heading map =
     heading_text heading map.done ++ totals_text map.page (length map.owners.items) map.totals ++ owners_text map.owners.items ++ lines_text map.classes.items

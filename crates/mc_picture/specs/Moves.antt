@@ -33,7 +33,7 @@ hang_text Idle = []
 hang_text (Found blockers) = blockers_text blockers.items
 hang_text Unknown = codes "  what holds it up takes too many looks to find\n"
 
--- which page moves, and from where
+-- the text of which page moves, and from where
 abbrev pub page_text : Moving → List ℕ
 page_text moving = codes "  page " ++ (decimal moving.page ++ (codes " moves from class " ++ decimal moving.src))
 

@@ -17,7 +17,7 @@ calls_of calls = record {
   room = vec_capacity calls.tail - vec_len calls.tail;
 }
 
--- of the calls that aren't in memory there is a count, and, where calls are recorded, the stamps that they left
+-- the calls that aren't in memory are counted; where calls are recorded, the base has the stamps that they left
 pub record IsRecorded (calls : RecordedInside) : Type 0 where
   -- the count of the calls that aren't in memory, which stops at 2^64 - 1
   pub trimmed : calls.trimmed ≡ min (length calls.past.calls) (2 ^ 64 - 1)
@@ -25,7 +25,7 @@ pub record IsRecorded (calls : RecordedInside) : Type 0 where
   pub fits : calls.is_recorded ≡ true → length calls.past.calls < 2 ^ 64
   -- the base is what the calls that aren't in memory left
   pub base : calls.is_recorded ≡ true → replay [] calls.past.calls ≡ Some (by_key calls.base.items)
-  -- which has no key twice
+  -- the base has no key twice
   pub once : HasEachKeyOnce calls.base.items
   -- no call is in memory where none is recorded
   pub none : calls.is_recorded ≡ false → calls.tail.items ≡ []

@@ -39,7 +39,7 @@ is_movers command = not (is_workers command)
 abbrev pub lines_of_mover : List Command → List Command
 lines_of_mover commands = filter is_movers commands
 
--- whose line it is, the mover being worker 0
+-- the worker whose line a command is; the mover is worker 0
 abbrev pub worker_of : Command → ℕ
 worker_of command = option_map_or (λ asked. asked.worker) (asked_by command) 0
 

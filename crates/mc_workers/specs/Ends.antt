@@ -35,7 +35,7 @@ StopsOne lets_on stops commands worker count =
     ((own : ℕ) × (worker ≤ own) × (own < worker + count) × StopsLines lets_on stops commands own)
     ⊎ StopsMoves lets_on stops 0 commands
 
--- one was stopped, and whoever wasn't was let on at each line: nobody's memory or thread was refused
+-- a worker or the mover was stopped, and each that wasn't was let on at each line; nobody's memory or thread was refused
 pub record StopsSome (lets_on : LetsOn) (stops : Stops) (commands : List Command) (worker count : ℕ) : Type 0 where
   pub workers : (own : ℕ) → worker ≤ own → own < worker + count
       → PassesLines lets_on commands own ⊎ StopsLines lets_on stops commands own
