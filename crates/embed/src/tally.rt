@@ -24,7 +24,7 @@ impl Tally {
         }
     }
 
-    /// A get found its key, and so many wrong bytes.
+    /// A get found its key, and this many wrong bytes.
     pub fn count_hit(&mut self, wrong: u64) {
         self.gets = self.gets.saturating_add(1);
         self.hits = self.hits.saturating_add(1);

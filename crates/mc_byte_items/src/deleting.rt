@@ -14,8 +14,8 @@ use mc_memory::Refused;
 use mc_words::{Arena, Hand};
 use std::sync::Wait;
 
-/// Deletes the key, and says whether it had an item. An item of another key under the hash stays; but where one is stored there between
-/// the look and the delete, it is deleted, as an eviction would take it. (memcached's `process_delete_command`)
+/// Deletes the key, and returns whether it had an item. An item of another key under the hash stays; but where one is stored
+/// there between the look and the delete, it is deleted, as an eviction would take it. (memcached's `process_delete_command`)
 pub fn delete<R: Wait>(
     rt: &R,
     arena: &Arena,

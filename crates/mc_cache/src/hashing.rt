@@ -58,7 +58,7 @@ impl KeyedHasher {
     }
 }
 
-/// Which of so many shards has the keys of this hash. It is chosen by the hash's upper half, as a stripe is by its remainder.
+/// The shard, of n, that has the keys of this hash. The hash's upper half chooses it, as the remainder chooses a stripe.
 pub(crate) fn choose_shard(shards: usize, hash: u64) -> usize
     requires some { 1 ≤ shards }
     requires few { shards ≤ 4096 }

@@ -40,10 +40,10 @@ pub struct CacheConfig {
 /// Why no cache was made.
 #[derive(Debug, PartialEq, Eq, Drop, Error)]
 pub enum NewError {
-    /// There are no shards, or more than 4,096.
+    /// The shards are none, or more than 4,096.
     #[error("the number of shards must be from 1 to 4096")]
     Shards,
-    /// There are no workers, or more than 63.
+    /// The workers are none, or more than 63.
     #[error("the number of workers must be from 1 to 63")]
     Workers,
     /// The arenas' configuration is refused.
@@ -179,7 +179,7 @@ fn fill<R: Wait>(
     Ok(())
 }
 
-// As many workers as there are to be, who have no hands yet.
+// Adds the workers, who have no hands yet.
 #[tactic(auto, using(crate::proofs::Opened::one_worker_more))]
 fn add_workers(alloc: Global, count: u64, workers: &mut Vec<Worker>) -> Result<(), Refused>
     requires { workers.old.items ≡ [] }

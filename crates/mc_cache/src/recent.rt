@@ -8,7 +8,7 @@ use std::alloc::Global;
 /// How many hashes are noted at most, one of each remainder. (own)
 const PLACES: u64 = 1024;
 
-/// After so many asks all hashes are forgotten. (own)
+/// The count of asks after which all hashes are forgotten. (own)
 const MOST_ASKS: u64 = 4096;
 
 /// The hashes of the keys that a worker touched lately: of those with one remainder the last one alone.
@@ -29,7 +29,7 @@ fn place_of(hash: u64) -> usize
     (hash % PLACES) as usize
 }
 
-// What stands there for the hash.
+// The mark that notes the hash.
 fn mark_of(hash: u64) -> u64
     ensures { result ≡ mark_of hash }
 {

@@ -126,7 +126,7 @@ fn add_classes(rows: &mut Vec<ClassStats>, classes: &[Numbers]) -> Result<(), Re
     Ok(())
 }
 
-// Rows of nothing behind the others, until there are so many.
+// Adds rows of nothing behind the others, until there are n.
 fn lengthen(rows: &mut Vec<ClassStats>, count: usize) -> Result<(), Refused>
     ensures count { OnOk result (length rows.new.items ≡ max (length rows.old.items) count) }
     ensures same { OnOk result ((place : ℕ) → slice_index_or rows.new.items place no_class ≡ slice_index_or rows.old.items place no_class) }

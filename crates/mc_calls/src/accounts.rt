@@ -73,7 +73,7 @@ impl Sums {
         Some(sums)
     }
 
-    /// These and others.
+    /// These sums and others.
     pub fn and(self, more: Sums) -> Sums {
         Sums {
             free: self.free.saturating_add(more.free),

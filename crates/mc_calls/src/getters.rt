@@ -18,7 +18,7 @@ pub enum Getter {
     TryGet,
 }
 
-/// Both ways.
+/// Both ways of looking a key up.
 pub const GETTERS: [Getter; 2] = [Getter::Get, Getter::TryGet];
 
 /// A reference to the key's item, by the call that doesn't wait. None where there is none, or it was refused.

@@ -1,4 +1,4 @@
-//! A count of failures, for devices whose contracts tell how often they failed.
+//! A count of failures, for devices whose contracts state how often they failed.
 ghost use Rattle.std.specs.Prelude.{◌≡◌, ◌+◌, ◌<◌};
 
 use std::marker::Model;

@@ -84,7 +84,7 @@ pub enum Change {
     Wrap,
     /// An eviction of the class is counted.
     Evicted(u64),
-    /// A stripe changes, and no call is told.
+    /// A stripe changes, and no call is recorded.
     OfStripe(u64, StripeChange),
     /// A key that isn't there was looked up.
     GotNone(u64),
@@ -92,12 +92,12 @@ pub enum Change {
     DeletedNone(u64),
 }
 
-/// A change of a stripe by which no call is told.
+/// A change of a stripe by which no call is recorded.
 #[derive(Clone, Copy, PartialEq, Eq)]
 pub enum StripeChange {
-    /// It makes room for a call that may store an entry.
+    /// The stripe gets room for a call that may store an entry.
     Reserve,
-    /// It makes room for a call that stores none.
+    /// The stripe gets room for a call that stores no entry.
     ReserveCall,
     /// The calls so far aren't recorded any more.
     Trim,

@@ -36,7 +36,7 @@ pub enum Purpose {
     Item,
     /// A copy of the item in this chunk of the moving page.
     Copy(ChunkId),
-    /// The same, and the old chunk was condemned: its words as it was.
+    /// A copy of the item in this chunk of the moving page, after the chunk was condemned: with the item's words as they were.
     Rescue(ChunkId, Series<u64>),
 }
 

@@ -86,7 +86,7 @@ pub fn worked_rescues()
     ensures a_chunk_off { played_on 2 (one_of_four ++ begins_move ++ takes_away (chunk_at 0 1)) ≡ Err 14 }
 {}
 
-/// There is a header for each chunk, and all data words.
+/// Each chunk has its header, and each page all its data words.
 pub fn sizes_are_kept()
     ensures { IsKeptByAll SizedIn }
 {}
@@ -128,12 +128,12 @@ pub fn hands_are_kept()
     ensures { IsKeptByAll HandsIn }
 {}
 
-/// There is a row for each hand of all that hands know.
+/// Each hand has a row of all that hands know.
 pub fn rows_are_kept()
     ensures { IsKeptByAll RowsIn }
 {}
 
-/// The stamps that a hand said are of its numbers, counted from 1 without a gap.
+/// The stamps that a hand stored are of its numbers, counted from 1 without a gap.
 pub fn numbers_are_kept()
     ensures { IsKeptByAll NumberedIn }
 {}
@@ -144,20 +144,19 @@ pub fn looks_are_kept()
     ensures { IsKeptByAll SeenIn }
 {}
 
-/// A stamp is said once; and as long as a chunk has the issue number with which a hand knows it, its words are those that
-/// the hand knows.
+/// A stamp is stored once. While a chunk has the issue number with which a hand knows it, its words are those that the hand
+/// knows.
 pub fn known_items_are_kept()
     ensures { IsKeptByAll KnownIn }
 {}
 
-/// A chunk that is to have a copy is off the page of what it copies, and the words of an item that is being rescued were said with
-/// its stamp.
+/// A chunk for a copy is off the page of what it copies. The words of an item that is being rescued were stored with its stamp.
 pub fn rescues_are_kept()
     ensures { IsKeptByAll RescuedIn }
 {}
 
-/// A hand's calls are those that the histories have of its numbers, each in its place; what it saw of a history begins it;
-/// and each stamp that was said was stored once.
+/// A hand's calls are those that the histories have of its numbers, each in its place; what the hand saw of a history begins the
+/// history; and each stamp that a hand stored is in a history once.
 pub fn calls_are_kept()
     ensures { IsKeptByAll ToldIn }
 {}
@@ -184,7 +183,7 @@ pub fn histories_grow()
     ensures { HistoriesGrow }
 {}
 
-/// What a hand knows after a change, a step or a join is told by what it knew, and, of a join, by what the other hand knew.
+/// What a hand knows after a change or a step follows from what it knew. After a join it follows from what both hands knew.
 pub fn learning_is_by_rows()
     ensures { AreLearned }
 {}
@@ -219,7 +218,7 @@ pub fn held_chunks_are_handed_out()
     ensures { AreKept }
 {}
 
-/// The words of a linked chunk are a whole item, which was said with the stamp of its key's entry.
+/// The words of a linked chunk are a whole item, which was stored with the stamp of its key's entry.
 pub fn linked_items_were_said()
     ensures { AreSaidItems }
 {}

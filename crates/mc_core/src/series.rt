@@ -39,7 +39,7 @@ impl<T> Series<T> {
 }
 
 impl<T: Copy> Series<T> {
-    /// The same values.
+    /// A series of the same values as these.
     pub fn copy_of(alloc: Global, values: &[T]) -> Result<Series<T>, Refused>
         ensures { IfOk result (λ series. series ≡ values.now) }
     {

@@ -55,8 +55,8 @@ pub fn values_were_stored()
     ensures { (table : Classes) (bulk mode : ℕ) (commands : List Command) → IsSound table → All IsValid commands → TellsLastWords table bulk mode commands }
 {}
 
-/// The words of each DROPPED line are the ones that stood at its hold: what the worker last held of the key and has not
-/// dropped since. A drop of a key of which the worker holds nothing is answered NOT_HELD. So it is after any valid commands.
+/// The words of each DROPPED line are the ones that were there at its hold: what the worker last held of the key and has not
+/// dropped since. A drop of a key of which the worker holds nothing is answered NOT_HELD. This holds after any valid commands.
 pub fn dropped_were_held()
     ensures { (table : Classes) (bulk mode : ℕ) (commands : List Command) → IsSound table → All IsValid commands → TellsHeldWords table bulk mode commands }
 {}
@@ -93,7 +93,7 @@ pub fn statistics_add_up()
     ensures { (table : Classes) (bulk mode : ℕ) (commands : List Command) → IsSound table → All IsValid commands → StatisticsAddUp table bulk mode commands }
 {}
 
-/// `stats slabs` never tells fewer bytes than before: what was granted stays so.
+/// `stats slabs` never prints fewer bytes than before: granted bytes stay granted.
 pub fn granted_bytes_stay()
     ensures { (table : Classes) (bulk mode : ℕ) (commands more : List Command) → IsSound table → All IsValid commands → All IsValid more → GrantedStays table bulk mode commands more }
 {}

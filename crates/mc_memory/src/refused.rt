@@ -2,7 +2,7 @@
 use std::marker::Model;
 use thiserror::Error;
 
-/// The allocator refused memory. It has no size, and can't be copied, so that each tells of a refusal of its own.
+/// The allocator refused memory. The value has no size, and can't be copied, so each reports a refusal of its own.
 #[derive(Debug, PartialEq, Eq, Drop, Error)]
 #[error("out of memory")]
 pub struct Refused {

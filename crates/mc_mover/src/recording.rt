@@ -63,9 +63,9 @@ pub fn trim_ledger<R: Wait>(rt: &R, arena: &Arena, hand: &mut Hand)
     arena.give_slabs(hand, held);
 }
 
-/// Has each stripe forget its calls: from then on none is recorded. It waits for each lock, from 0 on, one at a time. What the contracts say
-/// of the history stands, as it tells of all calls. That a call asks for no memory for its entry then is seen in the benchmark, and no
-/// clause says it. (own)
+/// Has each stripe forget its calls: from then on none is recorded. It waits for each lock, from 0 on, one at a time. What the
+/// contracts state of the history holds on, as it is of all calls. That a call asks for no memory for its entry then is seen in
+/// the benchmark, and no clause states it. (own)
 pub fn forget<R: Wait>(rt: &R, arena: &Arena, hand: &mut Hand)
     requires arena { IsHandOf arena.now hand.old }
     requires ready { IsReady (view hand.old) }

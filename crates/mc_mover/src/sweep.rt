@@ -5,6 +5,6 @@
 pub enum Sweep {
     /// No item was to be saved yet in this turn.
     Due,
-    /// It was made.
+    /// The sweep was made.
     Done,
 }

@@ -28,11 +28,11 @@ use std::sync::Wait;
 /// Where hands have waited for that lock, the turn lets other threads run before it takes it, as often as it looks at chunks: turns that
 /// follow each other at once leave nobody else in between. (own)
 ///
-/// Of the hand's own calls just the evictions and the rescues that it counts come, each in its key's stripe; it says nothing, and gives out
-/// no stamp.
+/// The hand's own calls are more by just the evictions and the rescues that the turn counts, each in its key's stripe. The hand
+/// stores no words, and gives out no stamp.
 ///
-/// `NoMemory` where the room for a call on a key was refused: the chunk at hand is as before, and the move's position is there; what was
-/// done for chunks before it stands.
+/// `NoMemory` where the room for a call on a key was refused: the chunk at hand is as before, and the move's position is there.
+/// What was done for chunks before it stays.
 pub fn turn<R: Wait>(rt: &R, arena: &Arena, hand: &mut Hand) -> Result<Turn, NoMemory>
     requires arena { IsHandOf arena.now hand.old }
     requires ready { IsReady (view hand.old) }
@@ -56,7 +56,7 @@ pub fn turn<R: Wait>(rt: &R, arena: &Arena, hand: &mut Hand) -> Result<Turn, NoM
     answer
 }
 
-/// The same, but it waits for nobody: `Held` where another hand has the lock of the slabs.
+/// The same as `turn`, but it waits for nobody: `Held` where another hand has the slabs lock.
 pub fn try_turn(arena: &Arena, hand: &mut Hand) -> Result<Turn, TryTurn>
     requires arena { IsHandOf arena.now hand.old }
     requires ready { IsReady (view hand.old) }

@@ -1,4 +1,4 @@
-//! Who owns a page, and the entries that say how it changed hands.
+//! Who owns a page, and the entries that record how it changed hands.
 ghost use Rattle.std.specs.Prelude.{◌≡◌};
 ghost use Rattle.mc_pages.specs.Base.{page_after, never_granted};
 ghost use Rattle.mc_pages.specs.Ledger.{page_of};
@@ -46,7 +46,7 @@ pub struct BasePage {
 /// One change of a page's owner.
 #[derive(Clone, Copy, PartialEq, Eq)]
 pub enum Entry {
-    /// An untouched page was given to a class; beyond the limit, as its first, where it says so.
+    /// An untouched page was given to a class; with `true` beyond the limit, as the class's first.
     Granted(PageId, ClassId, bool),
     /// A page of the pool was given to a class.
     Taken(PageId, ClassId),

@@ -3,7 +3,7 @@
 /// What a class has.
 #[derive(Clone, Copy, PartialEq, Eq)]
 pub struct Numbers {
-    /// Its pages, a moving one included.
+    /// How many pages the class has, a moving one included.
     pub pages: u64,
     /// The chunks of its free list.
     pub free: u64,

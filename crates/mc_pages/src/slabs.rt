@@ -50,7 +50,7 @@ pub struct Slabs {
     granted: usize,
     /// How many of them were granted within the limit.
     ordinary: usize,
-    /// The page that came last stands last.
+    /// The pages of the pool, the one that came last at the end.
     pool: Vec<PageId>,
     ledger: Recorded,
     uncut: Option<ChunkId>,
@@ -189,8 +189,7 @@ impl Slabs {
         self.ledger.trim();
     }
 
-    /// The rows in which the free lists and the hand-out orders of all classes stand. What was written there is what
-    /// `writes` counts.
+    /// The rows that have the free lists and the hand-out orders of all classes. `writes` counts what was written there.
     pub fn rows(&self) -> &Rows
         ensures linked { AreLinked result.now }
         ensures free { (class : ℕ) → IsClass self.now.state class → chunks_of result.now (Free (class - 1)) ≡ (class_at self.now.state class).free }
@@ -220,7 +219,7 @@ impl Slabs {
         self.automove = mode;
     }
 
-    /// Where in `classes` the page's class stands.
+    /// The place of the page's class in `classes`.
     #[tactic(auto, using(crate::proofs::Owners::within_from_class_of_owner))]
     fn class_place(&self, page: PageId) -> usize
         requires { IsClass self.now.state (class_of_page self.now.state page) }

@@ -14,7 +14,7 @@ impl Model for Writes {
     ghost also_owns = { λ _. ftrue };
 }
 
-// It owns nothing.
+// A `Writes` owns nothing.
 unsafe impl Send for Writes {}
 
 impl Writes {

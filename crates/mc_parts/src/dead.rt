@@ -26,7 +26,7 @@ impl Model for DeadCounts {
 }
 
 impl DeadCounts {
-    /// None of so many classes has a dead chunk.
+    /// None of n classes has a dead chunk.
     pub fn new(alloc: Global, classes: u64) -> Result<DeadCounts, Refused>
         ensures fresh { IfOk result (λ counts. counts ≡ replicate classes 0) }
     {
@@ -81,7 +81,7 @@ impl Model for LastDead {
 }
 
 impl LastDead {
-    /// No chunk of so many classes was counted yet.
+    /// No chunk of n classes was counted yet.
     pub fn new(alloc: Global, classes: u64) -> Result<LastDead, Refused>
         ensures fresh { IfOk result (λ last. last ≡ replicate classes None) }
     {

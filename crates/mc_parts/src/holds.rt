@@ -87,8 +87,8 @@ impl Holds {
         Ok(())
     }
 
-    /// The worker gives back the hold of the chunk that it took last, which stands at this place: of all that it holds the one
-    /// taken last stands at 0.
+    /// The worker gives back the hold of the chunk that it took last, which is at this place: of all holds of the worker the one
+    /// taken last is at 0.
     pub fn give_back(&mut self, worker: u64, chunk: ChunkId, place: usize)
         requires worker { worker < 64 }
         requires first { position (λ c. is_chunk c chunk) (held_by self.old worker) ≡ Some place }
@@ -99,7 +99,7 @@ impl Holds {
     }
 }
 
-/// Removes the chunk behind which so many stand.
+/// Removes the chunk that has n others behind it.
 fn take_out(chunks: &mut Vec<ChunkId>, behind: usize)
     requires { behind < length chunks.old.items }
     ensures removed { reverse chunks.new.items ≡ remove (reverse chunks.old.items) behind }

@@ -1,6 +1,6 @@
 //! The lines that a run writes, put together in memory before any of them is written.
 //!
-//! Where memory runs out in a line, the text that stood there stays, and some of the line may follow it.
+//! Where memory runs out in a line, the text that was there stays, and some of the line may follow it.
 ghost use Rattle.std.specs.Prelude.{◌≡◌, ◌≤◌, ◌+◌, ◌++◌, [], ◌∷◌, codes, decimal, length, vec_len, vec_capacity, IsOk, OnOk};
 ghost use Rattle.std.specs.Io.{StartsWith};
 ghost use Rattle.mc_watch.specs.Texts.{line};

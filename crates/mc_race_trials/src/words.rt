@@ -1,4 +1,5 @@
-//! Words of items: each tells the key and the stamp under which its item was stored, so that a word of another item would be seen.
+//! Words of items: each shows the key and the stamp under which its item was stored, so that a word of another item would be
+//! seen.
 use mc_calls::{are_own, own_words};
 use mc_memory::Refused;
 use mc_stripe::{Key, Stamp};

@@ -48,7 +48,7 @@ fn serve<R: Input + Print + AllocGlobal, I: Ledger, O: Ledger>(
     }
 }
 
-/// Tells on standard error what kept the run from being done, and gives the status to end with.
+/// Prints on standard error what kept the run from being done, and returns the status to end with.
 fn tell(rt: &impl Eprint, fault: RunFault) -> u8
     ensures { result ≡ status_of fault }
 {

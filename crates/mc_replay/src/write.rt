@@ -30,7 +30,7 @@ use mc_core::{State, Stop, replay};
 use mc_memory::push_str;
 use std::alloc::Global;
 
-/// The answer of the list, what stands after it, and the line `end`.
+/// The answer of the list, the state after it, and the line `end`.
 pub fn answer(alloc: Global, list: &List) -> Result<String, NoMemory>
     ensures { IfOk result (λ text. IsAnswer list.now.config list.now.hands list.now.events.items (string_bytes text)) }
 {
@@ -59,7 +59,7 @@ fn stop_answer(alloc: Global, place: u64) -> Result<String, NoMemory>
     Ok(format!(in alloc; "answer NotAllowed {place}\nend\n")?)
 }
 
-/// What stands in a state with so many stripes.
+/// The text of a state with n stripes.
 #[tactic(auto, using(crate::proofs::Ranges::appends_three))]
 fn standing(alloc: Global, text: &mut String, state: &State, stripes: u64) -> Result<(), NoMemory>
     ensures { OnOk result (string_bytes text.new ≡ string_bytes text.old ++ standing_text stripes state.now) }
@@ -69,7 +69,7 @@ fn standing(alloc: Global, text: &mut String, state: &State, stripes: u64) -> Re
     free_stripes(alloc, text, state, stripes)
 }
 
-/// What stands behind the slabs lock, if nobody has it.
+/// The text of what is behind the slabs lock, if nobody has it.
 fn free_slabs(alloc: Global, text: &mut String, state: &State) -> Result<(), NoMemory>
     ensures { OnOk result (string_bytes text.new ≡ string_bytes text.old ++ free_slabs_text state.now) }
 {
@@ -79,7 +79,7 @@ fn free_slabs(alloc: Global, text: &mut String, state: &State) -> Result<(), NoM
     }
 }
 
-/// What stands behind the locks of so many stripes.
+/// The text of what is behind the locks of n stripes.
 fn free_stripes(
     alloc: Global,
     text: &mut String,
@@ -94,7 +94,7 @@ fn free_stripes(
     Ok(())
 }
 
-/// What stands behind the lock of a stripe, if nobody has it.
+/// The text of what is behind the lock of a stripe, if nobody has it.
 fn free_stripe(alloc: Global, text: &mut String, state: &State, number: u64) -> Result<(), NoMemory>
     ensures { OnOk result (string_bytes text.new ≡ string_bytes text.old ++ free_stripe_text state.now number) }
 {

@@ -125,7 +125,8 @@ impl Stripe {
         self.calls.trim(&self.index, self.aside)
     }
 
-    /// No call is recorded from now on, and none of those so far. A call that is told then needs no room but that of its index entry. (own)
+    /// No call is recorded from now on, and none of those so far. A later call then needs no room but that of its index entry.
+    /// (own)
     pub fn forget(&mut self)
         ensures forgets { self.new ≡ record self.old { state = after_forget self.old.state } }
         ensures legal { IsLegal self.new.state }

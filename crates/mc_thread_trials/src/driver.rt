@@ -51,7 +51,7 @@ impl Job for Mover {
 
     ghost is_ready = { λ arena job. IsIdleHandOf arena job.0 };
 
-    /// Its turns: what they told.
+    /// The mover's turns: what they counted.
     fn work<R: Wait>(self, rt: &R, _alloc: Global, arena: &Arena) -> Worked<Turns> {
         let Mover(mut hand) = self;
         let mut tally = NO_TURNS;

@@ -15,7 +15,7 @@ impl Model for Fed {
     ghost also_owns = { λ _. ftrue };
 }
 
-// It owns nothing.
+// A `Fed` owns nothing.
 unsafe impl Send for Fed {}
 
 impl Fed {

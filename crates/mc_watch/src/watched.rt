@@ -13,9 +13,9 @@ pub(crate) struct Watched {
     evictions: u64,
     /// How many of these in the last window.
     rise: u64,
-    /// Its pages.
+    /// How many pages the class had in the last window.
     pages: u64,
-    /// Its free chunks.
+    /// How many free chunks the class had in the last window.
     free: u64,
     /// Whether it was quiet in the last three windows, the newest first.
     quiet: [bool; 3],

@@ -60,7 +60,7 @@ impl Arena {
         self.plan.config()
     }
 
-    /// Its size classes.
+    /// The size classes of the arena.
     pub fn classes(&self) -> &ClassTable
         ensures classes { result.now ≡ (setup_of self.now).table }
     {

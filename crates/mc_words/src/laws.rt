@@ -14,7 +14,7 @@ pub fn held_stays_the_same()
     ensures { HeldStaysTheSame }
 {}
 
-/// The same holds of the moment of which a hand knows its view, so that a caller has it before each call and behind it.
+/// The promise holds of the moment of which a hand knows its view, so that a caller has it before each call and behind it.
 pub fn views_give_headline()
     ensures { ViewsGiveHeadline }
 {}

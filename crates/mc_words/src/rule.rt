@@ -39,7 +39,7 @@ pub(crate) type SharedTable = Table<Slot, HandView, Plan, LawfulTable, Global>;
 /// What a hand steps with.
 pub(crate) type HandSeat = Seat<Slot, HandView>;
 
-// What a step tells is picked by the function that makes it.
+// The function that makes a step picks what the step shows.
 impl Play<Slot, HandView> for Brand {
     ghost use Rattle.std.specs.Prelude.{◌≡◌};
 
@@ -57,7 +57,7 @@ impl Join<HandView> for BothHands {
     ghost spent = { spent_view };
 }
 
-/// A hand that was made of two is told so.
+/// A hand that was made of two learns of that.
 pub struct ToldOfBoth;
 
 impl Play<Slot, HandView> for ToldOfBoth {

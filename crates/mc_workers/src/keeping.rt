@@ -64,7 +64,7 @@ pub(crate) fn drop_last(
     Ok(Reply::Dropped(words))
 }
 
-// Where the last reference to the key stands among those that are kept.
+// The place of the last reference to the key among those that are kept.
 fn place_of_last(kept: &[Ref], key: u64) -> Option<usize>
     ensures last { IfSome result (IsLastAt key kept.now) }
     ensures none { result ≡ None → All (IsToOther key) kept.now }

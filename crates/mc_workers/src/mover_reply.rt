@@ -31,7 +31,8 @@ pub enum MoverReply {
     Answer(Result<(), Reassign>),
     /// The automover has the mode that was asked for.
     Mode,
-    /// A window ended: what became of the decision, if one was acted on, and whether all was trimmed behind it, which isn't told.
+    /// A window ended: what became of the decision, if one was acted on, and whether all was trimmed after it, which no line
+    /// prints.
     Window(Option<Acted>, Result<(), Trim>),
     /// How the last turn ended, and what all turns of the line did.
     Turned(Ending, Counts),
@@ -41,7 +42,7 @@ pub enum MoverReply {
     Classes(Survey),
 }
 
-/// Adds the lines that tell the reply. Where memory runs out, the text that stood there stays, and some of them may follow it.
+/// Adds the lines of the reply. Where memory runs out, the text that was there stays, and some of the lines may follow it.
 pub fn push_mover_reply(
     text: &mut Vec<u8>,
     table: &ClassTable,

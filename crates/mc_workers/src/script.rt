@@ -73,7 +73,7 @@ fn worker_of(command: &Command) -> u64
     }
 }
 
-// A new arena with so many hands, in this mode: the mover's hand, and those of the workers.
+// A new arena with n hands, in this mode: the mover's hand, and those of the workers.
 fn open_arena<R: Wait>(
     rt: &R,
     alloc: Global,

@@ -241,7 +241,7 @@ fn both_of(
     }
 }
 
-// Which of two ends is told.
+// The one of two ends that the run returns.
 fn first_of(own: Ended, others: Ended) -> Ended
     ensures memory { own ≡ Ended.Memory tt → result ≡ Ended.Memory tt }
     ensures memory_of_others { others ≡ Ended.Memory tt → result ≡ Ended.Memory tt }

@@ -11,7 +11,7 @@ use std::env::{self, Env};
 pub enum View {
     /// A map at each mark and at the end.
     Maps,
-    /// The same maps as JSON, one in a line.
+    /// A map at each mark and at the end as JSON, one in a line.
     Json,
     /// Pages over time.
     Chart,

@@ -102,7 +102,7 @@ fn run<R: Env + Input + Print + AllocGlobal + Threads + Wait + Sync>(rt: &R) -> 
     Ok(())
 }
 
-/// Tells on standard error what kept the run from being done, and gives the status to end with.
+/// Prints on standard error what kept the run from being done, and returns the status to end with.
 fn tell(rt: &impl Eprint, fault: RunFault) -> u8
     ensures { result ≡ status_of fault }
 {

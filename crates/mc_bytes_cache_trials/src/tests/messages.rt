@@ -7,7 +7,7 @@ use std::fmt::Display;
 use std::process::Abort;
 use std::test::Fail;
 
-/// What every call says of a key that is too short or too long.
+/// What every call reports of a key that is too short or too long.
 const KEY_LENGTH: &str = "a key must have from 1 to 250 bytes; nothing was done";
 
 /// The refusal has this text.

@@ -22,7 +22,7 @@ pub struct TooManyRefs;
 /// Why a worker doesn't hold an item.
 #[derive(Debug, PartialEq, Eq, Drop)]
 pub enum HoldError {
-    /// It has as many holds as it may have, 255.
+    /// The worker has as many holds as it may have, 255.
     TooManyRefs,
     /// Memory ran out.
     NoMemory(Refused),
@@ -46,8 +46,9 @@ impl Keeper {
         }
     }
 
-    /// The worker holds the key's item, and is told whether the key has one. What is held stays as it is until it is dropped,
-    /// whatever is done to its key, and no set and no move takes its chunk. (items.c's `item_get`, which counts a reference)
+    /// The worker holds the key's item, and the call returns whether the key has one. What is held stays as it is until it is
+    /// dropped, whatever is done to its key, and no set and no move takes its chunk. (items.c's `item_get`, which counts a
+    /// reference)
     ///
     /// Where it is refused, all is as before; memory can run out only where there is an item.
     pub fn hold(&mut self, worker: u64, key: u64) -> Result<bool, HoldError>
@@ -92,8 +93,8 @@ impl Keeper {
         self.words_at(chunk)
     }
 
-    /// The key's item becomes the youngest of its class, which is evicted last. Says whether the key has one. It takes no memory.
-    /// (items.c's `do_item_update`, without its 60 seconds.) The worker takes no part.
+    /// The key's item becomes the youngest of its class, which is evicted last. Returns whether the key has one. It takes no
+    /// memory. (items.c's `do_item_update`, without its 60 seconds.) The worker takes no part.
     pub fn touch(&mut self, _worker: u64, key: u64) -> bool
         ensures had { result ≡ is_some (linked_chunk self.old.items key) }
         ensures after { self.new ≡ (made_youngest self.old key (linked_chunk self.old.items key)).machine }
@@ -107,8 +108,8 @@ impl Keeper {
         }
     }
 
-    /// The worker gives back its hold of a chunk, which stands at this place among its holds. Whether a key leads to the
-    /// chunk's item is told.
+    /// The worker gives back its hold of a chunk, which is at this place among its holds. `is_linked` is whether a key leads to
+    /// the chunk's item.
     pub(super) fn give_back(&mut self, worker: u64, chunk: ChunkId, place: usize, is_linked: bool)
         requires worker { worker < 64 }
         requires first { position (λ c. is_chunk c chunk) (held_by self.old.holds worker) ≡ Some place }
@@ -132,7 +133,7 @@ impl Keeper {
         }
     }
 
-    /// The chunk of the worker's hold of an item of the key that it took last, and where that stands among the worker's holds.
+    /// The chunk of the worker's hold of an item of the key that it took last, and the place of that among the worker's holds.
     pub(super) fn last_hold(&self, worker: u64, key: u64) -> Option<(ChunkId, usize)>
         requires { worker < 64 }
         ensures hold { option_map (λ hold. hold.0) result ≡ last_hold self.now worker key }
@@ -144,7 +145,8 @@ impl Keeper {
         }
     }
 
-    /// Where the worker's hold of an item of the key that it took last stands among its holds: the one taken last stands at 0.
+    /// The place, among the worker's holds, of its hold of an item of the key that it took last: of all holds the one taken last
+    /// is at 0.
     fn place_held(&self, worker: u64, key: u64) -> Option<usize>
         requires { worker < 64 }
         ensures place { result ≡ position (has_key self.now.items key) (held_by self.now.holds worker) }
@@ -167,7 +169,7 @@ impl Keeper {
     }
 }
 
-/// The chunk behind which so many stand.
+/// The chunk that has n others behind it.
 fn hold_at(chunks: &[ChunkId], behind: usize) -> ChunkId
     requires { behind < length chunks.now }
     ensures chunk { (d : ChunkId) → result ≡ slice_index_or (reverse chunks.now) behind d }

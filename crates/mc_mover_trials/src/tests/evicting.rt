@@ -9,7 +9,7 @@ use std::alloc::Global;
 use std::sync::Wait;
 use std::test::Fail;
 
-/// The same classes; a turn looks at one chunk.
+/// The configuration `FOUR_CLASSES`, but a turn looks at one chunk.
 const ONE_A_TURN: Config = Config {
     bulk: 1,
     ..FOUR_CLASSES

@@ -13,20 +13,21 @@ use std::sync::Wait;
 /// A call of a hand.
 #[derive(Clone, Copy)]
 pub enum Call {
-    /// An item of so many words.
+    /// An item of n words.
     Set(Key, usize),
-    /// The same, which evicts and begins a move, in mode 2. Where memory for the move is refused, it is stored, and no page moves.
+    /// A set of n words that evicts and begins a move, in mode 2. Where memory for the move is refused, the item is stored, and
+    /// no page moves.
     SetAndMove(Key, usize),
     /// The reference is given up at once.
     Get(Key),
-    /// The same, which waits for nobody.
+    /// A get that waits for nobody. The reference is given up at once.
     TryGet(Key),
     Delete(Key),
     Touch(Key),
     /// A move from a class or any to a class or the pool.
     Reassign(Option<ClassId>, ClassId),
     Turn,
-    /// The same, which takes no memory: it isn't made again where it is refused.
+    /// A turn of the mover that takes no memory: it isn't made again where it is refused.
     TurnWithoutMemory,
     /// A turn that waits for nobody.
     TryTurn,
@@ -59,7 +60,7 @@ pub enum Answer {
     Surveyed(bool, [u64; 4]),
     /// A page moves already.
     Busy,
-    /// It was refused otherwise.
+    /// The move was refused otherwise.
     Refused,
 }
 

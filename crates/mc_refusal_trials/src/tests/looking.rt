@@ -17,7 +17,7 @@ pub struct Looker {
     pub words: Vec<u64>,
 }
 
-/// Room for so many numbers. Where it is refused once, it is asked for again.
+/// Room for n numbers. Where it is refused once, it is asked for again.
 pub fn room(alloc: Global, count: usize) -> Result<Vec<u64>, AllocError> {
     match Vec::with_capacity(alloc, count) {
         Ok(room) => Ok(room),

@@ -194,7 +194,7 @@ fn play_pages<R: Abort + Print>(
     }
 }
 
-/// The same of new pages, once to a class, once to the pool, and once by another source.
+/// Plays moves of new pages: once to a class, once to the pool, and once by another source.
 fn play_ways<R: Abort + Print>(
     rt: &R,
     alloc: Global,

@@ -19,7 +19,7 @@ pub(super) fn heads(text: &mut String, state: &State) -> Result<(), AllocError>
     Ok(())
 }
 
-/// The headers of a page with so many.
+/// The headers of a page with n chunks.
 fn page_heads(text: &mut String, state: &State, page: u64, count: u64) -> Result<(), AllocError>
     ensures { OnOk result (string_bytes text.new ≡ string_bytes text.old ++ page_text state.now count page) }
 {

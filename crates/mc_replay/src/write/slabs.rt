@@ -1,4 +1,4 @@
-//! What stands behind the slabs lock.
+//! The text of what is behind the slabs lock.
 ghost use Rattle.std.specs.Prelude.{◌≡◌, ◌++◌, OnOk, flat_map, length, string_bytes};
 ghost use Rattle.mc_classes.specs.Classes.{arena_pages_of};
 ghost use Rattle.mc_pages.specs.SlabState.{IsClass, class_at, totals_of};

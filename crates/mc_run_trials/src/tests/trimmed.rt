@@ -20,7 +20,7 @@ const SCRIPT: &[u8] =
 /// What the mover is answered.
 const TEXT: &[u8] = b"OK\r\nTURN FINISHED 2 1 1 0 0\r\n";
 
-/// The same, and a window ends.
+/// The script `SCRIPT`, and a window at its end.
 const WITH_WINDOW: &[u8] =
     b"1 set 1 3 7\n1 set 2 22 50\n1 set 3 22 50\n1 set 4 22 50\nreassign 4 1\nturn 9\nwindow\n";
 

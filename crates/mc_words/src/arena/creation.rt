@@ -46,7 +46,7 @@ impl Arena {
         Arena::from_issue(alloc, config, hands, 0)
     }
 
-    /// The same, where each chunk begins with this issue number, at most 2^46 - 1, and not with 0 (own).
+    /// An arena as `new` makes it, but each chunk begins with this issue number, at most 2^46 - 1, and not with 0 (own).
     pub fn from_issue(
         alloc: Global,
         config: &Config,

@@ -48,8 +48,8 @@ impl Model for Final {
 }
 
 impl Arena {
-    /// Ends the arena: no hand can step any more. It takes no memory. The promise holds of the last moment, as `closes` says in its `headline`: of
-    /// each page, granted byte, chunk and reference. (own)
+    /// Ends the arena: no hand can step any more. It takes no memory. The promise holds of the last moment, as `closes` states in
+    /// its `headline`: of each page, granted byte, chunk and reference. (own)
     pub fn close(self, hand: Hand) -> Final
         requires arena { IsHandOf self hand }
         ensures closes { Closes (view hand) result }
@@ -79,7 +79,7 @@ impl Final {
         self.plan.config()
     }
 
-    /// Its size classes.
+    /// The size classes of the arena.
     pub fn classes(&self) -> &ClassTable
         ensures classes { result.now ≡ self.now.setup.table }
     {

@@ -12,7 +12,7 @@ pub enum NewError {
     /// The configuration is refused.
     #[error("{0}")]
     Config(ConfigError),
-    /// There are no hands, or more than 64.
+    /// The hands are none, or more than 64.
     #[error("the number of hands must be from 1 to 64")]
     Hands,
     /// The first issue number is above the greatest, 2^46 - 1.

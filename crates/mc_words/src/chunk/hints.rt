@@ -94,7 +94,7 @@ impl Hints {
     }
 }
 
-// Where the word of a page's bits stands.
+// The place of the word with a page's bits.
 fn place(page: PageId, word: u64) -> usize {
     page.saturating_mul(WORDS_A_PAGE).saturating_add(word) as usize
 }

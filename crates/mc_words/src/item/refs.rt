@@ -41,8 +41,8 @@ pub struct Hint {
 }
 
 impl Hint {
-    /// A hint of the item that this chunk had, or may have had, with this issue number. Any number may stand there: whoever follows the
-    /// hint looks at the chunk's header.
+    /// A hint of the item that this chunk had, or may have had, with this issue number. The numbers may be any: whoever follows
+    /// the hint looks at the chunk's header.
     pub fn new(chunk: ChunkId, issue: u64) -> Hint
         ensures chunk { result.chunk ≡ chunk }
         ensures issue { result.issue ≡ issue }

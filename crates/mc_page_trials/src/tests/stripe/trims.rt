@@ -100,7 +100,7 @@ fn what_calls_left_is_kept(rt: HostRuntime) -> Result<(), Fail> {
     Ok(kept?)
 }
 
-/// The stripe keeps nothing of so many calls, and no base.
+/// The stripe keeps nothing of n calls, and no base.
 fn assert_forgotten(rt: &impl Abort, stripe: &Stripe, trimmed: u64) {
     let found = (stripe.history().len(), base_len(stripe), stripe.trimmed());
     assert_same(rt, found, (0, None, trimmed), "history, base and trimmed");
