@@ -1,4 +1,4 @@
-//! What gets found.
+//! The counts of a client's gets: all, those that found their key, wrong bytes, and refusals of memory.
 
 /// What gets found. Each number stays at 2^64 - 1 once there.
 #[derive(Clone, Copy)]

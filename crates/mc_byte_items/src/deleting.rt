@@ -1,4 +1,4 @@
-//! Keys that are deleted.
+//! The delete of a key.
 ghost use Rattle.std.specs.Prelude.{◌≡◌, Ok, OnErr, false, true};
 ghost use Rattle.mc_words.specs.declared.hand.Hand.{Hand};
 ghost use Rattle.mc_words.specs.hand.Arenas.{setup_of, view};

@@ -1,4 +1,4 @@
-//! Items of bytes that are set.
+//! The set of an item of bytes.
 ghost use Rattle.std.specs.Prelude.{◌≡◌, IfErr, IfOk, OnErr};
 ghost use Rattle.mc_packing.specs.Packing.{packed};
 ghost use Rattle.mc_words.specs.hand.Arenas.{view};

@@ -1,4 +1,4 @@
--- Which caches are refused, and what is so of the arenas of a new one.
+-- Which caches are refused, and what the arenas of a new one are.
 use Rattle.std.specs.Prelude.{◌≡◌, ◌+◌, not, if◌then◌else◌, List, All, Option, None, Some}
 use Rattle.std.specs.List.{range_with_len}
 use Rattle.std.specs.Option.{option_map}

@@ -1,4 +1,4 @@
-//! Caches that are made.
+//! The making of a cache with its workers and its tender, and why none is made.
 ghost use Rattle.std.specs.Prelude.{◌≡◌, ◌≤◌, ◌+◌, ◌-◌, ◌++◌, ◌∷◌, [], All, IfErr, IfOk, List, None, OnOk, Some, length, slice_index_or, take, unwrap_or};
 ghost use Rattle.mc_words.specs.declared.arena.Arena.{Arena};
 ghost use Rattle.mc_words.specs.hand.Arenas.{setup_of};

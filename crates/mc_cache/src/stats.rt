@@ -1,4 +1,4 @@
-//! What the classes of all shards have together.
+//! The statistics of a cache: sums over the classes of all shards.
 ghost use Rattle.std.specs.Prelude.{◌≡◌, ◌≤◌, ◌-◌, ◌^◌, ◌∷◌, [], OnOk, length, max, slice_index_or, ℕ};
 ghost use Rattle.mc_words.specs.hand.Arenas.{view};
 ghost use Rattle.mc_items.specs.Keeping.{SaysNothing};

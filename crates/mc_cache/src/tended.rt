@@ -1,4 +1,4 @@
-//! What a tender did.
+//! The counts of what a tender did.
 ghost use Rattle.std.specs.Prelude.{◌≡◌, ◌-◌, ◌^◌};
 ghost use Rattle.mc_cache.specs.Cases.{TwoShards, TwoTurns};
 ghost use Rattle.mc_cache.specs.Tending.{tended_with};

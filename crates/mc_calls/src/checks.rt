@@ -1,4 +1,4 @@
-//! What is to be so.
+//! The check by which a test fails with a text.
 ghost use Rattle.std.specs.Prelude.{◌≡◌, ◌↔◌, IsOk, true};
 
 use std::test::Fail;

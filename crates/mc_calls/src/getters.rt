@@ -1,4 +1,4 @@
-//! Keys that are looked up by either call.
+//! The two calls that look a key up, so that a test can try both.
 ghost use Rattle.std.specs.Prelude.{◌≡◌, true, IfSome};
 ghost use Rattle.mc_core.specs.State.{has_chunk};
 ghost use Rattle.mc_words.specs.hand.Arenas.{setup_of, view};

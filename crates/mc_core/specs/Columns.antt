@@ -1,4 +1,4 @@
--- Parts of the state that the clauses of the law speak of.
+-- The parts of the state that the clauses of the law name.
 use Rattle.std.specs.Prelude.{◌≡◌, ◌⊎◌, ℕ, ◌+◌, ◌*◌, ◌≤◌, List, [], ◌∷◌, length, count_by, slice_get, slice_index, slice_index_or, Some, All}
 use Rattle.mc_classes.specs.Classes.{Classes}
 use Rattle.mc_pages.specs.declared.ids.ChunkId.{ChunkId}

@@ -1,4 +1,4 @@
--- What is done where it is allowed, and not done where it isn't.
+-- A deed that is done where it is allowed, and not done where it isn't.
 use Rattle.std.specs.Prelude.{◌≡◌, Bool, true}
 use Rattle.mc_core.specs.State.{State}
 

@@ -1,4 +1,4 @@
--- What follows of the law in a lawful moment.
+-- What follows from the law in a lawful moment.
 use Rattle.std.specs.Prelude.{◌≡◌, ◌⊎◌, ℕ, ◌<◌, true, List, [], length, slice_get, slice_index_or, Some, All}
 use Rattle.mc_pages.specs.declared.ids.ChunkId.{ChunkId}
 use Rattle.mc_stripe.specs.declared.history.Call.{Call}

@@ -1,4 +1,4 @@
-//! Who a hand is.
+//! The number of a hand, and how many stamps it gave out.
 
 /// A hand's number, and how many stamps it gave out.
 #[derive(Clone, Copy, PartialEq, Eq)]

@@ -1,4 +1,4 @@
-//! What the hand that has the slabs lock saw and changed.
+//! The looks of the hand that has the slabs lock: what it saw and changed.
 ghost use Rattle.std.specs.Prelude.{◌≡◌};
 ghost use Rattle.mc_core.specs.Looks.{stays_linked, stays_alive, was_linked, is_found_alive};
 

@@ -1,4 +1,4 @@
-//! Keys that are deleted.
+//! The delete of a key.
 ghost use Rattle.std.specs.Prelude.{◌≡◌, IfOk, OnErr, false};
 ghost use Rattle.mc_core.specs.Holdings.{has_fresh};
 ghost use Rattle.mc_words.specs.hand.Arenas.{IsHandOf, setup_of, view};

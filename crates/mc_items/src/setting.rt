@@ -1,4 +1,4 @@
-//! Items that are set.
+//! The set of an item, which waits for its locks.
 ghost use Rattle.std.specs.Prelude.{◌≡◌, ◌≤◌, IfErr, IfOk, OnErr, false, length, true};
 ghost use Rattle.mc_core.specs.Holdings.{has_fresh};
 ghost use Rattle.mc_core.specs.State.{is_class};

@@ -1,4 +1,4 @@
-//! Keys that are touched.
+//! The touch of a key: its item becomes the newest of its class.
 ghost use Rattle.std.specs.Prelude.{◌≡◌, IfOk, Ok, OnErr, false, true};
 ghost use Rattle.mc_words.specs.hand.Arenas.{IsHandOf, setup_of, view};
 ghost use Rattle.mc_words.specs.hand.Observers.{locks_of, number_of};

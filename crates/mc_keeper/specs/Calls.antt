@@ -1,4 +1,4 @@
--- What the typed calls answer.
+-- The answers of the keeper's typed calls.
 use Rattle.std.specs.Prelude.{◌≡◌, ℕ, Bool, true, false, ◌⊎◌, if◌then◌else◌, List, Option, Some, None, Result, Ok, Err, ⊤}
 use Rattle.std.specs.Borrow.{Fml, MutBor, follows_so}
 use Rattle.std.specs.Option.{is_some, option_and_then, option_map}

@@ -1,4 +1,4 @@
--- Worked examples of the plain machine.
+-- Worked examples of the plain machine, which the prover computes.
 use Rattle.std.specs.Prelude.{◌≡◌, ℕ, true, false, List, [], ◌∷◌, ◌++◌, codes, map, Some, None}
 use Rattle.std.specs.List.{range_with_len}
 use Rattle.mc_classes.specs.Classes.{Classes}

@@ -1,4 +1,4 @@
--- What is stored under a key.
+-- An item of the plain machine, and the words of one that comes.
 use Rattle.std.specs.Prelude.{ℕ, ◌+◌, ◌*◌, ◌%◌, ◌^◌, ◌==◌, Bool, true, false, ◌&&◌, List, map}
 use Rattle.std.specs.List.{range_with_len}
 

@@ -1,4 +1,4 @@
-//! What each class keeps: its pages, and what is in its chunks.
+//! The numbers of a class on a map: its pages, and what is in its chunks.
 ghost use Rattle.std.specs.Prelude.{◌≡◌, ℕ, ◌≤◌, ◌^◌, length, IfOk, IfSome};
 ghost use Rattle.mc_pages.specs.SlabState.{IsClass};
 ghost use Rattle.mc_machine.specs.Item.{item_bytes};

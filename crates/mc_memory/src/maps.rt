@@ -1,4 +1,4 @@
-//! Maps that grow.
+//! Hash maps that grow.
 ghost use Rattle.std.specs.Prelude.{◌≤◌, OnErr, OnOk, IsOk};
 ghost use Rattle.std.specs.HashMap.{IsReordered, IsUnchanged, spare};
 

@@ -1,4 +1,4 @@
-//! The evidence.
+//! The value that is evidence of a refusal, `Refused`.
 use std::marker::Model;
 use thiserror::Error;
 

@@ -1,4 +1,4 @@
--- Nobody holds what a turn clears: in the moment before the item is taken away, and in the one before the chunk is cleared.
+-- What a turn clears is held by nobody: in the moment before the item is taken away, and in the one before the chunk is cleared.
 use Rattle.std.specs.Prelude.{◌≡◌, ℕ, false, []}
 use Rattle.mc_pages.specs.declared.ids.ChunkId.{ChunkId}
 use Rattle.mc_pages.specs.declared.moves.Found.{Found}

@@ -1,4 +1,4 @@
-//! What a turn of the mover answers.
+//! The answers of a turn of the mover, and its counts.
 ghost use Rattle.std.specs.Prelude.{◌≡◌, ◌^◌};
 ghost use Rattle.mc_mover.specs.Turning.{AreBelow, counted, no_counts};
 

@@ -1,4 +1,4 @@
-//! Turns of the mover.
+//! A turn of the mover, under one hold of the slabs lock.
 ghost use Rattle.std.specs.Prelude.{◌≡◌, ◌≤◌, true, false, length, None, Err, IfOk, OnErr};
 ghost use Rattle.mc_core.specs.Holdings.{has_fresh};
 ghost use Rattle.mc_words.specs.hand.Arenas.{IsHandOf, view};

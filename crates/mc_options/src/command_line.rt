@@ -1,4 +1,4 @@
-//! The command line of `mcslab`.
+//! The options of `mcslab` as clap gets them, and `options`, which reads the words.
 ghost use Rattle.std.specs.Prelude.{◌≡◌, ◌≤◌, IfErr, IfOk, IfSome, codes, drop, false, map};
 ghost use Rattle.std.specs.Str.{all_ascii_digits};
 ghost use Rattle.clap.specs.Words.{app_of, first_value, found_of, kind_of, one_text, rule_of};

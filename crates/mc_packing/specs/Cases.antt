@@ -1,4 +1,4 @@
--- Worked packings.
+-- Worked packings, which the prover computes.
 use Rattle.std.specs.Prelude.{◌≡◌, [], ◌∷◌}
 use Rattle.mc_packing.specs.Packing.{IsPackingOf, packed, value_in}
 

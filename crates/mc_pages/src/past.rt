@@ -1,4 +1,4 @@
-//! Entries that no memory is kept for.
+//! The entries of the ledger that take no memory any more, for contracts alone.
 ghost use Rattle.std.specs.Prelude.{◌≡◌, ◌++◌, List, []};
 ghost use Rattle.std.specs.Borrow.{ftrue};
 ghost use Rattle.mc_pages.specs.declared.ledger.Entry.{Entry as AnEntry};

@@ -1,4 +1,4 @@
-//! The sequential value behind the slabs lock: all pages and all chunks.
+//! `Slabs`: the sequential value behind the slabs lock, all pages and all chunks.
 ghost use Rattle.std.specs.Prelude.{◌≡◌, ℕ, ◌-◌, ◌^◌, ◌*◌, min, ◌<◌, ◌≤◌, length, slice_get, IfOk, None};
 ghost use Rattle.std.specs.Option.{option_map};
 ghost use Rattle.mc_pages.specs.ClassState.{new_class, numbers_of};

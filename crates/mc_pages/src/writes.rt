@@ -1,4 +1,4 @@
-//! A count that contracts alone read.
+//! A count of the fields of rows that were written, for contracts alone.
 ghost use Rattle.std.specs.Prelude.{◌≡◌, ℕ, ◌+◌};
 ghost use Rattle.std.specs.Borrow.{ftrue};
 

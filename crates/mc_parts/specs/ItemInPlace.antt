@@ -1,4 +1,4 @@
--- What is in a chunk's place.
+-- The item in a chunk's place, if there is one.
 use Rattle.std.specs.Prelude.{if◌then◌else◌, Option, Some, None}
 use Rattle.mc_machine.specs.Item.{Item}
 use Rattle.mc_parts.specs.declared.place.Place.TheInside.{Inside}

@@ -1,4 +1,4 @@
-//! Which chunks the workers hold.
+//! The chunks that each worker holds.
 ghost use Rattle.std.specs.Prelude.{◌≡◌, ◌<◌, false, Some, IfOk, OnOk, OnErr, length, position, reverse};
 ghost use Rattle.std.specs.List.{remove};
 ghost use Rattle.mc_pages.specs.ClassState.{is_chunk};

@@ -1,4 +1,4 @@
-//! What is stored under a key.
+//! An item of the keeper, and the words of one that comes.
 ghost use Rattle.std.specs.Prelude.{◌≡◌, ◌≤◌, ◌^◌, length, OnOk, OnErr};
 ghost use Rattle.mc_machine.specs.Item.{new_item, unlinked, words_from};
 ghost use Rattle.mc_parts.specs.NewWords.{words_in};

@@ -1,4 +1,4 @@
-//! Where each key leads.
+//! The chunk to which each key leads.
 ghost use Rattle.std.specs.Prelude.{◌≡◌, nat_eq, [], None, Some, IfOk, OnOk, OnErr};
 ghost use Rattle.std.specs.BTreeMap.{is_at};
 ghost use Rattle.std.specs.Map.{set_value};

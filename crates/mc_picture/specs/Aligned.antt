@@ -1,4 +1,4 @@
--- Numbers in columns.
+-- Numbers in columns, at the right or at the left.
 use Rattle.std.specs.Prelude.{ℕ, ◌-◌, ◌^◌, List}
 use Rattle.std.specs.Fmt.{format_spec, styled_decimal}
 

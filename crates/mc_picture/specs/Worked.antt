@@ -1,4 +1,4 @@
--- Worked examples of what is written.
+-- Worked examples of what is written, which the prover computes.
 use Rattle.std.specs.Prelude.{◌≡◌, [], ◌∷◌, ◌++◌, Some, None, codes}
 use Rattle.mc_pages.specs.declared.ledger.Owner.TheVariants.{Untouched, Pool, Class, Moving}
 use Rattle.mc_picture.specs.Maps.{heading_text, line_text, lines_text, pages_text, totals_text}

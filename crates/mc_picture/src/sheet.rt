@@ -1,4 +1,4 @@
-//! What a chart is drawn of.
+//! The sheet of a chart: pages, ledger and classes, no more than it has room for.
 ghost use Rattle.std.specs.Prelude.{◌≤◌, length};
 
 use crate::classes::ClassRow;

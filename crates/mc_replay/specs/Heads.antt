@@ -1,4 +1,4 @@
--- The lines before the events.
+-- The lines of a list before its events: its configuration and its hands.
 use Rattle.std.specs.Prelude.{ℕ, codes, if◌then◌else◌, List, [], ◌∷◌, Option, Some, None}
 use Rattle.std.specs.Str.{bytes_eq}
 use Rattle.mc_classes.specs.declared.config.Config.{Config}

@@ -1,4 +1,4 @@
--- What is read.
+-- What the reader of lists has read.
 use Rattle.std.specs.Prelude.{◌≡◌, ◌++◌, ℕ, List}
 
 -- the reader gave some bytes more, which are behind those that were there

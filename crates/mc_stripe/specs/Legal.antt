@@ -1,4 +1,4 @@
--- What is so after every call: the history is legal, and makes the index.
+-- What holds of a stripe after every call: its history is legal, and makes its index.
 use Rattle.std.specs.Prelude.{◌≡◌, ◌≤◌, ℕ, [], length, Some, None}
 use Rattle.mc_pages.specs.declared.ids.ChunkId.{ChunkId}
 use Rattle.mc_stripe.specs.Entries.{AreRising}

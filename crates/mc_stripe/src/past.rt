@@ -1,4 +1,4 @@
-//! Calls that no memory is kept for.
+//! The calls of a stripe that take no memory any more, for contracts alone.
 ghost use Rattle.std.specs.Prelude.{◌≡◌, ◌++◌, List, []};
 ghost use Rattle.std.specs.Borrow.{ftrue};
 ghost use Rattle.mc_stripe.specs.declared.history.Call.{Call as ACall};

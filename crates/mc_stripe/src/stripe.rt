@@ -1,4 +1,4 @@
-//! The sequential value behind a stripe's lock.
+//! The stripe: the sequential value behind a stripe's lock.
 ghost use Rattle.std.specs.Prelude.{◌≡◌, ◌≢◌, ◌≤◌, ◌^◌, true, length, is_some, None, Some, Err, OnOk, OnErr, IsOk, IsSome, IfSome};
 ghost use Rattle.mc_stripe.specs.StripeState.{can_store, new_stripe, key_aside, place_of};
 ghost use Rattle.mc_stripe.specs.Changes.{after_link, after_unlink, after_got, after_evict, after_lift, after_rescue, after_reserve, after_reserve_call, after_trim, after_forget, used_up};

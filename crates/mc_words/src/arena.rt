@@ -1,4 +1,4 @@
-//! The arena.
+//! The arena: the table that hands share, and what it was made with.
 pub(crate) mod beginning;
 pub(crate) mod creation;
 pub(crate) mod end;

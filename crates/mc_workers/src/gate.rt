@@ -1,4 +1,4 @@
-//! What a thread passes before and after each of its lines.
+//! The gate that a thread passes before and after each of its lines.
 
 /// The place of a thread at a line.
 #[derive(Clone, Copy, PartialEq, Eq)]

@@ -1,4 +1,4 @@
-//! Lines that take and give back references which the worker keeps meanwhile.
+//! The lines `hold` and `drop`, by which a worker takes and gives back references.
 ghost use Rattle.std.specs.Prelude.{◌≡◌, All, IfOk, IfSome, None, OnErr, true};
 ghost use Rattle.mc_words.specs.hand.Arenas.{view};
 ghost use Rattle.mc_words.specs.hand.Idle.{is_idle};

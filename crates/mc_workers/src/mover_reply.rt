@@ -1,4 +1,4 @@
-//! What a line of the mover is answered.
+//! The replies to the mover's lines, and their text.
 ghost use Rattle.std.specs.Prelude.{◌≡◌, ◌++◌, OnOk};
 ghost use Rattle.std.specs.Io.{StartsWith};
 ghost use Rattle.mc_workers.specs.MoverReplies.{CanTell, mover_text, told_name};

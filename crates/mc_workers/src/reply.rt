@@ -1,4 +1,4 @@
-//! What a worker's line is answered.
+//! The replies to a worker's lines, and their text.
 ghost use Rattle.std.specs.Prelude.{◌≡◌, ◌++◌, OnOk};
 ghost use Rattle.mc_workers.specs.Replies.{reply_text};
 

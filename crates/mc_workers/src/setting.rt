@@ -1,4 +1,4 @@
-//! Lines that store an item.
+//! The line that stores an item.
 ghost use Rattle.std.specs.Prelude.{◌≡◌, ◌≤◌, IfOk, OnOk};
 ghost use Rattle.mc_machine.specs.Item.{words_from};
 ghost use Rattle.mc_words.specs.hand.Arenas.{view};

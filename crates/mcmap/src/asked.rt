@@ -1,4 +1,4 @@
-//! What the command line asks for.
+//! The words of the command line: which view is asked for, and the options.
 ghost use Rattle.std.specs.Prelude.{◌≤◌, IfOk};
 
 use crate::fault::Fault;

@@ -1,4 +1,4 @@
-//! What is shown: maps, pages over time, and the class table.
+//! The views that are shown: maps, pages over time, and the class table.
 ghost use Rattle.std.specs.Prelude.{◌≡◌, ◌≤◌, ◌++◌, All, OnOk, length, string_bytes};
 ghost use Rattle.mc_picture.specs.Charts.{IsChart};
 ghost use Rattle.mc_picture.specs.Maps.{map_text};

@@ -1,4 +1,4 @@
-//! What is refused, in words.
+//! The texts of refusals.
 use mc_cache::{CallError, NewError, SetError, TryGetError};
 use mc_classes::ConfigError;
 use mc_trial_values::too_much;

@@ -1,4 +1,4 @@
-//! The columns, read and written.
+//! The columns of the state: headers, words, hands and holdings, read and written.
 ghost use Rattle.std.specs.Prelude.{◌≡◌, ◌^◌, ◌<◌, [], length, slice_index, IfOk, OnOk};
 ghost use Rattle.std.specs.List.{position};
 ghost use Rattle.std.specs.Option.{option_map};

@@ -1,4 +1,4 @@
-//! What the statistics print, as numbers.
+//! The numbers that the statistics print.
 ghost use Rattle.std.specs.Prelude.{◌≡◌, length, IfOk};
 ghost use Rattle.mc_pages.specs.ClassState.{numbers_of};
 ghost use Rattle.mc_pages.specs.SlabState.{IsClass, class_at, totals_of};

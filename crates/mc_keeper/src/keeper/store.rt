@@ -1,4 +1,4 @@
-//! How items come and go.
+//! Sets and deletes: how items come and go.
 ghost use Rattle.std.specs.Prelude.{◌≡◌, ◌≤◌, ◌^◌, Option, None, Some, length, IfOk, OnErr, OnOk, Contains};
 ghost use Rattle.std.specs.Option.{is_some};
 ghost use Rattle.mc_classes.specs.Classes.{class_of};

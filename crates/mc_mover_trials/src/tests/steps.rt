@@ -1,4 +1,4 @@
-//! A call with what it is to give.
+//! A call of a hand with what it is to give.
 ghost use Rattle.mc_calls.specs.Hands.{IsReadyHandOf};
 ghost use Rattle.mc_items.specs.ItemRefs.{IsItemRef};
 ghost use Rattle.mc_words.specs.hand.Arenas.{view};

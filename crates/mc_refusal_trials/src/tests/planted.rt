@@ -1,4 +1,4 @@
-//! A row fails where a refused call left what it may not.
+//! A planted fault: a refused call that left what it may not makes its row fail.
 ghost use Rattle.std.specs.Prelude.{◌≡◌, true, IfSome};
 ghost use Rattle.mc_core.specs.State.{has_chunk};
 ghost use Rattle.mc_words.specs.hand.Arenas.{setup_of};

@@ -1,4 +1,4 @@
-//! What is seen behind the locks of stripes.
+//! The numbers of a snapshot that are behind the locks of stripes.
 ghost use Rattle.mc_calls.specs.Hands.{IsReadyHandOf};
 
 use super::snapshot::{CALLS, KEYS, STRIPES, chunk_number, note, note_call};

@@ -1,4 +1,4 @@
-//! The headers that aren't 0.
+//! The lines of the headers that aren't 0.
 ghost use Rattle.std.specs.Prelude.{◌≡◌, ◌++◌, OnOk, string_bytes};
 ghost use Rattle.mc_replay.specs.Written.{heads_text, page_text, word_text};
 

@@ -1,4 +1,4 @@
-//! What `mc_race_trials` has.
+//! The tests of what `mc_race_trials` has.
 use std::test::Fail;
 
 #[test]

@@ -1,4 +1,4 @@
-//! What `mc_thread_trials` has.
+//! The tests of what `mc_thread_trials` has.
 use std::test::Fail;
 
 #[test]

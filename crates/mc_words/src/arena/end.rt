@@ -1,4 +1,4 @@
-//! The end of an arena.
+//! The end of an arena: `close`, and what is left.
 ghost use Rattle.std.specs.Prelude.{◌≡◌, ◌<◌, None, true, length, slice_index, slice_index_or, IfSome};
 ghost use Rattle.std.specs.Option.{option_map};
 ghost use Rattle.std.specs.Slots.{IsFull, slots_items, slots_len};

@@ -1,4 +1,4 @@
-//! What an arena is made with.
+//! What an arena is made with: its configuration, its classes, the number of hands and the first issue number.
 ghost use Rattle.std.specs.Prelude.{◌≡◌, ◌≤◌};
 ghost use Rattle.mc_core.specs.Chunks.{most_issue};
 

@@ -1,4 +1,4 @@
-//! Why there is no arena.
+//! Why no arena is made.
 ghost use Rattle.std.specs.Prelude.{◌≡◌};
 ghost use Rattle.mc_words.specs.rule.Refused.{refusal_number};
 

@@ -1,4 +1,4 @@
-//! How many words the chunk of a reference has.
+//! The number of words in the chunk of a reference.
 ghost use Rattle.std.specs.Prelude.{◌≡◌, ℕ, ◌<◌};
 ghost use Rattle.mc_words.specs.hand.Arenas.{IsHandOf, IsOfArena, view};
 ghost use Rattle.mc_words.specs.item.Refs.{IsRefOf};

@@ -1,4 +1,4 @@
-//! Words of items that are read.
+//! Reads of an item's words.
 ghost use Rattle.std.specs.Prelude.{◌≡◌, ◌+◌, ◌<◌, ◌≤◌, [], true, length, slice_index, Some, IfSome};
 ghost use Rattle.mc_pages.specs.SlabState.{class_of_page};
 ghost use Rattle.mc_core.specs.Holdings.{key_of, stamp_of};

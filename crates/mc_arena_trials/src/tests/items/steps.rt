@@ -1,4 +1,4 @@
-//! A call with what it is to give.
+//! A call on items with what it is to give.
 ghost use Rattle.mc_calls.specs.Hands.{IsReadyHandOf};
 
 use super::calls::{are_there, hold_all, hold_often, refusal_of_set};
