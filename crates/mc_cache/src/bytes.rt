@@ -31,7 +31,7 @@ fn first_size(config: &Config) -> u64
     }
 }
 
-// How many classes there are.
+// How many classes a configuration gives.
 fn class_count(config: &Config) -> u64
     requires accepted { refusal_of config.now ≡ None }
     ensures count { result ≡ class_count config.now }

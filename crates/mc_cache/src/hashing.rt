@@ -36,7 +36,7 @@ impl KeyedHasher {
     ghost use Rattle.std.specs.Prelude.{◌≡◌};
     ghost use Rattle.mc_cache.specs.Hashing.{hash_of};
 
-    /// With these two numbers.
+    /// A hasher with these two numbers.
     #[tactic(auto, unfolding(crate::specs::Hashing::started_by))]
     pub(crate) fn new(key: HashKey) -> KeyedHasher
         ensures { result ≡ key }

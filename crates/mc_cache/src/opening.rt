@@ -31,7 +31,7 @@ use thiserror::Error;
 pub struct CacheConfig {
     /// What each shard's arena is made with.
     pub arena: Config,
-    /// How many arenas there are, 1 to 4,096.
+    /// How many arenas the cache has, 1 to 4,096.
     pub shards: u64,
     /// How many workers, 1 to 63.
     pub workers: u64,

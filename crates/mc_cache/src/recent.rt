@@ -16,7 +16,7 @@ const MOST_ASKS: u64 = 4096;
 pub(crate) struct Recent {
     /// The mark of the hash that is noted at this place, or 0.
     marks: Vec<u64>,
-    /// How often it was asked since all were forgotten.
+    /// How often the marks were asked since all were forgotten.
     asks: u64,
     ghost long: { length marks.items ≡ mark_count },
     ghost few: { asks ≤ most_asks },
@@ -41,7 +41,7 @@ impl Recent {
     ghost use Rattle.mc_cache.specs.Marks.{asks_after, no_marks, with_mark};
     ghost use Rattle.mc_cache.specs.Recent.{is_due, marks_found, marks_of};
 
-    /// No hash is noted. It takes 8 KiB.
+    /// Marks that note no hash. They take 8 KiB.
     pub(crate) fn new(alloc: Global) -> Result<Recent, Refused>
         ensures marks { IfOk result (λ recent. marks_of recent ≡ no_marks) }
         ensures asks { IfOk result (λ recent. recent.asks ≡ 0) }

@@ -21,10 +21,10 @@ pub trait Job: Send + Drop {
     /// What the job returns.
     type Told: Send + Drop;
 
-    // Holds where its hands are idle ones of the arena.
+    // Holds where the job's hands are idle ones of the arena.
     ghost is_ready: { Arena → Self → Type 0 };
 
-    /// Does it. One hand is left of its own.
+    /// Does the job. One hand of the job's is left.
     fn work<R: Wait>(self, rt: &R, alloc: Global, arena: &Arena) -> Worked<Self::Told>
         requires { is_ready arena.now self }
         ensures { IsIdleHandOf arena.now result.hand };

@@ -26,7 +26,7 @@ pub struct Config {
     pub bulk: u64,
 }
 
-/// Why there is no class table for a configuration. The tests are made in this order (own).
+/// Why no class table is made of a configuration. The tests are made in this order (own).
 #[derive(Debug, PartialEq, Eq, Drop, Error)]
 pub enum ConfigError {
     /// The page size isn't a multiple of 8, or is outside 64 to 16,384.

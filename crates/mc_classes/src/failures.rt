@@ -34,7 +34,7 @@ impl<L: Ledger> Failures<L> {
         Failures { book, share }
     }
 
-    /// One more failure.
+    /// Counts one more failure.
     pub fn add(&mut self)
         ensures { self.new ≡ self.old + 1 }
     {

@@ -42,7 +42,7 @@ abbrev pub IsStored : List ReadyStripe → Saying → Type 0
 IsStored stripes s = Contains (stripe_for stripes (key_of s.words)).state.history (Set (s.stamp / 2 ^ 48) (key_of s.words) s.stamp)
 
 -- histories: a hand's own calls are those of its numbers, and what it saw begins the present history. Each call has one hand's number. Each
--- stored stamp is in a history once
+-- stamp is in the histories as often as hands stored it
 pub record AreTold (stripes : List ReadyStripe) (mine : List (List Own)) (seen : List (List (List Call))) (said : List (List Saying)) : Type 0 where
   pub own_calls : Each (λ own. own.calls ≡ map (λ (value : ReadyStripe). filter (λ call. hand_of call == own.number) value.state.history) stripes) mine
   pub begun : All (λ row. (stripe : ℕ) (calls : List Call) (value : ReadyStripe) → slice_get row stripe ≡ Some calls → slice_get stripes stripe ≡ Some value →

@@ -5,14 +5,14 @@ use mc_pages::{ChunkId, Found};
 /// One operation on one word, by one hand.
 #[derive(Drop)]
 pub struct Event {
-    /// Who does it.
+    /// The hand that does the operation.
     pub hand: u64,
     /// What the hand changed before, of the values behind the locks that it holds, in this order.
     pub before: Series<Change>,
     pub step: Step,
 }
 
-/// What is done.
+/// The operation of an event.
 #[derive(Clone, Copy, PartialEq, Eq)]
 pub enum Step {
     /// The slabs lock is taken.

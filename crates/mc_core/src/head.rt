@@ -21,7 +21,7 @@ pub struct Head {
     /// How often the chunk was handed out.
     pub issue: u64,
     pub tag: Tag,
-    /// How many hands' holdings there are, and one more where the chunk is linked.
+    /// How many holdings of the chunk hands have, and one more where the chunk is linked.
     pub count: u16,
 }
 

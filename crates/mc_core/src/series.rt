@@ -21,7 +21,7 @@ impl<T> Model for Series<T> {
 }
 
 impl<T> Series<T> {
-    /// No value.
+    /// A series without values.
     pub fn new(alloc: Global) -> Series<T>
         ensures { result ≡ [] }
     {
@@ -49,7 +49,7 @@ impl<T: Copy> Series<T> {
 }
 
 impl<T: Drop> Series<T> {
-    /// One more value, behind the others.
+    /// Adds a value behind the others.
     pub fn push(&mut self, value: T) -> Result<(), Refused>
         ensures added { OnOk result (self.new ≡ self.old ++ value ∷ []) }
         ensures refused { OnErr result (self.new ≡ self.old) }

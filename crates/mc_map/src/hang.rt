@@ -18,13 +18,13 @@ use std::alloc::Global;
 /// A chunk that holds a move up.
 #[derive(Drop)]
 pub struct Blocker {
-    /// Which chunk of the moving page, from 0.
+    /// The index of the chunk on the moving page.
     pub chunk: u64,
     /// The key of the item in it.
     pub key: u64,
     /// Whether the key leads to the item.
     pub linked: bool,
-    /// Who holds it, once for each hold.
+    /// The workers that hold the item, once for each hold.
     pub workers: Vec<u64>,
 }
 
@@ -35,7 +35,7 @@ pub enum Hang {
     Idle,
     /// These chunks hold the move up; where there are none, nothing does.
     Found(Vec<Blocker>),
-    /// To find them takes more looks at chunks than a keeper has turns.
+    /// The search for what holds the move up takes more looks at chunks than a keeper has turns.
     Unknown,
 }
 

@@ -25,12 +25,12 @@ pub(crate) struct HeldItem {
     pub item: u64,
     /// The bytes that it asks for.
     pub bytes: u64,
-    /// Who holds it, once for each hold, in the order in which they were taken.
+    /// The workers that hold the item, once for each hold, in the order in which they were taken.
     pub workers: Vec<u64>,
 }
 
 impl HeldItem {
-    /// Whether it is in a chunk of the class.
+    /// Whether the item is in a chunk of the class.
     pub(crate) fn is_of(&self, table: &ClassTable, class: ClassId) -> bool {
         table.class_for(self.bytes) == Some(class)
     }

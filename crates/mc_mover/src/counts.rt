@@ -8,7 +8,7 @@ use mc_pages::Found;
 /// How many chunks a turn found of each kind. What was cleared before isn't counted.
 #[derive(Clone, Copy, PartialEq, Eq)]
 pub struct Counts {
-    /// Free and dead ones, and those whose item was rescued or evicted. All are cleared now.
+    /// Chunks that are cleared now: free and dead ones, and those whose item was rescued or evicted.
     pub cleared: u64,
     /// Chunks whose item was taken to another chunk.
     pub rescued: u64,

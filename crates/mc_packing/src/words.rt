@@ -46,7 +46,7 @@ fn eight_bytes(word: u64) -> [u8; WORD]
     word.to_le_bytes()
 }
 
-/// What follows the first eight of these bytes.
+/// The bytes behind the first eight of these.
 #[inline(always)]
 pub fn after_word(bytes: &[u8]) -> &[u8]
     ensures { result.now ≡ drop 8 bytes.now }

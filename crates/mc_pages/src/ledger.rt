@@ -5,7 +5,7 @@ ghost use Rattle.mc_pages.specs.Ledger.{page_of};
 
 use mc_classes::{ClassId, PageId};
 
-/// Who owns a page.
+/// The owner of a page.
 #[derive(Clone, Copy, PartialEq, Eq)]
 pub enum Owner {
     /// Nobody yet: it was never granted.
@@ -37,7 +37,7 @@ impl Owner {
 /// What some first entries of the ledger left of a page.
 #[derive(Clone, Copy, PartialEq, Eq)]
 pub struct BasePage {
-    /// Who owned it.
+    /// The owner of the page.
     pub owner: Owner,
     /// The class that got it beyond the limit, if one did.
     pub grace: Option<ClassId>,

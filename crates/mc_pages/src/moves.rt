@@ -10,7 +10,7 @@ pub enum Found {
     Rescued,
     /// The chunk's item was evicted, as the class had no other chunk, and the chunk is cleared now.
     Evicted,
-    /// Somebody holds its item.
+    /// Somebody holds the chunk's item.
     Busy,
     /// The item lock of its key was taken.
     Locked,

@@ -1,6 +1,6 @@
 //! The numbers of a class and of the whole, for statistics and for the automover.
 
-/// What a class has.
+/// The numbers of a class.
 #[derive(Clone, Copy, PartialEq, Eq)]
 pub struct Numbers {
     /// How many pages the class has, a moving one included.

@@ -19,14 +19,14 @@ impl Model for Past {
 unsafe impl Send for Past {}
 
 impl Past {
-    /// None yet.
+    /// No entries yet.
     pub(crate) fn new() -> Past
         ensures { result.entries ≡ [] }
     {
         Past {}
     }
 
-    /// With these behind.
+    /// These entries, and more behind them.
     pub(crate) fn and(&self, more: &[Entry]) -> Past
         ensures { result.entries ≡ self.now.entries ++ more.now }
     {

@@ -15,7 +15,7 @@ pub(crate) struct Recorded {
     past: Past,
     /// How many these are, or the greatest number if they are more.
     trimmed: u64,
-    /// What these left of each page.
+    /// What the entries that aren't recorded left of each page.
     base: Vec<BasePage>,
     /// The entries behind them.
     tail: Vec<Entry>,

@@ -44,7 +44,7 @@ pub(crate) enum Field {
     Tail(ListName),
 }
 
-/// What is written into a field.
+/// A change of the rows: a field gets a link, or a chunk a mark.
 #[derive(Clone, Copy, PartialEq, Eq)]
 pub(crate) enum Change {
     /// The chunk to which a field leads.

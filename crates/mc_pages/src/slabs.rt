@@ -105,7 +105,7 @@ impl Slabs {
         })
     }
 
-    /// Who owns the page.
+    /// The owner of the page.
     pub fn owner(&self, page: PageId) -> Owner
         requires { page < length self.now.state.owners }
         ensures owner { result ≡ owner_at self.now.state.owners page }
@@ -114,7 +114,7 @@ impl Slabs {
         self.owners[page as usize]
     }
 
-    /// What the class has.
+    /// The numbers of the class.
     pub fn numbers(&self, class: ClassId) -> Numbers
         requires { IsClass self.now.state class }
         ensures numbers { result ≡ numbers_of (class_at self.now.state class) }
@@ -139,7 +139,7 @@ impl Slabs {
         slab.per_page()
     }
 
-    /// What all classes have together.
+    /// The numbers of all classes together.
     pub fn totals(&self) -> Totals
         ensures totals { result ≡ totals_of self.now.state }
         ensures accounted { IsAccounted self.now.state }
@@ -162,7 +162,7 @@ impl Slabs {
         self.ledger.tail()
     }
 
-    /// How many changes came before them, or the greatest number if they are more.
+    /// How many changes came before the recorded ones; the greatest number if they are more.
     pub fn trimmed(&self) -> u64
         ensures trimmed { result ≡ min self.now.state.trimmed (2 ^ 64 - 1) }
         ensures within { self.now.state.trimmed ≤ length self.now.state.ledger }

@@ -18,14 +18,14 @@ impl Model for Writes {
 unsafe impl Send for Writes {}
 
 impl Writes {
-    /// None yet.
+    /// No field was written yet.
     pub(crate) fn new() -> Writes
         ensures { result.total ≡ 0 }
     {
         Writes {}
     }
 
-    /// One more.
+    /// Counts one more field.
     pub(crate) fn add(&mut self)
         ensures { self.new.total ≡ self.old.total + 1 }
     {}

@@ -44,7 +44,7 @@ impl DeadCounts {
         self.by_class[class as usize - 1]
     }
 
-    /// The class has one more.
+    /// Counts one more dead chunk of the class.
     pub fn increment(&mut self, class: ClassId)
         requires first { 1 ≤ class }
         requires last { class ≤ length self.old }
@@ -54,7 +54,7 @@ impl DeadCounts {
         self.by_class[class as usize - 1] += 1;
     }
 
-    /// The class has one less.
+    /// Counts one dead chunk of the class less.
     pub fn decrement(&mut self, class: ClassId)
         requires first { 1 ≤ class }
         requires last { class ≤ length self.old }

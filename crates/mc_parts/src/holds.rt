@@ -10,7 +10,7 @@ use mc_pages::ChunkId;
 use std::alloc::Global;
 use std::marker::Model;
 
-/// How many workers there can be, the thread that moves pages counted as worker 0.
+/// How many workers a run has at most, the thread that moves pages counted as worker 0.
 const WORKERS: usize = 64;
 
 /// The most chunks that a worker may hold (own).
@@ -20,7 +20,7 @@ const MAX_HOLDS: usize = 255;
 #[derive(Drop)]
 pub struct Holds {
     by_worker: Vec<Vec<ChunkId>>,
-    /// How many holds there are of each chunk, so that no list is searched to see whether it is held.
+    /// The count of the holds of each chunk, so that no list is searched to see whether it is held.
     counts: HoldCounts,
 }
 

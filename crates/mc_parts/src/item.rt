@@ -17,7 +17,7 @@ pub enum NewWords<'a> {
 }
 
 impl NewWords<'_> {
-    /// How many they are.
+    /// How many words they are.
     pub fn count(&self) -> u64
         ensures count { result ≡ length (words_in self.now) }
     {
@@ -82,7 +82,7 @@ impl Item {
         self.words.as_slice()
     }
 
-    /// Whether its key leads to it.
+    /// Whether the item's key leads to it.
     pub fn is_linked(&self) -> bool
         ensures linked { result ≡ self.now.linked }
     {

@@ -84,7 +84,7 @@ fn word_of(ending: Ending) -> &'static [u8]
     }
 }
 
-/// Adds what some turns did.
+/// Adds the line of what some turns did.
 pub fn push_turn_line(text: &mut Vec<u8>, ending: Ending, counts: Counts) -> Result<(), Refused>
     ensures line { OnOk result (text.new.items ≡ text.old.items ++ turn_line ending counts) }
     ensures kept { StartsWith text.new.items text.old.items }

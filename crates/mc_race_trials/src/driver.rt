@@ -8,7 +8,7 @@ use mc_words::{Arena, Hand};
 use std::alloc::Global;
 use std::sync::Wait;
 
-/// How many rounds there are.
+/// How many rounds a mover makes.
 const ROUNDS: u64 = 60_000;
 
 /// What a mover's rounds counted.

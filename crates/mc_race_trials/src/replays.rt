@@ -64,7 +64,7 @@ pub fn is_stripe_legal(alloc: Global, stripe: &Stripe) -> Result<bool, AllocErro
     Ok(are_indexed(stripe, &stamps))
 }
 
-/// Whether that is so of each stripe, none of which a hand has.
+/// Whether the replies of each stripe's history are right and lead to its index, and no hand has a stripe.
 pub fn are_legal(alloc: Global, left: &Final) -> Result<bool, AllocError> {
     for number in 0..left.config().stripes {
         let Some(stripe) = left.stripe(number) else {

@@ -6,7 +6,7 @@ use mc_stripe::{Key, Stamp};
 pub use mc_trial_values::draw;
 use std::alloc::Global;
 
-/// How many keys there are.
+/// How many keys the racers use.
 pub const KEYS: u64 = 16;
 
 /// How many words the key's item has: the most that its class has room for. A fourth of the keys goes to each class.

@@ -76,7 +76,7 @@ impl<L: Ledger> Source for MemorySource<'_, L> {
 /// that failed.
 #[derive(Drop)]
 pub struct MemorySink<L: Ledger> {
-    /// What was written.
+    /// The bytes that were written.
     pub bytes: Vec<u8>,
     /// How many writes are made before every write fails.
     pub good: u64,

@@ -19,14 +19,14 @@ impl Model for Past {
 unsafe impl Send for Past {}
 
 impl Past {
-    /// None yet.
+    /// No calls yet.
     pub(crate) fn new() -> Past
         ensures { result.calls ≡ [] }
     {
         Past {}
     }
 
-    /// With these behind.
+    /// These calls, and more behind them.
     pub(crate) fn and(&self, more: &[Call]) -> Past
         ensures { result.calls ≡ self.now.calls ++ more.now }
     {

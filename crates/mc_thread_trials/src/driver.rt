@@ -8,7 +8,7 @@ use mc_words::{Arena, Hand};
 use std::alloc::Global;
 use std::sync::Wait;
 
-/// How many turns there are.
+/// How many turns the mover makes.
 const TURNS: u64 = 6000;
 
 /// The most turns that a page needs which nobody holds up.

@@ -31,7 +31,7 @@ const CHUNKS: u64 = 10;
 /// How many words each item has: the most that the class has room for.
 const LEN: u64 = 9;
 
-/// How many keys there are.
+/// How many keys the threads use.
 const KEYS: u64 = 40;
 
 /// How often each thread acts.

@@ -16,7 +16,7 @@ use mc_words::{Arena, Hand, Hint};
 use std::alloc::Global;
 use std::sync::Wait;
 
-/// How many keys there are.
+/// How many keys the workers use.
 pub const KEYS: u64 = 64;
 
 /// How many items a worker holds, one after another.

@@ -17,7 +17,7 @@ pub(crate) struct Watched {
     pages: u64,
     /// How many free chunks the class had in the last window.
     free: u64,
-    /// Whether it was quiet in the last three windows, the newest first.
+    /// Whether the class was quiet in the last three windows, the newest first.
     quiet: [bool; 3],
 }
 
@@ -49,7 +49,7 @@ impl Watched {
         self.quiet = [is_quiet, self.quiet[0], self.quiet[1]];
     }
 
-    /// Whether it was quiet in all of the last three windows.
+    /// Whether the class was quiet in all of the last three windows.
     fn has_been_quiet(&self) -> bool
         ensures { result ≡ has_been_quiet self.now }
     {

@@ -53,7 +53,7 @@ impl Arena {
     ghost use Rattle.mc_core.specs.State.{has_chunk};
     ghost use Rattle.mc_words.specs.hand.Arenas.{setup_of};
 
-    /// What it was configured with.
+    /// The configuration of the arena.
     pub fn config(&self) -> &Config
         ensures config { result.now ≡ (setup_of self.now).config }
     {
@@ -67,7 +67,7 @@ impl Arena {
         self.plan.classes()
     }
 
-    /// Whether it has such a chunk: a header that may be looked at.
+    /// Whether the arena has the chunk: a header that may be looked at.
     #[inline(always)]
     pub fn has_chunk(&self, chunk: ChunkId) -> bool
         ensures { result ≡ has_chunk (setup_of self.now).table chunk }

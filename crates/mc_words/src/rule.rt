@@ -36,7 +36,7 @@ impl TableRule<Slot, HandView, Plan> for LawfulTable {
 
 pub(crate) type SharedTable = Table<Slot, HandView, Plan, LawfulTable, Global>;
 
-/// What a hand steps with.
+/// The seat by which a hand steps on the table.
 pub(crate) type HandSeat = Seat<Slot, HandView>;
 
 // The function that makes a step picks what the step shows.
@@ -46,7 +46,7 @@ impl Play<Slot, HandView> for Brand {
     ghost then = { λ step me found now. now ≡ me };
 }
 
-/// One hand of two.
+/// The join that makes one hand of two.
 pub struct BothHands;
 
 impl Join<HandView> for BothHands {

@@ -36,9 +36,9 @@ pub enum MoverReply {
     Window(Option<Acted>, Result<(), Trim>),
     /// How the last turn ended, and what all turns of the line did.
     Turned(Ending, Counts),
-    /// What all classes have together.
+    /// The numbers of all classes together.
     Totals(Survey),
-    /// What each class has.
+    /// The numbers of each class.
     Classes(Survey),
 }
 

@@ -136,7 +136,7 @@ fn owners_value(alloc: Global, owners: &[Owner]) -> Result<Value, AllocError>
     Ok(Value::Array(list))
 }
 
-/// Who owns a page.
+/// The owner of a page as JSON.
 fn owner_value(alloc: Global, owner: Owner) -> Result<Value, AllocError>
     ensures { IfOk result (λ value. view value ≡ owner_json owner) }
 {

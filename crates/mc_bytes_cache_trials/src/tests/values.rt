@@ -3,7 +3,7 @@ use rand_core::Rng;
 use rand_pcg::Pcg32;
 use std::alloc::{AllocError, Global};
 
-/// How many keys there are.
+/// How many keys the trials use.
 pub const KEYS: u64 = 40;
 
 /// Fills n bytes, each by the number and by its place.

@@ -23,7 +23,7 @@ impl State {
         self.table.per_page(1)
     }
 
-    /// Whether there is such a class.
+    /// Whether the table has the class.
     pub(super) fn is_class(&self, class: ClassId) -> bool
         ensures { result ≡ is_class self.now.table class }
     {

@@ -67,7 +67,7 @@ impl Keeper {
         Ok((ending, counts))
     }
 
-    /// One turn, which goes on counting.
+    /// One turn, which goes on counting from these counts.
     fn turn_on(&mut self, counts: &mut Counts) -> Result<Ending, Refused>
         requires turns { self.old.turns < 1000000 }
         requires counts { AreAtMost (256 * 999999) counts.old }

@@ -66,7 +66,7 @@ impl DeadNotes {
         })
     }
 
-    /// Notes of no class.
+    /// Notes that have room for no class.
     pub(super) fn none(alloc: Global) -> DeadNotes {
         DeadNotes {
             by_class: Vec::new(alloc),

@@ -53,7 +53,7 @@ pub enum Step {
     Has(ClassId, u64, u64, u64),
 }
 
-/// What a turn counts.
+/// The counts of a turn.
 fn counts(cleared: u64, rescued: u64, evicted: u64, busy: u64, locked: u64) -> Counts {
     Counts {
         cleared,

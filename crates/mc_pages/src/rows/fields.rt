@@ -72,7 +72,7 @@ impl Rows {
         })
     }
 
-    /// What the field holds.
+    /// The chunk to which the field leads, or none.
     #[inline(always)]
     pub(super) fn get(&self, field: Field) -> Option<ChunkId>
         requires { IsField self.now field }

@@ -31,7 +31,7 @@ pub enum Call {
     TurnWithoutMemory,
     /// A turn that waits for nobody.
     TryTurn,
-    /// With a sweep, or without.
+    /// A survey, with a sweep or without.
     Survey(bool),
     /// The history of each stripe is trimmed.
     Trim,
@@ -42,19 +42,19 @@ pub enum Call {
 /// What a turn counts: chunks that it cleared, items that it rescued and evicted, chunks that were held, and those whose stripe was.
 pub type Numbers = [u64; 5];
 
-/// What it gives.
+/// What a call gives.
 #[derive(Clone, Copy, PartialEq, Eq)]
 pub enum Answer {
     NoMemory,
     /// What was asked for is done.
     Done,
-    /// Whether there is such an item.
+    /// Whether the key has an item.
     There(bool),
     /// A turn that found that no page moves.
     Idle,
     /// A turn behind which the page moves still, and what it counts.
     Went(Numbers),
-    /// One that ended the move.
+    /// A turn that ended the move.
     Finished(Numbers),
     /// Whether a page moves; and the moves that ended, the items that moves rescued and evicted, and the chunks that held one up.
     Surveyed(bool, [u64; 4]),
@@ -73,14 +73,14 @@ pub const ONE_EVICTED: Answer = Answer::Finished([1, 0, 1, 0, 0]);
 /// Two are evicted.
 pub const TWO_EVICTED: Answer = Answer::Finished([2, 0, 2, 0, 0]);
 
-/// One is rescued, and one evicted.
+/// A turn that rescued one item and evicted one.
 pub const ONE_RESCUED: Answer = Answer::Finished([2, 1, 1, 0, 0]);
 
 /// Four are rescued, and one is evicted.
 pub const FOUR_RESCUED: Answer = Answer::Finished([5, 4, 1, 0, 0]);
 
 impl Call {
-    /// What it is called by.
+    /// The name of the call.
     pub fn name(self) -> &'static str {
         match self {
             Call::Set(..) | Call::SetAndMove(..) => "set",
@@ -97,7 +97,7 @@ impl Call {
         }
     }
 
-    /// Whether it is to go through whatever is refused.
+    /// Whether the call is to go through whatever is refused.
     pub fn takes_no_memory(self) -> bool {
         match self {
             Call::TurnWithoutMemory => true,
@@ -148,7 +148,7 @@ fn answer_of_mover<R: Wait>(rt: &R, arena: &Arena, hand: &mut Hand, call: Call) 
     }
 }
 
-/// Whether there was such an item, if memory didn't run out.
+/// Whether the key had an item, if memory didn't run out.
 fn there(found: Option<bool>) -> Answer {
     match found {
         Some(found) => Answer::There(found),

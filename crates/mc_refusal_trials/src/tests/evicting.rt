@@ -34,13 +34,13 @@ fn the_eviction_is_refused_its_call(rt: HostRuntime) -> Result<(), Fail> {
     evict(&rt, rt.alloc(), &[], &[GETS, GETS], &SET_EVICTS)
 }
 
-/// One leaves room for that call alone.
+/// One get leaves room for the eviction's call alone.
 #[test]
 fn the_set_is_refused_its_own_behind_the_eviction(rt: HostRuntime) -> Result<(), Fail> {
     evict(&rt, rt.alloc(), &[], &[GETS], &SET_EVICTS)
 }
 
-/// One get leaves room for that call alone, and the eviction begins a move.
+/// One get leaves room for the eviction's call alone, and the eviction begins a move.
 #[test]
 fn the_set_is_refused_its_own_behind_the_move(rt: HostRuntime) -> Result<(), Fail> {
     evict(&rt, rt.alloc(), &MODE_TWO, &[GETS], &BEGINS_A_MOVE)

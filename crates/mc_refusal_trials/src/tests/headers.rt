@@ -72,7 +72,7 @@ pub fn is_free(head: u64) -> bool {
     head % ISSUE == FREE
 }
 
-/// Whether it is that of a chunk that was handed out: dead, or held, or linked.
+/// Whether this is the header's word of a chunk that was handed out: dead, or held, or linked.
 pub fn is_handed_out(head: u64) -> bool {
     head % ISSUE >= DEAD
 }

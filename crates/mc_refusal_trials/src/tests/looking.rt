@@ -71,7 +71,7 @@ pub fn look_before(arena: &Arena, looker: &mut Looker, acting: &Hand) -> bool
     see(arena, &mut looker.hand, acting, &mut looker.before)
 }
 
-/// Takes one after the call.
+/// Takes a snapshot after the call.
 pub fn look_after(arena: &Arena, looker: &mut Looker, acting: &Hand) -> bool
     requires looker { IsReadyHandOf arena.now looker.old.hand }
     ensures looker { IsReadyHandOf arena.now looker.new.hand }

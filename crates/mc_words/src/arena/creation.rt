@@ -87,7 +87,7 @@ impl Arena {
         Ok(all)
     }
 
-    // One hand more, which the first one makes.
+    // A hand more, which the first one makes.
     fn make(&self, first: &mut Hand, number: u64) -> Hand
         requires arena { IsHandOf self.now first.old }
         requires first { view first.old ≡ new_view (setup_of self.now) 0 ((setup_of self.now).hands - number) }

@@ -72,7 +72,7 @@ impl Arena {
 }
 
 impl Final {
-    /// What the arena was configured with.
+    /// The configuration of the arena.
     pub fn config(&self) -> &Config
         ensures config { result.now ≡ self.now.setup.config }
     {

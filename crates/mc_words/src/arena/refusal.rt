@@ -6,7 +6,7 @@ use mc_classes::ConfigError;
 use mc_memory::Refused;
 use thiserror::Error;
 
-/// Why there is no arena. The tests are made in this order, before anything is allocated (own).
+/// Why no arena is made. The tests are made in this order, before anything is allocated (own).
 #[derive(Debug, PartialEq, Eq, Drop, Error)]
 pub enum NewError {
     /// The configuration is refused.

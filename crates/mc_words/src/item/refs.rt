@@ -9,12 +9,12 @@ pub struct Ref {
     pub(crate) chunk: ChunkId,
     /// The issue number with which its chunk was handed out.
     pub(crate) issue: u64,
-    /// How many words its chunk has.
+    /// How many words the reference's chunk has.
     pub(crate) room: u64,
 }
 
 impl Ref {
-    /// Which chunk it is.
+    /// The chunk of the reference's item.
     pub fn chunk(&self) -> ChunkId
         ensures chunk { result ≡ self.now.chunk }
     {

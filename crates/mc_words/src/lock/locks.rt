@@ -72,7 +72,7 @@ pub enum Locks {
 }
 
 impl Locks {
-    /// With the lock of the slabs, too.
+    /// These locks with the slabs lock, taken last unless it is among them.
     pub(crate) fn with_slabs(self) -> Locks
         ensures locks { result ≡ with_slabs self }
     {
@@ -83,7 +83,7 @@ impl Locks {
         }
     }
 
-    /// Without it.
+    /// These locks without the slabs lock.
     pub(crate) fn without_slabs(self) -> Locks
         ensures locks { result ≡ without_slabs self }
     {
@@ -119,7 +119,7 @@ impl Locks {
         };
     }
 
-    /// Without the stripe's lock.
+    /// These locks without the stripe's lock.
     pub(crate) fn without_stripe(self) -> Locks
         ensures locks { result ≡ without_stripe self }
     {
@@ -129,7 +129,7 @@ impl Locks {
         }
     }
 
-    /// Whether there is none.
+    /// Whether the hand has no lock.
     pub(crate) fn is_neither(self) -> bool
         ensures neither { result ≡ is_neither self }
     {

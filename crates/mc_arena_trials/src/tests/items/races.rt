@@ -25,7 +25,7 @@ use std::process::Abort;
 pub enum Fate {
     /// The item was evicted: its key leads nowhere.
     Evicted,
-    /// Somebody holds it: its key leads to it as before.
+    /// Somebody holds the item: its key leads to it as before.
     Stays,
 }
 

@@ -71,7 +71,7 @@ impl Driven {
         }
     }
 
-    /// None where there is no such class, or a page isn't cut yet.
+    /// Gives the class a page. None where the class doesn't exist, or a page isn't cut yet.
     #[tactic(auto, using(crate::proofs::Sized::sized_grow))]
     pub(super) fn grow(&mut self, class: ClassId) -> Option<Result<PageId, Grow>> {
         if !self.is_class(class) || self.slabs.next_uncut().is_some() {

@@ -110,7 +110,7 @@ fn assert_taken(rt: &impl Abort, all: &mut Driven) {
     assert_equal(rt, all.totals(), totals, "totals");
 }
 
-/// What the ledger then has.
+/// The entries of the ledger after these calls.
 const LEDGER: [Entry; 11] = [
     Entry::Granted(0, 4, false),
     Entry::Granted(1, 4, false),
@@ -162,7 +162,7 @@ const FOUND_FIRST: [Found; 5] = [
     Found::Rescued,
 ];
 
-/// What it finds in the second, where it would clear each chunk.
+/// What the mover finds in the second pass, where it would clear each chunk.
 const FOUND_THEN: [Found; 5] = [
     Found::Already,
     Found::Cleared,

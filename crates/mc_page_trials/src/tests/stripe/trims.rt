@@ -69,7 +69,7 @@ fn trim_calls(rt: &impl Abort, stripe: &mut Stripe) -> Result<(), NoMemory> {
     Ok(())
 }
 
-/// What comes then is recorded behind it, and the base stays, up to the next trim.
+/// A call behind a trim is recorded behind it, and the base stays, up to the next trim.
 fn call_behind_a_trim(rt: &impl Abort, stripe: &mut Stripe) -> Result<(), NoMemory> {
     make_all(rt, stripe, &[Rescue(3, 1, chunk(7)), Unlink(2, 3)])?;
     assert_equal(
