@@ -1,22 +1,22 @@
-//! What a list answers, and what stands then, line by line.
+//! The answer of a list, and the state after it, line by line.
 //!
 //! ```text
 //! answer Ok | answer NotAllowed PLACE
 //! head PAGE INDEX WORD                               where it isn't 0
 //! owner PAGE Class CLASS | Pool | Moving SRC DST     not of untouched pages
-//! trimmed ledger COUNT                               where it isn't 0: so many entries stand before those that follow
+//! trimmed ledger COUNT                               where it isn't 0: n entries come before those that follow
 //! ledger Granted PAGE CLASS GRACE | Taken PAGE CLASS | Began PAGE SRC DST | Ended PAGE CLASS
 //! class CLASS free [PAGE.INDEX ..] order [PAGE.INDEX ..] evictions COUNT
 //! moving PAGE SRC DST at INDEX busy COUNT            where a page moves
 //! totals pool COUNT moved COUNT rescues COUNT nomem COUNT busy COUNT automove MODE
 //! index STRIPE KEY PAGE INDEX STAMP                  by rising key
-//! trimmed STRIPE COUNT                               where it isn't 0: so many calls stand before those that follow
+//! trimmed STRIPE COUNT                               where it isn't 0: n calls come before those that follow
 //! history STRIPE Set HAND KEY STAMP | Get HAND KEY STAMP-or-none | Delete HAND KEY WAS-THERE | Evict HAND KEY | Rescue HAND KEY
 //! end
 //! ```
 //!
-//! The lines from `head` to `history` stand after Ok alone. Those from `owner` to `totals` are `slabs none` where somebody
-//! has the slabs lock, and those of a stripe are `stripe STRIPE none` where somebody has its lock.
+//! The lines from `head` to `history` come after `Ok` alone. Where somebody has the slabs lock, `slabs none` is in place of the
+//! lines from `owner` to `totals`. Where somebody has a stripe's lock, `stripe STRIPE none` is in place of the stripe's lines.
 ghost use Rattle.std.specs.Prelude.{◌≡◌, ◌++◌, IfOk, OnOk, codes, decimal, string_bytes};
 ghost use Rattle.mc_replay.specs.Written.{IsAnswer, free_slabs_text, free_stripe_text, standing_text, stripes_text};
 

@@ -1,5 +1,5 @@
 //! The tests of what `mc_thread_trials` and `mc_race_trials` have. Rattle's own compiler proves the tests of a crate once more before it builds
-//! them, so they stand apart from all that they run, which is a library and proved once; both builds run under many schedules.
+//! them, so they are apart from all that they run, which is a library and proved once; both builds run under many schedules.
 #![tactic(auto)]
 
 #[cfg(test)]
