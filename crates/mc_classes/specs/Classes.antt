@@ -18,7 +18,7 @@ pages_of classes = classes.limit / classes.page
 abbrev pub arena_pages_of : Classes → ℕ
 arena_pages_of classes = pages_of classes + length classes.sizes
 
--- the classes are numbered from 1
+-- this is the number of a class of the table: classes are numbered from 1
 abbrev pub IsClass : Classes → ℕ → Type 0
 IsClass classes class = (1 ≤ class) × (class ≤ length classes.sizes)
 

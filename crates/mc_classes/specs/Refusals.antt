@@ -33,7 +33,7 @@ refusal_of config =
     else if not (is_between 1 256 config.bulk) then Some Bulk
     else None
 
--- the refusals are numbered from 1 in this order
+-- the number of a refusal, counted from 1 in the order of the tests
 abbrev pub number_of : ConfigError → ℕ
 number_of PageSize = 1
 number_of FirstSize = 2

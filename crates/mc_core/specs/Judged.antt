@@ -66,6 +66,6 @@ pub record IsJudged (m : Moment) (hand : ℕ) : Type 0 where
   -- the key that was read of a chunk is the key of its item
   pub key : (chunk : ChunkId) (key : ℕ) → has_chunk m.state.table chunk ≡ true → fold (last_read chunk 0) None (looks_at m.state hand) ≡ Some key → key_at m.state chunk ≡ key
 
--- in every lawful moment what a hand that has the slabs lock saw is so, and allows its steps
+-- in every lawful moment what a hand that has the slabs lock saw holds, and allows its steps
 abbrev pub AllAreJudged : Type 0
 AllAreJudged = (m : Moment) → IsLawful m → (hand : ℕ) → has_slabs m.state hand ≡ true → IsJudged m hand

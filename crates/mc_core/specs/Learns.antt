@@ -6,11 +6,11 @@ use Rattle.mc_core.specs.declared.event.Step.TheVariants.{Join}
 use Rattle.mc_core.specs.Past.{Moment, Knowledge, no_hold, longer_each, knowledge_at, knowledge_after, own_calls_after, moment_changed, moment_stepped}
 use Rattle.mc_core.specs.Laws.{MayChange, MayStep}
 
--- what the first of two hands knows, after it took the second over
+-- the knowledge of the first of two hands, after it took the second over
 abbrev pub both_know : Knowledge → Knowledge → Knowledge
 both_know a b = record a { mine = a.mine ++ b.mine; seen = longer_each a.seen b.seen; said = a.said ++ b.said; known = a.known ++ b.known }
 
--- what a hand knows that is gone
+-- the knowledge of a hand that is gone
 abbrev pub knows_nothing : Knowledge
 knows_nothing = record { saw = []; hold = no_hold; mine = []; seen = []; said = []; known = [] }
 

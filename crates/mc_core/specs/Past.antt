@@ -185,7 +185,7 @@ longer_each (x ∷ xs) (y ∷ ys) = longer x y ∷ longer_each xs ys
 abbrev pub no_slabs : SlabState
 no_slabs = fresh_slabs (record { page = 0; limit = 0; sizes = [] })
 
--- of a hand that never had a lock, or is gone: one constant, whatever the classes are
+-- the holds of a hand that never had a lock, or is gone: one constant, whatever the classes are
 abbrev pub no_hold : Hold
 no_hold = record { found = no_slabs; left = no_slabs; count = 0; stripes = [] }
 

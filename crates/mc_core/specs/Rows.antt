@@ -37,7 +37,7 @@ abbrev pub ledger_of : Result State ℕ → Result (List Entry) ℕ
 ledger_of (Ok state) = Ok state.slabs.ledger
 ledger_of (Err place) = Err place
 
--- the ledger after one hand did this over the four classes, or the place of the first event that isn't allowed
+-- the ledger after one hand made these events over the four classes, or the place of the first event that isn't allowed
 abbrev pub played : List Event → Result (List Entry) ℕ
 played events = ledger_of (play (new_state four_classes 4 1 0) events)
 

@@ -19,7 +19,7 @@ use Rattle.mc_words.specs.lock.Wait.{WaitsForStripe}
 use Rattle.mc_words.specs.declared.item.refs.Ref as words
 use Rattle.mc_words.specs.hand.Observers.{ref_chunk, ref_issue, ref_room}
 
--- the hand waited for the stripe's lock, made room by this change, and then did this
+-- the hand waited for the stripe's lock, made room by this change, did this, and gave the lock back
 pub record CallsBehind (room : StripeChange) (number stripe : ℕ) (Does : Doing) (view now : View) : Type 0 where
   pub value : ReadyStripe
   pub taken : View
@@ -27,7 +27,7 @@ pub record CallsBehind (room : StripeChange) (number stripe : ℕ) (Does : Doing
   pub lent : IsLentStripe taken stripe value
   pub done : IsDoneBehind room number stripe value Does taken now
 
--- the room was for a call that stores no entry
+-- the hand waited for the stripe's lock, made room for a call that stores no entry, did this, and gave the lock back
 abbrev pub CallsOn : ℕ → ℕ → Doing → View → View → Type 0
 CallsOn number stripe Does view now = CallsBehind ReserveCall number stripe Does view now
 
@@ -39,7 +39,7 @@ IsFull value = (value.ready ≡ false) × (is_some value.state.recorded_from ≡
 abbrev pub IsFullToStore : ReadyStripe → Type 0
 IsFullToStore value = can_store value ≡ false
 
--- the stripe's lock was waited for, the stripe was found so, and the lock was given back as it was
+-- the hand waited for the stripe's lock, found that the property holds of the stripe, and gave the lock back as it was
 pub record FindsStripe (Is : ReadyStripe → Type 0) (stripe : ℕ) (view now : View) : Type 0 where
   pub value : ReadyStripe
   pub taken : View

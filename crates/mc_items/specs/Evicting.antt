@@ -69,7 +69,7 @@ PassesFive number class view slabs now left = PassesEach number (first_five slab
 abbrev pub LacksEntryOfFive : ℕ → ℕ → SlabsDoing
 LacksEntryOfFive number class view slabs now left = LacksEntry number (first_five slabs class) view now × (left ≡ slabs)
 
--- of the hand's own calls at most an eviction came
+-- the hand's own calls got an eviction at most
 abbrev pub TellsEvict : ℕ → View → View → Type 0
 TellsEvict number view now =
     TellsNoCall view now ⊎ ((stripe : ℕ) × (key : ℕ) × TellsCall number stripe (call.Evict number key) view now)

@@ -27,7 +27,7 @@ IsFilledWith view fresh key stamp = IsItemFilled view (fresh_chunk fresh) (issue
 abbrev pub filled_with : Fresh → ℕ → ℕ → List ℕ → View → View
 filled_with fresh key stamp words view = item_filled (fresh_chunk fresh) (item_with key stamp words) view
 
--- the item that was filled in was stored under its key
+-- the item that the fresh chunk was filled with was stored under its key
 abbrev pub StoresFresh : Setup → ℕ → ℕ → Fresh → ℕ → View → View → Type 0
 StoresFresh setup key stamp fresh number filled now = StoresItem number (stripe_of_key setup key) key stamp (fresh_chunk fresh) (fresh_room fresh) filled now
 
@@ -35,7 +35,7 @@ StoresFresh setup key stamp fresh number filled now = StoresItem number (stripe_
 abbrev pub LosesFresh : Setup → ℕ → Fresh → View → View → Type 0
 LosesFresh setup key fresh filled now = LeavesDead (stripe_of_key setup key) (fresh_chunk fresh) filled now
 
--- the reference is to this chunk
+-- the reference is to this chunk, as the hand got and filled it
 abbrev pub IsRefInto : View → Fresh → words.Ref → Type 0
 IsRefInto view fresh r = (ref_chunk r ≡ fresh_chunk fresh) × (ref_issue r ≡ issue_in view (fresh_chunk fresh)) × (ref_room r ≡ fresh_room fresh)
 

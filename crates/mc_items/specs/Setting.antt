@@ -63,7 +63,7 @@ RefusesSet number key words NoRoom view now = FindsNoChunk number words NoRoom v
 RefusesSet number key words WornOut view now = HasNoStamp words view now ⊎ FindsNoChunk number words WornOut view now
 RefusesSet number key words (NoMemory _) view now = FindsNoChunk number words (NoMemory tt) view now ⊎ StoresNone number key words view now
 
--- of the hand's own calls at most an eviction came, and then the set
+-- the hand's own calls got an eviction at most, and then the set
 pub record TellsSet (number key stamp : ℕ) (view now : View) : Type 0 where
   pub between : View
   pub evicts : TellsEvict number view between

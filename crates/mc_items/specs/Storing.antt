@@ -60,7 +60,7 @@ Stores number stripe key stamp chunk room value view left now =
     (now ≡ item_linked number stripe (stripe_lifted value key) key stamp chunk (issue_in view chunk) (words_in view chunk) room (key_put_aside stripe value key view))
     × (left ≡ used_up (after_link (stripe_lifted value key).state number key chunk stamp))
 
--- the item was stored, and the reference to it given up: it counts its link alone
+-- the item was stored, and the hand gave the reference to it up, so that its header counts the link alone
 pub record StoresItem (number stripe key stamp : ℕ) (chunk : ChunkId) (room : ℕ) (view now : View) : Type 0 where
   pub linked : View
   pub stores : CallsBehind Reserve number stripe (Stores number stripe key stamp chunk room) view linked

@@ -39,7 +39,7 @@ pub record AreCounted (classes : ℕ) (owners : List Owner) (holds : Holds) (ite
   pub of_each : length counts ≡ classes
   pub dead : (class : ℕ) → 1 ≤ class → class ≤ classes → slice_index_or counts (class - 1) 0 ≡ dead_items owners holds items class
 
--- what the keeper keeps
+-- the keeper is a consistent machine, and its decider, its index and its counts are that machine's
 pub record AreKept (keeper : Inside) : Type 0 where
   pub watched : IsWatched keeper.slabs.state keeper.decider
   pub kept : IsConsistent keeper.table keeper.slabs.state keeper.items

@@ -51,7 +51,7 @@ look_stages zero c = []
 look_stages (suc count) c =
     with_source_swept c.machine c.machine.slabs.moving ∷ look_stages count (with_chunk c c.machine.slabs.moving)
 
--- one turn, which is begun
+-- the stages of one turn, once it is begun
 abbrev pub turn_stages : Machine → Counts → List Machine
 turn_stages m counts = look_stages m.bulk (record { machine = record m { turns = m.turns + 1 }; counts = counts })
 

@@ -97,7 +97,7 @@ abbrev pub with_chunks : ℕ → Counted → Counted
 with_chunks zero c = c
 with_chunks (suc count) c = with_chunks count (with_chunk c c.machine.slabs.moving)
 
--- a turn, or more of them
+-- the machine after one turn or more, their counts, and how the last one ended
 pub record Turned : Type 0 where
   pub machine : Machine
   pub counts : Counts

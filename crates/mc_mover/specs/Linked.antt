@@ -72,7 +72,7 @@ pub record GivesCopyUp (number class : ℕ) (chunk : ChunkId) (sweep : Sweep) (s
   pub fails : SavesWith number (SweepsToRescue class chunk sweep) (λ stripe. FailsToRescue chunk copy) stripe value taken slabs failed kept
   pub puts : SweepsOne copy failed kept now left
 
--- what became of the item, by what was found, in a turn whose sweep was due or done
+-- what became of the linked chunk's item, by what was found, in a turn whose sweep was due or done
 abbrev pub SavesAs : ℕ → ℕ → ChunkId → Sweep → Found → StripeDoing
 SavesAs number class chunk sweep Rescued stripe value taken slabs now left =
     SavesWith number (SweepsToRescue class chunk sweep) (λ stripe. Rescues number stripe chunk) stripe value taken slabs now left
@@ -99,7 +99,8 @@ HoldsUp number class chunk sweep true next view slabs now left =
     (ReachesStripe chunk (FindsGone chunk) view slabs now left × (next ≡ sweep))
     ⊎ (ReachesStripe chunk (λ key. SavesAs number class chunk sweep Busy) view slabs now left × (next ≡ Done))
 
--- what was done, by what was found; the chunk was seen unheld or held; and whether the turn's sweep is due or done, before and afterwards
+-- what was done with a linked chunk that was seen unheld or held, by what was found; and whether the turn's sweep is due or done, before
+-- and afterwards
 abbrev pub VisitsLinked : ℕ → ℕ → ChunkId → Sweep → Bool → Found → Sweep → SlabsDoing
 VisitsLinked number class chunk sweep unheld Rescued next view slabs now left =
     (unheld ≡ true) × SavesAndClears number class chunk sweep Rescued view slabs now left × (next ≡ Done)

@@ -92,7 +92,7 @@ pub record FailsToMove (chunk copy : ChunkId) (view now : View) : Type 0 where
   pub finds : FindsHeld filled chunk found
   pub dropped : now ≡ chunk_discarded copy found
 
--- a free chunk was handed out for a copy, in the chunk's place; it has so much room
+-- a free chunk was handed out for a copy, in the chunk's place, and the item was moved to it
 pub record Rescues (number stripe : ℕ) (chunk : ChunkId) (slabs : SlabState) (value : ReadyStripe) (view : View) (kept : SlabState) (left : ReadyStripe) (now : View) : Type 0 where
   pub copy : ChunkId
   pub popped : View

@@ -31,7 +31,7 @@ NobodyHolds number class chunk sweep Evicted next view slabs now left visits =
     IsUnheldAt chunk _ _ _ visits.does.1.reaches.does.does.does.condemns.happens × IsUnheldAt chunk _ _ _ visits.does.1.clears.happens
 NobodyHolds number class chunk sweep found next view slabs now left visits = Unit {0}
 
--- whatever a section found
+-- whatever a section found, no hand held its chunk in the moment in which it was cleared, nor when its item was taken away before
 abbrev pub ClearsUnheld : Type 0
 ClearsUnheld = (number : ℕ) (sweep : Sweep) (found : Found) (next : Sweep) (view : View) (slabs : SlabState) (now : View) (left : SlabState) →
     (section : Section number sweep found next view slabs now left) →

@@ -22,7 +22,7 @@ is_of_class class Pool = false
 is_of_class class (Class own) = own == class
 is_of_class class (owner.Moving src dst) = src == class
 
--- the page lies in the pool; one that was never granted doesn't
+-- the page of this owner is in the pool; a page that was never granted isn't
 abbrev pub is_pool : Owner → Bool
 is_pool Pool = true
 is_pool other = false

@@ -16,7 +16,7 @@ pub record AgesState : Type 0 where
 abbrev pub ages_of : Inside → AgesState
 ages_of ages = record { ages = ages.ages.items; clock = ages.clock }
 
--- nothing was handed out yet
+-- the ages before any chunk was handed out
 abbrev pub fresh_ages : ℕ → AgesState
 fresh_ages chunks = record { ages = replicate chunks 0; clock = 0 }
 

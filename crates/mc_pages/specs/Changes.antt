@@ -47,7 +47,7 @@ with_given slabs class page = record (with_class slabs class (with_page (class_a
 abbrev pub pooled_page : SlabState → Option ℕ
 pooled_page slabs = slice_get slabs.pool (length slabs.pool - 1)
 
--- fewer pages than the limit has room for were granted within it
+-- fewer pages were granted within the limit than fit into it
 abbrev pub has_ordinary_page : SlabState → Bool
 has_ordinary_page slabs = nat_lt (ordinary_count slabs.ledger) (slabs.limit / slabs.page)
 
@@ -55,7 +55,7 @@ has_ordinary_page slabs = nat_lt (ordinary_count slabs.ledger) (slabs.limit / sl
 abbrev pub is_without_page : SlabState → ℕ → Bool
 is_without_page slabs class = length (class_at slabs class).pages == 0
 
--- the page that is granted next to a class: the lowest that never was, within the limit, or beyond it as the class's first
+-- the page that is granted next to a class: the lowest untouched one, within the limit, or beyond it as the class's first
 abbrev pub granted_page : SlabState → ℕ → Option ℕ
 granted_page slabs class = if has_ordinary_page slabs || is_without_page slabs class then untouched_page slabs else None
 

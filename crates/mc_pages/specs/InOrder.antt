@@ -18,7 +18,7 @@ use Rattle.mc_pages.specs.Accounted.{truth, is_moving, IsAccounted}
 abbrev pub roomless : List ClassState → List RoomyClass
 roomless classes = map (λ state. record { state = state; room = 0 }) classes
 
--- what the whole holds
+-- the slab memory as a record of lists, by what is in memory
 abbrev pub slabs_of : Inside → SlabState
 slabs_of slabs = record {
   page = slabs.page;

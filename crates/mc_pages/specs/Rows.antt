@@ -56,7 +56,7 @@ abbrev pub length_of : RowsState → ListName → ℕ
 length_of rows (Free class) = slice_index_or rows.free_lengths class 0
 length_of rows (HandedOut class) = slice_index_or rows.handed_out_lengths class 0
 
--- what a field holds
+-- the chunk to which a field leads, or none
 abbrev pub field_of : RowsState → Field → Option ChunkId
 field_of rows (Next chunk) = (row_at rows chunk).next
 field_of rows (Previous chunk) = (row_at rows chunk).previous

@@ -31,7 +31,7 @@ entry_line number entry = (codes "  " ++ decimal number ++ codes ": ") ++ entry_
 abbrev pub entry_lines : List Entry → ℕ → List ℕ
 entry_lines entries count = flat_map (λ place. entry_line (place + 1) (slice_index_or entries place (Granted 0 0 false))) (range_with_len 0 count)
 
--- the ledger
+-- the text of the ledger
 abbrev pub ledger_text : List Entry → List ℕ
 ledger_text [] = codes "\nledger\n  no page changed hands\n"
 ledger_text (entry ∷ more) = codes "\nledger\n" ++ entry_lines (entry ∷ more) (length (entry ∷ more))

@@ -55,11 +55,11 @@ page_legend = codes "  a number is a class, 4>1 moves from class 4 to 1, p is th
 unfoldable pub owners_text : List Owner → List ℕ
 owners_text owners = page_columns ++ pages_text owners (length owners) ++ page_legend
 
--- a class, the bytes of its chunks, and how many pages it has
+-- the text of a class, of the bytes of its chunks, and of how many pages it has
 unfoldable pub sizes_text : ClassLine → List ℕ
 sizes_text line = right 5 line.class ++ right 7 line.size ++ right 7 line.pages
 
--- how many of a class's chunks are an item's, held, dead, free and cleared
+-- the text of how many of a class's chunks are an item's, held, dead, free and cleared
 unfoldable pub chunks_text : ClassLine → List ℕ
 chunks_text line = right 8 line.linked ++ right 6 line.held ++ right 6 line.dead ++ right 6 line.free ++ right 9 line.cleared
 

@@ -27,7 +27,7 @@ abbrev pub blockers_text : List Blocker → List ℕ
 blockers_text [] = codes "  nothing holds it up\n"
 blockers_text (blocker ∷ more) = flat_map blocker_line (blocker ∷ more)
 
--- what holds the move up
+-- the text of what holds the move up
 abbrev pub hang_text : Hang → List ℕ
 hang_text Idle = []
 hang_text (Found blockers) = blockers_text blockers.items

@@ -11,7 +11,7 @@ use Rattle.mc_core.specs.Rows.{chunk_at}
 use Rattle.mc_script.specs.Words.{◌>>=◌, number_of, words_of}
 use Rattle.mc_script.specs.Forms.{source_of}
 
--- what the mover found
+-- the kind of find that this name writes
 unfoldable pub found_of : List ℕ → Option Found
 found_of name =
     if bytes_eq name (codes "Cleared") then Some found.Cleared

@@ -58,15 +58,15 @@ moving_line move =
     codes "moving " ++ decimal move.page ++ codes " " ++ decimal move.src ++ codes " " ++ decimal move.dst
     ++ codes " at " ++ decimal move.at ++ codes " busy " ++ decimal move.busy ++ codes "\n"
 
--- the pages in the pool, and the moves that ended
+-- the text of the pages in the pool, and of the moves that ended
 abbrev pub page_counts : Totals → List ℕ
 page_counts totals = codes "totals pool " ++ decimal totals.pool ++ codes " moved " ++ decimal totals.moved
 
--- what became of items on moving pages
+-- the text of what became of items on moving pages
 abbrev pub item_counts : Totals → List ℕ
 item_counts totals = codes " rescues " ++ decimal totals.rescues ++ codes " nomem " ++ decimal totals.evictions_nomem ++ codes " busy " ++ decimal totals.busy
 
--- the automover's mode
+-- the text of the automover's mode
 abbrev pub mode_text : ℕ → List ℕ
 mode_text automove = codes " automove " ++ decimal automove ++ codes "\n"
 
@@ -78,15 +78,15 @@ totals_line totals automove = (page_counts totals ++ item_counts totals) ++ mode
 abbrev pub owners_text : ℕ → SlabState → List ℕ
 owners_text pages slabs = flat_map (λ page. owner_line page (owner_at slabs.owners page)) (range_with_len 0 pages)
 
--- a class and its free list
+-- the text of a class and its free list
 abbrev pub free_text : ℕ → List ChunkId → List ℕ
 free_text class chunks = (codes "class " ++ decimal class ++ codes " free [") ++ chunks_text chunks
 
--- a hand-out order
+-- the text of a hand-out order
 abbrev pub order_text : List ChunkId → List ℕ
 order_text chunks = codes "] order [" ++ chunks_text chunks
 
--- how often a class evicted
+-- the text of how often a class evicted
 abbrev pub evictions_text : ℕ → List ℕ
 evictions_text count = codes "] evictions " ++ decimal count ++ codes "\n"
 

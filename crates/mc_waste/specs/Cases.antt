@@ -19,7 +19,7 @@ large = record { page = 16384; limit = 1048576; first = 64; num = 5; den = 4; ma
 abbrev pub DefaultSizes : Type 0
 DefaultSizes = (table_of (small 2 1 512)).sizes ≡ 48 ∷ 96 ∷ 192 ∷ 512 ∷ []
 
--- the most that an item leaves unused in each class of theirs
+-- the most that an item leaves unused in each class, with the defaults of the program's options
 abbrev pub DefaultWastes : Type 0
 DefaultWastes = wastes_of (table_of (small 2 1 512)) ≡ Some 24 ∷ Some 40 ∷ Some 88 ∷ Some 312 ∷ []
 

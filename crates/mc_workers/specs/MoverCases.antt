@@ -70,7 +70,7 @@ TurnsGoOnUntilDone =
     × (AreTurnsOf 2 (turn.Idle ∷ turn.Went last_counts ∷ []) Went → ⊥)
     × (AreTurnsOf 1 (turn.Went first_counts ∷ turn.Went last_counts ∷ []) Went → ⊥)
 
--- the sums are kind by kind
+-- the sums of a line's turns are kind by kind
 abbrev pub TurnsAreSummed : Type 0
 TurnsAreSummed =
     counts_of_all (turn.Went first_counts ∷ turn.Idle ∷ turn.Finished last_counts ∷ [])

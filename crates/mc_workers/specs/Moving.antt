@@ -165,7 +165,7 @@ ServesMover command.Stats (Totals survey) mover before left now = ActsOnce (λ n
 ServesMover command.StatsSlabs (Classes survey) mover before left now = ActsOnce (λ number. Surveys true survey) before now × (left ≡ mover)
 ServesMover command reply mover before left now = ⊥
 
--- a line of the mover that ended the run: only one of turns does
+-- a line of the mover that ended the run, which only a line of turns does
 abbrev pub StopsMover : Command → Mover → Hand → Mover → Hand → Type 0
 StopsMover (command.Turn asked) mover before left now = RunsOutOfTurns asked mover before left now
 StopsMover command mover before left now = ⊥

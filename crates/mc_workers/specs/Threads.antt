@@ -19,7 +19,7 @@ pub record IsServed (arena : Arena) (worker : ℕ) (commands : List Command) (ha
   pub idle : is_idle (view served.hand) ≡ true
   pub does : DoesLines (setup_of arena) worker commands hand served.text.items served.hand
 
--- the mover did its lines by this hand, and no worker any
+-- the mover did its lines by this hand, and there are no replies of workers
 pub record IsMoved (arena : Arena) (commands : List Command) (hand : Hand) (joined : Joined) : Type 0 where
   pub of_arena : IsHandOf arena joined.hand
   pub idle : is_idle (view joined.hand) ≡ true

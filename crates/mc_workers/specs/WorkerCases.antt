@@ -23,11 +23,11 @@ TheLastHoldIsDropped = (first other third last : Hold) (left : List Hold) → it
 abbrev pub some_lines : List Command
 some_lines = Set 1 5 3 0 ∷ Turn 2 ∷ Get 2 5 ∷ Drop 1 5 ∷ []
 
--- each worker has its own, in their order, and the mover those of none
+-- each worker has its own lines, in their order, and the mover those of no worker
 abbrev pub LinesComeApart : Type 0
 LinesComeApart = (lines_of 1 some_lines ≡ Set 1 5 3 0 ∷ Drop 1 5 ∷ []) × (lines_of 2 some_lines ≡ Get 2 5 ∷ []) × (lines_of 3 some_lines ≡ []) × (lines_of_mover some_lines ≡ Turn 2 ∷ [])
 
--- the greatest of them is worker 2, whose line isn't the last; of the mover's lines alone it is 0
+-- the greatest worker of four lines is worker 2, whose line isn't the last; of the mover's lines alone the greatest is 0
 abbrev pub TheGreatestIsFound : Type 0
 TheGreatestIsFound = (greatest_worker some_lines ≡ 2) × (greatest_worker (Turn 2 ∷ []) ≡ 0) × (worker_of (Get 2 5) ≡ 2)
 
@@ -41,6 +41,6 @@ RepliesFitTheirLines = (setup : Setup) (worker key : ℕ) (held left : List Hold
     (Serves setup (Get worker key) Stored held before left now → ⊥) × (Serves setup (Get worker key) Held held before left now → ⊥) × (Serves setup (Drop worker key) NotFound held before left now → ⊥)
     × (Serves setup (Turn 1) NotHeld held before left now → ⊥)
 
--- what is still held is given back from the last on
+-- the holds that a worker still has are given back from the last on
 abbrev pub TheLastIsReleasedFirst : Type 0
 TheLastIsReleasedFirst = (first second : Ref) (view : View) → all_released (first ∷ second ∷ []) view ≡ chunk_released (item_chunk first) (chunk_released (item_chunk second) view)

@@ -41,11 +41,11 @@ events_of hand (event ∷ run) = if event.hand == hand then own_event event.befo
 pub record View : Type 0 where
   pub setup : Setup
   pub spare : ℕ
-  -- the first first
+  -- the events that the hand made, the first first
   pub events : List OwnEvent
   pub row : Row
   pub slabs : Option SlabState
-  -- stripe 0 first
+  -- the value of each stripe whose lock the hand has, stripe 0 first
   pub stripes : List (Option ReadyStripe)
   -- the rows of the two hands that a join made this one of, and the events of each, until the hand learns of the join
   pub made_of : Option (Row × Row × List OwnEvent × List OwnEvent)

@@ -20,11 +20,12 @@ pub record IsDoneBehind (room : StripeChange) (number stripe : ℕ) (value : Rea
   pub does : Does (stripe_after room value) (stripe_changed room stripe value (number + 1) view) left last
   pub given : now ≡ stripe_given stripe left last
 
--- the room was for a call that stores no entry
+-- under the stripe's lock, with this value behind it: room was made for a call that stores no entry, this was done, and the lock was given
+-- back
 abbrev pub IsDone : ℕ → ℕ → ReadyStripe → Doing → View → View → Type 0
 IsDone number stripe value Does view now = IsDoneBehind ReserveCall number stripe value Does view now
 
--- the room was for a call and an entry
+-- under the stripe's lock, with this value behind it: room was made for a call and an entry, this was done, and the lock was given back
 abbrev pub IsStored : ℕ → ℕ → ReadyStripe → Doing → View → View → Type 0
 IsStored number stripe value Does view now = IsDoneBehind Reserve number stripe value Does view now
 

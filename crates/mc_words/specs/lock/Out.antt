@@ -20,7 +20,7 @@ slots_in (Stripe stripe) = slot_at (suc stripe) ∷ []
 slots_in (SlabsLast stripe) = slot_at zero ∷ slot_at (suc stripe) ∷ []
 slots_in (StripeLast stripe) = slot_at (suc stripe) ∷ slot_at zero ∷ []
 
--- the lock of the slabs is one of these
+-- the slabs lock is one of these locks
 abbrev pub has_slabs_in : Locks → Bool
 has_slabs_in Neither = false
 has_slabs_in Slabs = true
@@ -28,7 +28,7 @@ has_slabs_in (Stripe stripe) = false
 has_slabs_in (SlabsLast stripe) = true
 has_slabs_in (StripeLast stripe) = true
 
--- the lock of this stripe is one of these
+-- the lock of this stripe is one of these locks
 abbrev pub has_stripe_in : Locks → ℕ → Bool
 has_stripe_in Neither other = false
 has_stripe_in Slabs other = false
@@ -87,7 +87,7 @@ without_stripe (Stripe stripe) = Neither
 without_stripe (SlabsLast stripe) = Slabs
 without_stripe (StripeLast stripe) = Slabs
 
--- no stripe's lock is among these
+-- no stripe's lock is among these locks
 abbrev pub has_no_stripe : Locks → Bool
 has_no_stripe Neither = true
 has_no_stripe Slabs = true
@@ -95,7 +95,7 @@ has_no_stripe (Stripe stripe) = false
 has_no_stripe (SlabsLast stripe) = false
 has_no_stripe (StripeLast stripe) = false
 
--- no lock is among these
+-- these are no locks
 abbrev pub is_neither : Locks → Bool
 is_neither Neither = true
 is_neither Slabs = false

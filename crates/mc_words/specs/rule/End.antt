@@ -23,7 +23,7 @@ pub record Left : Type 0 where
   pub setup : Setup
   pub heads : List ℕ
   pub slabs : Option SlabState
-  -- stripe 0 first
+  -- the value of each stripe whose lock no hand has, stripe 0 first
   pub stripes : List (Option ReadyStripe)
 
 -- the value behind a lock with this word, where the word is 0; otherwise it isn't at home
@@ -63,7 +63,7 @@ slabs_left words slots = if slice_index words (lock_word zero) == 0 then slabs_i
 abbrev pub stripe_left : List ℕ → List Slot → ℕ → Option ReadyStripe
 stripe_left words slots stripe = if slice_index words (lock_word (suc stripe)) == 0 then stripe_in (slice_index_or slots (slot_at (suc stripe)) Empty) else None
 
--- what is left, as words and slots have it
+-- what is left of an arena, by these words and slots
 abbrev pub left_of : Setup → List ℕ → List Slot → Left
 left_of setup words slots = record {
   setup = setup;
