@@ -98,7 +98,7 @@ pub record DeletesKey (setup : Setup) (hash : ℕ) (key : List ℕ) (there : Boo
   pub between : Hand
   pub deletes : ActsOn setup hash (λ number stripe. Deletes number stripe hash there) between now
 
--- by the hand of this number the chunk of the item went to the back of its hand-out order, under the lock of the slabs, and was released
+-- by the hand of this number the item's chunk went to the back of its hand-out order, under the slabs lock, and was released
 pub record BumpsItem (number : ℕ) (item : Ref) (now : Hand) : Type 0 where
   pub read : Hand
   pub bumped : View

@@ -93,7 +93,7 @@ pub record IsLawful (moment : Moment) : Type 0 where
   pub rescued : RescuedIn moment
   pub told : ToldIn moment
 
--- *kept*: the chunk of a holding is handed out with its issue, has its words, and its page belongs to a class or moves away from one
+-- *kept*: the chunk of a holding is handed out with its issue and has its words; its page belongs to a class or moves away from one
 pub record IsKept (state : State) (holding : Holding) : Type 0 where
   pub handed_out : IsHandedOut (head_in state.table state.heads holding.chunk) holding.issue
   pub shows : Shows state.table state.slabs state.words holding.chunk (words_of holding)

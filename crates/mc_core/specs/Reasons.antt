@@ -40,8 +40,8 @@ pub record WasFoundAlive (looks : List Look) (chunk : ChunkId) : Type 0 where
   pub alive : head.tag ≡ Unlinked → head.count ≡ 0 → ⊥
   pub quiet : All (λ look. (takes look ≡ false) × (sees chunk look ≡ false)) since
 
--- the hand has the slabs lock, and under this hold found each chunk that the class handed out not dead, and handed out, condemned and cleared
--- nothing since
+-- the hand has the slabs lock, and under this hold found each chunk that the class handed out not dead; since then it handed out, condemned
+-- and cleared nothing
 abbrev pub IsSwept : State → ℕ → ℕ → Type 0
 IsSwept state hand class = (has_slabs state hand ≡ true) × All (WasFoundAlive (looks_at state hand)) (class_at state.slabs class).order
 

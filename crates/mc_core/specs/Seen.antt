@@ -70,8 +70,8 @@ pub record IsReadStill (table : Classes) (slabs : SlabState) (words : List ℕ) 
   pub within : place < room_in table (class_of_page slabs chunk.page)
   pub linked : is_some (fold (linked_issue chunk) None looks) ≡ true
 
--- looks: under a hold of the slabs lock, the headers that the hand last saw or wrote hold still, and so do the words that it read. What the
--- hand did to pages and lists since the hold began gave the present ones
+-- looks: under a hold of the slabs lock, the headers that the hand last saw or wrote hold still, and so do the words that it read. Its
+-- changes of pages and lists since the hold began gave the present ones
 pub record AreSeen (table : Classes) (slabs : SlabState) (heads : List Head) (words : List ℕ) (known : List (List Known)) (found : SlabState) (looks : List Look) : Type 0 where
   pub last_heads : (chunk : ChunkId) (seen : Head) → has_chunk table chunk ≡ true → seen_head looks chunk ≡ Some seen → IsStill (head_in table heads chunk) seen
   pub linked : (chunk : ChunkId) (issue : ℕ) → has_chunk table chunk ≡ true → fold (linked_issue chunk) None looks ≡ Some issue →

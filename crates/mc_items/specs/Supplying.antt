@@ -68,7 +68,7 @@ pub record Grows (number class : ℕ) (view : View) (slabs : SlabState) (now : V
 abbrev pub FindsItemHeld : ChunkId → Doing
 FindsItemHeld chunk value view left now = FindsHeld view chunk now × (left ≡ value)
 
--- the chunk's item was seen linked and held by nobody, its key was read, its key's stripe was taken at once, and this was done there
+-- the chunk's item was seen linked and unheld, its key was read, the key's stripe was taken at once, and this was done there
 pub record ReachesItem (number : ℕ) (chunk : ChunkId) (Does : ℕ → ℕ → Doing) (view now : View) : Type 0 where
   pub head : Head
   pub unheld : is_linked_unheld head ≡ true

@@ -10,8 +10,8 @@ use Rattle.mc_watch.specs.Decider.{DeciderState, fresh_decider}
 use Rattle.mc_machine.specs.Items.{Items, is_linked, is_unlinked, without_item}
 use Rattle.mc_machine.specs.Holds.{Holds, no_holds, is_held}
 
--- the size classes, how many chunks a turn of the mover looks at, the pages and chunks, the items, who holds which,
--- how many turns of the mover were done, and the windows that the automover was fed
+-- the size classes; how many chunks a turn of the mover looks at; the pages and chunks; the items; who holds which; how many turns were
+-- done; and the windows that the automover was fed
 pub record Machine : Type 0 where
   pub table : Classes
   pub bulk : ℕ

@@ -3,8 +3,8 @@ use Rattle.std.specs.Prelude.{ℕ, ◌+◌, ◌-◌, ◌^◌, min, ◌==◌, Boo
 use Rattle.mc_pages.specs.declared.ids.ChunkId.{ChunkId}
 use Rattle.mc_pages.specs.declared.numbers.Numbers.{Numbers}
 
--- the bytes of a chunk, the chunks of a page, the pages, the free chunks with the next to hand out first,
--- the handed-out chunks with the oldest first, and how many items were evicted
+-- the bytes of a chunk; the chunks of a page; the pages; the free chunks, the next to hand out first; the handed-out chunks, the oldest
+-- first; and how many items were evicted
 pub record ClassState : Type 0 where
   pub size : ℕ
   pub per_page : ℕ

@@ -48,7 +48,7 @@ pub record IsLinked (rows : RowsState) (lists : ListName → List ChunkId) (loos
   pub once : (list : ListName) (chunk : ChunkId) → times chunk (lists list) ≤ 1
   pub apart : (list other : ListName) (chunk : ChunkId) → other ≢ list → 1 ≤ times chunk (lists list) → times chunk (lists other) ≡ 0
   pub sides : (list : ListName) (chunk : ChunkId) → 1 ≤ times chunk (lists list) → (row_at rows chunk).mark ≡ mark_of list
-  -- a chunk that is marked as one of a list is in one, but for the loose one, which is on its way to another list
+  -- a chunk that is marked as one of a list is in one, but for the loose chunk, which is on its way to another list
   pub listed : (chunk : ChunkId) → loose ≢ Some chunk → (row_at rows chunk).mark ≢ Unlisted → (list : ListName) × (1 ≤ times chunk (lists list))
   pub placed : (list : ListName) (chunk : ChunkId) → 1 ≤ times chunk (lists list) → IsRow rows chunk
 

@@ -11,8 +11,7 @@ use Rattle.mc_pages.specs.declared.rows.Field.TheVariants.{Next, Previous, Head,
 use Rattle.mc_pages.specs.declared.rows.Change.{Change}
 use Rattle.mc_pages.specs.declared.rows.Change.TheVariants as change
 
--- the most chunks that a page has, a row for each chunk, the own rows of the lists, their lengths,
--- and how many fields were written
+-- the most chunks of a page; a row for each chunk; the own rows of the lists; their lengths; and how many fields were written
 pub record RowsState : Type 0 where
   pub most : ℕ
   pub rows : List Row

@@ -61,7 +61,7 @@ LastIsMet =
     (class_of (table_of (small 2 1 768)) (item_bytes 22) ≡ Some 4) × (size_of (table_of (small 2 1 768)) 4 ≡ 768)
     × (most_chunk (small 2 1 768) (table_of (small 2 1 768)) 4 (item_bytes 22) ≡ 768)
 
--- a factor of 101/100 leaves a size of 48 as it is, so the 63rd class is the only other one, and an item of 56 bytes goes there
+-- a factor of 101/100 leaves a size of 48 as it is. So the 63rd class is the only other one, and an item of 56 bytes goes there
 abbrev pub SizesStandStill : Type 0
 SizesStandStill =
     ((table_of (small 101 100 512)).sizes ≡ repeat 62 (48 ∷ []) ++ 512 ∷ [])

@@ -36,8 +36,7 @@ abbrev pub events_of : ℕ → List Event → List OwnEvent
 events_of hand [] = []
 events_of hand (event ∷ run) = if event.hand == hand then own_event event.before event.step ∷ events_of hand run else events_of hand run
 
--- of one hand: the arena's setup, how many hands it may still make, the events that it made, its row, and the values behind the locks that
--- it has
+-- a hand's view: the arena's setup, how many hands it may still make, the events that it made, its row, and the values behind its locks
 pub record View : Type 0 where
   pub setup : Setup
   pub spare : ℕ

@@ -16,7 +16,8 @@ use Rattle.mc_words.specs.hand.Views.{with_event}
 abbrev pub reference_to : ChunkId → ℕ → List ℕ → Holding
 reference_to chunk issue item = record { chunk = chunk; issue = issue; kind = Reference item }
 
--- the hand of this number looked the key up, whose stripe had this value and leads it to this chunk, and got a reference to its item
+-- the hand of this number looked the key up, and got a reference to its item. The key's stripe had this value, which leads the key to this
+-- chunk
 pub record GetsItem (view : View) (number stripe : ℕ) (value : ReadyStripe) (key : ℕ) (chunk : ChunkId) (issue room : ℕ) (now : View) : Type 0 where
   pub stamp : ℕ
   pub leads : place_of value.state key ≡ Some (chunk, stamp)

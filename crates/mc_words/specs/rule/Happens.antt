@@ -60,7 +60,7 @@ MayWrite view step place written =
     (was : LawfulView view) → slice_index was.words place < 2 ^ 64 →
     (allows_step was.moment.state was.hand step ≡ true) × WordsOf view.setup was.cuts (slice_set was.words place (written (slice_index was.words place))) (after_step was.moment.state was.hand step)
 
--- where a hand knows this view, and the word at this place is as expected, the model allows the step, which makes the word this one
+-- where a hand knows this view, and the word at this place is as expected, the model allows the step, which writes this word
 abbrev pub MayExchange : View → Step → ℕ → ℕ → ℕ → Type 0
 MayExchange view step place expected word =
     (was : LawfulView view) → slice_index was.words place < 2 ^ 64 → slice_index was.words place ≡ expected →
