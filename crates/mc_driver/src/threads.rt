@@ -23,10 +23,10 @@ use std::thread::Threads;
 /// from the lowest and the mover's last, and the texts of `stats slabs` and `stats` behind them. Which of the lines of two
 /// threads comes first is open, unless the gate decides it.
 ///
-/// The configuration is tested before anything is read, and the whole script is read and checked before a thread is started. All is
-/// written in one write at the end: where memory or the turns of a run ran out, a thread couldn't be started, or the gate stopped one,
-/// nothing is. `Memory` goes before `Thread`, and that before `Turns`: where it is `Turns`, the gate stopped a thread, or the mover's turns
-/// were spent, and each other thread was let on at all of its lines.
+/// The configuration is tested before anything is read, and the whole script is read and checked before a thread is started. All
+/// is written in one write at the end: where memory or the turns of a run ran out, a thread couldn't be started, or the gate
+/// stopped one, nothing is. `Memory` goes before `Thread`, and that before `Turns`. At `Turns` the gate stopped a thread, or the
+/// mover's turns were spent. Each other thread was let on at all of its lines.
 pub fn run_threads<T: Threads + Wait + Sync, G: Gate + Sync, R: Source, W: Sink>(
     rt: &T,
     alloc: Global,
@@ -58,8 +58,8 @@ pub fn run_threads<T: Threads + Wait + Sync, G: Gate + Sync, R: Source, W: Sink>
     ensures answered { IsThreadsOutcome run.now (since (R.given reader.old) (R.given reader.new)) (W.contents writer.old) (W.contents writer.new) result }
     ensures whole { IsReadWhole (R.HasEnded reader.new) (Keeps (W.contents writer.old) (W.contents writer.new)) result }
 
-    // A run that is done was let on at each line, and one that is out of turns was stopped, by its gate or
-    // by its limit, while nobody's memory was refused.
+    // A run that is done was let on at each line. One that is out of turns was stopped, by its gate or by its limit, and nobody's
+    // memory was refused.
     ensures passed { OnOk result (OfScript (since (R.given reader.old) (R.given reader.new))
         (RunPasses (G.LetsOn gate.now))) }
     ensures stopped { result ≡ Err RunFault.Turns

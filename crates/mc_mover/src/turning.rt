@@ -22,11 +22,12 @@ use std::sync::Wait;
 /// begins anew if some chunks held it up, and else the page comes to its destination. It waits for the lock of the slabs, and for no
 /// other. (slabs.c's `slab_rebalance_move` and `slab_rebalance_finish`; that a rescue keeps an item's age is own)
 ///
-/// The dead of the class are put back once a turn, before its first rescue or eviction, and once more before each later item that finds
-/// no free chunk, as an eviction has to have seen that none is dead. So a turn of rescues alone looks at each chunk of the class once. (own)
+/// The dead of the class are put back once a turn, before its first rescue or eviction. They are put back once more before each
+/// later item that finds no free chunk, as an eviction has to have seen that none is dead. So a turn of rescues alone looks at
+/// each chunk of the class once. (own)
 ///
-/// Where hands have waited for that lock, the turn lets other threads run before it takes it, as often as it looks at chunks: turns that
-/// follow each other at once leave nobody else in between. (own)
+/// Where hands have waited for the slabs lock, the turn lets other threads run before it takes the lock, as often as it looks at
+/// chunks. Else turns that follow each other at once would leave nobody else in between. (own)
 ///
 /// The hand's own calls are more by just the evictions and the rescues that the turn counts, each in its key's stripe. The hand
 /// stores no words, and gives out no stamp.

@@ -22,9 +22,9 @@ pub fn no_page_is_lost()
     ensures nowhere { (slabs : SlabState) (page : ℕ) → IsAccounted slabs → page_count slabs ≤ page → places_of slabs page ≡ 0 }
 {}
 
-/// A memory in which nothing was granted is accounted for. With a page that is owned by a class that isn't there, with the
-/// last page of a class on the move, with more pages within the limit than it has room for, with two pages beyond it for one
-/// class, with one that the class gave away, with the cursor past the classes, or with an unknown mode it isn't.
+/// A memory in which nothing was granted is accounted for. Seven others aren't, each for one reason: a page is owned by a class
+/// that isn't there; the last page of a class is on the move; more pages were granted within the limit than fit into it; one
+/// class has two pages beyond it; a class gave its page beyond it away; the cursor is past the classes; or the mode is unknown.
 pub fn unaccounted_memories()
     ensures nothing_granted { IsAccounted nothing_granted }
     ensures page_of_no_class { IsAccounted page_of_no_class → ⊥ }
@@ -36,8 +36,8 @@ pub fn unaccounted_memories()
     ensures unknown_mode { IsAccounted unknown_mode → ⊥ }
 {}
 
-/// What is recorded goes on from what the other entries left: it leads from the base's owners to those of now. And base and
-/// what is recorded have, together, each page that was granted within the limit, and each that a class got beyond it.
+/// The recorded entries go on from what the others left: they lead from the base's owners to those of now. Base and recorded
+/// entries have, together, each page that was granted within the limit, and each that a class got beyond it.
 pub fn ledger_goes_on()
     ensures replayed { (slabs : SlabState) → IsAccounted slabs → replay (owners_in (base_of slabs)) (tail_of slabs) ≡ Some slabs.owners }
     ensures within_limit { (slabs : SlabState) → IsAccounted slabs → count_by is_within_limit (base_of slabs) + ordinary_count (tail_of slabs) ≡ ordinary_count slabs.ledger }

@@ -4,8 +4,8 @@
 //! Between `answer` and `end` is what the list is to answer, which is passed over. The program writes the model's answer, and
 //! after `Ok` the state.
 //!
-//! It ends with status 0, or with a line on standard error and 2 where a line can't be read, 3 where a stream failed and 4
-//! where memory ran out.
+//! It ends with status 0, or with a line on standard error and another status: 2 where a line can't be read, 3 where a stream
+//! failed, and 4 where memory ran out.
 #![tactic(auto)]
 
 ghost use Rattle.std.specs.Prelude.{◌≡◌, ◌<◌};

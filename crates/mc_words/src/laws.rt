@@ -19,8 +19,8 @@ pub fn views_give_headline()
     ensures { ViewsGiveHeadline }
 {}
 
-/// While a hand keeps a holding over a run of events, the chunk is handed out with that issue number, for one class and with the same
-/// words, in each state of the run.
+/// While a hand keeps a holding over a run of events, each state of the run has the chunk handed out with that issue number. It
+/// is of one class and has the same words.
 pub fn held_stays_throughout()
     ensures rule { HeldStaysThroughout }
     ensures views { ViewsStayThroughout }

@@ -1,8 +1,8 @@
 //! `mcslab`: runs a script of memory commands from standard input, and replies on standard output.
 //!
-//! It ends with status 0, or with a line on standard error and 1 where the command line is refused, 2 where the
-//! script is, 3 where a stream failed, 4 where memory ran out and 5 where the script asks for more than 1,000,000 turns
-//! of the mover.
+//! It ends with status 0, or with a line on standard error and another status. This is 1 where the command line is refused; 2
+//! where the script is; 3 where a stream failed; 4 where memory ran out; and 5 where the script asks for more than 1,000,000
+//! turns of the mover.
 #![tactic(auto)]
 
 mod help;

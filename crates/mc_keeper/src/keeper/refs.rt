@@ -69,8 +69,9 @@ impl Keeper {
         }
     }
 
-    /// The words of the item that the worker's last hold of the key is of, lent: of that of its holds of items of this key which it
-    /// took last, be it the item that the key leads to now or not. None where it holds none. It takes no memory. (own)
+    /// The words of the item that the worker's last hold of the key is of, lent. The last hold is the one that it took last of
+    /// its holds of items of this key; the key may lead to another item by now. None where it holds none. It takes no memory.
+    /// (own)
     pub fn held_words(&self, worker: u64, key: u64) -> Option<&[u64]>
         requires { worker < 64 }
         ensures words { option_copied result ≡ held_words self.now worker key }
@@ -79,9 +80,10 @@ impl Keeper {
         self.words_at(chunk)
     }
 
-    /// The worker gives back its last hold of the key, that of its holds of items of this key which it took last, and is lent the words of
-    /// the item that it was of. None where it holds none, and then all is as before. A sweep puts the item's chunk back once
-    /// nobody holds it and no key leads to it. It takes no memory. (items.c's `do_item_remove`; the sweep is own.)
+    /// The worker gives back its last hold of the key, and is lent the words of the item that it held. The last hold is the one
+    /// that it took last of its holds of items of this key. None where it holds none, and then all is as before. A sweep puts the
+    /// item's chunk back once nobody holds it and no key leads to it. It takes no memory. (items.c's `do_item_remove`; the sweep
+    /// is own.)
     pub fn drop(&mut self, worker: u64, key: u64) -> Option<&[u64]>
         requires { worker < 64 }
         ensures* after { sem 𝓛 (EndsAs self.entry (dropped self.old worker key (last_hold self.old worker key)).machine) }

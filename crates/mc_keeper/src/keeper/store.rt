@@ -33,10 +33,10 @@ pub enum Stored {
 }
 
 impl Keeper {
-    /// Stores an item of these words, 8 bytes each, under the key, in the place of the key's old one, which whoever holds it
-    /// holds still. With key, stamp and length it takes 24 + 8 n bytes, and goes into a chunk of the lowest class that has as
-    /// many bytes: a free one, else a dead one, else one of a new page, else that of the first of the oldest five that nobody
-    /// holds, whose item is evicted. In mode 2 of the automover an eviction asks for a page. (items.c's `do_item_alloc_pull` and
+    /// Stores an item of these words, 8 bytes each, under the key, in place of the key's old item; whoever holds that holds it
+    /// still. With key, stamp and length the item takes 24 + 8 n bytes, and goes into a chunk of the lowest class with as many
+    /// bytes. The chunk is a free one, else a dead one, else one of a new page. Else the first of the oldest five items that
+    /// nobody holds is evicted. In mode 2 of the automover an eviction asks for a page. (items.c's `do_item_alloc_pull` and
     /// `do_item_replace`, slabs.c's `slabs automove 2`; that the dead wait for a sweep is own.) The worker takes no part.
     ///
     /// The words are copied once, into the room of the chunk's last item where that suffices, and not at all where they are
