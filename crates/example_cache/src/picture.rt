@@ -1,4 +1,4 @@
-//! What is printed of a round.
+//! The lines that are printed of a round.
 use crate::tally::Tally;
 use mc_cache::{CacheStats, Tended};
 use mc_memory::Refused;

@@ -1,4 +1,4 @@
-//! Rounds, one after another.
+//! The rounds of a plan, played one after another.
 ghost use Rattle.std.specs.Prelude.{All};
 ghost use Rattle.mc_cache.specs.Belonging.{BelongsTo};
 ghost use Rattle.mc_cache.specs.Tending.{IsTenderOf};

@@ -1,11 +1,11 @@
-//! What gets found.
+//! The counts of a client's gets: all, those that found their key, wrong bytes, and refusals of memory.
 
 /// What gets found. Each number stays at 2^64 - 1 once there.
 #[derive(Clone, Copy)]
 pub struct Tally {
-    /// How many gets there were.
+    /// How many gets were made.
     pub gets: u64,
-    /// How many found their key.
+    /// How many gets found their key.
     pub hits: u64,
     /// How many bytes that were found weren't of the key's value.
     pub wrong: u64,
@@ -24,7 +24,7 @@ impl Tally {
         }
     }
 
-    /// A get found its key, and so many wrong bytes.
+    /// A get found its key, and this many wrong bytes.
     pub fn count_hit(&mut self, wrong: u64) {
         self.gets = self.gets.saturating_add(1);
         self.hits = self.hits.saturating_add(1);
@@ -42,7 +42,7 @@ impl Tally {
         self.refused = self.refused.saturating_add(1);
     }
 
-    /// What both found.
+    /// What this tally and another found.
     pub fn and(self, other: Tally) -> Tally {
         Tally {
             gets: self.gets.saturating_add(other.gets),
@@ -52,7 +52,7 @@ impl Tally {
         }
     }
 
-    /// What was found since this was so.
+    /// What was found since an earlier tally.
     pub fn since(self, before: Tally) -> Tally {
         Tally {
             gets: self.gets.saturating_sub(before.gets),

@@ -1,4 +1,4 @@
--- What a hand does that tries for a lock so many times, and what it finds; and items that it sets so.
+-- A hand that tries for a lock n times: what it does, and what it finds; and items that it sets so.
 use Rattle.std.specs.Prelude.{◌≡◌, ◌%◌, ◌+◌, ◌≤◌, ℕ, List, length, Option, Some}
 use Rattle.mc_pages.specs.SlabState.{granted_count}
 use Rattle.mc_stripe.specs.StripeState.{ReadyStripe, stamp_of}
@@ -16,11 +16,11 @@ use Rattle.mc_items.specs.Setting.{SetsItem}
 abbrev pub event_count : Hand → ℕ
 event_count hand = length (view hand).events
 
--- it made so many more
+-- the hand made n more events
 abbrev pub Makes : ℕ → Hand → Hand → Type 0
 Makes count before now = event_count now ≡ event_count before + count
 
--- it made so many more at most
+-- the hand made at most n more events
 abbrev pub MakesAtMost : ℕ → Hand → Hand → Type 0
 MakesAtMost count before now = event_count now ≤ event_count before + count
 
@@ -32,7 +32,7 @@ granted_as_given hand = granted_count (view hand).row.knows.hold.left
 abbrev pub stripe_for : Arena → ℕ → ℕ
 stripe_for arena key = key % (setup_of arena).config.stripes
 
--- the hand gave the key's stripe back, whose history begins with all that it had seen of it, and this is the key's stamp there
+-- the hand gave the key's stripe back, whose history begins with all that the hand had seen of it and gives the key this stamp
 pub record FindsStamp (arena : Arena) (key : ℕ) (before now : Hand) (stamp : Option ℕ) : Type 0 where
   pub value : ReadyStripe
   pub given : last_given (view now) (stripe_for arena key) ≡ Some value
@@ -47,10 +47,10 @@ IsNextStamp hand stamp = next_stamp (view hand).row.ids ≡ Some stamp
 abbrev pub GivesNoStamp : Hand → Hand → Type 0
 GivesNoStamp before now = (view now).row.ids ≡ (view before).row.ids
 
--- it said the item of this key and these words
+-- the hand stored the item of this key and these words
 abbrev pub SaysItem : ℕ → List ℕ → Hand → Hand → ℕ → Type 0
 SaysItem key words before now stamp = Says (item_with key stamp words) stamp (view before) (view now)
 
--- it set that item, by its own number
+-- the hand set the item of this key and these words, by its own number
 abbrev pub SetsOwn : ℕ → List ℕ → Hand → Hand → ℕ → Type 0
 SetsOwn key words before now stamp = SetsItem (number_of before) key stamp words (view before) (view now)

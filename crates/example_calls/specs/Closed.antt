@@ -3,7 +3,7 @@ use Rattle.mc_words.specs.Headline.{HeadlineOf}
 use Rattle.mc_words.specs.hand.View.{View}
 use Rattle.mc_words.specs.rule.End.{Closes, Left}
 
--- a hand closed the arena, of which this is left, and the promise holds of its last moment
+-- a hand closed the arena, this is left of it, and the promise holds of the arena's last moment
 pub record EndsWithPromise (left : Left) : Type 0 where
   pub view : View
   pub closes : Closes view left

@@ -10,7 +10,7 @@ use Rattle.mc_items.specs.ItemRefs.{IsItemRef}
 abbrev pub IsReadyHandOf : Arena → Hand → Type 0
 IsReadyHandOf arena hand = IsHandOf arena hand × IsReady (view hand)
 
--- and it refers to the item
+-- the hand is one of the arena's, may make any call, and refers to the item
 pub record RefersTo (arena : Arena) (item : Ref) (hand : Hand) : Type 0 where
   pub ready : IsReadyHandOf arena hand
   pub refers : IsItemRef (view hand) item

@@ -17,12 +17,12 @@ is_preparing (step.Head chunk) = true
 is_preparing (Cut page index) = true
 is_preparing other = false
 
--- the hand's event was that, whatever pages and lists it changed before
+-- the event of the hand is one of those that come before the first chunk is handed out, whatever pages and lists it changed before
 abbrev pub prepares : OwnEvent → Bool
 prepares (made before step) = is_preparing step
 prepares joined = false
 
--- the hand did nothing else yet
+-- each event of the hand is one of those that come before the first chunk is handed out
 abbrev pub has_prepared : View → Bool
 has_prepared view = list_all prepares view.events
 

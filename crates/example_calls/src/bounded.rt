@@ -1,4 +1,4 @@
-//! Calls that try for a lock so many times and then give up, and a hand that comes back out of a struct.
+//! Calls that try for a lock n times and then give up, and a hand that comes back out of a struct.
 ghost use Rattle.std.specs.Prelude.{◌+◌, ◌≡◌, IfOk, OnErr};
 ghost use Rattle.mc_stripe.specs.StripeState.{stamp_of};
 ghost use Rattle.mc_words.specs.hand.Arenas.{view};
@@ -13,7 +13,7 @@ use mc_items::{SetWithinError, set_within};
 use mc_stripe::{Key, Stamp, Stripe};
 use mc_words::{Arena, Hand, Held};
 
-/// How many pages were ever granted, told under the lock of the slabs. `Held` where each of so many tries for it missed. A try is one
+/// How many pages were ever granted, read under the slabs lock. `Held` where each of `tries` tries for it missed. A try is one
 /// event of the hand.
 pub fn granted_within(arena: &Arena, hand: &mut Hand, tries: u64) -> Result<u64, Held>
     requires { IsReadyHandOf arena.now hand.old }
@@ -30,7 +30,8 @@ pub fn granted_within(arena: &Arena, hand: &mut Hand, tries: u64) -> Result<u64,
     Ok(granted)
 }
 
-/// The stamp of the key's item, if it has one, looked up under its stripe's lock. `Held` where each of so many tries for it missed.
+/// The stamp of the key's item, if it has one, looked up under its stripe's lock. `Held` where each of `tries` tries for it
+/// missed.
 pub fn stamp_within(
     arena: &Arena,
     hand: &mut Hand,

@@ -154,7 +154,7 @@ pub fn header_from(alloc: Global, start: u64) -> Result<Option<u64>, NewError>
     Ok(header.ok())
 }
 
-/// The first chunk that a new arena hands out: its header says that it is unlinked, held once, and out for the first time.
+/// The first chunk that a new arena hands out: its header records that it is unlinked, held once, and out for the first time.
 pub fn first_header(alloc: Global) -> Result<Option<u64>, NewError>
     ensures header { IfOk result (λ found. found ≡ Some 393217) }
     ensures memory { IfErr result (λ error. error ≡ refused.NoMemory tt) }

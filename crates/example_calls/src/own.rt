@@ -1,4 +1,4 @@
-//! What a hand set it reads.
+//! A caller that sets an item and reads it, and gets its own words.
 ghost use Rattle.std.specs.Prelude.{◌≡◌, IfOk, IfSome};
 ghost use Rattle.example_calls.specs.Hands.{IsReadyHandOf};
 

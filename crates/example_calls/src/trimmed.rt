@@ -1,4 +1,4 @@
-//! What stands behind a trim: what two hands said, and what is recorded of the ledger.
+//! What remains behind a trim: what two hands stored, and what is recorded of the ledger.
 ghost use Rattle.std.specs.Prelude.{◌≡◌, [], Contains, length, slice_get};
 ghost use Rattle.mc_pages.specs.Base.{base_of};
 ghost use Rattle.mc_core.specs.Past.{Saying};
@@ -13,8 +13,8 @@ use mc_pages::BasePage;
 use mc_words::{Arena, Hand};
 use std::sync::Wait;
 
-/// One hand stores an item, the calls so far are trimmed, and another hand stores one. Then both become one hand: what either had said it
-/// has said, and with one stamp nothing but the same words.
+/// One hand stores an item, the calls so far are trimmed, and another hand stores one. Then both become one hand. It has stored
+/// what either had stored, and with one stamp nothing but the same words.
 pub fn join_behind_a_trim<R: Wait>(
     rt: &R,
     arena: &Arena,
@@ -40,7 +40,7 @@ pub fn join_behind_a_trim<R: Wait>(
     arena.join_hands(hand, other)
 }
 
-/// Trims the ledger under one hold of the lock of the slabs, and tells how many of its entries are recorded then: none.
+/// Trims the ledger under one hold of the slabs lock, and returns how many of its entries are recorded then: none.
 pub fn entries_behind_a_trim<R: Wait>(rt: &R, arena: &Arena, hand: &mut Hand) -> usize
     requires { IsReadyHandOf arena.now hand.old }
     ensures arena { IsHandOf arena.now hand.new }
@@ -53,7 +53,8 @@ pub fn entries_behind_a_trim<R: Wait>(rt: &R, arena: &Arena, hand: &mut Hand) ->
     recorded
 }
 
-/// Trims the ledger, and tells what its entries so far have left of a page: who owns it, and which class got it beyond the limit.
+/// Trims the ledger, and returns what its entries so far have left of a page: who owns it, and which class got it beyond the
+/// limit.
 pub fn page_behind_a_trim<R: Wait>(
     rt: &R,
     arena: &Arena,
@@ -72,7 +73,7 @@ pub fn page_behind_a_trim<R: Wait>(
     left
 }
 
-// What stands at the page's place.
+// What the base has at the page's place.
 fn page_in(base: &[BasePage], page: usize) -> Option<BasePage>
     ensures { result ≡ slice_get base.now page }
 {

@@ -29,8 +29,8 @@ const FOUR_PAGES: Config = Config {
     bulk: 1,
 };
 
-/// Stores three words under key 3, gets the key's item and reads it. What is read are these words: an item that another hand stored there
-/// meanwhile, which has another stamp, isn't told.
+/// Stores three words under key 3, gets the key's item and reads it. The words that are returned are these: an item that another
+/// hand stored there meanwhile, which has another stamp, isn't returned.
 fn read_own<R: Wait>(rt: &R, alloc: Global, arena: &Arena, mut hand: Hand) -> Option<Vec<u64>>
     requires hand { IsNewHand arena.now 0 hand }
     ensures words { IfSome result (λ read. read.items ≡ 7 ∷ 8 ∷ 9 ∷ []) }

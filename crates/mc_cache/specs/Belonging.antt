@@ -14,7 +14,7 @@ use Rattle.mc_cache.specs.Shards.{ActsOnShard, AreIdleHands, DeletesThere, Reads
 abbrev pub BelongsTo : Cache → Worker → Type 0
 BelongsTo cache worker = AreIdleHands cache.arenas.items worker.hands.items
 
--- each of the workers has an idle hand of each of these arenas
+-- each worker has an idle hand of each of these arenas
 abbrev pub HaveIdleHands : List Arena → List Worker → Type 0
 HaveIdleHands arenas workers = All (λ worker. AreIdleHands arenas worker.hands.items) workers
 
@@ -26,7 +26,7 @@ hash_in cache key = hash_of cache.hashing key
 abbrev pub shard_in : Cache → List ℕ → ℕ
 shard_in cache key = shard_of (length cache.arenas.items) (hash_in cache key)
 
--- the worker did this with its hand of the key's shard, and its other hands are as they were
+-- the worker did this with its hand of the key's shard, and its other hands are unchanged
 abbrev pub ActsOnKey : Cache → List ℕ → (Arena → Hand → Hand → Type 0) → Worker → Worker → Type 0
 ActsOnKey cache key Does before now = ActsOnShard cache.arenas.items (shard_in cache key) Does before.hands.items now.hands.items
 
@@ -34,11 +34,11 @@ ActsOnKey cache key Does before now = ActsOnShard cache.arenas.items (shard_in c
 abbrev pub KeepsHands : Worker → Worker → Type 0
 KeepsHands before now = now.hands.items ≡ before.hands.items
 
--- the worker found the key with a value, which stands behind the bytes that were there
+-- the worker found the key with a value, which was added behind the old bytes
 abbrev pub GivesValueOf : Cache → List ℕ → List ℕ → List ℕ → Worker → Worker → Type 0
 GivesValueOf cache key old new before now = (value : List ℕ) × ActsOnKey cache key (ReadsValue (hash_in cache key) key value) before now × (new ≡ old ++ value)
 
--- the worker found the key with a value, which stands behind the bytes that were there, and touched it if it was due
+-- the worker found the key with a value, which was added behind the old bytes, and touched the key if that was due
 abbrev pub GivesAndTouches : Cache → List ℕ → List ℕ → List ℕ → Worker → Worker → Type 0
 GivesAndTouches cache key old new before now =
     (value : List ℕ) × ActsOnKey cache key (ReadsTouchingIf (is_due before.recent (hash_in cache key)) (hash_in cache key) key value) before now × (new ≡ old ++ value)
@@ -51,10 +51,10 @@ NotesHashOf cache key before now = marks_of now.recent ≡ with_mark (hash_in ca
 abbrev pub CountsAsk : Worker → Worker → Type 0
 CountsAsk before now = now.recent.asks ≡ asks_after before.recent.asks
 
--- it found no such key, or one that was gone when it was to be deleted
+-- the worker found no such key, or one that was gone when it was to be deleted
 abbrev pub DeletesNoneOf : Cache → List ℕ → Worker → Worker → Type 0
 DeletesNoneOf cache key before now = ActsOnKey cache key (ReadsOther (hash_in cache key) key) before now ⊎ ActsOnKey cache key (DeletesThere (hash_in cache key) key false) before now
 
--- it was refused to store the value
+-- the store of the value was refused
 abbrev pub RefusesValueOf : Cache → List ℕ → List ℕ → SetError → Worker → Worker → Type 0
 RefusesValueOf cache key value error before now = ActsOnKey cache key (RefusesValue (hash_in cache key) key value error) before now

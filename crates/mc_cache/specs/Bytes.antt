@@ -13,8 +13,8 @@ use Rattle.mc_cache.specs.Observers.{arenas_of}
 abbrev pub words_a_page : Config → ℕ
 words_a_page config = 1 + config.page / first_size config + config.page / 8
 
--- how many classes come from this raw size on, at most so many more than one: while a raw size is below the greatest size after the factor,
--- a class comes of it, and the factor gives the next; one class of the greatest size comes last
+-- how many classes come from this raw size on, at most n + 1. While a raw size times the factor is below the greatest size, a class comes
+-- of it, and the factor gives the next. One class of the greatest size comes last
 unfoldable pub classes_from : ℕ → Config → ℕ → ℕ
 classes_from zero config raw = 1
 classes_from (suc more) config raw = if is_below_max config raw then classes_from more config (rounded_up raw * config.num / config.den) + 1 else 1
@@ -23,8 +23,8 @@ classes_from (suc more) config raw = if is_below_max config raw then classes_fro
 abbrev pub class_count : Config → ℕ
 class_count config = classes_from 62 config config.first
 
--- the words of an arena's table: those of the locks, of all pages, of which each class has one beyond the limit, and the eight numbers of
--- the configuration
+-- the words of an arena's table: those of the locks, of all pages, one beyond the limit for each class counted in, and eight for the
+-- configuration
 abbrev pub words_an_arena : Config → ℕ
 words_an_arena config = words_apart * (2 + config.stripes) + (config.limit / config.page + class_count config) * words_a_page config + 8
 
@@ -32,11 +32,11 @@ words_an_arena config = words_apart * (2 + config.stripes) + (config.limit / con
 abbrev pub bytes_of : CacheConfig → ℕ
 bytes_of config = config.shards * (8 * words_an_arena config.arena)
 
--- the words of these arenas' tables, as they stand
+-- how many words the tables of these arenas have
 unfoldable pub words_of_arenas : List Arena → ℕ
 words_of_arenas [] = 0
 words_of_arenas (arena ∷ arenas) = word_count (setup_of arena) + words_of_arenas arenas
 
--- the bytes of a cache's tables, as they stand
+-- how many bytes the tables of a cache have
 abbrev pub table_bytes : Cache → ℕ
 table_bytes cache = 8 * words_of_arenas (arenas_of cache)

@@ -1,4 +1,4 @@
--- Worked cases.
+-- Worked cases of caches, which the prover computes.
 use Rattle.std.specs.Prelude.{◌≡◌, ◌∷◌, [], false, true}
 use Rattle.mc_mover.specs.declared.counts.Turn.TheVariants.{Finished, Went}
 use Rattle.mc_cache.specs.Bytes.{bytes_of}

@@ -8,6 +8,6 @@ use Rattle.mc_cache.specs.Hashing.{started_by}
 abbrev pub key_of : Inside → HashKey
 key_of hasher = hasher.key
 
--- it has taken them in, and nothing else
+-- the hasher has taken the two numbers of its key in, and nothing else
 abbrev pub IsStarted : Inside → Type 0
 IsStarted hasher = hasher.start ≡ started_by hasher.key

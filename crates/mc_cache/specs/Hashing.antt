@@ -13,6 +13,6 @@ started_by numbers = sip.write (sip.write sip.initial (le_bytes 8 numbers.first)
 unfoldable pub hash_of : HashKey → List ℕ → ℕ
 hash_of numbers key = sip.finish (sip.write (started_by numbers) key)
 
--- the upper half of a hash goes evenly over so many shards
+-- the shard of a hash, of n: the upper half of the hash goes evenly over them
 abbrev pub shard_of : ℕ → ℕ → ℕ
 shard_of shards hash = hash / 2 ^ 32 * shards / 2 ^ 32

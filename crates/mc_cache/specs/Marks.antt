@@ -9,7 +9,7 @@ mark_count = 1024
 abbrev pub place_of : ℕ → ℕ
 place_of hash = hash % mark_count
 
--- what stands there for the hash when it is noted; 0 stands for none
+-- the mark that notes the hash; 0 is the mark of none
 abbrev pub mark_of : ℕ → ℕ
 mark_of hash = hash / mark_count + 1
 
@@ -17,15 +17,15 @@ mark_of hash = hash / mark_count + 1
 abbrev pub no_marks : List ℕ
 no_marks = replicate mark_count 0
 
--- the hash is noted among these marks
+-- the marks note the hash
 abbrev pub is_noted : List ℕ → ℕ → Bool
 is_noted marks hash = slice_index marks (place_of hash) == mark_of hash
 
--- the hash is noted, too, in the place of another of its remainder
+-- the marks after the hash was noted, in the place of another hash with its remainder
 abbrev pub with_mark : ℕ → List ℕ → List ℕ
 with_mark hash marks = slice_set marks (place_of hash) (mark_of hash)
 
--- after so many asks all hashes are forgotten
+-- the count of asks after which all hashes are forgotten
 abbrev pub most_asks : ℕ
 most_asks = 4096
 

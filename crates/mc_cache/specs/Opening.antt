@@ -1,4 +1,4 @@
--- Which caches are refused, and what is so of the arenas of a new one.
+-- Which caches are refused, and what the arenas of a new one are.
 use Rattle.std.specs.Prelude.{◌≡◌, ◌+◌, not, if◌then◌else◌, List, All, Option, None, Some}
 use Rattle.std.specs.List.{range_with_len}
 use Rattle.std.specs.Option.{option_map}
@@ -33,6 +33,6 @@ pub record IsNewShard (config : CacheConfig) (arena : Arena) : Type 0 where
   pub made : IsMadeWith config.arena (config.workers + 1) 0 (setup_of arena)
   pub history : KeepsNoHistory arena
 
--- the configuration is accepted, and each of these arenas is made so
+-- the configuration is accepted, and each of the arenas is a new shard by it
 abbrev pub AreNewShards : CacheConfig → List Arena → Type 0
 AreNewShards config arenas = (cache_refusal config ≡ None) × All (IsNewShard config) arenas

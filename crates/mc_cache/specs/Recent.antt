@@ -3,7 +3,7 @@ use Rattle.std.specs.Prelude.{ℕ, Bool, not, nat_lt, if◌then◌else◌, List}
 use Rattle.mc_cache.specs.declared.recent.Recent.{Recent}
 use Rattle.mc_cache.specs.Marks.{is_noted, most_asks, no_marks}
 
--- the marks as they stand
+-- the marks of the recent hashes
 abbrev pub marks_of : Recent → List ℕ
 marks_of recent = recent.marks.items
 

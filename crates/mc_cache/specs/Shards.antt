@@ -16,7 +16,7 @@ use Rattle.mc_cache.specs.shard.Reading.{LeavesSlabs}
 use Rattle.mc_cache.specs.shard.Setting.{RefusesBytes}
 use Rattle.mc_cache.specs.Pairs.{ArePaired}
 
--- there is one hand for each arena: an idle one of that arena
+-- the list has one hand for each arena, an idle hand of that arena
 abbrev pub AreIdleHands : List Arena → List Hand → Type 0
 AreIdleHands arenas hands = ArePaired IsIdleHandOf arenas hands
 
@@ -24,7 +24,7 @@ AreIdleHands arenas hands = ArePaired IsIdleHandOf arenas hands
 abbrev pub AreIdleHandsOf : Arena → List Hand → Type 0
 AreIdleHandsOf arena hands = All (IsIdleHandOf arena) hands
 
--- the hand of one shard did this on its arena; the hands of the others are as they were
+-- the hand of one shard did this on its arena; the hands of the other shards are unchanged
 pub record ActsOnShard (arenas : List Arena) (shard : ℕ) (Does : Arena → Hand → Hand → Type 0) (before now : List Hand) : Type 0 where
   pub arena : Arena
   pub is_arena : slice_get arenas shard ≡ Some arena
@@ -38,55 +38,55 @@ pub record ActsOnShard (arenas : List Arena) (shard : ℕ) (Does : Arena → Han
 abbrev pub IsKey : List ℕ → Type 0
 IsKey key = (1 ≤ length key) × (length key ≤ 250)
 
--- the hand stored this value under the key, and said so
+-- the hand stored this value under the key, with a stamp of its own
 abbrev pub StoresValue : ℕ → List ℕ → List ℕ → Arena → Hand → Hand → Type 0
 StoresValue hash key value arena hand now = (stamp : ℕ) × Says (item_with hash stamp (packed key value)) stamp (view hand) (view now) × SetsItem (number_of hand) hash stamp (packed key value) (view hand) (view now)
 
--- it was refused to store it
+-- the store of this value under the key was refused to the hand
 abbrev pub RefusesValue : ℕ → List ℕ → List ℕ → SetError → Arena → Hand → Hand → Type 0
 RefusesValue hash key value error arena hand now = RefusesBytes (number_of hand) hash (packed key value) error (view hand) (view now)
 
--- it found the key with this value
+-- the hand found the key with this value, and stored nothing
 abbrev pub ReadsValue : ℕ → List ℕ → List ℕ → Arena → Hand → Hand → Type 0
 ReadsValue hash key value arena hand now = FindsValue (setup_of arena) hash key value hand × SaysNothing (view hand) (view now)
 
--- it found the key
+-- the hand found the key, and stored nothing
 abbrev pub ReadsKey : ℕ → List ℕ → Arena → Hand → Hand → Type 0
 ReadsKey hash key arena hand now = FindsKey (setup_of arena) hash key hand × SaysNothing (view hand) (view now)
 
--- it found nothing under the hash, or another key
+-- the hand found no item under the hash, or one of another key, and stored nothing
 abbrev pub ReadsOther : ℕ → List ℕ → Arena → Hand → Hand → Type 0
 ReadsOther hash key arena hand now = FindsOther (setup_of arena) hash key hand × SaysNothing (view hand) (view now)
 
--- it found the key, and deleted it, if it was still there
+-- the hand found the key and stored nothing; it deleted the key, if the key was still there
 abbrev pub DeletesThere : ℕ → List ℕ → Bool → Arena → Hand → Hand → Type 0
 DeletesThere hash key there arena hand now = DeletesKey (setup_of arena) hash key there hand now × SaysNothing (view hand) (view now)
 
--- it found the key, and touched it
+-- the hand found the key and touched it, and stored nothing
 abbrev pub TouchesThere : ℕ → List ℕ → Arena → Hand → Hand → Type 0
 TouchesThere hash key arena hand now = TouchesKey (setup_of arena) hash key hand now × SaysNothing (view hand) (view now)
 
--- it said nothing
+-- the hand stored nothing
 abbrev pub SaysNoMore : Arena → Hand → Hand → Type 0
 SaysNoMore arena hand now = SaysNothing (view hand) (view now)
 
--- it said nothing, and found at last that the hash's stripe records its calls and has no room for one more
+-- the hand stored nothing, and found at last that the hash's stripe records its calls and has no room for one more
 abbrev pub LooksInVain : ℕ → Arena → Hand → Hand → Type 0
 LooksInVain hash arena hand now = SaysNothing (view hand) (view now) × ((between : Hand) × FindsFull (setup_of arena) hash between now)
 
--- it touched nothing: it didn't take the lock of the slabs
+-- the hand touched nothing: it didn't take the slabs lock
 abbrev pub TouchesNothing : Arena → Hand → Hand → Type 0
 TouchesNothing arena hand now = LeavesSlabs (view hand) (view now)
 
--- it found the lock of the hash's stripe with another hand
+-- the hand found the lock of the hash's stripe with another hand
 abbrev pub FindsHeld : ℕ → Arena → Hand → Hand → Type 0
 FindsHeld hash arena hand now = FindsStripeHeld (setup_of arena) hash hand now
 
--- it found the key with this value, and touched it
+-- the hand found the key with this value and touched it, and stored nothing
 abbrev pub ReadsAndTouches : ℕ → List ℕ → List ℕ → Arena → Hand → Hand → Type 0
 ReadsAndTouches hash key value arena hand now = TouchesValue (setup_of arena) hash key value hand now × SaysNothing (view hand) (view now)
 
--- it found the key with this value, and touched it if that was asked
+-- the hand found the key with this value, touched it if that was asked, and stored nothing
 abbrev pub ReadsTouchingIf : Bool → ℕ → List ℕ → List ℕ → Arena → Hand → Hand → Type 0
 ReadsTouchingIf true hash key value arena hand now = ReadsAndTouches hash key value arena hand now
 ReadsTouchingIf false hash key value arena hand now = ReadsValue hash key value arena hand now

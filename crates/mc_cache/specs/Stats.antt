@@ -18,7 +18,7 @@ use Rattle.mc_cache.specs.Windows.{count_with}
 abbrev pub sum_in_all : {A : Type 0} → (A → ℕ) → List A → ℕ
 sum_in_all number list = min (sum_by number list) (2 ^ 64 - 1)
 
--- the numbers of class `place + 1`, where a shard's classes have these; one that it lacks has nothing
+-- the numbers of class `place + 1` among a shard's classes; 0 for a class that the shard lacks
 abbrev pub numbers_at : ℕ → List Numbers → Numbers
 numbers_at place classes = slice_index_or classes place (record { pages = 0; free = 0; evictions = 0 })
 
@@ -54,7 +54,7 @@ pub record SumsSurveys (surveys : List Survey) (stats : CacheStats) : Type 0 whe
   pub evicted : stats.evicted ≡ sum_in_all (λ survey. survey.totals.evictions_nomem) surveys
   pub busy : stats.busy ≡ sum_in_all (λ survey. survey.totals.busy) surveys
 
--- the hand had a look at its shard, put nothing back, and this is what it saw
+-- the hand surveyed its shard, and put nothing back
 abbrev pub SurveysShard : Survey → Hand → Hand → Type 0
 SurveysShard survey before now = ActsOnce (λ number. Surveys false survey) before now
 
@@ -77,7 +77,7 @@ SetsShardsMode mode before now = ActsOnce (λ number. SetsMode number mode) befo
 abbrev pub SetsModes : ℕ → Tender → Tender → Type 0
 SetsModes mode before now = (shard : ℕ) (hand after : Hand) → shard < length (hands_of before) → SetsShardsMode mode (slice_index_or (hands_of before) shard hand) (slice_index_or (hands_of now) shard after)
 
--- what one class has with a shard's numbers, too
+-- the numbers of one class with those of a shard added
 abbrev pub class_with : ClassStats → Numbers → ClassStats
 class_with row numbers = record {
   pages = count_with numbers.pages row.pages;
@@ -85,17 +85,17 @@ class_with row numbers = record {
   evictions = count_with numbers.evictions row.evictions;
 }
 
--- there is a row for each of these classes, and it has their numbers, too; the other rows are as they were
+-- the rows have one for each of these classes, with the class's numbers added; the other rows are as they were
 pub record AddsNumbers (classes : List Numbers) (before now : List ClassStats) : Type 0 where
   pub count : length now ≡ max (length before) (length classes)
   pub added : (place : ℕ) → place < length classes → slice_index_or now place no_class ≡ class_with (slice_index_or before place no_class) (numbers_at place classes)
   pub others : (place : ℕ) → length classes ≤ place → slice_index_or now place no_class ≡ slice_index_or before place no_class
 
--- sums over some surveys became those with this survey, too
+-- the sums over some surveys became those with this survey added
 abbrev pub AddsSurvey : Survey → CacheStats → CacheStats → Type 0
 AddsSurvey survey before now = (surveys : List Survey) → SumsSurveys surveys before → SumsSurveys (surveys ++ survey ∷ []) now
 
--- the hand's shard was surveyed, and what was seen is in the stats, too
+-- the hand surveyed its shard, and the survey was added to the stats
 pub record CountsShard (before : CacheStats) (hand : Hand) (now : CacheStats) (after : Hand) : Type 0 where
   pub survey : Survey
   pub surveys : SurveysShard survey hand after

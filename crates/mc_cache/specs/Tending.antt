@@ -16,7 +16,7 @@ use Rattle.mc_cache.specs.Windows.{TendsShard, count_with, nothing_tended}
 abbrev pub hands_of : Tender → List Hand
 hands_of tender = tender.worker.hands.items
 
--- and its deciders
+-- the tender's deciders, shard by shard
 abbrev pub deciders_of : Tender → List DeciderState
 deciders_of tender = tender.deciders.items
 
@@ -29,7 +29,7 @@ pub record IsTenderOf (cache : Cache) (tender : Tender) : Type 0 where
 abbrev pub IsFreshDecider : Arena → DeciderState → Type 0
 IsFreshDecider arena decider = decider ≡ fresh_decider (setup_of arena).table
 
--- what was done on one shard more is counted, too
+-- what was done, with what was done on one more shard added
 abbrev pub tended_with : Tended → Tended → Tended
 tended_with done more = record {
   began = count_with more.began done.began;
@@ -38,11 +38,11 @@ tended_with done more = record {
   evicted = count_with more.evicted done.evicted;
 }
 
--- what was done on all of these shards
+-- what was done on all these shards together
 abbrev pub tended_in_all : List Tended → Tended
 tended_in_all shares = fold tended_with nothing_tended shares
 
--- on each of the first shards a window was done, by its own hand and its own decider; these are the shares of what was done
+-- each of the first n shards did a window, by its own hand and its own decider, and its share is what it did
 pub record TendsFirst (count : ℕ) (hands : List Hand) (deciders : List DeciderState) (hands_now : List Hand) (deciders_now : List DeciderState) (shares : List Tended) : Type 0 where
   pub shared : length shares ≡ count
   pub each : (shard : ℕ) (share : Tended) (hand now : Hand) (decider left : DeciderState) → shard < count
@@ -54,6 +54,6 @@ pub record TendsCache (cache : Cache) (done : Tended) (before now : Tender) : Ty
   pub tends : TendsFirst (shard_count cache) (hands_of before) (deciders_of before) (hands_of now) (deciders_of now) shares
   pub counted : done ≡ tended_in_all shares
 
--- none of its hands said anything
+-- none of the hands stored anything
 abbrev pub SayNothing : List Hand → List Hand → Type 0
 SayNothing before now = (shard : ℕ) (hand after : Hand) → shard < length before → SaysNothing (view (slice_index_or before shard hand)) (view (slice_index_or now shard after))

@@ -21,16 +21,16 @@ use Rattle.mc_cache.specs.declared.tended.Tended.{Tended}
 abbrev pub refusal_for : DeciderState → Survey → Option Feed
 refusal_for decider survey = refusal_of decider (evictions_in survey) (pages_in survey) (free_in survey)
 
--- the decider at the end of a window with these numbers; it stays where it doesn't take them
+-- the decider at the end of a window with these numbers; a decider that refuses the numbers stays
 abbrev pub decider_after : DeciderState → Survey → DeciderState
 decider_after decider survey =
     if is_some (refusal_for decider survey) then decider else after_window decider (evictions_in survey) (pages_in survey) (free_in survey)
 
--- the decision then; there is none where it didn't take them
+-- the decision at the end of a window with these numbers; none where the decider refuses the numbers
 abbrev pub decision_after : DeciderState → Survey → Option Decision
 decision_after decider survey = if is_none (refusal_for decider survey) then decision_of (decider_after decider survey) else None
 
--- the page of the decision was asked for, and this was answered; or there is none, and nothing was done
+-- the page of the decision was asked for, and got this answer; or there is no decision, and nothing was done
 abbrev pub ActsOnDecision : Option Decision → Option (Result (Unit {0}) Reassign) → Hand → Hand → Type 0
 ActsOnDecision None None before now = now ≡ before
 ActsOnDecision (Some decision) (Some answer) before now = ActsOnce (λ number. Reassigns number (Some decision.src) decision.dst answer) before now
@@ -49,16 +49,16 @@ abbrev pub is_under_way : Turn → Bool
 is_under_way (Went counts) = true
 is_under_way other = false
 
--- a turn was done, and of the hand's own calls just those came that it counts
+-- the hand did a turn, and its own calls are more by just those that the turn counts
 abbrev pub MakesTurn : Turn → Hand → Hand → Type 0
 MakesTurn turn before now = ActsOnce (λ number. Turns number turn) before now × TellsTurn before now turn
 
--- these turns were done, one after another; the newest stands first
+-- the hand did these turns, one after another; the newest is first in the list
 unfoldable pub DoesTurns : List Turn → Hand → Hand → Type 0
 DoesTurns [] before now = now ≡ before
 DoesTurns (turn ∷ turns) before now = (between : Hand) × DoesTurns turns before between × MakesTurn turn between now
 
--- a count to which more comes stays at 2^64 - 1 once there
+-- a count after n more, which stops at 2^64 - 1
 abbrev pub count_with : ℕ → ℕ → ℕ
 count_with more count = min (count + more) (2 ^ 64 - 1)
 
@@ -66,7 +66,7 @@ count_with more count = min (count + more) (2 ^ 64 - 1)
 abbrev pub nothing_tended : Tended
 nothing_tended = record { began = 0; ended = 0; rescued = 0; evicted = 0 }
 
--- what one more turn did is counted, too
+-- what was done, with what one more turn did added
 abbrev pub with_turn : Turn → Tended → Tended
 with_turn turn done = record {
   began = done.began;
@@ -85,7 +85,7 @@ abbrev pub began_by : Option (Result (Unit {0}) Reassign) → ℕ
 began_by (Some (Ok _)) = 1
 began_by other = 0
 
--- the newest of these turns found no move, or ended one
+-- the newest of the turns found no move, or ended one
 abbrev pub HasEnded : List Turn → Type 0
 HasEnded [] = ⊥
 HasEnded (turn ∷ turns) = is_under_way turn ≡ false
@@ -98,7 +98,7 @@ pub record DoesWindowTurns (done : Tended) (before now : Hand) : Type 0 where
   pub does : DoesTurns turns before now
   pub counted : done ≡ turns_tended turns
 
--- a window of a shard: it ended, turns were done, the ledger was trimmed, and this is what was done in all
+-- a window of a shard: the window ended, turns were done, the ledger was trimmed, and the sums are of all that was done
 pub record TendsShard (done : Tended) (decider : DeciderState) (before : Hand) (left : DeciderState) (now : Hand) : Type 0 where
   pub answer : Option (Result (Unit {0}) Reassign)
   pub asked : Hand

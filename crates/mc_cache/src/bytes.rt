@@ -9,13 +9,13 @@ use crate::cache::Cache;
 use crate::opening::{CacheConfig, NewError, test};
 use mc_classes::Config;
 
-// How many words a lock's word stands from the next one.
+// The distance in words from one lock's word to the next.
 const WORDS_APART: u64 = 16;
 
 // The most classes that there are.
 const MOST_CLASSES: u64 = 63;
 
-// The numbers of a configuration, which stand in the table.
+// The numbers of a configuration, which the table has.
 const CONFIG_WORDS: u64 = 8;
 
 // The size of class 1.
@@ -31,7 +31,7 @@ fn first_size(config: &Config) -> u64
     }
 }
 
-// How many classes there are.
+// How many classes a configuration gives.
 fn class_count(config: &Config) -> u64
     requires accepted { refusal_of config.now ≡ None }
     ensures count { result ≡ class_count config.now }

@@ -1,4 +1,4 @@
-//! The arenas of all shards, and the hands that act on them.
+//! The cache, which has the arenas of all shards, and its workers, which have the hands.
 ghost use Rattle.std.specs.Prelude.{◌≡◌, ◌≤◌, length};
 ghost use Rattle.mc_cache.specs.Shards.{AreIdleHands};
 

@@ -36,7 +36,7 @@ impl KeyedHasher {
     ghost use Rattle.std.specs.Prelude.{◌≡◌};
     ghost use Rattle.mc_cache.specs.Hashing.{hash_of};
 
-    /// With these two numbers.
+    /// A hasher with these two numbers.
     #[tactic(auto, unfolding(crate::specs::Hashing::started_by))]
     pub(crate) fn new(key: HashKey) -> KeyedHasher
         ensures { result ≡ key }
@@ -58,7 +58,7 @@ impl KeyedHasher {
     }
 }
 
-/// Which of so many shards has the keys of this hash. It is chosen by the hash's upper half, as a stripe is by its remainder.
+/// The shard, of n, that has the keys of this hash. The hash's upper half chooses it, as the remainder chooses a stripe.
 pub(crate) fn choose_shard(shards: usize, hash: u64) -> usize
     requires some { 1 ≤ shards }
     requires few { shards ≤ 4096 }

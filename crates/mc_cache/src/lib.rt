@@ -1,7 +1,26 @@
 //! A cache of bytes that threads share: many arenas side by side, the shards, and items whose words are packed bytes.
 //!
-//! [`Cache::new`] makes the cache, its workers, and its tender. A thread has the cache by `&`, and a worker of its own, whose calls take
-//! both. The tender, in a thread of its own, moves pages between classes.
+//! - [`Cache::new`] tests a [`CacheConfig`] and makes the cache, its workers, and its tender. [`Cache::bytes`] returns the bytes
+//!   that the cache's tables take. A [`HashKey`] has the two numbers with which keys are hashed.
+//! - A thread has the cache by `&`, and a [`Worker`] of its own by `&mut`. [`Worker::set`], `get`, `get_touching`, `try_get`,
+//!   `contains`, `touch` and `delete` are the calls on a key of 1 to 250 bytes.
+//! - The [`Tender`] has a thread of its own. [`Tender::tend`], called about once a second, moves pages between classes on each
+//!   shard. [`Tender::stats`] returns sums over all shards, and [`Tender::set_automove`] sets the mode.
+//!
+//! ```rust
+//! fn remember<R: Wait>(rt: &R, cache: &Cache, worker: &mut Worker, key: &[u8], value: &[u8], into: &mut Vec<u8>)
+//!     -> Result<bool, CallError> {
+//!     if worker.get(rt, cache, key, into)? {
+//!         return Ok(true); // into has the value behind the old bytes
+//!     }
+//!     let _stored = worker.set(rt, cache, key, value); // a refusal leaves the value to the next call
+//!     Ok(false)
+//! }
+//! ```
+//!
+//! A caller may rely on this: a get gives a value only where the key's item has it, and some worker stored it; else the bytes
+//! stay. A set may evict other items, so each get may miss. Two keys with one hash take each other's place. What threads do, and
+//! when `tend` is called, is the caller's: `crates/embed` is a program. CALLING.md has the contracts.
 #![tactic(auto)]
 
 mod bytes;

@@ -1,4 +1,4 @@
-//! Caches that are made.
+//! The making of a cache with its workers and its tender, and why none is made.
 ghost use Rattle.std.specs.Prelude.{◌≡◌, ◌≤◌, ◌+◌, ◌-◌, ◌++◌, ◌∷◌, [], All, IfErr, IfOk, List, None, OnOk, Some, length, slice_index_or, take, unwrap_or};
 ghost use Rattle.mc_words.specs.declared.arena.Arena.{Arena};
 ghost use Rattle.mc_words.specs.hand.Arenas.{setup_of};
@@ -31,7 +31,7 @@ use thiserror::Error;
 pub struct CacheConfig {
     /// What each shard's arena is made with.
     pub arena: Config,
-    /// How many arenas there are, 1 to 4,096.
+    /// How many arenas the cache has, 1 to 4,096.
     pub shards: u64,
     /// How many workers, 1 to 63.
     pub workers: u64,
@@ -40,10 +40,10 @@ pub struct CacheConfig {
 /// Why no cache was made.
 #[derive(Debug, PartialEq, Eq, Drop, Error)]
 pub enum NewError {
-    /// There are no shards, or more than 4,096.
+    /// The shards are none, or more than 4,096.
     #[error("the number of shards must be from 1 to 4096")]
     Shards,
-    /// There are no workers, or more than 63.
+    /// The workers are none, or more than 63.
     #[error("the number of workers must be from 1 to 63")]
     Workers,
     /// The arenas' configuration is refused.
@@ -179,7 +179,7 @@ fn fill<R: Wait>(
     Ok(())
 }
 
-// As many workers as there are to be, who have no hands yet.
+// Adds the workers, who have no hands yet.
 #[tactic(auto, using(crate::proofs::Opened::one_worker_more))]
 fn add_workers(alloc: Global, count: u64, workers: &mut Vec<Worker>) -> Result<(), Refused>
     requires { workers.old.items ≡ [] }

@@ -1,4 +1,4 @@
-//! Where the calls on a key go.
+//! The place of a key: its hash and its shard.
 ghost use Rattle.std.specs.Prelude.{◌≡◌, ◌<◌, ◌↔◌, IfSome, None, length};
 ghost use Rattle.mc_cache.specs.Belonging.{hash_in, shard_in};
 ghost use Rattle.mc_cache.specs.Shards.{IsKey};

@@ -8,7 +8,7 @@ use std::alloc::Global;
 /// How many hashes are noted at most, one of each remainder. (own)
 const PLACES: u64 = 1024;
 
-/// After so many asks all hashes are forgotten. (own)
+/// The count of asks after which all hashes are forgotten. (own)
 const MOST_ASKS: u64 = 4096;
 
 /// The hashes of the keys that a worker touched lately: of those with one remainder the last one alone.
@@ -16,7 +16,7 @@ const MOST_ASKS: u64 = 4096;
 pub(crate) struct Recent {
     /// The mark of the hash that is noted at this place, or 0.
     marks: Vec<u64>,
-    /// How often it was asked since all were forgotten.
+    /// How often the marks were asked since all were forgotten.
     asks: u64,
     ghost long: { length marks.items ≡ mark_count },
     ghost few: { asks ≤ most_asks },
@@ -29,7 +29,7 @@ fn place_of(hash: u64) -> usize
     (hash % PLACES) as usize
 }
 
-// What stands there for the hash.
+// The mark that notes the hash.
 fn mark_of(hash: u64) -> u64
     ensures { result ≡ mark_of hash }
 {
@@ -41,7 +41,7 @@ impl Recent {
     ghost use Rattle.mc_cache.specs.Marks.{asks_after, no_marks, with_mark};
     ghost use Rattle.mc_cache.specs.Recent.{is_due, marks_found, marks_of};
 
-    /// No hash is noted. It takes 8 KiB.
+    /// Marks that note no hash. They take 8 KiB.
     pub(crate) fn new(alloc: Global) -> Result<Recent, Refused>
         ensures marks { IfOk result (λ recent. marks_of recent ≡ no_marks) }
         ensures asks { IfOk result (λ recent. recent.asks ≡ 0) }

@@ -1,7 +1,25 @@
 //! Items of bytes in one arena: a key and a value, packed into the words of an item, under a hash of the key.
 //!
-//! Every call takes the arena and a hand of it that holds nothing, and leaves the hand so: no reference reaches the caller. An item of
-//! another key under the same hash is none to [`get`], [`try_get`], [`contains`], [`touch`] and [`delete`], and a [`set`] takes its place.
+//! Each call takes the arena and a hand of it that holds nothing, and leaves the hand so: no reference reaches the caller. A
+//! [`Label`] is a key with its hash.
+//!
+//! - [`set`] packs key and value and stores them under the hash, in place of what was there.
+//! - [`get`] puts the key's value behind bytes that are there, and makes its item the newest of its class if that is asked.
+//!   [`try_get`] doesn't wait. [`contains`] only looks.
+//! - [`touch`] makes the key's item the newest of its class, and [`delete`] deletes the key.
+//! - A [`HintTable`] has notes of where items may be. A call that finds one gets the item with no lock.
+//!
+//! ```rust
+//! fn store_and_get<R: Wait>(rt: &R, arena: &Arena, hints: &HintTable, hand: &mut Hand, at: Label, into: &mut Vec<u8>,
+//!     words: &mut Vec<u64>) -> Result<bool, Refused> {
+//!     let _stored = set(rt, arena, hand, at, b"value", words); // words: room that is used again
+//!     get(rt, arena, hints, hand, at, into, false)
+//! }
+//! ```
+//!
+//! A caller may rely on this: a value comes only from words that are the packing of this key and that value, and that some hand
+//! stored. An item of another key under the same hash is none to [`get`], [`try_get`], [`contains`], [`touch`] and [`delete`],
+//! and a [`set`] takes its place. Hashes, shards and the lengths of keys and values are `mc_cache`'s.
 
 mod deleting;
 mod gets;

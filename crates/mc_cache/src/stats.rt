@@ -1,4 +1,4 @@
-//! What the classes of all shards have together.
+//! The statistics of a cache: sums over the classes of all shards.
 ghost use Rattle.std.specs.Prelude.{◌≡◌, ◌≤◌, ◌-◌, ◌^◌, ◌∷◌, [], OnOk, length, max, slice_index_or, ℕ};
 ghost use Rattle.mc_words.specs.hand.Arenas.{view};
 ghost use Rattle.mc_items.specs.Keeping.{SaysNothing};
@@ -15,9 +15,9 @@ use std::sync::Wait;
 /// What one class has on all shards together. Each number stays at 2^64 - 1 once there.
 #[derive(Debug, Clone, Copy, PartialEq, Eq)]
 pub struct ClassStats {
-    /// How many pages it has, those that move included.
+    /// How many pages the class has, those that move included.
     pub pages: u64,
-    /// How many chunks its free lists have. Dead ones aren't among them until they are put back.
+    /// How many chunks the class's free lists have. Dead ones aren't among them until they are put back.
     pub free: u64,
     /// How many of its items were ever evicted to make room.
     pub evictions: u64,
@@ -45,7 +45,7 @@ pub struct CacheStats {
 }
 
 impl ClassStats {
-    // No shard has been counted.
+    // The numbers of a class before any shard is counted.
     fn new() -> ClassStats
         ensures none { result ≡ no_class }
     {
@@ -67,7 +67,7 @@ impl ClassStats {
 }
 
 impl CacheStats {
-    // No shard has been counted.
+    // The numbers of the cache before any shard is counted.
     pub(crate) fn new(alloc: Global) -> CacheStats
         ensures none { SumsSurveys [] result }
     {
@@ -126,7 +126,7 @@ fn add_classes(rows: &mut Vec<ClassStats>, classes: &[Numbers]) -> Result<(), Re
     Ok(())
 }
 
-// Rows of nothing behind the others, until there are so many.
+// Adds rows of nothing behind the others, until there are n.
 fn lengthen(rows: &mut Vec<ClassStats>, count: usize) -> Result<(), Refused>
     ensures count { OnOk result (length rows.new.items ≡ max (length rows.old.items) count) }
     ensures same { OnOk result ((place : ℕ) → slice_index_or rows.new.items place no_class ≡ slice_index_or rows.old.items place no_class) }

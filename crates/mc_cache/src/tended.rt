@@ -1,4 +1,4 @@
-//! What a tender did.
+//! The counts of what a tender did.
 ghost use Rattle.std.specs.Prelude.{◌≡◌, ◌-◌, ◌^◌};
 ghost use Rattle.mc_cache.specs.Cases.{TwoShards, TwoTurns};
 ghost use Rattle.mc_cache.specs.Tending.{tended_with};
@@ -11,7 +11,7 @@ use mc_mover::Turn;
 pub struct Tended {
     /// How many moves of a page began.
     pub began: u64,
-    /// How many came to their end.
+    /// How many moves of a page came to their end.
     pub ended: u64,
     /// How many items went to another chunk of their class.
     pub rescued: u64,

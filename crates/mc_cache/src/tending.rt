@@ -24,10 +24,11 @@ impl Tender {
     ghost use Rattle.mc_cache.specs.Stats.{CountsCache, SetsModes};
     ghost use Rattle.mc_cache.specs.Tending.{IsTenderOf, SayNothing, TendsCache, deciders_of, hands_of};
 
-    /// A window of each shard, to be called about once a second: the dead of all classes are put back, the shard's decider is fed what its
-    /// classes have then, the move that it decides on begins, and up to 16 turns of its mover are done, until one finds no move or ends
-    /// one. Then the arena keeps of the moves so far what became of each page alone. It waits for the locks of the slabs. Where memory is
-    /// refused it stops: what was done before stands. (slabs.c's automover; the number of turns is own)
+    /// A window of each shard, to be called about once a second. The dead of all classes are put back, the shard's decider is fed
+    /// what its classes have then, and the move that it decides on begins. Up to 16 turns of the shard's mover are done, until
+    /// one finds no move or ends one. Then the arena keeps of the moves so far what became of each page alone. It waits for the
+    /// locks of the slabs. Where memory is refused it stops: what was done before stays. (slabs.c's automover; the number of
+    /// turns is own)
     pub fn tend<R: Wait>(&mut self, rt: &R, cache: &Cache) -> Result<Tended, Refused>
         requires { IsTenderOf cache.now self.old }
         ensures belongs { IsTenderOf cache.now self.new }
@@ -46,9 +47,9 @@ impl Tender {
         Ok(done)
     }
 
-    /// What the classes of all shards have together: a survey of each, one shard after another, and so not all at one moment. The dead are
-    /// looked for nowhere, and nothing changes. It waits for the locks of the slabs. Where memory is refused nothing is told. (slabs.c's
-    /// `slabs_stats`; the sum is own)
+    /// What the classes of all shards have together: a survey of each, one shard after another, and so not all at one moment. The
+    /// dead are looked for nowhere, and nothing changes. It waits for the locks of the slabs. Where memory is refused nothing is
+    /// returned. (slabs.c's `slabs_stats`; the sum is own)
     pub fn stats<R: Wait>(&mut self, rt: &R, cache: &Cache) -> Result<CacheStats, Refused>
         requires { IsTenderOf cache.now self.old }
         ensures belongs { IsTenderOf cache.now self.new }

@@ -1,4 +1,4 @@
-//! A window of one shard.
+//! A window of one shard: a survey, the decision, and turns of the mover.
 ghost use Rattle.std.specs.Prelude.{◌≡◌, IfOk, OnErr, OnOk};
 ghost use Rattle.mc_words.specs.hand.Arenas.{view};
 ghost use Rattle.mc_items.specs.Keeping.{SaysNothing};

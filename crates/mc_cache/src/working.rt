@@ -91,9 +91,9 @@ impl Worker {
         }
     }
 
-    /// Puts the key's value behind the bytes that are there, and says whether the key has one. Where it has none, or the call is
-    /// refused, the bytes stay. It takes memory for these bytes alone, where the vector has too little room. It waits for a lock of the
-    /// key's shard, unless a hint leads it to the key's item with no lock. (memcached's `get`)
+    /// Puts the key's value behind the bytes that are there, and returns whether the key has one. Where it has none, or the call
+    /// is refused, the bytes stay. It takes memory for these bytes alone, where the vector has too little room. It waits for a
+    /// lock of the key's shard, unless a hint leads it to the key's item with no lock. (memcached's `get`)
     pub fn get<R: Wait>(
         &mut self,
         rt: &R,
@@ -216,8 +216,8 @@ impl Worker {
         shard::contains(rt, arena, &cache.hints, hand, label).map_err(CallError::NoMemory)
     }
 
-    /// Deletes the key, and says whether it had a value. An item of another key with the same hash stays; where one is stored between the
-    /// look and the delete it goes, as by an eviction. It waits for a lock of the key's shard. (memcached's `delete`)
+    /// Deletes the key, and returns whether it had a value. An item of another key with the same hash stays; where one is stored
+    /// between the look and the delete it goes, as by an eviction. It waits for a lock of the key's shard. (memcached's `delete`)
     pub fn delete<R: Wait>(&mut self, rt: &R, cache: &Cache, key: &[u8]) -> Result<bool, CallError>
         requires { BelongsTo cache.now self.old }
         ensures belongs { BelongsTo cache.now self.new }
@@ -236,8 +236,8 @@ impl Worker {
         shard::delete(rt, arena, &cache.hints, hand, label).map_err(CallError::NoMemory)
     }
 
-    /// Makes the key's item the one of its class that is evicted last, and says whether the key has a value. It waits for locks of the
-    /// key's shard. (memcached's `touch`, of which it has the bump and no time)
+    /// Makes the key's item the one of its class that is evicted last, and returns whether the key has a value. It waits for
+    /// locks of the key's shard. (memcached's `touch`, of which it has the bump and no time)
     pub fn touch<R: Wait>(&mut self, rt: &R, cache: &Cache, key: &[u8]) -> Result<bool, CallError>
         requires { BelongsTo cache.now self.old }
         ensures belongs { BelongsTo cache.now self.new }

@@ -14,11 +14,11 @@ pub record Classes : Type 0 where
 abbrev pub pages_of : Classes → ℕ
 pages_of classes = classes.limit / classes.page
 
--- how many pages there are: those within the limit, and for each class one more that it may get as its first
+-- how many pages there are: those within the limit, and for each class one more, which it may get as its first
 abbrev pub arena_pages_of : Classes → ℕ
 arena_pages_of classes = pages_of classes + length classes.sizes
 
--- the classes are numbered from 1
+-- this is the number of a class of the table: classes are numbered from 1
 abbrev pub IsClass : Classes → ℕ → Type 0
 IsClass classes class = (1 ≤ class) × (class ≤ length classes.sizes)
 
@@ -30,17 +30,17 @@ size_of classes class = slice_index classes.sizes (class - 1)
 abbrev pub per_page_of : Classes → ℕ → ℕ
 per_page_of classes class = classes.page / size_of classes class
 
--- the lowest class whose size is at least so many bytes
+-- the lowest class whose size is at least n bytes
 abbrev pub class_of : Classes → ℕ → Option ℕ
 class_of classes bytes = option_map (λ place. place + 1) (position (λ size. nat_le bytes size) classes.sizes)
 
--- before the last class: the raw size is still below, is raised to the size, and the factor gives the next raw size
+-- one class before the last: its raw size is low enough, its size is the raw size rounded up, and the factor gives the next raw size
 pub record IsStep (config : Config) (raw size next : ℕ) : Type 0 where
   pub below : IsTrue (is_below_max config raw)
   pub raised : size ≡ rounded_up raw
   pub grown : next ≡ size * config.num / config.den
 
--- the sizes of the classes come from these raw sizes
+-- the class sizes come from these raw sizes by the configuration's steps
 pub record ComesFrom (config : Config) (raws sizes : List ℕ) : Type 0 where
   pub paired : length raws ≡ length sizes
   pub begins : slice_get raws 0 ≡ Some config.first
@@ -56,7 +56,8 @@ pub record IsTableOf (config : Config) (classes : Classes) : Type 0 where
   pub raws : List ℕ
   pub comes : ComesFrom config raws classes.sizes
 
--- what every table keeps: from 1 to 63 classes of 24 bytes to a page, none smaller than a lower one, at most 256 chunks and 64 pages within the limit
+-- what every table keeps: 1 to 63 classes, with chunks of 24 bytes to a page, none smaller than a lower class's; at most 256 chunks a page,
+-- and at most 64 pages within the limit
 pub record IsSound (classes : Classes) : Type 0 where
   pub page : (64 ≤ classes.page) × (classes.page ≤ 16384)
   pub limit : classes.limit < 2 ^ 64

@@ -1,4 +1,4 @@
--- What a failed write does to the bytes that a writer tells.
+-- What a failed write does to the bytes that a writer is known to hold.
 use Rattle.std.specs.Prelude.{◌≡◌, ℕ, List, ◌++◌, Option, ⊤, None, Some}
 
 -- known bytes stay at the front, and something may follow them

@@ -12,7 +12,7 @@ is_between low high n = nat_le low n && nat_le n high
 abbrev pub rounded_up : ℕ → ℕ
 rounded_up n = (n + 7) / 8 * 8
 
--- a class of this raw size still stands before the last one
+-- a class of this raw size comes before the last class
 abbrev pub is_below_max : Config → ℕ → Bool
 is_below_max config raw = nat_lt (raw * config.num) (config.max * config.den)
 
@@ -33,7 +33,7 @@ refusal_of config =
     else if not (is_between 1 256 config.bulk) then Some Bulk
     else None
 
--- the refusals are numbered from 1 in this order
+-- the number of a refusal, counted from 1 in the order of the tests
 abbrev pub number_of : ConfigError → ℕ
 number_of PageSize = 1
 number_of FirstSize = 2

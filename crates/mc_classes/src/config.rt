@@ -26,7 +26,7 @@ pub struct Config {
     pub bulk: u64,
 }
 
-/// Why there is no class table for a configuration. The tests are made in this order (own).
+/// Why no class table is made of a configuration. The tests are made in this order (own).
 #[derive(Debug, PartialEq, Eq, Drop, Error)]
 pub enum ConfigError {
     /// The page size isn't a multiple of 8, or is outside 64 to 16,384.
@@ -44,7 +44,7 @@ pub enum ConfigError {
     /// The limit has no page, or more than 64.
     #[error("the limit must have room for 1 to 64 pages")]
     Limit,
-    /// There are no stripes, or more than 64.
+    /// The stripes are none, or more than 64.
     #[error("the number of stripes must be from 1 to 64")]
     Stripes,
     /// A page of the first class has more than 256 chunks.
@@ -97,7 +97,7 @@ pub(crate) fn rounded_up(n: u64) -> u64
 }
 
 impl Config {
-    /// Whether a class of this raw size still stands before the last one.
+    /// Whether a class of this raw size comes before the last one.
     pub(crate) fn is_below_max(&self, raw: u64) -> bool
         requires raw { raw ≤ 2 ^ 30 }
         requires num { self.now.num ≤ 65535 }

@@ -1,15 +1,15 @@
-//! Writers, as contracts see them: by the bytes that they tell and the times that they failed.
+//! Writers, as contracts see them: by the bytes that they are known to hold, and the times that they failed.
 ghost use Rattle.std.specs.Prelude.{◌≡◌, ◌<◌, ℕ, List, Option, OnOk, OnErr};
 ghost use Rattle.std.specs.Io.KnownBytes.{Appends};
 ghost use Rattle.mc_classes.specs.Device.{Extends};
 
-/// A read or a write failed. The device says no more than that.
+/// A read or a write failed. The device reports no more than that.
 #[derive(Clone, Copy, Debug, PartialEq, Eq)]
 pub struct Fault;
 
 /// A writer of bytes.
 pub trait Sink {
-    /// The bytes that the writer holds, where it tells them.
+    /// The bytes that the writer holds, where they are known.
     ghost contents: { Self → Option (List ℕ) };
 
     /// How often a write has failed.

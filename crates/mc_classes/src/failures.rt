@@ -1,4 +1,4 @@
-//! A count of failures, for devices whose contracts tell how often they failed.
+//! A count of failures, for devices whose contracts state how often they failed.
 ghost use Rattle.std.specs.Prelude.{◌≡◌, ◌+◌, ◌<◌};
 
 use std::marker::Model;
@@ -34,7 +34,7 @@ impl<L: Ledger> Failures<L> {
         Failures { book, share }
     }
 
-    /// One more failure.
+    /// Counts one more failure.
     pub fn add(&mut self)
         ensures { self.new ≡ self.old + 1 }
     {

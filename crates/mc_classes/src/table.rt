@@ -8,7 +8,7 @@ use mc_memory::{Refused, with_capacity};
 use std::alloc::Global;
 use std::marker::Model;
 
-/// The number of a size class, from 1. (0 is the global page pool, where a page may be told to go.)
+/// The number of a size class, from 1. (0 is the global page pool, to which a page may move.)
 pub type ClassId = u64;
 
 /// The number of a page, from 0.
@@ -53,7 +53,7 @@ impl ClassTable {
         })
     }
 
-    /// The lowest class with chunks of at least so many bytes, if there is one (slabs.c's `slabs_clsid`).
+    /// The lowest class with chunks of at least n bytes, if there is one (slabs.c's `slabs_clsid`).
     pub fn class_for(&self, bytes: u64) -> Option<ClassId>
         ensures class { result ≡ class_of self.now bytes }
         ensures fits { IfSome result (λ class. IsClass self.now class × (bytes ≤ size_of self.now class)) }
@@ -123,7 +123,7 @@ impl ClassTable {
     }
 }
 
-/// The first place, from 0, with a size of at least so many bytes.
+/// The first place, from 0, with a size of at least n bytes.
 fn place_for(sizes: &[u64], bytes: u64) -> Option<usize>
     ensures { result ≡ position (λ size. nat_le bytes size) sizes.now }
 {

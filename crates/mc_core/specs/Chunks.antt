@@ -33,7 +33,7 @@ most_holdings = 256
 abbrev pub has_place : State → ℕ → Bool
 has_place state hand = nat_lt (length (holdings_at state hand)) most_holdings
 
--- there is such a chunk, and it is free and isn't used up
+-- there is a chunk, its header is free, and its issue number isn't used up
 abbrev pub can_hand_out : State → Option ChunkId → Bool
 can_hand_out state None = false
 can_hand_out state (Some chunk) = is_free (head_at state chunk).tag && nat_lt (head_at state chunk).issue most_issue
@@ -62,7 +62,7 @@ next_free state class = first_free (class_at state.slabs class)
 abbrev pub can_pop : State → ℕ → ℕ → Bool
 can_pop state hand class = has_slabs state hand && is_class state.table class && has_place state hand && can_hand_out state (next_free state class)
 
--- header, holdings and looks after this chunk went to the hand for its own item; without one nothing changes
+-- the state after this chunk went to the hand for its own item; where there is no chunk, nothing changes
 abbrev pub popped : State → ℕ → Option ChunkId → State
 popped state hand None = state
 popped state hand (Some chunk) = with_look (with_fresh state hand chunk Item) hand (Popped chunk (handed_out (head_at state chunk)))
@@ -84,7 +84,7 @@ abbrev pub can_pop_off : State → ℕ → ChunkId → Bool
 can_pop_off state hand old =
     has_slabs state hand && is_on_the_move state.slabs old.page && is_handed_out state.slabs old && has_place state hand && can_hand_out state (target_of state.table state.heads state.slabs old.page)
 
--- this free chunk takes the old one's place and goes to the hand for a copy; without one nothing changes
+-- the free chunk takes the old one's place and goes to the hand for a copy; where there is no free chunk, nothing changes
 abbrev pub popped_off : State → ℕ → ChunkId → Option ChunkId → State
 popped_off state hand old None = state
 popped_off state hand old (Some chunk) =
@@ -113,7 +113,7 @@ filled_kind place word (Fresh purpose words) = Fresh purpose (slice_set words pl
 abbrev pub filled : ℕ → ℕ → Holding → Holding
 filled place word holding = record holding { kind = filled_kind place word holding.kind }
 
--- the word stands at this place of the chunk, and the hand's fresh holding of it knows so
+-- the word is at this place of the chunk, and the hand's fresh holding of the chunk records the word there
 abbrev pub after_fill : State → ℕ → ChunkId → ℕ → ℕ → State
 after_fill state hand chunk place word = with_word (with_changed state hand (is_of chunk) (filled place word)) chunk place word
 
@@ -121,7 +121,7 @@ after_fill state hand chunk place word = with_word (with_changed state hand (is_
 abbrev pub let_go : Head → Head
 let_go head = record head { count = head.count - 1 }
 
--- there is such a holding, and it is fresh, or a reference, as is asked
+-- there is a holding, and it is fresh or a reference, as is asked
 abbrev pub holds_as : Bool → Option Holding → Bool
 holds_as fresh None = false
 holds_as fresh (Some holding) = is_fresh holding && fresh || not (is_fresh holding) && not fresh

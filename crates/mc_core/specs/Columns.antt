@@ -1,4 +1,4 @@
--- Parts of the state that the clauses of the law speak of.
+-- The parts of the state that the clauses of the law name.
 use Rattle.std.specs.Prelude.{◌≡◌, ◌⊎◌, ℕ, ◌+◌, ◌*◌, ◌≤◌, List, [], ◌∷◌, length, count_by, slice_get, slice_index, slice_index_or, Some, All}
 use Rattle.mc_classes.specs.Classes.{Classes}
 use Rattle.mc_pages.specs.declared.ids.ChunkId.{ChunkId}
@@ -12,21 +12,21 @@ use Rattle.mc_core.specs.Head.{never_cut, is_linked}
 use Rattle.mc_core.specs.Holdings.{Words, is_of}
 use Rattle.mc_core.specs.State.{head_place, room_in, page_words}
 
--- the header that stands at the chunk's place, and that of a chunk never cut where none stands there
+-- the header at the chunk's place; where there is none, that of a chunk never cut
 abbrev pub head_in : Classes → List Head → ChunkId → Head
 head_in table heads chunk = slice_index_or heads (head_place table chunk) never_cut
 
--- where a word of a chunk stands among all data words
+-- the place of a word of a chunk among all data words
 abbrev pub place_in : Classes → SlabState → ChunkId → ℕ → ℕ
 place_in table slabs chunk place =
     chunk.page * page_words table + chunk.index * room_in table (class_of_page slabs chunk.page) + place
 
--- the known words are the data words of the chunk, and fit it
+-- the known words are data words of the chunk, and fit into it
 pub record Shows (table : Classes) (slabs : SlabState) (words : List ℕ) (chunk : ChunkId) (known : Words) : Type 0 where
   pub fits : length known ≤ room_in table (class_of_page slabs chunk.page)
   pub known_words : (place word : ℕ) → slice_get known place ≡ Some (Some word) → slice_index words (place_in table slabs chunk place) ≡ word
 
--- this is so of each entry of each row
+-- each entry of each row has the property
 abbrev pub Each : {X : Type 0} → (X → Type 0) → List (List X) → Type 0
 Each P = All (All P)
 

@@ -11,7 +11,7 @@ use Rattle.mc_core.specs.Holdings.{is_fresh, words_of, item_of, length_of}
 use Rattle.mc_core.specs.State.{room_in, has_chunk}
 use Rattle.mc_core.specs.Columns.{head_in, Shows, Each, holders, link_of}
 
--- counts: a header counts its link and its holders, and where its chunk is out or free none; and issue numbers fit their bits
+-- counts: a header counts its link and its holders; the count is 0 where the chunk is out or free; and issue numbers fit their bits
 pub record AreCounted (table : Classes) (heads : List Head) (holdings : List (List Holding)) : Type 0 where
   pub counted : (chunk : ChunkId) → has_chunk table chunk ≡ true → (head_in table heads chunk).count ≡ link_of (head_in table heads chunk).tag + holders chunk holdings
   pub shut : (chunk : ChunkId) → has_chunk table chunk ≡ true → (is_free (head_in table heads chunk).tag ≡ true) ⊎ (is_out (head_in table heads chunk).tag ≡ true) → (head_in table heads chunk).count ≡ 0

@@ -12,7 +12,7 @@ use Rattle.mc_core.specs.Past.{Moment, history_at, moment_changed, moment_steppe
 use Rattle.mc_core.specs.Lawful.{IsLawful}
 use Rattle.mc_core.specs.Laws.{MayChange, MayStep, IsRun, moment_at_end}
 
--- where a word stands: a header, a data word, the word of the slabs lock, that of a stripe's lock, and the word of the hands
+-- the place of a word: a header, a data word, the word of the slabs lock, that of a stripe's lock, or the word of the hands
 pub data Place : Type 0 where
   of_header : ℕ → Place
   of_data : ℕ → Place
@@ -20,7 +20,7 @@ pub data Place : Type 0 where
   of_stripe : ℕ → Place
   of_hands : Place
 
--- the word there is as it was; that of the hands tells which hands there are, by their numbers
+-- the word at the place is unchanged; for the word of the hands, each hand has the number that it had
 abbrev pub IsSameAt : State → State → Place → Type 0
 IsSameAt before now (of_header at) = slice_index_or now.heads at never_cut ≡ slice_index_or before.heads at never_cut
 IsSameAt before now (of_data at) = slice_index now.words at ≡ slice_index before.words at
@@ -38,7 +38,7 @@ pub record WriteOneWord : Type 0 where
   pub steps : (moment : Moment) (hand : ℕ) (step : Step) → MayStep moment hand step → (written : Place) × IsSameBut moment.state (moment_stepped moment hand step).state written
   pub events : (moment : Moment) (event : Event) → IsLawful moment → is_allowed moment.state event ≡ true → (written : Place) × IsSameBut moment.state (moment_after moment event).state written
 
--- some calls came in behind those of before, each of this number
+-- the calls grew at their end, by calls of this number alone
 pub record HasGrown (number : ℕ) (before now : List Call) : Type 0 where
   pub more : List Call
   pub grown : now ≡ before ++ more

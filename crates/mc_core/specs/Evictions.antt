@@ -35,7 +35,7 @@ none_dead slabs looks chunk = list_all (is_found_alive looks) (class_of_chunk sl
 abbrev pub must_leave : Classes → List Head → SlabState → List Look → ChunkId → Bool
 must_leave table heads slabs looks chunk = is_on_the_move slabs chunk.page && none_dead slabs looks chunk && is_none (target_of table heads slabs chunk.page)
 
--- the class has no free chunk, each that it handed out was found not dead, no page is to be had for it, and none is half cut
+-- the class has no free chunk, and each that it handed out was found not dead; no page is to be had for the class, and none is half cut
 abbrev pub lacks_room : SlabState → List Look → ChunkId → Bool
 lacks_room slabs looks chunk =
     is_none (first_free (class_of_chunk slabs chunk)) && none_dead slabs looks chunk && is_none (next_page slabs (class_of_page slabs chunk.page)) && none_half_cut slabs
@@ -72,7 +72,7 @@ condemned head = record { issue = head.issue; tag = Unlinked; count = 0 }
 abbrev pub as_rescue : ChunkId → List ℕ → Holding → Holding
 as_rescue old item holding = record holding { kind = Fresh (Rescue old item) (words_of holding) }
 
--- the stripe after a key's item was taken away: the key's entry is put aside for a rescue, and else evicted
+-- the stripe after a key's item was taken away: for a rescue the key's entry was put aside, and otherwise evicted
 abbrev pub stripe_condemned : ReadyStripe → Bool → ℕ → ℕ → ReadyStripe
 stripe_condemned stripe rescues writer key =
     if rescues then record stripe { state = after_lift stripe.state key } else used_up (after_evict stripe.state writer key)

@@ -1,4 +1,4 @@
--- What follows of the law in a lawful moment.
+-- What follows from the law in a lawful moment.
 use Rattle.std.specs.Prelude.{◌≡◌, ◌⊎◌, ℕ, ◌<◌, true, List, [], length, slice_get, slice_index_or, Some, All}
 use Rattle.mc_pages.specs.declared.ids.ChunkId.{ChunkId}
 use Rattle.mc_stripe.specs.declared.history.Call.{Call}
@@ -20,7 +20,7 @@ use Rattle.mc_core.specs.Lawful.{IsLawful, IsKept}
 abbrev pub AreKept : Type 0
 AreKept = (moment : Moment) → IsLawful moment → (hand : ℕ) → All (IsKept moment.state) (holdings_at moment.state hand)
 
--- the words of a linked chunk are a whole item, said with the stamp of the key's entry
+-- the words of a linked chunk are a whole item, which was stored with the stamp of the key's entry
 pub record IsSaidItem (moment : Moment) (chunk : ChunkId) : Type 0 where
   pub words : List ℕ
   pub whole : length words ≡ length_of words
@@ -28,7 +28,7 @@ pub record IsSaidItem (moment : Moment) (chunk : ChunkId) : Type 0 where
   pub said : IsSaid moment.past.said (stamp_of words) words
   pub entry : place_of (stripe_for moment.state.stripes (key_of words)).state (key_of words) ≡ Some (chunk, stamp_of words)
 
--- in every lawful moment the words of each linked chunk are a whole item, said with the stamp of its key's entry
+-- in every lawful moment the words of each linked chunk are a whole item, which was stored with the stamp of its key's entry
 abbrev pub AreSaidItems : Type 0
 AreSaidItems = (moment : Moment) → IsLawful moment → (chunk : ChunkId) → has_chunk moment.state.table chunk ≡ true → (head_in moment.state.table moment.state.heads chunk).tag ≡ Linked →
     IsSaidItem moment chunk

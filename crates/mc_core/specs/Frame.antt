@@ -32,8 +32,8 @@ abbrev pub takes_over : Step → ℕ → Bool
 takes_over (Join kept spent) other = spent == other
 takes_over step other = false
 
--- every change and every step of a hand leaves the table, what other hands have, and what is behind locks that it hasn't; but a join changes what
--- the hand has that it takes over
+-- every change and every step of a hand leaves the table, what other hands have, and what is behind locks that the hand hasn't. A join
+-- changes what the hand has that it takes over
 pub record AreFramed : Type 0 where
   pub changes : (moment : Moment) (hand : ℕ) (change : Change) → MayChange moment hand change → IsFramed moment (moment_changed moment hand change) hand (λ other. other ≢ hand)
   pub steps : (moment : Moment) (hand : ℕ) (step : Step) → MayStep moment hand step →

@@ -4,7 +4,7 @@ use Rattle.mc_core.specs.declared.head.Head.{Head}
 use Rattle.mc_core.specs.declared.head.Tag.{Tag}
 use Rattle.mc_core.specs.declared.head.Tag.TheVariants.{Out, Free, Unlinked, Linked}
 
--- the number of a tag, as it stands in a header's word
+-- the number of a tag in a header's word
 abbrev pub number_of : Tag → ℕ
 number_of Out = 0
 number_of Free = 1

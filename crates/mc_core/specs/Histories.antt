@@ -37,12 +37,12 @@ abbrev pub set_count : ℕ → List ReadyStripe → ℕ
 set_count stamp [] = 0
 set_count stamp (stripe ∷ stripes) = count_by (is_set_of stamp) stripe.state.history + set_count stamp stripes
 
--- what is said was stored under its key, by the hand of the stamp
+-- the history of the key's stripe has the set of these words, with their stamp and its hand's number
 abbrev pub IsStored : List ReadyStripe → Saying → Type 0
 IsStored stripes s = Contains (stripe_for stripes (key_of s.words)).state.history (Set (s.stamp / 2 ^ 48) (key_of s.words) s.stamp)
 
--- histories: each hand's own calls are those of its numbers, and what it saw begins the present history; each call is of one hand's
--- number; a stamp is stored where it is said
+-- histories: a hand's own calls are those of its numbers, and what it saw begins the present history. Each call has one hand's number. Each
+-- stamp is in the histories as often as hands stored it
 pub record AreTold (stripes : List ReadyStripe) (mine : List (List Own)) (seen : List (List (List Call))) (said : List (List Saying)) : Type 0 where
   pub own_calls : Each (λ own. own.calls ≡ map (λ (value : ReadyStripe). filter (λ call. hand_of call == own.number) value.state.history) stripes) mine
   pub begun : All (λ row. (stripe : ℕ) (calls : List Call) (value : ReadyStripe) → slice_get row stripe ≡ Some calls → slice_get stripes stripe ≡ Some value →

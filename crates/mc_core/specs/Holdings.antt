@@ -12,11 +12,11 @@ use Rattle.mc_core.specs.declared.holding.Purpose.TheVariants.{Copy}
 abbrev pub Words : Type 0
 Words = List (Option ℕ)
 
--- these words, each of them known
+-- these words as a chunk's words, each of them known
 abbrev pub all_known : List ℕ → Words
 all_known item = map (λ word. Some word) item
 
--- the known words as numbers, with 0 for each other
+-- the known words as numbers, with 0 for each unknown one
 abbrev pub numbers : Words → List ℕ
 numbers words = map (λ word. unwrap_or word 0) words
 
@@ -28,7 +28,7 @@ key_of item = slice_index item 0
 abbrev pub stamp_of : List ℕ → ℕ
 stamp_of item = slice_index item 1
 
--- how many words an item takes: key, stamp and length, and then as many as its third word says
+-- how many words an item takes: key, stamp and length, and then as many as its third word counts
 abbrev pub length_of : List ℕ → ℕ
 length_of item = 3 + slice_index item 2
 
@@ -44,15 +44,15 @@ key_in words = word_in words 0
 abbrev pub stamp_in : Words → ℕ
 stamp_in words = word_in words 1
 
--- how many words an item takes: key, stamp and length, and then as many as its length says
+-- how many words an item takes: key, stamp and length, and then as many as its length counts
 abbrev pub item_length : Words → ℕ
 item_length words = 3 + word_in words 2
 
--- the words of the item among these: as many as it takes, or all where there are fewer
+-- the item's words among these: as many as the item takes, or all where there are fewer
 abbrev pub item_in : Words → Words
 item_in words = take (item_length words) words
 
--- there are as many words as the item takes
+-- there are at least as many words as the item takes
 abbrev pub fits : Words → Bool
 fits words = nat_le (item_length words) (length words)
 
@@ -68,12 +68,12 @@ is_of chunk holding = is_chunk holding.chunk chunk
 abbrev pub holding_of : ChunkId → List Holding → Option Holding
 holding_of chunk holdings = find (is_of chunk) holdings
 
--- these holdings without the first that passes the test
+-- the holdings without the first that passes the test
 abbrev pub lose : (Holding → Bool) → List Holding → List Holding
 lose test [] = []
 lose test (holding ∷ holdings) = if test holding then holdings else holding ∷ lose test holdings
 
--- each holding that passes the test is changed so, and keeps its place
+-- the holdings where each that passes the test is changed, and keeps its place
 abbrev pub change_each : (Holding → Bool) → (Holding → Holding) → List Holding → List Holding
 change_each test change holdings = map (λ holding. if test holding then change holding else holding) holdings
 

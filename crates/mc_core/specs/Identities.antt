@@ -31,7 +31,7 @@ pub record AreHands (ids : List Ids) (slabs_lock : ℕ) (locks : List ℕ) (hold
   pub stripes : All (IsFreeOrHeld ids) locks
   pub nothing : (hand : ℕ) → number_in ids hand ≡ None → slice_index_or holdings hand [] ≡ []
 
--- rows: there is a row for each hand, and a live hand saw a history of each stripe, if an empty one
+-- rows: there is a row for each hand, and a live hand's row has a history of each stripe, perhaps an empty one
 pub record HaveRows (ids : List Ids) (stripes : ℕ) (past : Past) : Type 0 where
   pub saw : length past.saw ≡ length ids
   pub holds : length past.holds ≡ length ids
@@ -41,34 +41,35 @@ pub record HaveRows (ids : List Ids) (stripes : ℕ) (past : Past) : Type 0 wher
   pub known : length past.known ≡ length ids
   pub histories : (hand : ℕ) → is_some (number_in ids hand) ≡ true → length (slice_index_or past.seen hand []) ≡ stripes
 
--- how often the number stands among one hand's, those of hands that it took over counted in
+-- how often the number is among those of one hand, those of hands that it took over counted in
 abbrev pub owns : ℕ → List Own → ℕ
 owns number row = count_by (λ (own : Own). own.number == number) row
 
--- how often the number stands among those of all hands, those taken over counted in
+-- how often the number is among those of all hands, those taken over counted in
 abbrev pub owners : ℕ → List (List Own) → ℕ
 owners number [] = 0
 owners number (row ∷ rows) = owns number row + owners number rows
 
--- how often one hand said the stamp
+-- how often one hand stored words with the stamp
 abbrev pub said_times : ℕ → List Saying → ℕ
 said_times stamp row = count_by (λ (s : Saying). s.stamp == stamp) row
 
--- how often all hands together said the stamp
+-- how often all hands together stored words with the stamp
 abbrev pub said_count : ℕ → List (List Saying) → ℕ
 said_count stamp [] = 0
 said_count stamp (row ∷ rows) = said_times stamp row + said_count stamp rows
 
--- of the stamps of a number those with a count from 1 to this were said, each once
+-- of the stamps of a number, those with a count from 1 to n were stored, each once
 abbrev pub AreCountedTo : ℕ → ℕ → List Saying → Type 0
 AreCountedTo most number row = (count : ℕ) → count < 2 ^ 48 → said_times (number * 2 ^ 48 + count) row ≡ truth (nat_le 1 count && nat_le count most)
 
--- numbers: each is one hand's, and of those that it took over; the stamps that a hand said are of its numbers, counted without a gap
+-- numbers: each is one hand's, which got it or took its hand over. The stamps that a hand stored are of its numbers, and their counts have
+-- no gap
 pub record AreNumbered (ids : List Ids) (mine : List (List Own)) (said : List (List Saying)) (known : List (List Known)) : Type 0 where
   pub apart : (number : ℕ) → owners number mine ≤ 1
   pub own : (hand number : ℕ) → number_in ids hand ≡ Some number → owns number (slice_index_or mine hand []) ≡ 1
   pub stamps : (hand number : ℕ) → number_in ids hand ≡ Some number → AreCountedTo (stamps_in ids hand) number (slice_index_or said hand [])
   pub gapless : (hand : ℕ) → All (λ (own : Own). (most : ℕ) × AreCountedTo most own.number (slice_index_or said hand [])) (slice_index_or mine hand [])
   pub of_own : (hand : ℕ) → All (λ (s : Saying). owns (s.stamp / 2 ^ 48) (slice_index_or mine hand []) ≡ 1) (slice_index_or said hand [])
-  -- a hand that is gone has no number, and neither said nor knows anything
+  -- a hand that is gone has no number, and neither stored nor knows anything
   pub nothing : (hand : ℕ) → number_in ids hand ≡ None → (slice_index_or mine hand [] ≡ []) × (slice_index_or said hand [] ≡ []) × (slice_index_or known hand [] ≡ [])

@@ -30,7 +30,7 @@ pub record AreIndexed (table : Classes) (slabs : SlabState) (heads : List Head) 
       place_of (stripe_for stripes (slice_index words (place_in table slabs chunk 0))).state (slice_index words (place_in table slabs chunk 0))
       ≡ Some (chunk, slice_index words (place_in table slabs chunk 1))
 
--- stripes: each history is legal and makes its index; what is free has nothing aside, and what is aside is of its stripe
+-- stripes: each history is legal and makes its index. A free stripe has nothing aside, and an entry aside has a key of its stripe
 pub record AreLegal (stripes : List ReadyStripe) (locks : List ℕ) : Type 0 where
   pub lock_count : length locks ≡ length stripes
   pub some : 1 ≤ length stripes

@@ -61,8 +61,8 @@ is_entry_aside stripe key chunk stamp = option_map_or (λ entry. entry.0 == key 
 abbrev pub is_none_else_aside : StripeState → ℕ → Bool
 is_none_else_aside stripe key = is_none stripe.aside || is_aside stripe key
 
--- the words suit what the chunk is for. Of an item that is being rescued they are those that were condemned, and its entry is aside; any other that
--- a hand fills has its next stamp, and no other key's entry is aside; a reference never suits
+-- the item's words are allowed for this kind of chunk. A rescue has the words that were condemned, and its entry is aside. Any other item
+-- that a hand fills has the hand's next stamp, and no other key's entry is aside. A reference never is allowed
 abbrev pub suits : State → ℕ → Words → Kind → Bool
 suits state hand words (Reference own) = false
 suits state hand words (Fresh (Rescue old item) own) =
@@ -75,11 +75,11 @@ abbrev pub can_link_key : State → ℕ → ℕ → Bool
 can_link_key state hand key =
     has_stripe state hand (stripe_of state key) && can_store (stripe_at state (stripe_of state key)) && is_none (place_of (stripe_at state (stripe_of state key)).state key)
 
--- the key's stripe can be told of the link, and the words suit what the chunk is for
+-- the key's stripe can record the link, and the item's words are allowed for this kind of chunk
 abbrev pub can_tell_link : State → ℕ → Holding → Bool
 can_tell_link state hand holding = can_link_key state hand (key_in (words_of holding)) && suits state hand (words_of holding) holding.kind
 
--- the holding's item is complete, its stripe may be told, and the chunk is unlinked with room in its count
+-- the holding's item is complete, the key's stripe can record the link, and the chunk is unlinked with room in its count
 abbrev pub can_link_holding : State → ℕ → ChunkId → Option Holding → Bool
 can_link_holding state hand chunk None = false
 can_link_holding state hand chunk (Some holding) =
@@ -111,7 +111,7 @@ with_set state hand holding =
     (used_up (stripe_changes.after_link (stripe_at state stripe).state (writer_of state hand) (key_in (words_of holding)) holding.chunk (stamp_in (words_of holding)))))
     hand (stamped (ids_at state hand))
 
--- what the stripe is told, by what the chunk was for: a rescued item's entry comes back, any other is stored
+-- the state after the key's stripe recorded the link: a rescued item's entry comes back, and any other item is stored
 abbrev pub told_link : State → ℕ → Holding → Kind → State
 told_link state hand holding (Fresh (Rescue old item) own) = with_rescued state hand holding
 told_link state hand holding kind = with_set state hand holding
@@ -120,13 +120,13 @@ told_link state hand holding kind = with_set state hand holding
 abbrev pub with_told_link : State → ℕ → Holding → State
 with_told_link state hand holding = told_link state hand holding holding.kind
 
--- this holding is linked, and stands last among the hand's, as a reference; without one nothing changes
+-- the state after this holding was linked and became the hand's last, as a reference; where there is no holding, nothing changes
 abbrev pub after_link_of : State → ℕ → ChunkId → Option Holding → State
 after_link_of state hand chunk None = state
 after_link_of state hand chunk (Some holding) =
     with_holding (with_head (with_told_link state hand holding) chunk (linked (head_at state chunk))) hand (as_reference holding)
 
--- the hand's first holding of the chunk is linked, and stands last among the hand's, as a reference
+-- the state after the hand's first holding of the chunk was linked and became the hand's last, as a reference
 abbrev pub after_link : State → ℕ → ChunkId → State
 after_link state hand chunk = after_link_of (without_holding state hand (is_of chunk)) hand chunk (holding_of chunk (holdings_at state hand))
 
@@ -134,7 +134,7 @@ after_link state hand chunk = after_link_of (without_holding state hand (is_of c
 abbrev pub new_reference : State → ChunkId → Holding
 new_reference state chunk = record { chunk = chunk; issue = (head_at state chunk).issue; kind = Reference (item_at state chunk) }
 
--- the hand gets a reference to the item in the chunk, whose header counts it; no stripe is told
+-- the hand gets a reference to the item in the chunk, whose header counts the reference; no stripe records a call
 abbrev pub with_reference : State → ℕ → ChunkId → State
 with_reference state hand chunk = with_holding (with_head state chunk (referred (head_at state chunk))) hand (new_reference state chunk)
 
@@ -161,12 +161,12 @@ abbrev pub referred_to : State → ℕ → Option (ChunkId × ℕ) → State
 referred_to state hand None = state
 referred_to state hand (Some place) = with_reference state hand place.0
 
--- the key's stripe is told that the key was looked up, and its room for a call is used up
+-- the key's stripe records that the key was looked up, which uses its room for a call up
 abbrev pub with_got : State → ℕ → ℕ → State
 with_got state hand key =
     with_stripe state (stripe_of state key) (used_up (after_got (stripe_at state (stripe_of state key)).state (writer_of state hand) key))
 
--- the key's stripe is told that the key was looked up, and the hand gets a reference to its item, if it has one
+-- the key's stripe records that the key was looked up, and the hand gets a reference to the key's item, if there is one
 abbrev pub after_refer : State → ℕ → ℕ → State
 after_refer state hand key = referred_to (with_got state hand key) hand (chunk_of state key)
 
@@ -223,6 +223,6 @@ abbrev pub can_word_held : State → ℕ → ChunkId → ℕ → Bool
 can_word_held state hand chunk place =
     has_slabs state hand && has_chunk state.table chunk && was_linked (looks_at state hand) chunk && nat_lt place (room_at state chunk)
 
--- what the hand saw under the slabs lock ends with this word of the chunk, as it stands
+-- the hand's looks under the slabs lock end with this word of the chunk
 abbrev pub after_word_held : State → ℕ → ChunkId → ℕ → State
 after_word_held state hand chunk place = with_look state hand (Read chunk place (word_at state chunk place))

@@ -16,15 +16,15 @@ use Rattle.mc_core.specs.Seen.{seen_head, last_read}
 use Rattle.mc_core.specs.Past.{Moment}
 use Rattle.mc_core.specs.Lawful.{IsLawful}
 
--- no item of the page can be taken to the chunk, as the hand saw: it is on that page, or used up
+-- by the hand's looks, no item of the page can be taken to the chunk: the chunk is on that page, or used up
 abbrev pub is_seen_unfit : List Look → ℕ → ChunkId → Bool
 is_seen_unfit looks page chunk = chunk.page == page || option_map_or (λ head. not (nat_lt head.issue most_issue)) (seen_head looks chunk) false
 
--- as the hand saw, no free chunk of the page's class can take an item of the page
+-- by the hand's looks, no free chunk of the page's class can take an item of the page
 abbrev pub sees_no_target : SlabState → List Look → ℕ → Bool
 sees_no_target slabs looks page = list_all (is_seen_unfit looks page) (class_at slabs (class_of_page slabs page)).free
 
--- this is the first free chunk of the page's class that an item of the page can be taken to, as the hand saw
+-- by the hand's looks, this is the first free chunk of the page's class that can take an item of the page
 pub record SeesTarget (slabs : SlabState) (looks : List Look) (page : ℕ) (chunk : ChunkId) : Type 0 where
   pub before : List ChunkId
   pub after : List ChunkId
@@ -35,7 +35,7 @@ pub record SeesTarget (slabs : SlabState) (looks : List Look) (page : ℕ) (chun
   pub last : seen_head looks chunk ≡ Some seen
   pub unused : seen.issue < most_issue
 
--- what the hand saw is so, and allows its steps
+-- what the hand saw holds, and allows the hand's steps
 pub record IsJudged (m : Moment) (hand : ℕ) : Type 0 where
   -- the header of the chunk that is handed out next is the one that was seen
   pub next : (class : ℕ) (chunk : ChunkId) (seen : Head) → is_class m.state.table class ≡ true → next_free m.state class ≡ Some chunk → seen_head (looks_at m.state hand) chunk ≡ Some seen →
@@ -49,10 +49,10 @@ pub record IsJudged (m : Moment) (hand : ℕ) : Type 0 where
   -- a target that was seen can be handed out in an old chunk's place
   pub pop_off : (old chunk : ChunkId) → is_on_the_move m.state.slabs old.page ≡ true → is_handed_out m.state.slabs old ≡ true → has_place m.state hand ≡ true →
       SeesTarget m.state.slabs (looks_at m.state hand) old.page chunk → can_pop_off m.state hand old ≡ true
-  -- where no target was seen there is none
+  -- where the looks show no target for a moving page, there is none
   pub none : (page : ℕ) → is_on_the_move m.state.slabs page ≡ true → sees_no_target m.state.slabs (looks_at m.state hand) page ≡ true →
       target_of m.state.table m.state.heads m.state.slabs page ≡ None
-  -- where no target was seen, and each chunk that the class handed out was found not dead, the item must leave
+  -- where the looks show no target, and no dead one among the chunks that the class handed out, the item must leave
   pub leave : (chunk : ChunkId) → is_on_the_move m.state.slabs chunk.page ≡ true → none_dead m.state.slabs (looks_at m.state hand) chunk ≡ true →
       sees_no_target m.state.slabs (looks_at m.state hand) chunk.page ≡ true → must_leave m.state.table m.state.heads m.state.slabs (looks_at m.state hand) chunk ≡ true
   -- what was seen dead is as it was seen, and can go back
@@ -66,6 +66,6 @@ pub record IsJudged (m : Moment) (hand : ℕ) : Type 0 where
   -- the key that was read of a chunk is the key of its item
   pub key : (chunk : ChunkId) (key : ℕ) → has_chunk m.state.table chunk ≡ true → fold (last_read chunk 0) None (looks_at m.state hand) ≡ Some key → key_at m.state chunk ≡ key
 
--- in every lawful moment what a hand that has the slabs lock saw is so, and allows its steps
+-- in every lawful moment what a hand that has the slabs lock saw holds, and allows its steps
 abbrev pub AllAreJudged : Type 0
 AllAreJudged = (m : Moment) → IsLawful m → (hand : ℕ) → has_slabs m.state hand ≡ true → IsJudged m hand

@@ -1,4 +1,4 @@
--- What hands said and know.
+-- What hands stored and know.
 use Rattle.std.specs.Prelude.{◌≡◌, ◌≢◌, ⊤, ℕ, ◌≤◌, true, false, List, [], length, slice_index_or, All, Contains}
 use Rattle.mc_classes.specs.Classes.{Classes}
 use Rattle.mc_pages.specs.declared.ids.ChunkId.{ChunkId}
@@ -15,12 +15,12 @@ use Rattle.mc_core.specs.Identities.{said_count}
 use Rattle.mc_core.specs.State.{room_in, has_chunk}
 use Rattle.mc_core.specs.Columns.{head_in, Shows, Each, IsHandedOut}
 
--- some hand said these words with this stamp
+-- some hand stored these words with this stamp
 abbrev pub IsSaid : List (List Saying) → ℕ → List ℕ → Type 0
 IsSaid said stamp words = (hand : ℕ) × (s : Saying) × Contains (slice_index_or said hand []) s × (s.stamp ≡ stamp) × (s.words ≡ words)
 
--- a known item: it is whole; its chunk was handed out with this issue at the latest, no fresh chunk has it; and as long as the chunk
--- is handed out with this issue, its words are the item's, and it has the room of its page's class
+-- a known item is whole; its chunk was handed out with this issue at the latest, and no fresh chunk has it. While the chunk is handed out
+-- with this issue, its words are the item's, and it has the room of its page's class
 pub record IsTrueStill (table : Classes) (slabs : SlabState) (heads : List Head) (words : List ℕ) (holdings : List (List Holding)) (k : Known) : Type 0 where
   pub inside : has_chunk table k.chunk ≡ true
   pub whole : length k.words ≡ length_of k.words
@@ -29,8 +29,8 @@ pub record IsTrueStill (table : Classes) (slabs : SlabState) (heads : List Head)
   pub room : IsHandedOut (head_in table heads k.chunk) k.issue → room_in table (class_of_page slabs k.chunk.page) ≡ k.room
   pub apart : Each (λ holding. is_fresh holding ≡ true → holding.chunk ≡ k.chunk → holding.issue ≡ k.issue → ⊥) holdings
 
--- known: a stamp was said once at most; a known item was said, is true still, and is the only one of its chunk and issue; and each reference, and
--- each linked chunk, is known
+-- knowledge: a stamp was stored once at most. A known item was stored, is true still, and is the only one of its chunk and issue. Each
+-- reference and each linked chunk is known
 pub record AreKnown (table : Classes) (slabs : SlabState) (heads : List Head) (words : List ℕ) (holdings : List (List Holding)) (said : List (List Saying)) (known : List (List Known)) : Type 0 where
   pub once : (stamp : ℕ) → said_count stamp said ≤ 1
   pub agree : Each (λ k. (words : List ℕ) → IsSaid said (stamp_of k.words) words → words ≡ k.words) known
@@ -43,8 +43,8 @@ pub record AreKnown (table : Classes) (slabs : SlabState) (heads : List Head) (w
   -- each linked chunk is known to some hand
   pub linked : (chunk : ChunkId) → has_chunk table chunk ≡ true → (head_in table heads chunk).tag ≡ Linked → IsKnownToSome known (λ k. (k.chunk ≡ chunk) × (k.issue ≡ (head_in table heads chunk).issue))
 
--- what a fresh chunk is for: a copy is off the page of the chunk that it is to be a copy of; and the words of an item that is being
--- rescued were said with its stamp
+-- the holding's purpose is sound: a copy is off its original's page, and the words of an item that is being rescued are whole and were
+-- stored with their stamp
 abbrev pub IsRescue : List (List Saying) → ChunkId → Kind → Type 0
 IsRescue said chunk (Fresh (Copy old) own) = chunk.page ≢ old.page
 IsRescue said chunk (Fresh (Rescue old item) own) = (length item ≡ length_of item) × IsSaid said (stamp_of item) item × (chunk.page ≢ old.page)

@@ -46,11 +46,11 @@ LegalIn m = AreLegal m.state.stripes m.state.stripe_locks
 abbrev pub HandsIn : Moment → Type 0
 HandsIn m = AreHands m.state.ids m.state.slabs_lock m.state.stripe_locks m.state.holdings m.state.looks
 
--- in this moment there is a row for each hand, and in that of a live one a history for each stripe
+-- in this moment there is a row for each hand, and a live hand's row has a history for each stripe
 abbrev pub RowsIn : Moment → Type 0
 RowsIn m = HaveRows m.state.ids (length m.state.stripes) m.past
 
--- in this moment a number is one hand's at most, and the stamps that hands said are counted without a gap
+-- in this moment a number is one hand's at most, and the stamps that hands stored are counted without a gap
 abbrev pub NumberedIn : Moment → Type 0
 NumberedIn m = AreNumbered m.state.ids m.past.mine m.past.said m.past.known
 
@@ -64,15 +64,15 @@ IsSeenBy state past hand =
 abbrev pub SeenIn : Moment → Type 0
 SeenIn m = (hand : ℕ) → has_slabs m.state hand ≡ true → IsSeenBy m.state m.past hand
 
--- in this moment a known item is whole, was said, and stands in its chunk while that is handed out with its issue
+-- in this moment a known item is whole, was stored, and is in its chunk while the chunk is handed out with the item's issue
 abbrev pub KnownIn : Moment → Type 0
 KnownIn m = AreKnown m.state.table m.state.slabs m.state.heads m.state.words m.state.holdings m.past.said m.past.known
 
--- in this moment a chunk for a copy is off the old one's page, and what is being rescued was said with its stamp
+-- in this moment a chunk for a copy is off its original's page, and an item that is being rescued was stored with its stamp
 abbrev pub RescuedIn : Moment → Type 0
 RescuedIn m = Each (λ holding. IsRescue m.past.said holding.chunk holding.kind) m.state.holdings
 
--- in this moment a hand's own calls are the histories', which begin with what was seen and store what was said
+-- in this moment a hand's own calls are the histories', which begin with what the hand saw and have the stamps that hands stored
 abbrev pub ToldIn : Moment → Type 0
 ToldIn m = AreTold m.state.stripes m.past.mine m.past.seen m.past.said
 
@@ -93,7 +93,7 @@ pub record IsLawful (moment : Moment) : Type 0 where
   pub rescued : RescuedIn moment
   pub told : ToldIn moment
 
--- *kept*: the chunk of a holding is handed out with its issue, has its words, and its page belongs to a class or moves away from one
+-- *kept*: the chunk of a holding is handed out with its issue and has its words; its page belongs to a class or moves away from one
 pub record IsKept (state : State) (holding : Holding) : Type 0 where
   pub handed_out : IsHandedOut (head_in state.table state.heads holding.chunk) holding.issue
   pub shows : Shows state.table state.slabs state.words holding.chunk (words_of holding)

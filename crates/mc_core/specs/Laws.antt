@@ -1,4 +1,4 @@
--- What the laws say: each change and each step that is allowed in a lawful moment keeps each clause.
+-- What the laws state: each change and each step that is allowed in a lawful moment keeps each clause.
 use Rattle.std.specs.Prelude.{◌≡◌, ⊤, ℕ, ◌≤◌, true, List, [], ◌∷◌, Ok}
 use Rattle.mc_classes.specs.Classes.{Classes, IsSound}
 use Rattle.mc_pages.specs.declared.ids.ChunkId.{ChunkId}
@@ -65,7 +65,7 @@ abbrev pub IsRun : Moment → List Event → Type 0
 IsRun moment [] = ⊤
 IsRun moment (event ∷ events) = (is_allowed moment.state event ≡ true) × IsRun (moment_after moment event) events
 
--- where events are played to the end they are a run, and their state is that of its last moment
+-- where events are played to the end, they are a run, and their state is that of the run's last moment
 abbrev pub ArePlayed : List Event → Type 0
 ArePlayed events = (moment : Moment) (state : State) → play moment.state events ≡ Ok state → IsRun moment events × ((moment_at_end moment events).state ≡ state)
 

@@ -1,4 +1,4 @@
--- What hands know changes row by row: each hand's knowledge after a step is told by what it knew and by the step alone.
+-- What hands know changes row by row: a hand's knowledge after a step follows from what it knew and from the step alone.
 use Rattle.std.specs.Prelude.{◌≡◌, ◌≢◌, ℕ, [], ◌++◌}
 use Rattle.mc_core.specs.declared.event.Change.{Change}
 use Rattle.mc_core.specs.declared.event.Step.{Step}
@@ -6,15 +6,15 @@ use Rattle.mc_core.specs.declared.event.Step.TheVariants.{Join}
 use Rattle.mc_core.specs.Past.{Moment, Knowledge, no_hold, longer_each, knowledge_at, knowledge_after, own_calls_after, moment_changed, moment_stepped}
 use Rattle.mc_core.specs.Laws.{MayChange, MayStep}
 
--- what the first of two hands knows, after it took the second over
+-- the knowledge of the first of two hands, after it took the second over
 abbrev pub both_know : Knowledge → Knowledge → Knowledge
 both_know a b = record a { mine = a.mine ++ b.mine; seen = longer_each a.seen b.seen; said = a.said ++ b.said; known = a.known ++ b.known }
 
--- what a hand knows that is gone
+-- the knowledge of a hand that is gone
 abbrev pub knows_nothing : Knowledge
 knows_nothing = record { saw = []; hold = no_hold; mine = []; seen = []; said = []; known = [] }
 
--- a change tells the hand of its own calls alone, a step of what is learned, and a join of both
+-- a change adds to the hand's own calls alone, a step adds what it teaches, and a join gives one hand the knowledge of both
 pub record AreLearned : Type 0 where
   pub changes : (moment : Moment) (hand : ℕ) (change : Change) → MayChange moment hand change →
       let now = moment_changed moment hand change in

@@ -39,7 +39,7 @@ can_take_slabs state = state.slabs_lock == 0
 abbrev pub after_take_slabs : State → ℕ → State
 after_take_slabs state hand = with_looks (record state { slabs_lock = lock_word state hand }) hand []
 
--- there is such a stripe, and no hand has its lock
+-- there is such a stripe, and no hand has the stripe's lock
 abbrev pub can_take_stripe : State → ℕ → Bool
 can_take_stripe state stripe = has_stripes state stripe && slice_index state.stripe_locks stripe == 0
 

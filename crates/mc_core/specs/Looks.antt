@@ -7,7 +7,7 @@ use Rattle.mc_core.specs.declared.look.Look.{Look}
 use Rattle.mc_core.specs.declared.look.Look.TheVariants.{Saw, Popped, PoppedOff, Condemned, PutBack, Cleared}
 use Rattle.mc_core.specs.Head.{is_dead, is_linked}
 
--- the chunk was found linked, and neither put back nor cleared since: after this look, by whether it was so before it
+-- after this look: the chunk was found linked, and neither put back nor cleared since; `before` is the answer before the look
 abbrev pub stays_linked : ChunkId → Bool → Look → Bool
 stays_linked chunk before (Saw seen head) = before || is_chunk seen chunk && is_linked head.tag
 stays_linked chunk before (PutBack seen head) = before && not (is_chunk seen chunk)
@@ -18,8 +18,8 @@ stays_linked chunk before look = before
 abbrev pub was_linked : List Look → ChunkId → Bool
 was_linked looks chunk = fold (stays_linked chunk) false looks
 
--- the last look at the chunk found it not dead, and nothing was handed out, condemned or cleared since: after this look, by whether it was so
--- before it
+-- after this look: the last look at the chunk found it not dead, and nothing was handed out, condemned or cleared since; `before` is the
+-- answer before the look
 abbrev pub stays_alive : ChunkId → Bool → Look → Bool
 stays_alive chunk before (Saw seen head) = if is_chunk seen chunk then not (is_dead head) else before
 stays_alive chunk before (Popped seen head) = false

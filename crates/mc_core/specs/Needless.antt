@@ -19,11 +19,11 @@ use Rattle.mc_core.specs.Lawful.{IsLawful}
 abbrev pub most_count : ℕ
 most_count = 1 + 64 * most_holdings
 
--- what the law says of headers that events find
+-- what the law proves of headers that events find
 pub record AreNeedless (m : Moment) : Type 0 where
   -- a count is far below what fits
   pub most : (chunk : ChunkId) → has_chunk m.state.table chunk ≡ true → (head_at m.state chunk).count ≤ most_count
-  -- there is room in a count for one more
+  -- a count has room for one more
   pub room : (chunk : ChunkId) → has_chunk m.state.table chunk ≡ true → can_count (head_at m.state chunk) ≡ true
   -- a header is one word
   pub fits : (chunk : ChunkId) → has_chunk m.state.table chunk ≡ true → FitsBits (head_at m.state chunk)
@@ -33,14 +33,14 @@ pub record AreNeedless (m : Moment) : Type 0 where
   -- a target is free
   pub target : (page : ℕ) (chunk : ChunkId) → is_on_the_move m.state.slabs page ≡ true → target_of m.state.table m.state.heads m.state.slabs page ≡ Some chunk →
       (has_chunk m.state.table chunk ≡ true) × ((head_at m.state chunk).tag ≡ Free)
-  -- what is dead is in its class's hand-out order
+  -- each dead chunk is in its class's hand-out order
   pub dead : (chunk : ChunkId) → has_chunk m.state.table chunk ≡ true → is_dead (head_at m.state chunk) ≡ true → is_handed_out m.state.slabs chunk ≡ true
-  -- what is free or dead is in one of its class's lists
+  -- each free or dead chunk is in one of its class's lists
   pub unused : (chunk : ChunkId) → has_chunk m.state.table chunk ≡ true → (is_free (head_at m.state chunk).tag || is_dead (head_at m.state chunk)) ≡ true →
       is_listed m.state.slabs (class_of_page m.state.slabs chunk.page) chunk ≡ true
   -- what is cut next is out
   pub uncut : (chunk : ChunkId) → m.state.slabs.uncut ≡ Some chunk → (has_chunk m.state.table chunk ≡ true) × ((head_at m.state chunk).tag ≡ Out)
-  -- where a key leads is linked
+  -- the chunk to which a key leads is linked
   pub entry : (key : ℕ) (place : ChunkId × ℕ) → chunk_of m.state key ≡ Some place → (has_chunk m.state.table place.0 ≡ true) × ((head_at m.state place.0).tag ≡ Linked)
   -- what a hand fills isn't linked
   pub fresh : (hand : ℕ) (chunk : ChunkId) (holding : Holding) → holding_of chunk (holdings_at m.state hand) ≡ Some holding → is_fresh holding ≡ true →

@@ -28,7 +28,7 @@ pub data Sight : Type 0 where
   slabs_word : ℕ → Sight
   stripe_word : ℕ → ℕ → Sight
 
--- a stamp, and the words that were said with it
+-- a stamp, and the words that a hand stored with it
 pub record Saying : Type 0 where
   pub stamp : ℕ
   pub words : List ℕ
@@ -40,7 +40,7 @@ pub record Known : Type 0 where
   pub room : ℕ
   pub words : List ℕ
 
--- some hand knows such an item
+-- some hand knows an item with this property
 abbrev pub IsKnownToSome : List (List Known) → (Known → Type 0) → Type 0
 IsKnownToSome known P = (hand : ℕ) × (k : Known) × Contains (slice_index_or known hand []) k × P k
 
@@ -50,8 +50,8 @@ pub record StripeHold : Type 0 where
   pub found : Option ReadyStripe
   pub left : Option ReadyStripe
 
--- holds of locks: of the slabs lock pages and lists as the last one began and as the last one ended, and how many there were; and of stripes,
--- where the first that is of a stripe tells of its last one
+-- a hand's holds of locks. For the slabs lock: how the last hold found and left pages and lists, and how many holds there were. For stripes
+-- a list, in which the first entry of a stripe is its last hold
 pub record Hold : Type 0 where
   pub found : SlabState
   pub left : SlabState
@@ -63,8 +63,8 @@ pub record Own : Type 0 where
   pub number : ℕ
   pub calls : List (List Call)
 
--- of each hand: all words that its looks found; its holds of locks; its numbers with their calls; for each stripe the history that
--- it saw; what it said; and the items that it ever held
+-- for each hand, six rows: the words that its looks found; its holds of locks; its numbers with their calls; the history of each stripe
+-- that it saw; what it stored; and the items that it ever held
 pub record Past : Type 0 where
   pub saw : List (List Sight)
   pub holds : List Hold
@@ -79,7 +79,7 @@ pub record Moment : Type 0 where
   pub past : Past
 
 module _ {X : Type 0} where
-  -- in the row of a hand these entries stand behind all others
+  -- the rows, where these entries are behind all others in the row of the hand
   abbrev pub with_more : List (List X) → ℕ → List X → List (List X)
   with_more rows hand more = slice_set rows hand (slice_index_or rows hand [] ++ more)
 
@@ -90,20 +90,20 @@ sights_of state (MissStripe stripe) = stripe_word stripe (slice_index state.stri
 sights_of state (step.Head chunk) = header chunk (head_at state chunk) ∷ []
 sights_of state other = []
 
--- what is told last of this stripe
+-- the last hold of this stripe; where there was none, a hold that found and left nothing
 abbrev pub last_of : ℕ → List StripeHold → StripeHold
 last_of stripe [] = record { stripe = stripe; found = None; left = None }
 last_of stripe (one ∷ others) = if one.stripe == stripe then one else last_of stripe others
 
--- this stripe was taken, with this value
+-- the holds after the hand took this stripe, which had this value
 abbrev pub begin_hold : ℕ → ReadyStripe → Hold → Hold
 begin_hold stripe value hold = record hold { stripes = record { stripe = stripe; found = Some value; left = (last_of stripe hold.stripes).left } ∷ hold.stripes }
 
--- this stripe was given back, with this value
+-- the holds after the hand gave this stripe back with this value
 abbrev pub end_hold : ℕ → ReadyStripe → Hold → Hold
 end_hold stripe value hold = record hold { stripes = record { stripe = stripe; found = (last_of stripe hold.stripes).found; left = Some value } ∷ hold.stripes }
 
--- the hand's holds after its step: one begins as a lock is taken, and ends as it is given back
+-- the hand's holds after its step: a hold begins where the hand takes a lock, and ends where it gives the lock back
 abbrev pub hold_after : State → Step → Hold → Hold
 hold_after state TakeSlabs hold = record hold { found = state.slabs; count = hold.count + 1 }
 hold_after state GiveSlabs hold = record hold { left = state.slabs }
@@ -111,17 +111,17 @@ hold_after state (TakeStripe stripe) hold = begin_hold stripe (stripe_at state s
 hold_after state (GiveStripe stripe) hold = end_hold stripe (stripe_at state stripe) hold
 hold_after state other hold = hold
 
--- the item's stamp and words, unless it was rescued
+-- the item's stamp and words; nothing where the item was rescued
 abbrev pub saying_of : Kind → Words → List Saying
 saying_of (Fresh (Rescue old item) own) words = []
 saying_of kind words = record { stamp = stamp_in words; words = numbers (item_in words) } ∷ []
 
--- what the link of this holding says: nothing where its item was rescued, or where there is none
+-- what the link of this holding stores: nothing where the item is rescued, or where there is no holding
 abbrev pub said_by : Option Holding → List Saying
 said_by None = []
 said_by (Some holding) = saying_of holding.kind (words_of holding)
 
--- what a step says: a link what its holding says, and any other step nothing
+-- what a step stores: a link the words of its holding, and any other step nothing
 abbrev pub sayings_of : State → ℕ → Step → List Saying
 sayings_of state hand (Link chunk) = said_by (holding_of chunk (holdings_at state hand))
 sayings_of state hand other = []
@@ -155,7 +155,7 @@ history_at state stripe = (stripe_at state stripe).state.history
 abbrev pub new_calls : State → State → ℕ → List Call
 new_calls before now stripe = drop (length (history_at before stripe)) (history_at now stripe)
 
--- these lists of calls, of the stripes from this place on, each with the calls that came into its stripe's history
+-- the lists of calls of the stripes from this place on, each with the new calls of its stripe at the end
 abbrev pub told : State → State → ℕ → List (List Call) → List (List Call)
 told before now place [] = []
 told before now place (calls ∷ rows) = (calls ++ new_calls before now place) ∷ told before now (place + 1) rows
@@ -181,16 +181,16 @@ longer_each [] ys = ys
 longer_each (x ∷ xs) [] = x ∷ xs
 longer_each (x ∷ xs) (y ∷ ys) = longer x y ∷ longer_each xs ys
 
--- pages and lists of no class, which stand for those of a hold that never was
+-- pages and lists of no class, in place of those of a hold that never was
 abbrev pub no_slabs : SlabState
 no_slabs = fresh_slabs (record { page = 0; limit = 0; sizes = [] })
 
--- of a hand that never had a lock, or is gone: one constant, whatever the classes are
+-- the holds of a hand that never had a lock, or is gone: one constant, whatever the classes are
 abbrev pub no_hold : Hold
 no_hold = record { found = no_slabs; left = no_slabs; count = 0; stripes = [] }
 
--- the first hand has the numbers and calls, sayings and items of both, and saw of each history the longer that either saw; the second knows nothing
--- any more
+-- the first hand has the numbers, calls, stored words and items of both, and saw of each history the longer that either saw. The second
+-- knows nothing any more
 abbrev pub joined : Past → ℕ → ℕ → Past
 joined past kept spent = record {
   saw = slice_set past.saw spent [];
@@ -226,7 +226,7 @@ knowledge_at past hand = record {
   known = slice_index_or past.known hand [];
 }
 
--- this hand now knows this, and each other what it knew
+-- the past where this hand knows this, and each other hand what it knew
 abbrev pub with_knowledge : Past → ℕ → Knowledge → Past
 with_knowledge past hand knows = record {
   saw = slice_set past.saw hand knows.saw;
@@ -280,7 +280,7 @@ moment_stepped moment hand step =
 abbrev pub moment_after : Moment → Event → Moment
 moment_after moment event = moment_stepped (moment_changes moment event.hand event.before) event.hand event.step
 
--- nobody saw or said anything; each hand has its number
+-- the past at the beginning: no hand saw or stored anything, and each has its number
 abbrev pub no_past : ℕ → ℕ → Past
 no_past stripes hands = record {
   saw = replicate hands [];

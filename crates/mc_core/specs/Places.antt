@@ -37,7 +37,7 @@ pub record ArePlaced (table : Classes) (slabs : SlabState) (heads : List Head) :
   pub order : (class : ℕ) (chunk : ChunkId) → IsClass slabs class →
       times chunk (class_at slabs class).order
       ≡ truth (is_cut slabs class chunk && (not (is_free (head_in table heads chunk).tag) && not (is_out (head_in table heads chunk).tag)))
-  -- a cut chunk is out where its page moves alone
+  -- a cut chunk is out only while its page moves
   pub cleared : (class : ℕ) (chunk : ChunkId) → IsClass slabs class → is_cut slabs class chunk ≡ true → (head_in table heads chunk).tag ≡ Out →
       is_moving (owner_at slabs.owners chunk.page) ≡ true
   -- what isn't cut is out

@@ -1,4 +1,4 @@
--- Why an item may be taken away, in words of their own.
+-- Why an item may be taken away, in other words than the tests that decide.
 use Rattle.std.specs.Prelude.{◌≡◌, ◌≢◌, ◌⊎◌, ℕ, ◌-◌, ◌/◌, ◌^◌, ◌≤◌, Bool, true, false, List, [], ◌∷◌, ◌++◌, length, Some, None, All, Contains}
 use Rattle.mc_pages.specs.declared.ids.ChunkId.{ChunkId}
 use Rattle.mc_pages.specs.declared.ids.Moving.{Moving}
@@ -40,8 +40,8 @@ pub record WasFoundAlive (looks : List Look) (chunk : ChunkId) : Type 0 where
   pub alive : head.tag ≡ Unlinked → head.count ≡ 0 → ⊥
   pub quiet : All (λ look. (takes look ≡ false) × (sees chunk look ≡ false)) since
 
--- the hand has the slabs lock, and under this hold found each chunk that the class handed out not dead, and handed out, condemned and cleared
--- nothing since
+-- the hand has the slabs lock, and under this hold found each chunk that the class handed out not dead; since then it handed out, condemned
+-- and cleared nothing
 abbrev pub IsSwept : State → ℕ → ℕ → Type 0
 IsSwept state hand class = (has_slabs state hand ≡ true) × All (WasFoundAlive (looks_at state hand)) (class_at state.slabs class).order
 
@@ -49,11 +49,12 @@ IsSwept state hand class = (has_slabs state hand ≡ true) × All (WasFoundAlive
 abbrev pub Moves : SlabState → ℕ → Type 0
 Moves slabs page = (move : Moving) × (slabs.moving ≡ Some move) × (move.page ≡ page)
 
--- each free chunk of the class is on this page, or its issue numbers are used up
+-- each free chunk of the class is on this page, or has used up its issue numbers
 abbrev pub HasNoneOff : State → ℕ → ℕ → Type 0
 HasNoneOff state class page = All (λ (chunk : ChunkId). chunk.page ≢ page → 2 ^ 46 - 1 ≤ (head_at state chunk).issue) (class_at state.slabs class).free
 
--- the class has no free chunk, no page is pooled, left within the limit or half cut, and the class has a page, so it gets none beyond it
+-- the class has no free chunk; no page is pooled, left within the limit or half cut; and the class has a page, so that the grace isn't open
+-- to it
 pub record IsOutOfRoom (state : State) (class : ℕ) : Type 0 where
   pub none_free : (class_at state.slabs class).free ≡ []
   pub none_pooled : state.slabs.pool ≡ []
@@ -73,7 +74,7 @@ pub record HasCopyOff (state : State) (hand : ℕ) (chunk : ChunkId) : Type 0 wh
 abbrev pub MustGo : State → ℕ → Type 0
 MustGo state page = (Moves state.slabs page × HasNoneOff state (class_of_page state.slabs page) page) ⊎ IsOutOfRoom state (class_of_page state.slabs page)
 
--- the item goes to a copy, off its moving page; or, after a sweep of its class, it must go. And whatever is to be a copy of it is off its page
+-- the item goes to a copy, off its moving page; or, after a sweep of its class, the item must go. And each copy of the item is off its page
 pub record IsReasoned (state : State) (hand : ℕ) (chunk : ChunkId) : Type 0 where
   pub reason : (Moves state.slabs chunk.page × HasCopyOff state hand chunk) ⊎ (IsSwept state hand (class_of_page state.slabs chunk.page) × MustGo state chunk.page)
   pub copies : All (λ copy. (words : Words) → copy.kind ≡ Fresh (Copy chunk) words → copy.chunk.page ≢ chunk.page) (holdings_at state hand)

@@ -1,4 +1,4 @@
--- Worked runs.
+-- Worked runs of events, which the prover plays.
 use Rattle.std.specs.Prelude.{ℕ, ◌*◌, Bool, List, [], ◌∷◌, ◌++◌, map, Option, Some, Result, Ok, Err}
 use Rattle.std.specs.List.{range_with_len}
 use Rattle.std.specs.Option.{option_map}
@@ -24,11 +24,11 @@ four_classes = record { page = 1024; limit = 4096; sizes = 48 ∷ 96 ∷ 192 ∷
 abbrev pub does : List Change → Step → Event
 does before step = record { hand = 0; before = before; step = step }
 
--- so many chunks of page 0 are cut, from this index on
+-- n events that cut chunks of page 0, from this index on
 abbrev pub cuts_from : ℕ → ℕ → List Event
 cuts_from first count = map (λ index. does [] (Cut 0 index)) (range_with_len first count)
 
--- class 1 gets page 0, and its first chunk and so many more are cut
+-- class 1 gets page 0, of which the first chunk and n more are cut
 abbrev pub grows : ℕ → List Event
 grows more = does [] TakeSlabs ∷ does (Grow 1 ∷ []) (Cut 0 0) ∷ cuts_from 1 more ++ does [] GiveSlabs ∷ []
 
@@ -37,7 +37,7 @@ abbrev pub ledger_of : Result State ℕ → Result (List Entry) ℕ
 ledger_of (Ok state) = Ok state.slabs.ledger
 ledger_of (Err place) = Err place
 
--- the ledger after one hand did this over the four classes, or the place of the first event that isn't allowed
+-- the ledger after one hand made these events over the four classes, or the place of the first event that isn't allowed
 abbrev pub played : List Event → Result (List Entry) ℕ
 played events = ledger_of (play (new_state four_classes 4 1 0) events)
 
@@ -47,12 +47,12 @@ abbrev pub pops_from : ℕ → Result (List Entry) ℕ
 pops_from start = ledger_of (play (new_state four_classes 4 1 start) (grows 20 ++ does [] TakeSlabs ∷ does [] (Pop 1) ∷ does [] (Discard (record { page = 0; index = 20 })) ∷
     does [] (PutBack (record { page = 0; index = 20 })) ∷ does [] (Pop 1) ∷ []))
 
--- so many pages of 64 bytes, and one class of 32 bytes
+-- classes of n pages of 64 bytes, with one class of 32 bytes
 abbrev pub one_class : ℕ → Classes
 one_class pages = record { page = 64; limit = pages * 64; sizes = 32 ∷ [] }
 
--- the ledger after one hand took both locks of an arena of so many pages and one stripe, and did this; or the place of the first event that isn't
--- allowed
+-- the ledger after one hand took both locks of an arena of n pages and one stripe, and these events; or the place of the first event that
+-- isn't allowed
 abbrev pub played_on : ℕ → List Event → Result (List Entry) ℕ
 played_on pages events = ledger_of (play (new_state (one_class pages) 1 1 0) (does [] TakeSlabs ∷ does [] (TakeStripe 0) ∷ events))
 
@@ -84,7 +84,7 @@ full_page = gets 0 ++ stores (chunk_at 0 1) 1 ++ stores (chunk_at 0 0) 2
 abbrev pub takes_away : ChunkId → List Event
 takes_away chunk = does (OfStripe 0 Reserve ∷ []) (Condemn chunk) ∷ []
 
--- both chunks of a page are looked at
+-- the hand looks at both chunks of a page
 abbrev pub looks_at : ℕ → List Event
 looks_at page = does [] (Head (chunk_at page 1)) ∷ does [] (Head (chunk_at page 0)) ∷ []
 
@@ -113,16 +113,17 @@ rescues =
 abbrev pub ends : List Event
 ends = does (FinishMove ∷ []) GiveSlabs ∷ does [] (GiveStripe 0) ∷ []
 
--- the item is deleted, a chunk is handed out for a copy of it, its page leaves the class and comes again, and a new item stands in its chunk
+-- the item is deleted, and a chunk is handed out for its copy; its page leaves the class and comes again, and its chunk has a new item
 abbrev pub comes_again : List Event
 comes_again =
     does (OfStripe 0 Reserve ∷ []) (Unlink 1) ∷ begins_rescue ++ does [] (Clear (chunk_at 0 1)) ∷ does [] (Clear (chunk_at 0 0)) ∷ does (FinishMove ∷ Grow 1 ∷ []) (Cut 0 0) ∷ does [] (Cut 0 1) ∷ stores (chunk_at 0 1) 2
 
--- so many pages of 64 bytes within the limit, one class of 32 bytes and one of 64
+-- classes of n pages of 64 bytes within the limit, with one class of 32 bytes and one of 64
 abbrev pub two_classes : ℕ → Classes
 two_classes pages = record { page = 64; limit = pages * 64; sizes = 32 ∷ 64 ∷ [] }
 
--- what one hand left that took the lock of the slabs of an arena of so many pages within the limit and two classes, and did this
+-- the state after one hand took the slabs lock of an arena of n pages within the limit and two classes, and these events; or the place of
+-- the first that isn't allowed
 abbrev pub left_by : ℕ → List Event → Result State ℕ
 left_by pages events = play (new_state (two_classes pages) 1 1 0) (does [] TakeSlabs ∷ events)
 
@@ -144,8 +145,7 @@ abbrev pub moment_behind : Moment → List Event → Moment
 moment_behind moment [] = moment
 moment_behind moment (event ∷ events) = moment_behind (moment_after moment event) events
 
--- whether there was room for a call in this stripe, as hand 0 last took it and as it last gave it back, after it did this in an arena of two
--- stripes
+-- after these events in an arena of two stripes: whether this stripe had room for a call, as hand 0 last took it and last gave it back
 abbrev pub room_in_hold : ℕ → List Event → Option Bool × Option Bool
 room_in_hold stripe events =
     let hold = last_of stripe (knowledge_at (moment_behind (first_moment (one_class 1) 2 1 0) events).past 0).hold.stripes in

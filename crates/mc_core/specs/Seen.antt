@@ -15,7 +15,7 @@ use Rattle.mc_core.specs.State.{room_in, has_chunk}
 use Rattle.mc_core.specs.Silent.{slabs_after}
 use Rattle.mc_core.specs.Columns.{head_in, place_in, IsHandedOut}
 
--- the header of this look, where it is at this chunk, and else the one before it
+-- the header of this look, if the look is at this chunk, and else the one before
 abbrev pub newer : ChunkId → ChunkId → Head → Option Head → Option Head
 newer chunk seen head before = if is_chunk seen chunk then Some head else before
 
@@ -70,8 +70,8 @@ pub record IsReadStill (table : Classes) (slabs : SlabState) (words : List ℕ) 
   pub within : place < room_in table (class_of_page slabs chunk.page)
   pub linked : is_some (fold (linked_issue chunk) None looks) ≡ true
 
--- looks: under a hold of the slabs lock, what the hand last saw or wrote of each header holds still, and so do the words that it
--- read; and what it did to pages and lists since it found them gave those of now
+-- looks: under a hold of the slabs lock, the headers that the hand last saw or wrote hold still, and so do the words that it read. Its
+-- changes of pages and lists since the hold began gave the present ones
 pub record AreSeen (table : Classes) (slabs : SlabState) (heads : List Head) (words : List ℕ) (known : List (List Known)) (found : SlabState) (looks : List Look) : Type 0 where
   pub last_heads : (chunk : ChunkId) (seen : Head) → has_chunk table chunk ≡ true → seen_head looks chunk ≡ Some seen → IsStill (head_in table heads chunk) seen
   pub linked : (chunk : ChunkId) (issue : ℕ) → has_chunk table chunk ≡ true → fold (linked_issue chunk) None looks ≡ Some issue →

@@ -22,23 +22,23 @@ use Rattle.mc_core.specs.declared.event.StripeChange.TheVariants.{Reserve, Reser
 use Rattle.mc_core.specs.declared.look.Look.TheVariants.{Changed}
 use Rattle.mc_core.specs.State.{State, is_class, number_at, has_slabs, has_stripe, stripe_of, stripe_at, with_stripe, with_slabs, with_look}
 
--- the chunk stands in the list
+-- the chunk is in the list
 abbrev pub is_among : List ChunkId → ChunkId → Bool
 is_among chunks chunk = list_any (λ c. is_chunk c chunk) chunks
 
--- the chunk stands in the hand-out order of the class that has its page
+-- the chunk is in the hand-out order of the class that has its page
 abbrev pub is_handed_out : SlabState → ChunkId → Bool
 is_handed_out slabs chunk = is_among (class_of_chunk slabs chunk).order chunk
 
--- the chunk stands on the free list or in the hand-out order of the class
+-- the chunk is in the free list or in the hand-out order of the class
 abbrev pub is_listed : SlabState → ℕ → ChunkId → Bool
 is_listed slabs class chunk = is_among (class_at slabs class).free chunk || is_among (class_at slabs class).order chunk
 
--- some chunk of the page stands in the list
+-- some chunk of the page is in the list
 abbrev pub has_page : List ChunkId → ℕ → Bool
 has_page chunks page = list_any (λ c. c.page == page) chunks
 
--- some chunk of the page stands on the free list or in the hand-out order of the class
+-- some chunk of the page is in the free list or in the hand-out order of the class
 abbrev pub has_listed : SlabState → ℕ → ℕ → Bool
 has_listed slabs class page = has_page (class_at slabs class).free page || has_page (class_at slabs class).order page
 
@@ -46,11 +46,11 @@ has_listed slabs class page = has_page (class_at slabs class).free page || has_p
 abbrev pub none_half_cut : SlabState → Bool
 none_half_cut slabs = is_none slabs.uncut
 
--- the class may get a page: there is such a class, no page is half cut, and one is to be had for it
+-- the class may get a page: the table has the class, no page is half cut, and there is a page for the class
 abbrev pub can_grow : Classes → SlabState → ℕ → Bool
 can_grow table slabs class = is_class table class && none_half_cut slabs && is_some (next_page slabs class)
 
--- a move runs, no page is half cut, and no chunk of the moving page stands in a list of its source
+-- a move runs, no page is half cut, and no chunk of the moving page is in a list of the move's source
 abbrev pub can_finish : SlabState → Option Moving → Bool
 can_finish slabs None = false
 can_finish slabs (Some move) = none_half_cut slabs && not (has_listed slabs move.src move.page)
@@ -60,7 +60,7 @@ abbrev pub run_of : Classes → Option Moving → Option (Moving × ℕ)
 run_of table None = None
 run_of table (Some move) = Some (move, per_page_of table move.src)
 
--- the chunk at the move's position was cut, and stands in no list of the move's source
+-- the chunk at the move's position was cut, and is in no list of the move's source
 abbrev pub is_cleared_at : SlabState → ℕ → Moving → Bool
 is_cleared_at slabs per_page move =
     nat_lt move.at (cut_count slabs.uncut move.page per_page) && not (is_listed slabs move.src (chunk_at_position move))
@@ -115,18 +115,18 @@ slabs_after slabs change = slabs
 abbrev pub is_aside : StripeState → ℕ → Bool
 is_aside stripe key = option_map_or (λ other. other == key) (key_aside stripe) false
 
--- there is room for a call, the key leads nowhere, and its entry isn't aside
+-- the stripe has room for a call, the key leads nowhere, and the key's entry isn't aside
 abbrev pub can_tell_none : ReadyStripe → ℕ → Bool
 can_tell_none stripe key = stripe.ready && not (is_aside stripe.state key) && is_none (place_of stripe.state key)
 
--- a stripe may be changed so: trimmed only where the place of the next call can be counted, if calls are recorded
+-- the change of the stripe is allowed: a trim only where the place of the next call can be counted, if calls are recorded
 abbrev pub can_change_stripe : StripeChange → StripeState → Bool
 can_change_stripe Reserve stripe = true
 can_change_stripe ReserveCall stripe = true
 can_change_stripe Trim stripe = is_none stripe.recorded_from || nat_lt (length stripe.history) (2 ^ 64)
 can_change_stripe Forget stripe = true
 
--- a stripe after such a change
+-- a stripe after this change
 abbrev pub stripe_after : StripeChange → ReadyStripe → ReadyStripe
 stripe_after Reserve stripe = after_reserve stripe
 stripe_after ReserveCall stripe = after_reserve_call stripe
@@ -163,10 +163,10 @@ abbrev pub after_changes : State → ℕ → List Change → State
 after_changes state hand [] = state
 after_changes state hand (change ∷ changes) = after_changes (after_change state hand change) hand changes
 
--- the stripe after it was told of a key that isn't there: that it was deleted, or else looked up
+-- the stripe after it recorded a call on a key that isn't there: a delete, or else a look-up
 abbrev pub told_none : Bool → StripeState → ℕ → ℕ → StripeState
 told_none deletes stripe writer key = if deletes then after_unlink stripe writer key else after_got stripe writer key
 
--- the change by which a stripe is told of a key that isn't there: that it was deleted, or else looked up
+-- the change by which a stripe records a call on a key that isn't there: a delete, or else a look-up
 abbrev pub call_of : Bool → ℕ → Change
 call_of deletes key = if deletes then DeletedNone key else GotNone key

@@ -43,7 +43,7 @@ most_of table = per_page_of table 1
 abbrev pub page_words : Classes → ℕ
 page_words table = table.page / 8
 
--- there is such a class; they are numbered from 1
+-- the table has this class; classes are numbered from 1
 abbrev pub is_class : Classes → ℕ → Bool
 is_class table class = nat_le 1 class && nat_le class (length table.sizes)
 
@@ -55,11 +55,11 @@ room_in table class = if is_class table class then size_of table class / 8 else 
 abbrev pub has_chunk : Classes → ChunkId → Bool
 has_chunk table chunk = nat_lt chunk.page (arena_pages_of table) && nat_lt chunk.index (most_of table)
 
--- where the header of a chunk stands among all headers
+-- the place of a chunk's header among all headers
 abbrev pub head_place : Classes → ChunkId → ℕ
 head_place table chunk = chunk.page * most_of table + chunk.index
 
--- the header that stands at the chunk's place, and that of a chunk never cut where none stands there
+-- the header at the chunk's place; where there is none, that of a chunk never cut
 abbrev pub head_at : State → ChunkId → Head
 head_at state chunk = slice_index_or state.heads (head_place state.table chunk) never_cut
 
@@ -71,11 +71,11 @@ with_head state chunk head = record state { heads = slice_set state.heads (head_
 abbrev pub room_at : State → ChunkId → ℕ
 room_at state chunk = room_in state.table (class_of_page state.slabs chunk.page)
 
--- where a word of a chunk stands among all data words
+-- the place of a chunk's word among all data words
 abbrev pub word_place : State → ChunkId → ℕ → ℕ
 word_place state chunk place = chunk.page * page_words state.table + chunk.index * room_at state chunk + place
 
--- the data word that stands at this place of the chunk; place 0 has the key
+-- the data word at this place of the chunk; place 0 has the key
 abbrev pub word_at : State → ChunkId → ℕ → ℕ
 word_at state chunk place = slice_index state.words (word_place state chunk place)
 
@@ -83,11 +83,11 @@ word_at state chunk place = slice_index state.words (word_place state chunk plac
 abbrev pub with_word : State → ChunkId → ℕ → ℕ → State
 with_word state chunk place word = record state { words = slice_set state.words (word_place state chunk place) word }
 
--- the item in a chunk: key, stamp, length, and as many words as its length says, as far as the chunk goes
+-- the item in a chunk: key, stamp, length, and as many words as the length counts, as far as the chunk goes
 abbrev pub item_at : State → ChunkId → List ℕ
 item_at state chunk = map (λ place. word_at state chunk place) (range_with_len 0 (min (3 + word_at state chunk 2) (room_at state chunk)))
 
--- what stands for a hand that another took over: no number, and no stamps
+-- the entry of a hand that another hand took over: no number, and no stamps
 abbrev pub gone : Ids
 gone = record { number = None; stamps = 0 }
 
@@ -107,7 +107,7 @@ is_hand state hand = is_some (number_at state hand)
 abbrev pub with_ids : State → ℕ → Ids → State
 with_ids state hand ids = record state { ids = slice_set state.ids hand ids }
 
--- the word of a lock says that the hand of this number has it
+-- the word of a lock records that the hand of this number has the lock
 abbrev pub is_held_by : ℕ → Option ℕ → Bool
 is_held_by word None = false
 is_held_by word (Some number) = word == number + 1

@@ -23,7 +23,7 @@ pub record Holds (moment : Moment) (hand : ℕ) (chunk : ChunkId) (issue : ℕ) 
   pub same_chunk : holding.chunk ≡ chunk
   pub same_issue : holding.issue ≡ issue
 
--- each event is allowed, and the hand holds the chunk before it and after it
+-- each event is allowed, and the hand holds the chunk before and after each
 abbrev pub KeepsHolding : Moment → ℕ → ChunkId → ℕ → List Event → Type 0
 KeepsHolding moment hand chunk issue [] = Holds moment hand chunk issue
 KeepsHolding moment hand chunk issue (event ∷ events) =
@@ -42,8 +42,8 @@ fills hand chunk event = event.hand == hand && fills_chunk chunk event.step
 abbrev pub HasSameWords : State → State → ChunkId → Type 0
 HasSameWords before now chunk = (place : ℕ) → place < room_at before chunk → word_at now chunk place ≡ word_at before chunk place
 
--- the chunk is handed out with its issue, its page is of the same class or moves away from it, and the words that the hand itself
--- doesn't write are the same; of a reference they all are
+-- the chunk is handed out with its issue, and its page is of the same class or moves away from it. The words that the hand itself doesn't
+-- write are the same; those of a reference all are
 pub record StaysKept (before now : Moment) (hand : ℕ) (chunk : ChunkId) (issue : ℕ) (events : List Event) : Type 0 where
   pub handed_out : IsHandedOut (head_in now.state.table now.state.heads chunk) issue
   pub owned : IsClass now.state.slabs (class_of_page now.state.slabs chunk.page)

@@ -5,14 +5,14 @@ use mc_pages::{ChunkId, Found};
 /// One operation on one word, by one hand.
 #[derive(Drop)]
 pub struct Event {
-    /// Who does it.
+    /// The hand that does the operation.
     pub hand: u64,
     /// What the hand changed before, of the values behind the locks that it holds, in this order.
     pub before: Series<Change>,
     pub step: Step,
 }
 
-/// What is done.
+/// The operation of an event.
 #[derive(Clone, Copy, PartialEq, Eq)]
 pub enum Step {
     /// The slabs lock is taken.
@@ -84,7 +84,7 @@ pub enum Change {
     Wrap,
     /// An eviction of the class is counted.
     Evicted(u64),
-    /// A stripe changes, and no call is told.
+    /// A stripe changes, and no call is recorded.
     OfStripe(u64, StripeChange),
     /// A key that isn't there was looked up.
     GotNone(u64),
@@ -92,12 +92,12 @@ pub enum Change {
     DeletedNone(u64),
 }
 
-/// A change of a stripe by which no call is told.
+/// A change of a stripe by which no call is recorded.
 #[derive(Clone, Copy, PartialEq, Eq)]
 pub enum StripeChange {
-    /// It makes room for a call that may store an entry.
+    /// The stripe gets room for a call that may store an entry.
     Reserve,
-    /// It makes room for a call that stores none.
+    /// The stripe gets room for a call that stores no entry.
     ReserveCall,
     /// The calls so far aren't recorded any more.
     Trim,

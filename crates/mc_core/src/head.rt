@@ -1,17 +1,17 @@
-//! The header of a chunk: one word that says what state the chunk is in.
+//! The header of a chunk: one word that records the chunk's state.
 ghost use Rattle.std.specs.Prelude.{◌≡◌, ◌^◌, ◌<◌};
 ghost use Rattle.mc_core.specs.Head.{code, is_dead};
 
 /// The state of a chunk.
 #[derive(Clone, Copy, PartialEq, Eq)]
 pub enum Tag {
-    /// It is on no list, and its page isn't cut for it, or moves away.
+    /// The chunk is on no list: its page isn't cut for it, or moves away.
     Out,
-    /// It is on its class's free list.
+    /// The chunk is on its class's free list.
     Free,
-    /// It is handed out, and no key leads to it.
+    /// The chunk is handed out, and no key leads to it.
     Unlinked,
-    /// Its key leads to it.
+    /// The chunk is handed out, and its key leads to it.
     Linked,
 }
 
@@ -21,7 +21,7 @@ pub struct Head {
     /// How often the chunk was handed out.
     pub issue: u64,
     pub tag: Tag,
-    /// How many hands' holdings there are, and one more where the chunk is linked.
+    /// How many holdings of the chunk hands have, and one more where the chunk is linked.
     pub count: u16,
 }
 

@@ -1,4 +1,4 @@
-//! What a hand holds: references, and chunks that it got and fills.
+//! The holdings of a hand: references, and fresh chunks that it fills.
 ghost use Rattle.std.specs.Prelude.{◌≡◌, true, if◌then◌else◌, IfOk, OnOk};
 ghost use Rattle.mc_core.specs.Holdings.{is_of, is_copy_of, change_each};
 ghost use Rattle.mc_core.specs.Chunks.{filled};
@@ -36,7 +36,7 @@ pub enum Purpose {
     Item,
     /// A copy of the item in this chunk of the moving page.
     Copy(ChunkId),
-    /// The same, and the old chunk was condemned: its words as it was.
+    /// A copy of the item in this chunk of the moving page, after the chunk was condemned: with the item's words as they were.
     Rescue(ChunkId, Series<u64>),
 }
 

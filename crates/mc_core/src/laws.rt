@@ -72,9 +72,9 @@ pub fn worked_evictions()
     ensures half_a_page { played_on 2 (full_page ++ does (Grow 1 ∷ []) (Cut 1 0) ∷ stores (chunk_at 1 0) 3 ++ looks_at 0 ++ does [] (Head (chunk_at 1 0)) ∷ takes_away (chunk_at 0 1)) ≡ Err 29 }
 {}
 
-/// An item is rescued off its moving page, which then comes to the pool. It isn't rescued onto that page, nor to a chunk that is for
-/// something else, nor when its page stays. Where no chunk is off the page, the item leaves it behind a sweep, and neither without
-/// one, nor behind one that a handing out ended, nor where a chunk is there.
+/// An item is rescued off its moving page, which then comes to the pool. It isn't rescued onto that page, nor to a chunk that is
+/// for something else, nor when its page stays. Where no free chunk is off the page, the item leaves the page behind a sweep. It
+/// doesn't leave without one, nor behind one that a handing out ended, nor where a free chunk is there.
 pub fn worked_rescues()
     ensures rescued { played_on 2 (one_of_four ++ begins_rescue ++ rescues ++ ends) ≡ Ok (Granted 0 1 false ∷ Granted 1 1 false ∷ Began 0 1 0 ∷ Ended 0 0 ∷ []) }
     ensures no_chunk_off { played_on 2 (three_of_four ++ begins_rescue) ≡ Err 27 }
@@ -86,12 +86,12 @@ pub fn worked_rescues()
     ensures a_chunk_off { played_on 2 (one_of_four ++ begins_move ++ takes_away (chunk_at 0 1)) ≡ Err 14 }
 {}
 
-/// There is a header for each chunk, and all data words.
+/// Each chunk has its header, and each page all its data words.
 pub fn sizes_are_kept()
     ensures { IsKeptByAll SizedIn }
 {}
 
-/// Owners replay from the ledger, granted bytes are within the limit, at most one page moves, and a page is half cut under
+/// The owners are the ledger's replay, granted bytes are within the limit, and at most one page moves. A page is half cut under
 /// the slabs lock alone.
 pub fn pages_are_kept()
     ensures { IsKeptByAll PagedIn }
@@ -128,12 +128,12 @@ pub fn hands_are_kept()
     ensures { IsKeptByAll HandsIn }
 {}
 
-/// There is a row for each hand of all that hands know.
+/// Each hand has a row of all that hands know.
 pub fn rows_are_kept()
     ensures { IsKeptByAll RowsIn }
 {}
 
-/// The stamps that a hand said are of its numbers, counted from 1 without a gap.
+/// The stamps that a hand stored are of its numbers, counted from 1 without a gap.
 pub fn numbers_are_kept()
     ensures { IsKeptByAll NumberedIn }
 {}
@@ -144,20 +144,19 @@ pub fn looks_are_kept()
     ensures { IsKeptByAll SeenIn }
 {}
 
-/// A stamp is said once; and as long as a chunk has the issue number with which a hand knows it, its words are those that
-/// the hand knows.
+/// A stamp is stored once. While a chunk has the issue number with which a hand knows it, its words are those that the hand
+/// knows.
 pub fn known_items_are_kept()
     ensures { IsKeptByAll KnownIn }
 {}
 
-/// A chunk that is to have a copy is off the page of what it copies, and the words of an item that is being rescued were said with
-/// its stamp.
+/// A chunk for a copy is off the page of what it copies. The words of an item that is being rescued were stored with its stamp.
 pub fn rescues_are_kept()
     ensures { IsKeptByAll RescuedIn }
 {}
 
-/// A hand's calls are those that the histories have of its numbers, each in its place; what it saw of a history begins it;
-/// and each stamp that was said was stored once.
+/// A hand's calls are those that the histories have of its numbers, each in its place; what the hand saw of a history begins the
+/// history; and each stamp that a hand stored is in a history once.
 pub fn calls_are_kept()
     ensures { IsKeptByAll ToldIn }
 {}
@@ -167,8 +166,8 @@ pub fn the_law_is_kept()
     ensures { IsKeptByAll IsLawful }
 {}
 
-/// Each step and each change of one hand leaves what all other hands have, what is behind locks that the hand hasn't, and
-/// what others see behind theirs. A join leaves all but the hand that is taken over.
+/// Each step and each change of one hand leaves what all other hands have and see behind their locks. It leaves what is behind
+/// locks that the hand hasn't. A join leaves all but the hand that is taken over.
 pub fn others_are_left_alone()
     ensures { AreFramed }
 {}
@@ -184,14 +183,14 @@ pub fn histories_grow()
     ensures { HistoriesGrow }
 {}
 
-/// What a hand knows after a change, a step or a join is told by what it knew, and, of a join, by what the other hand knew.
+/// What a hand knows after a change or a step follows from what it knew. After a join it follows from what both hands knew.
 pub fn learning_is_by_rows()
     ensures { AreLearned }
 {}
 
-/// An item is taken away for a reason alone. It goes to a copy off its moving page. Or each chunk that its class handed out
-/// was seen not dead, and nothing was taken since; and then it leaves its moving page, off which there is no chunk for it,
-/// or makes room where there is neither a free chunk nor a page.
+/// An item is taken away for a reason alone. It goes to a copy off its moving page. Or each chunk that its class handed out was
+/// seen not dead, and nothing was taken since. Then the item leaves its moving page, off which there is no chunk for it, or makes
+/// room where there is neither a free chunk nor a page.
 pub fn condemns_have_a_reason()
     ensures { CondemnsAreReasoned }
 {}
@@ -207,19 +206,19 @@ pub fn runs_are_played()
     ensures { RunsArePlayed }
 {}
 
-/// While a hand keeps one holding, its chunk is handed out with its issue number, its page stays with its class, and no word
-/// of it changes but by the hand's own fill of a fresh chunk.
+/// While a hand keeps one holding, the chunk is handed out with the holding's issue number, and its page stays with its class. No
+/// word of the chunk changes but by the hand's own fill of a fresh chunk.
 pub fn stretches_are_kept()
     ensures { StretchesKeep }
 {}
 
-/// Each holding of a lawful moment is of a chunk that is handed out with the holding's issue number, shows the holding's
-/// words, and is on a page of a class, or on one that moves away from it.
+/// Each holding of a lawful moment is of a chunk that is handed out with the holding's issue number and shows the holding's
+/// words. The chunk's page is of a class, or moves away from one.
 pub fn held_chunks_are_handed_out()
     ensures { AreKept }
 {}
 
-/// The words of a linked chunk are a whole item, which was said with the stamp of its key's entry.
+/// The words of a linked chunk are a whole item, which was stored with the stamp of its key's entry.
 pub fn linked_items_were_said()
     ensures { AreSaidItems }
 {}
@@ -236,8 +235,9 @@ pub fn headers_are_words()
     ensures sums { AllAreSums }
 {}
 
-/// What events would test of counts and tags follows from the law: a count has room for one more, the head of a free list is
-/// free, what is dead is handed out, what is cut next is out, where a key leads is linked, and what a hand fills isn't.
+/// What events would test of counts and tags follows from the law. A count has room for one more. The head of a free list is
+/// free. A dead chunk is handed out. The chunk that is cut next is out. The chunk to which a key leads is linked, and one that a
+/// hand fills isn't.
 pub fn tests_are_needless()
     ensures { AllAreNeedless }
 {}

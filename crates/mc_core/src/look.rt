@@ -1,4 +1,4 @@
-//! What the hand that has the slabs lock saw and changed.
+//! The looks of the hand that has the slabs lock: what it saw and changed.
 ghost use Rattle.std.specs.Prelude.{◌≡◌};
 ghost use Rattle.mc_core.specs.Looks.{stays_linked, stays_alive, was_linked, is_found_alive};
 
@@ -9,25 +9,25 @@ use mc_pages::ChunkId;
 /// Something that a hand saw, or changed, under its hold of the slabs lock.
 #[derive(Clone, Copy, PartialEq, Eq)]
 pub enum Look {
-    /// It saw this header.
+    /// The hand saw this header.
     Saw(ChunkId, Head),
-    /// It saw this word of a stripe's lock.
+    /// The hand saw this word of a stripe's lock.
     SawStripe(u64, u64),
-    /// It read this data word of a linked chunk: its place in the chunk, and the word.
+    /// The hand read this data word of a linked chunk: its place in the chunk, and the word.
     Read(ChunkId, u64, u64),
-    /// It handed the chunk out to itself, with this header.
+    /// The hand handed the chunk out to itself, with this header.
     Popped(ChunkId, Head),
-    /// The same, in the place of another chunk.
+    /// The hand handed the first chunk out to itself in the second one's place, with this header.
     PoppedOff(ChunkId, ChunkId, Head),
-    /// It took the chunk's item away.
+    /// The hand took the chunk's item away, which left this header.
     Condemned(ChunkId, Head),
-    /// It put a dead chunk on its free list.
+    /// The hand put a dead chunk on its free list, with this header.
     PutBack(ChunkId, Head),
-    /// It cleared the chunk.
+    /// The hand cleared the chunk, with this header.
     Cleared(ChunkId, Head),
-    /// It cut the chunk.
+    /// The hand cut the chunk, with this header.
     Cut(ChunkId, Head),
-    /// It changed pages or lists, and no word.
+    /// The hand changed pages or lists, and no word.
     Changed(Change),
 }
 

@@ -1,4 +1,4 @@
-//! A list that contracts compare.
+//! A vector that contracts compare as a list.
 ghost use Rattle.std.specs.Prelude.{◌≡◌, ◌<◌, [], ◌∷◌, ◌++◌, length, slice_index_or, slice_set, IfOk, OnOk, OnErr};
 ghost use Rattle.std.specs.List.{remove};
 
@@ -21,7 +21,7 @@ impl<T> Model for Series<T> {
 }
 
 impl<T> Series<T> {
-    /// No value.
+    /// A series without values.
     pub fn new(alloc: Global) -> Series<T>
         ensures { result ≡ [] }
     {
@@ -39,7 +39,7 @@ impl<T> Series<T> {
 }
 
 impl<T: Copy> Series<T> {
-    /// The same values.
+    /// A series of the same values as these.
     pub fn copy_of(alloc: Global, values: &[T]) -> Result<Series<T>, Refused>
         ensures { IfOk result (λ series. series ≡ values.now) }
     {
@@ -49,7 +49,7 @@ impl<T: Copy> Series<T> {
 }
 
 impl<T: Drop> Series<T> {
-    /// One more value, behind the others.
+    /// Adds a value behind the others.
     pub fn push(&mut self, value: T) -> Result<(), Refused>
         ensures added { OnOk result (self.new ≡ self.old ++ value ∷ []) }
         ensures refused { OnErr result (self.new ≡ self.old) }

@@ -1,4 +1,4 @@
-//! Why a list of events is not played to its end.
+//! Why a list of events isn't played to its end.
 ghost use Rattle.std.specs.Prelude.{◌≡◌};
 ghost use Rattle.mc_core.specs.declared.stop.Stop.TheVariants.{NoMemory};
 

@@ -30,7 +30,7 @@ pub(crate) fn number_in(numbers: &[u64], place: usize) -> u64
     }
 }
 
-/// Whether there are as many words as the item takes.
+/// Whether the words are at least as many as the item takes.
 fn fits(words: &[Option<u64>]) -> bool
     ensures { result ≡ fits words.now }
 {

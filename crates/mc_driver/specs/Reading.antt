@@ -15,7 +15,7 @@ IsReadFault old new Write = ⊥
 IsReadFault old new (Thread unstarted) = ⊥
 IsReadFault old new Turns = ⊥
 
--- so many bytes, which the reader gave, went from what was left to the end of what was read
+-- the reader gave n bytes, which went from what was left to the end of what was read
 pub record TakesPiece (given_old given_new : List ℕ) (left_old left_new : Option (List ℕ)) (old new : List ℕ) (count : ℕ) : Type 0 where
   pub piece : List ℕ
   pub gave : given_new ≡ given_old ++ piece
@@ -27,10 +27,10 @@ pub record TakesPiece (given_old given_new : List ℕ) (left_old left_new : Opti
 abbrev pub since : List ℕ → List ℕ → List ℕ
 since old new = drop (length old) new
 
--- at most so many bytes were given
+-- the reader gave at most n bytes
 abbrev pub GivesAtMost : ℕ → List ℕ → List ℕ → Type 0
 GivesAtMost most old new = (piece : List ℕ) × (new ≡ old ++ piece) × (length piece ≤ most)
 
--- at most so many bytes were taken from what was left
+-- at most n bytes were taken from what was left
 abbrev pub TakesAtMost : ℕ → Option (List ℕ) → Option (List ℕ) → Type 0
 TakesAtMost most old new = (taken : List ℕ) × Consumes old new taken × (length taken ≤ most)

@@ -97,11 +97,11 @@ IsServeFault machine commands old new failures_old failures_new (Script number) 
 IsServeFault machine commands old new failures_old failures_new TooLong = ⊥
 IsServeFault machine commands old new failures_old failures_new Read = ⊥
 
--- what is said of the commands of a script
+-- the bytes are a script, whose commands have the property
 abbrev pub OfScript : List ℕ → (List Command → Type 0) → Type 0
 OfScript bytes Says = (commands : List Command) × IsScript bytes commands × Says commands
 
--- The machine's run over these bytes ends so, where the writer held `old` before it and holds `new` after it.
+-- How the machine's run over these bytes ends, where the writer held `old` before it and holds `new` after it.
 abbrev pub IsScriptOutcome : List ℕ → Machine → Option (List ℕ) → Option (List ℕ) → Result (Unit {0}) RunFault → Type 0
 -- done: all replies were written
 IsScriptOutcome bytes machine old new (Ok unit) = OfScript bytes (λ commands. (is_done machine commands ≡ true) × Appends old new (replies_to machine commands))
@@ -114,16 +114,16 @@ IsScriptOutcome bytes machine old new (Err (Script number)) = (length bytes ≤ 
 IsScriptOutcome bytes machine old new (Err Write) = OfScript bytes (λ commands. WroteBroken machine commands old new)
 -- memory ran out before the first command, or at one of them
 IsScriptOutcome bytes machine old new (Err (Memory refused)) = Keeps old new ⊎ OfScript bytes (λ commands. WroteFirst machine commands old new)
--- it ends in no other way
+-- a run ends in no other way
 IsScriptOutcome bytes machine old new (Err (Refused number)) = ⊥
 IsScriptOutcome bytes machine old new (Err (Thread unstarted)) = ⊥
 IsScriptOutcome bytes machine old new (Err Read) = ⊥
 
--- what is said of the plain machine with the size classes and the mode that a run is started with
+-- the plain machine with the size classes and the mode of the run has the property
 abbrev pub OfMachine : Run → (Machine → Type 0) → Type 0
 OfMachine run Says = (table : Classes) × IsTableOf run.config table × Says (fresh_machine table run.config.bulk run.automove)
 
--- A run that is started so over these bytes ends so.
+-- How a run over these bytes ends, where the writer held `old` before it and holds `new` after it.
 abbrev pub IsOutcome : Run → List ℕ → Option (List ℕ) → Option (List ℕ) → Result (Unit {0}) RunFault → Type 0
 -- the configuration is refused: nothing was written
 IsOutcome run bytes old new (Err (Refused number)) = (refusal_number run.config ≡ Some number) × Keeps old new
@@ -134,7 +134,7 @@ IsOutcome run bytes old new (Err (Memory refused)) = Keeps old new ⊎ OfMachine
 -- the machine's run ended so
 IsOutcome run bytes old new result = OfMachine run (λ machine. IsScriptOutcome bytes machine old new result)
 
--- A script that was answered to was read to its end: where this is that the reader ended, and that nothing was written.
+-- A script that got replies was read to its end: `Ended` is that the reader ended, and `Kept` that nothing was written.
 abbrev pub IsReadWhole : Type 0 → Type 0 → Result (Unit {0}) RunFault → Type 0
 IsReadWhole Ended Kept (Ok unit) = Ended
 IsReadWhole Ended Kept (Err Turns) = Ended

@@ -19,13 +19,13 @@ ended_fault (ended.Memory refused) = Memory refused
 ended_fault (ended.Thread unstarted) = Thread unstarted
 ended_fault ended.Turns = Turns
 
--- what is said of a text that the threads of the run may tell of these lines: the replies, worker by worker, and the statistics
+-- a text that the threads of the run may write for these lines has the property: the replies, worker by worker, and the statistics
 abbrev pub OfText : Run → List Command → (List ℕ → Type 0) → Type 0
 OfText run commands Says = (text : List ℕ) × ServesScript run.config run.automove commands text × Says text
 
 -- The run of these bytes by threads ends so, where the writer held `old` before it and holds `new` after it.
 abbrev pub IsToldOutcome : Run → List ℕ → Option (List ℕ) → Option (List ℕ) → Result (Unit {0}) RunFault → Type 0
--- done: what all threads were told was written
+-- done: the replies of all threads were written
 IsToldOutcome run bytes old new (Ok unit) = OfScript bytes (λ commands. OfText run commands (λ text. Appends old new text))
 -- a thread ran out of turns, or its gate stopped it: nothing was written
 IsToldOutcome run bytes old new (Err Turns) = OfScript bytes (λ commands. Keeps old new)
@@ -38,11 +38,11 @@ IsToldOutcome run bytes old new (Err TooLong) = (most_bytes < length bytes) × K
 IsToldOutcome run bytes old new (Err (Script number)) = (length bytes ≤ most_bytes) × (script_of bytes ≡ Err number) × Keeps old new
 -- the writer failed, once all threads were done, and perhaps holds something of the text
 IsToldOutcome run bytes old new (Err Write) = OfScript bytes (λ commands. OfText run commands (λ text. Extends old new))
--- it ends in no other way
+-- a run by threads ends in no other way
 IsToldOutcome run bytes old new (Err (Refused number)) = ⊥
 IsToldOutcome run bytes old new (Err Read) = ⊥
 
--- A run by threads that is started so over these bytes ends so.
+-- How a run by threads over these bytes ends, where the writer held `old` before it and holds `new` after it.
 abbrev pub IsThreadsOutcome : Run → List ℕ → Option (List ℕ) → Option (List ℕ) → Result (Unit {0}) RunFault → Type 0
 -- the configuration is refused: nothing was written
 IsThreadsOutcome run bytes old new (Err (Refused number)) = (refusal_number run.config ≡ Some number) × Keeps old new

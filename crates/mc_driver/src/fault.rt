@@ -1,4 +1,4 @@
-//! How a run ends when it isn't done.
+//! Why a run ends early, and the status that it ends with.
 ghost use Rattle.std.specs.Prelude.{◌≡◌};
 ghost use Rattle.mc_driver.specs.Run.{stop_fault};
 ghost use Rattle.mc_driver.specs.Status.{status_of};

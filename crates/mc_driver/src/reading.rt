@@ -37,14 +37,14 @@ pub(crate) fn read_script<R: Source>(alloc: Global, reader: &mut R) -> Result<Ve
     Ok(bytes)
 }
 
-/// So many bytes to read into.
+/// A vector of n bytes to read into.
 fn room_for(alloc: Global, count: usize) -> Result<Vec<u8>, Refused>
     ensures { IfOk result (λ room. vec_len room ≡ count) }
 {
     filled(alloc, 0u8, count)
 }
 
-/// Reads once into `piece`, adds what was read to `bytes` and says how many that were. None is the end.
+/// Reads once into `piece`, adds what was read to `bytes` and returns how many bytes that were. None is the end.
 fn read_piece<R: Source>(
     reader: &mut R,
     piece: &mut [u8],

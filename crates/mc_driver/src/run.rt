@@ -33,7 +33,7 @@ pub fn run_serial<R: Source, W: Sink>(
 ) -> Result<(), RunFault>
     requires { run.now.automove ≤ 2 }
 
-    // A refused configuration is told, exactly then, and leaves reader and writer alone.
+    // A refused configuration is returned, exactly then, and leaves reader and writer alone.
     ensures refused { (number : ℕ) → (result ≡ Err (RunFault.Config number)) ↔ (refusal_number run.now.config ≡ Some number) }
     ensures unread { IsSome (refusal_of run.now.config) → (reader.new ≡ reader.old) × (writer.new ≡ writer.old) }
 
@@ -41,15 +41,16 @@ pub fn run_serial<R: Source, W: Sink>(
     ensures most { TakesAtMost 1048577 (R.remaining reader.old) (R.remaining reader.new) }
     ensures most_given { GivesAtMost 1048577 (R.given reader.old) (R.given reader.new) }
 
-    // A failed read or write is told, exactly then.
+    // A failed read or write is returned, exactly then.
     ensures read { (result ≡ Err RunFault.Read) ↔ (R.failures reader.old < R.failures reader.new) }
     ensures write { (result ≡ Err RunFault.Write) ↔ (W.failures writer.old < W.failures writer.new) }
 
-    // What is answered and written is what the plain machine says of the bytes.
+    // What is answered and written is what the plain machine replies to the bytes.
     ensures outcome { IfSome (R.remaining reader.old) (λ bytes.
         IsOutcome run.now bytes (W.contents writer.old) (W.contents writer.new) result) }
 
-    // So it is of the bytes that the reader gave, which were all up to its end where a script was answered to.
+    // The answer and the text are those of the bytes that the reader gave. These were all up to its end where a script got
+    // replies.
     ensures answered { IsOutcome run.now (since (R.given reader.old) (R.given reader.new)) (W.contents writer.old) (W.contents writer.new) result }
     ensures whole { IsReadWhole (R.HasEnded reader.new) (Keeps (W.contents writer.old) (W.contents writer.new)) result }
 {

@@ -19,7 +19,7 @@ use Rattle.mc_words.specs.lock.Wait.{WaitsForStripe}
 use Rattle.mc_words.specs.declared.item.refs.Ref as words
 use Rattle.mc_words.specs.hand.Observers.{ref_chunk, ref_issue, ref_room}
 
--- the stripe's lock was waited for, room was made so, and this was done
+-- the hand waited for the stripe's lock, made room by this change, did this, and gave the lock back
 pub record CallsBehind (room : StripeChange) (number stripe : ℕ) (Does : Doing) (view now : View) : Type 0 where
   pub value : ReadyStripe
   pub taken : View
@@ -27,7 +27,7 @@ pub record CallsBehind (room : StripeChange) (number stripe : ℕ) (Does : Doing
   pub lent : IsLentStripe taken stripe value
   pub done : IsDoneBehind room number stripe value Does taken now
 
--- the room was for a call that stores no entry
+-- the hand waited for the stripe's lock, made room for a call that stores no entry, did this, and gave the lock back
 abbrev pub CallsOn : ℕ → ℕ → Doing → View → View → Type 0
 CallsOn number stripe Does view now = CallsBehind ReserveCall number stripe Does view now
 
@@ -39,7 +39,7 @@ IsFull value = (value.ready ≡ false) × (is_some value.state.recorded_from ≡
 abbrev pub IsFullToStore : ReadyStripe → Type 0
 IsFullToStore value = can_store value ≡ false
 
--- the stripe's lock was waited for, the stripe was found so, and the lock was given back as it was
+-- the hand waited for the stripe's lock, found that the property holds of the stripe, and gave the lock back as it was
 pub record FindsStripe (Is : ReadyStripe → Type 0) (stripe : ℕ) (view now : View) : Type 0 where
   pub value : ReadyStripe
   pub taken : View
@@ -48,11 +48,11 @@ pub record FindsStripe (Is : ReadyStripe → Type 0) (stripe : ℕ) (view now : 
   pub full : Is value
   pub given : now ≡ stripe_given stripe value taken
 
--- it records its calls, and had no room for one more
+-- the hand waited for the stripe's lock, found that the stripe records calls and has no room for one more, and gave the lock back
 abbrev pub OnlyWaits : ℕ → View → View → Type 0
 OnlyWaits stripe view now = FindsStripe IsFull stripe view now
 
--- the key was looked up, and this reference to its item was got
+-- the hand looked the key up, and got this reference to its item
 abbrev pub Finds : ℕ → ℕ → ℕ → words.Ref → Doing
 Finds number stripe key r value view left now =
     GetsItem view number stripe value key (ref_chunk r) (ref_issue r) (ref_room r) now × (left ≡ used_up (after_got value.state number key))
@@ -62,7 +62,7 @@ abbrev pub FindsNone : ℕ → ℕ → ℕ → Doing
 FindsNone number stripe key value view left now =
     (place_of value.state key ≡ None) × (now ≡ key_missed number stripe value key view) × (left ≡ used_up (after_got value.state number key))
 
--- the one or the other
+-- the hand looked the key up, and got this reference to its item, or there is no item
 abbrev pub LooksUp : ℕ → ℕ → ℕ → Option words.Ref → Doing
 LooksUp number stripe key (Some r) = Finds number stripe key r
 LooksUp number stripe key None = FindsNone number stripe key
@@ -87,7 +87,7 @@ Deletes number stripe key there value view left now =
     × (now ≡ (if there then with_event [] (step.Unlink key) (key_deleted number stripe value key true view) else key_not_deleted number stripe value key view))
     × (left ≡ used_up (after_unlink value.state number key))
 
--- of the hand's own calls on keys of this stripe this one came last, and of no others came any
+-- the hand's own calls on keys of this stripe got this call, as the last of its number, and no other call came
 abbrev pub TellsCall : ℕ → ℕ → Call → View → View → Type 0
 TellsCall number stripe call view now = now.row.knows.mine ≡ map (with_own_call number stripe call) view.row.knows.mine
 

@@ -14,8 +14,8 @@ use Rattle.mc_items.specs.OnKeys.{GetsByHint}
 abbrev pub IsCurrent : Moment → ℕ → ℕ → ChunkId → Type 0
 IsCurrent moment key stamp chunk = chunk_of moment.state key ≡ Some (chunk, stamp)
 
--- the item was got by the hint, and what is said of it was read; and in the lawful moment of the one exchange by which it was got, its key led
--- to it: it was the current item of its key
+-- the hand got the item by the hint, and read its key, stamp and length. In the lawful moment of the exchange by which the hand got the
+-- item, its key led to it
 pub record GetsCurrent (hint : Hint) (item : Ref) (view now : View) : Type 0 where
   pub gets : GetsByHint hint item view now
   pub current : IsCurrent gets.1.refers.happens.was.moment (item_key item) (item_stamp item) (hint_chunk hint)

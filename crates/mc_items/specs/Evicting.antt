@@ -18,18 +18,18 @@ use Rattle.mc_items.specs.Supplying.{FreesEvicted, LacksCall, PassesItem, Reache
 abbrev pub first_five : SlabState → ℕ → List ChunkId
 first_five slabs class = take 5 (class_at slabs class).order
 
--- the chunk was passed: its item couldn't be taken away, and it wasn't dead
+-- the chunk was passed over: its item couldn't be taken away, and the chunk wasn't dead
 pub record PassesOne (number : ℕ) (chunk : ChunkId) (view now : View) : Type 0 where
   pub tried : View
   pub passes : PassesItem number chunk view tried
   pub alive : SeesOther tried (Some chunk) (λ head. is_dead head ≡ false) now
 
--- each of these was passed, one after another
+-- each of these chunks was passed over, one after another
 abbrev pub PassesEach : ℕ → List ChunkId → View → View → Type 0
 PassesEach number [] view now = now ≡ view
 PassesEach number (chunk ∷ chunks) view now = (next : View) × PassesOne number chunk view next × PassesEach number chunks next now
 
--- a chunk came free: its item was evicted, and the chunk put back; or it had died meanwhile, and was put back
+-- a chunk came free: its item was evicted, and the chunk put back; or the chunk had died meanwhile, and was put back
 abbrev pub FreesChunk : ℕ → ℕ → ChunkId → Supply → SlabsDoing
 FreesChunk number class chunk Page view slabs now left = ⊥
 FreesChunk number class chunk Dead view slabs now left =
@@ -37,7 +37,7 @@ FreesChunk number class chunk Dead view slabs now left =
 FreesChunk number class chunk Evicted view slabs now left =
     (taken : View) × ReachesItem number chunk (λ number stripe. Condemns number stripe chunk) view taken × FreesEvicted number class chunk taken slabs now left
 
--- the first of these chunks that could be had was freed so, and those before it were passed
+-- the first of these chunks that could be had was freed, and those before it were passed over
 pub record FreesOne (number class : ℕ) (chunks : List ChunkId) (supply : Supply) (view : View) (slabs : SlabState) (now : View) (left : SlabState) : Type 0 where
   pub before : List ChunkId
   pub chunk : ChunkId
@@ -47,7 +47,7 @@ pub record FreesOne (number class : ℕ) (chunks : List ChunkId) (supply : Suppl
   pub passes : PassesEach number before view passed
   pub frees : FreesChunk number class chunk supply passed slabs now left
 
--- some of these were passed, and then there was no memory for the entry of the next one's eviction
+-- some of these chunks were passed over, and then there was no memory for the entry of the next one's eviction
 pub record LacksEntry (number : ℕ) (chunks : List ChunkId) (view now : View) : Type 0 where
   pub before : List ChunkId
   pub chunk : ChunkId
@@ -57,7 +57,7 @@ pub record LacksEntry (number : ℕ) (chunks : List ChunkId) (view now : View) :
   pub passes : PassesEach number before view passed
   pub lacks : LacksCall chunk passed now
 
--- of its oldest five, and pages and lists are as they were where none was freed
+-- of the class's oldest five chunks the first that could be had was freed
 abbrev pub FreesOneOfFive : ℕ → ℕ → Supply → SlabsDoing
 FreesOneOfFive number class supply view slabs now left = FreesOne number class (first_five slabs class) supply view slabs now left
 
@@ -69,7 +69,7 @@ PassesFive number class view slabs now left = PassesEach number (first_five slab
 abbrev pub LacksEntryOfFive : ℕ → ℕ → SlabsDoing
 LacksEntryOfFive number class view slabs now left = LacksEntry number (first_five slabs class) view now × (left ≡ slabs)
 
--- of the hand's own calls at most an eviction came
+-- the hand's own calls got an eviction at most
 abbrev pub TellsEvict : ℕ → View → View → Type 0
 TellsEvict number view now =
     TellsNoCall view now ⊎ ((stripe : ℕ) × (key : ℕ) × TellsCall number stripe (call.Evict number key) view now)

@@ -1,4 +1,4 @@
--- What clauses say of a fresh chunk of the hand: what it is for, and how it is stored.
+-- What clauses state of a fresh chunk of the hand: what it is for, and how it is stored.
 use Rattle.std.specs.Prelude.{◌≡◌, ℕ, List}
 use Rattle.mc_core.specs.State.{room_in}
 use Rattle.mc_words.specs.declared.hand.Hand.{Hand}
@@ -15,27 +15,27 @@ use Rattle.mc_words.specs.hand.Views.{chunk_discarded, stripe_given}
 use Rattle.mc_items.specs.OnKeys.{stripe_of_key}
 use Rattle.mc_items.specs.Storing.{LeavesDead, StoresItem, item_filled}
 
--- it is the hand's, and has the room of chunks of the class
+-- the fresh chunk is the hand's, and has the room of chunks of the class
 abbrev pub IsFreshFor : Setup → ℕ → View → Fresh → Type 0
 IsFreshFor setup class view fresh = (fresh_room fresh ≡ room_in setup.table class) × IsFreshOf view (fresh_chunk fresh) (fresh_room fresh)
 
--- the hand filled it with a whole item of this key and stamp
+-- the hand filled the fresh chunk with a whole item of this key and stamp
 abbrev pub IsFilledWith : View → Fresh → ℕ → ℕ → Type 0
 IsFilledWith view fresh key stamp = IsItemFilled view (fresh_chunk fresh) (issue_in view (fresh_chunk fresh)) (words_in view (fresh_chunk fresh)) key stamp
 
--- the hand wrote the item of these words into it
+-- the view after the hand wrote the item of these words into the fresh chunk
 abbrev pub filled_with : Fresh → ℕ → ℕ → List ℕ → View → View
 filled_with fresh key stamp words view = item_filled (fresh_chunk fresh) (item_with key stamp words) view
 
--- the item that was filled in was stored under its key
+-- the item that the fresh chunk was filled with was stored under its key
 abbrev pub StoresFresh : Setup → ℕ → ℕ → Fresh → ℕ → View → View → Type 0
 StoresFresh setup key stamp fresh number filled now = StoresItem number (stripe_of_key setup key) key stamp (fresh_chunk fresh) (fresh_room fresh) filled now
 
--- there was no room for a call, and the chunk was given up
+-- the stripe had no room for a call, and the hand gave the chunk up
 abbrev pub LosesFresh : Setup → ℕ → Fresh → View → View → Type 0
 LosesFresh setup key fresh filled now = LeavesDead (stripe_of_key setup key) (fresh_chunk fresh) filled now
 
--- the reference is to this chunk
+-- the reference is to this chunk, as the hand got and filled it
 abbrev pub IsRefInto : View → Fresh → words.Ref → Type 0
 IsRefInto view fresh r = (ref_chunk r ≡ fresh_chunk fresh) × (ref_issue r ≡ issue_in view (fresh_chunk fresh)) × (ref_room r ≡ fresh_room fresh)
 

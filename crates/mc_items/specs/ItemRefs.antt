@@ -51,7 +51,7 @@ pub record IsItemRef (view : View) (item : Ref) : Type 0 where
 abbrev pub refers_to : ChunkId → Ref → Bool
 refers_to chunk item = is_chunk (item_chunk item) chunk
 
--- the hand refers to the item of each of these references, and has as many holdings of each chunk as there are references to it among them
+-- the hand refers to the item of each of these references, and holds each chunk as often as the list has references to it
 pub record AreKept (view : View) (kept : List Ref) : Type 0 where
   pub items : All (IsItemRef view) kept
   pub counts : (chunk : ChunkId) → holds chunk view.row.holdings ≡ count_by (refers_to chunk) kept

@@ -1,4 +1,4 @@
--- What calls leave of the references that a hand has, and of what it said.
+-- What calls leave of the references that a hand has, and of the words that it stored.
 use Rattle.std.specs.Prelude.{◌≡◌, ℕ, ◌++◌, [], ◌∷◌, true, List, Option, Some, None, is_some, Contains}
 use Rattle.mc_pages.specs.declared.ids.ChunkId.{ChunkId}
 use Rattle.mc_core.specs.declared.holding.Holding.{Holding}
@@ -14,11 +14,11 @@ use Rattle.mc_words.specs.item.Refs.{KeepsHeld, KeepsRefs}
 use Rattle.mc_items.specs.declared.refs.Ref.{Ref}
 use Rattle.mc_items.specs.ItemRefs.{IsItemRef, item_chunk, item_issue, item_stamp, item_words}
 
--- the hand holds what it held
+-- the hand holds what it held before
 abbrev pub HoldsTheSame : View → View → Type 0
 HoldsTheSame view now = now.row.holdings ≡ view.row.holdings
 
--- it holds each chunk as often as it did
+-- the hand holds each chunk as often as it did
 abbrev pub HoldsAsOften : View → View → Type 0
 HoldsAsOften view now = (chunk : ChunkId) → holds chunk now.row.holdings ≡ holds chunk view.row.holdings
 
@@ -26,29 +26,29 @@ HoldsAsOften view now = (chunk : ChunkId) → holds chunk now.row.holdings ≡ h
 abbrev pub holding_by : View → Ref → Holding
 holding_by view item = reference_to (item_chunk item) (item_issue item) (held_item view (item_chunk item))
 
--- it holds one more by the reference that it got, if it got one
+-- the hand holds one chunk more by the reference that it got, if it got one
 abbrev pub HoldsToo : Option Ref → View → View → Type 0
 HoldsToo None view now = HoldsTheSame view now
 HoldsToo (Some item) view now = now.row.holdings ≡ view.row.holdings ++ holding_by now item ∷ []
 
--- it holds one less, by the reference that it gave up
+-- the hand holds one chunk less, by the reference that it gave up
 abbrev pub HoldsLess : Ref → View → View → Type 0
 HoldsLess item view now = now.row.holdings ≡ lose (is_of (item_chunk item)) view.row.holdings
 
--- the hand said nothing
+-- the hand stored no words
 abbrev pub SaysNothing : View → View → Type 0
 SaysNothing view now = now.row.knows.said ≡ view.row.knows.said
 
--- it said these words with this stamp
+-- the hand stored these words with this stamp
 abbrev pub Says : List ℕ → ℕ → View → View → Type 0
 Says words stamp view now = now.row.knows.said ≡ view.row.knows.said ++ record { stamp = stamp; words = words } ∷ []
 
--- these words were said with the stamp: by some hand, and where this hand said words with it itself, by that
+-- some hand stored these words with the stamp; where this hand stored words with the stamp itself, they are these words
 pub record AreSaid (view : View) (stamp : ℕ) (words : List ℕ) : Type 0 where
   pub by_some : (was : LawfulView view) → IsSaid was.moment.past.said stamp words
   pub own : (saying : Saying) → Contains view.row.knows.said saying → saying.stamp ≡ stamp → saying.words ≡ words
 
--- and they are those of the item that is referred to: key, stamp and length, and then the others
+-- the words of the item to which the reference leads were stored with the item's stamp: key, stamp and length, and then the others
 abbrev pub IsAsSaid : View → Ref → Type 0
 IsAsSaid view item = AreSaid view (item_stamp item) (held_item view (item_chunk item))
 
@@ -69,6 +69,6 @@ HeldRefsKeepItems = (view now : View) (item : Ref) → KeepsHeld view now → Is
 abbrev pub KeepingGoesOn : Type 0
 KeepingGoesOn = (view next now : View) → KeepsRefs view next → KeepsRefs next now → KeepsRefs view now
 
--- *what a hand got and released leaves it what it referred to before*, whatever calls that keep references came between
+-- *what a hand got and released leaves it what it referred to before*, whatever calls came between that keep references
 abbrev pub ReleasingKeepsOthers : Type 0
 ReleasingKeepsOthers = (view got next now : View) (item : Ref) → KeepsRefs view next → HoldsToo (Some item) view got → HoldsTheSame got next → KeepsHeld next now → HoldsLess item next now → KeepsRefs view now

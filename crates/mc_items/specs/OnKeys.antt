@@ -1,4 +1,4 @@
--- What clauses say of a call on a key: of the hand, and of what was lent to it, before and after.
+-- What clauses state of a call on a key: of the hand, and of what was lent to it, before and after.
 use Rattle.std.specs.Prelude.{◌≡◌, ◌≢◌, ℕ, ◌%◌, Bool, is_some, List, Option, Some, Contains}
 use Rattle.std.specs.Option.{option_map}
 use Rattle.mc_stripe.specs.declared.history.Call.{Call}
@@ -36,49 +36,49 @@ KeyDoing = ℕ → ℕ → Doing
 abbrev pub ActsOn : Setup → ℕ → KeyDoing → Hand → Hand → Type 0
 ActsOn setup key Does before now = CallsOn (number_of before) (stripe_of_key setup key) (Does (number_of before) (stripe_of_key setup key)) (view before) (view now)
 
--- it looked the key up there, and read key, stamp and length of the item that it got, if it got one
+-- the hand looked the key up under its stripe's lock, and read key, stamp and length of the item, if it got one
 abbrev pub Gets : Setup → ℕ → Option Ref → Hand → Hand → Type 0
 Gets setup key found before now =
     let number = number_of before in
     let stripe = stripe_of_key setup key in
     AndReads (option_map item_chunk found) (CallsOn number stripe (LooksUp number stripe key (option_map item_reference found))) (view before) (view now)
 
--- it waited for that lock, found no room for a call, and gave the lock back
+-- the hand waited for the lock of the key's stripe, found no room for a call, and gave the lock back
 abbrev pub FindsNoRoomFor : Setup → ℕ → Hand → Hand → Type 0
 FindsNoRoomFor setup key before now = OnlyWaits (stripe_of_key setup key) (view before) (view now)
 
--- it found that lock with another hand, and did nothing
+-- the hand found the lock of the key's stripe with another hand, and did nothing
 abbrev pub FindsStripeHeld : Setup → ℕ → Hand → Hand → Type 0
 FindsStripeHeld setup key before now = (word : ℕ) × (word ≢ 0) × (view now ≡ stripe_missed (stripe_of_key setup key) word (view before))
 
--- of its own calls on keys of that stripe this one came last, and of no others came any
+-- the hand's own calls on keys of the key's stripe got this call, as the last, and no other call came
 abbrev pub TellsOn : Setup → ℕ → (ℕ → Call) → Hand → Hand → Type 0
 TellsOn setup key call before now = TellsCall (number_of before) (stripe_of_key setup key) (call (number_of before)) (view before) (view now)
 
--- with a stripe's lock it made room for a call, did this, and gave the lock back
+-- with a stripe's lock the hand made room for a call, did this, and gave the lock back
 abbrev pub DoesOn : KeyDoing → Hand → StripeHeld → Hand → Type 0
 DoesOn doing before held now = IsDone (number_of before) (stripe_number held) (stripe_lent held) (doing (number_of before) (stripe_number held)) (view before) (view now)
 
--- it made room for a call and an entry, did this, and gave the lock back
+-- with a stripe's lock the hand made room for a call and an entry, did this, and gave the lock back
 abbrev pub StoresOn : KeyDoing → Hand → StripeHeld → Hand → Type 0
 StoresOn doing before held now = IsStored (number_of before) (stripe_number held) (stripe_lent held) (doing (number_of before) (stripe_number held)) (view before) (view now)
 
--- it gave the lock back, and did nothing
+-- with a stripe's lock the hand gave the lock back, and did nothing
 abbrev pub GivesBack : Hand → StripeHeld → Hand → Type 0
 GivesBack before held now = view now ≡ stripe_given (stripe_number held) (stripe_lent held) (view before)
 
--- it looked the key up there, and read what is said of the item that it got
+-- with a stripe's lock the hand looked the key up and gave the lock back; then it read key, stamp and length of the item, if it got one
 abbrev pub GetsAt : StripeHeld → ℕ → Option Ref → Hand → Hand → Type 0
 GetsAt held key found before now =
     let number = number_of before in
     let stripe = stripe_number held in
     AndReads (option_map item_chunk found) (IsDone number stripe (stripe_lent held) (LooksUp number stripe key (option_map item_reference found))) (view before) (view now)
 
--- of its own calls there this one came last, and of no others came any
+-- the hand's own calls on keys of the held stripe got this call, as the last, and no other call came
 abbrev pub TellsAt : StripeHeld → (ℕ → Call) → Hand → Hand → Type 0
 TellsAt held call before now = TellsCall (number_of before) (stripe_number held) (call (number_of before)) (view before) (view now)
 
--- it told a get, which found a stamp or none
+-- the hand's own calls got a get of the key, which found a stamp or none, and no other call
 abbrev pub TellsOfGet : Setup → ℕ → Bool → Hand → Hand → Type 0
 TellsOfGet setup key there before now = (stamp : Option ℕ) × (is_some stamp ≡ there) × TellsOn setup key (λ number. call.Get number key stamp) before now
 
@@ -90,11 +90,11 @@ IsRefToKey view key r = IsRefOf view (ref_chunk r) (ref_room r) × IsIssueOf vie
 abbrev pub stamp_there : View → words.Ref → ℕ
 stamp_there view r = stamp_of (held_item view (ref_chunk r))
 
--- the item of a hint was got by it, and what is said of it was read
+-- the hand got the item of a hint by the hint, and read key, stamp and length of the item
 abbrev pub GetsByHint : Hint → Ref → View → View → Type 0
 GetsByHint hint item view now = AndReads (Some (hint_chunk hint)) (λ view now. GetsAgain view (hint_chunk hint) (hint_issue hint) (ref_room (item_reference item)) now) view now
 
--- where the hand knew an item of the hint, its words are these
+-- where the hand knew an item with the chunk and issue of the hint, that item's words are these
 abbrev pub IsAsKnown : View → Hint → List ℕ → Type 0
 IsAsKnown view hint words = (k : Known) → Contains view.row.knows.known k → k.chunk ≡ hint_chunk hint → k.issue ≡ hint_issue hint → words ≡ k.words
 
@@ -102,7 +102,7 @@ IsAsKnown view hint words = (k : Known) → Contains view.row.knows.known k → 
 abbrev pub Acts : SlabsDoing → Hand → SlabsHeld → Hand → SlabsHeld → Type 0
 Acts doing before found now left = doing (view before) (slabs_lent found) (view now) (slabs_lent left)
 
--- it took that lock, did this, and gave it back, once
+-- the hand took the slabs lock, did this, and gave the lock back, once
 abbrev pub ActsOnce : SlabsDoing → Hand → Hand → Type 0
 ActsOnce doing before now = HoldsSlabs doing (view before) (view now)
 
@@ -110,6 +110,6 @@ ActsOnce doing before now = HoldsSlabs doing (view before) (view now)
 abbrev pub AreUnchanged : SlabsHeld → SlabsHeld → Type 0
 AreUnchanged found left = slabs_lent left ≡ slabs_lent found
 
--- the hand saw more, and has other pages and lists; else all is as before
+-- the hand saw more, and has other pages and lists; all else is as before
 abbrev pub SeesMore : Hand → Hand → Type 0
 SeesMore before now = view now ≡ with_seen (view before) (view now)

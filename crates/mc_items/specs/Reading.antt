@@ -5,16 +5,16 @@ use Rattle.mc_core.specs.declared.event.Step.TheVariants as step
 use Rattle.mc_words.specs.hand.View.{OwnEvent, View, made}
 use Rattle.mc_words.specs.hand.Views.{fields_seen}
 
--- reads of so many words of the chunk, from this place on
+-- n reads of words of the chunk, from this place on
 abbrev pub reads_of : ChunkId → ℕ → ℕ → List OwnEvent
 reads_of chunk place zero = []
 reads_of chunk place (suc count) = made [] (step.Word chunk place) ∷ reads_of chunk (place + 1) count
 
--- the hand read them, one after another
+-- the view after the hand read n words of the chunk from a place on, one after another
 abbrev pub words_seen : ChunkId → ℕ → ℕ → View → View
 words_seen chunk place count view = record view { events = view.events ++ reads_of chunk place count }
 
--- this was done, and then key, stamp and length of the item were read that was got, if one was
+-- the hand did this, and then read key, stamp and length of the item that it got, if it got one
 abbrev pub AndReads : Option ChunkId → (View → View → Type 0) → View → View → Type 0
 AndReads None Does view now = Does view now
 AndReads (Some chunk) Does view now = (got : View) × Does view got × (now ≡ fields_seen chunk got)

@@ -1,4 +1,4 @@
--- Sets: what they do, what they tell, and why they are refused.
+-- Sets: what they do, what they record, and why they are refused.
 use Rattle.std.specs.Prelude.{◌≡◌, ◌⊎◌, ℕ, ◌+◌, ◌*◌, List, length, Option, Some, None}
 use Rattle.mc_classes.specs.Classes.{class_of}
 use Rattle.mc_pages.specs.declared.ids.ChunkId.{ChunkId}
@@ -19,7 +19,8 @@ use Rattle.mc_items.specs.declared.setting.SetError.TheVariants.{TooLarge, NoRoo
 abbrev pub class_for_words : View → List ℕ → Option ℕ
 class_for_words view words = class_of view.setup.table (24 + 8 * length words)
 
--- under one hold of the slabs lock a chunk of the words' class was got; then the item was written into it, and stored under its key
+-- under one hold of the slabs lock the hand got a chunk of the words' class; then it wrote the item into the chunk, and stored it under its
+-- key
 pub record SetsItem (number key stamp : ℕ) (words : List ℕ) (view now : View) : Type 0 where
   pub class : ℕ
   pub fits : class_for_words view words ≡ Some class
@@ -62,7 +63,7 @@ RefusesSet number key words NoRoom view now = FindsNoChunk number words NoRoom v
 RefusesSet number key words WornOut view now = HasNoStamp words view now ⊎ FindsNoChunk number words WornOut view now
 RefusesSet number key words (NoMemory _) view now = FindsNoChunk number words (NoMemory tt) view now ⊎ StoresNone number key words view now
 
--- of the hand's own calls at most an eviction came, and then the set
+-- the hand's own calls got an eviction at most, and then the set
 pub record TellsSet (number key stamp : ℕ) (view now : View) : Type 0 where
   pub between : View
   pub evicts : TellsEvict number view between

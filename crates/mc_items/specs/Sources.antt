@@ -25,7 +25,7 @@ MakesFree number class Page view slabs now left = Grows number class view slabs 
 MakesFree number class Dead view slabs now left = (next_page slabs class ≡ None) × FreesOne number class (first_five slabs class) Dead view slabs now left
 MakesFree number class Evicted view slabs now left = (next_page slabs class ≡ None) × FreesOne number class (first_five slabs class) Evicted view slabs now left
 
--- the class had no free chunk, its dead ones didn't help, and then it came to one
+-- the class had no free chunk, a sweep freed none, and then the class came to one
 pub record ComesToFree (number class : ℕ) (supply : Supply) (view : View) (slabs : SlabState) (now : View) (left : SlabState) : Type 0 where
   pub swept : View
   pub between : SlabState
@@ -38,13 +38,13 @@ asks_move Page slabs = false
 asks_move Dead slabs = false
 asks_move Evicted slabs = slabs.automove == 2
 
--- a move of any class's page to this one was asked for, whatever its answer; or none is to be, and nothing was done
+-- a move of a page from any class to this one was asked for, whatever the answer; or no move is due, and nothing was done
 abbrev pub AsksMove : ℕ → ℕ → Supply → SlabsDoing
 AsksMove number class supply view slabs now left =
     ((asks_move supply slabs ≡ true) × (answer : Result (Unit {0}) Reassign) × Reassigns number None class answer view slabs now left)
     ⊎ ((asks_move supply slabs ≡ false) × (now ≡ view) × (left ≡ slabs))
 
--- so, and it was handed out, and then a move to the class was asked for in mode 2
+-- the class came to a free chunk, which was handed out; then a move of a page to the class was asked for, if one was due
 pub record SuppliesMade (number class : ℕ) (chunk : ChunkId) (view : View) (slabs : SlabState) (now : View) (left : SlabState) : Type 0 where
   pub supply : Supply
   pub made : View
@@ -59,14 +59,15 @@ abbrev pub SuppliesChunk : ℕ → ℕ → ChunkId → SlabsDoing
 SuppliesChunk number class chunk view slabs now left =
     SuppliesFree class chunk view slabs now left ⊎ SuppliesMade number class chunk view slabs now left
 
--- no page was left, none of its oldest five chunks could be had, each that it handed out was found alive, and nothing was changed
+-- no page was left for the class, and none of its oldest five chunks could be had; each chunk that it handed out was found alive, and
+-- nothing was changed
 pub record MakesNone (number class : ℕ) (view : View) (slabs : SlabState) (now : View) (left : SlabState) : Type 0 where
   pub full : HasNoPageFor slabs class
   pub passes : PassesEach number (first_five slabs class) view now
   pub alive : list_all (is_found_alive now.row.looks) (class_at slabs class).order ≡ true
   pub same : left ≡ slabs
 
--- the class had no free chunk, its dead ones didn't help, and it came to none; nothing was changed
+-- the class had no free chunk, a sweep freed none, and the class came to none; pages and lists weren't changed
 pub record FindsNoRoom (number class : ℕ) (view : View) (slabs : SlabState) (now : View) (left : SlabState) : Type 0 where
   pub swept : View
   pub finds : FindsNoFree class view slabs swept slabs
@@ -84,12 +85,12 @@ abbrev pub FindsWornOut : ℕ → ℕ → SlabsDoing
 FindsWornOut number class view slabs now left =
     FindsWorn class view slabs now left ⊎ MakesWorn number class view slabs now left
 
--- there was no memory for the class's next page, or for the entry of an eviction, and nothing was changed
+-- there was no memory for the class's next page, or for the entry of an eviction, and pages and lists weren't changed
 abbrev pub LacksMore : ℕ → ℕ → SlabsDoing
 LacksMore number class view slabs now left =
     (((is_some (next_page slabs class) ≡ true) × (now ≡ view)) ⊎ ((next_page slabs class ≡ None) × LacksEntry number (first_five slabs class) view now)) × (left ≡ slabs)
 
--- the class had no free chunk, its dead ones didn't help, and there was no memory for more
+-- the class had no free chunk, a sweep freed none, and there was no memory to make one free
 pub record LacksMemory (number class : ℕ) (view : View) (slabs : SlabState) (now : View) (left : SlabState) : Type 0 where
   pub swept : View
   pub between : SlabState

@@ -17,27 +17,27 @@ use Rattle.mc_words.specs.item.Links.{item_linked, own_item}
 use Rattle.mc_words.specs.hand.Views.{chunk_discarded, chunk_released, with_holdings}
 use Rattle.mc_items.specs.Calls.{CallsBehind, FindsStripe, IsFullToStore}
 
--- the words of a chunk, with these in place of the first, as far as there is room
+-- the words of a chunk, with the item's words in place of the first ones, as far as there is room
 abbrev pub written_over : List ℕ → Words → Words
 written_over [] words = words
 written_over (word ∷ item) [] = []
 written_over (word ∷ item) (first ∷ words) = Some word ∷ written_over item words
 
--- a fresh chunk, into which these were written from its first word on
+-- a fresh chunk, into which the item's words were written from its first word on; a reference stays
 abbrev pub kind_with : List ℕ → Kind → Kind
 kind_with item (Reference own) = Reference own
 kind_with item (Fresh purpose words) = Fresh purpose (written_over item words)
 
--- a holding of a fresh chunk, into which these were written from its first word on; a reference stays
+-- a holding of a fresh chunk, into which the item's words were written from its first word on; a reference stays
 abbrev pub holding_with : List ℕ → Holding → Holding
 holding_with item holding = record holding { kind = kind_with item holding.kind }
 
--- each of these was written, from this place on
+-- the events that write each of these words into the chunk, from this place on
 abbrev pub fills_of : ChunkId → ℕ → List ℕ → List OwnEvent
 fills_of chunk place [] = []
 fills_of chunk place (word ∷ item) = made [] (step.Fill chunk place word) ∷ fills_of chunk (place + 1) item
 
--- the hand wrote these into the chunk, from its first word on
+-- the view after the hand wrote the item's words into the chunk, from its first word on
 abbrev pub item_filled : ChunkId → List ℕ → View → View
 item_filled chunk item view = record (with_holdings (change_each (is_of chunk) (holding_with item) view.row.holdings) view) { events = view.events ++ fills_of chunk 0 item }
 
@@ -60,13 +60,13 @@ Stores number stripe key stamp chunk room value view left now =
     (now ≡ item_linked number stripe (stripe_lifted value key) key stamp chunk (issue_in view chunk) (words_in view chunk) room (key_put_aside stripe value key view))
     × (left ≡ used_up (after_link (stripe_lifted value key).state number key chunk stamp))
 
--- the item was stored, and the reference to it given up: it counts its link alone
+-- the item was stored, and the hand gave the reference to it up, so that its header counts the link alone
 pub record StoresItem (number stripe key stamp : ℕ) (chunk : ChunkId) (room : ℕ) (view now : View) : Type 0 where
   pub linked : View
   pub stores : CallsBehind Reserve number stripe (Stores number stripe key stamp chunk room) view linked
   pub dropped : now ≡ chunk_released chunk linked
 
--- the stripe got no room for the call and its entry, and the chunk was given up
+-- the stripe got no room for the call and its entry, and the hand gave the chunk up
 pub record LeavesDead (stripe : ℕ) (chunk : ChunkId) (view now : View) : Type 0 where
   pub given : View
   pub waits : FindsStripe IsFullToStore stripe view given

@@ -30,7 +30,7 @@ SweepsEmpty class view slabs now left =
     ((is_some (first_free (class_at slabs class)) ≡ true) × (now ≡ view) × (left ≡ slabs))
     ⊎ ((first_free (class_at slabs class) ≡ None) × Recovers (class_at slabs class).order view slabs now left)
 
--- this chunk, the first free one of its class, was handed out; where none was free, dead ones were put back before
+-- this chunk, the first free one of its class, was handed out; where the class had none free, its dead ones were put back before
 pub record SuppliesFree (class : ℕ) (chunk : ChunkId) (view : View) (slabs : SlabState) (now : View) (left : SlabState) : Type 0 where
   pub swept : View
   pub between : SlabState
@@ -51,7 +51,7 @@ pub record FindsNoFree (class : ℕ) (view : View) (slabs : SlabState) (now : Vi
   pub still : first_free (class_at left class) ≡ None
   pub alive : list_all (is_found_alive now.row.looks) (class_at left class).order ≡ true
 
--- the hand got this chunk, with room for so many words, and otherwise saw more, and has other pages and lists
+-- the hand got this chunk, with room for n words; otherwise it saw more, and has other pages and lists
 abbrev pub GainsFresh : View → ChunkId → ℕ → View → Type 0
 GainsFresh view chunk room now = (issue : ℕ) × (now ≡ with_holdings (view.row.holdings ++ fresh_holding chunk issue room ∷ []) (with_seen view now))
 
@@ -64,11 +64,11 @@ pub record Grows (number class : ℕ) (view : View) (slabs : SlabState) (now : V
   pub happens : Happens view (change.Grow class ∷ []) step.MissSlabs grown
   pub cuts : CutsEach (first_chunks page (class_at slabs class).per_page) grown (after_grow slabs class page) now left
 
--- it was found unlinked, or held
+-- the chunk was found unlinked or held, and the stripe wasn't changed
 abbrev pub FindsItemHeld : ChunkId → Doing
 FindsItemHeld chunk value view left now = FindsHeld view chunk now × (left ≡ value)
 
--- the chunk's item was seen linked and held by nobody, its key was read, its key's stripe was taken at once, and this was done there
+-- the chunk's item was seen linked and unheld, its key was read, the key's stripe was taken at once, and this was done there
 pub record ReachesItem (number : ℕ) (chunk : ChunkId) (Does : ℕ → ℕ → Doing) (view now : View) : Type 0 where
   pub head : Head
   pub unheld : is_linked_unheld head ≡ true
@@ -83,11 +83,11 @@ pub record ReachesItem (number : ℕ) (chunk : ChunkId) (Does : ℕ → ℕ → 
   pub begins : BeginsWithSeen view (key % view.setup.config.stripes) value
   pub done : IsDone number (key % view.setup.config.stripes) value (Does number (key % view.setup.config.stripes)) taken now
 
--- its item was taken away so
+-- the chunk's item was seen linked and unheld, its key's stripe was taken at once, and the item was taken away there
 abbrev pub TakesAtOnce : ℕ → ChunkId → View → View → Type 0
 TakesAtOnce number chunk view now = ReachesItem number chunk (λ number stripe. Condemns number stripe chunk) view now
 
--- so, but another hand had the lock of its key's stripe
+-- the chunk's item was seen linked and unheld, but another hand had the lock of its key's stripe
 pub record MissesItem (chunk : ChunkId) (view now : View) : Type 0 where
   pub head : Head
   pub unheld : is_linked_unheld head ≡ true
@@ -104,7 +104,8 @@ abbrev pub PassesItem : ℕ → ChunkId → View → View → Type 0
 PassesItem number chunk view now =
     SeesHeld view chunk now ⊎ MissesItem chunk view now ⊎ ReachesItem number chunk (λ number stripe. FindsItemHeld chunk) view now
 
--- so, and its key's stripe was taken at once, but records its calls and had no room for one more, and the lock was given back as it was
+-- the chunk's item was seen linked and unheld, and its key's stripe was taken at once. The stripe records calls and had no room for one
+-- more, and the lock was given back as it was
 pub record LacksCall (chunk : ChunkId) (view now : View) : Type 0 where
   pub head : Head
   pub unheld : is_linked_unheld head ≡ true

@@ -14,8 +14,8 @@ use crate::refs::Ref;
 use mc_words::{Arena, Hand};
 use std::sync::Wait;
 
-/// Makes the item the one of its class that is evicted last, whether or not its key leads to it still. It waits for the lock of the slabs
-/// and for no other, takes no memory, tells no stripe of a call, and the reference stays. (memcached's `do_item_bump`)
+/// Makes the item the one of its class that is evicted last, whether or not its key leads to it still. It waits for the slabs
+/// lock and for no other, takes no memory, records no call, and the reference stays. (memcached's `do_item_bump`)
 pub fn bump<R: Wait>(rt: &R, arena: &Arena, hand: &mut Hand, item: &Ref)
     requires arena { IsHandOf arena.now hand.old }
     requires ready { IsReady (view hand.old) }

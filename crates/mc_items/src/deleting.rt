@@ -1,4 +1,4 @@
-//! Keys that are deleted.
+//! The delete of a key.
 ghost use Rattle.std.specs.Prelude.{◌≡◌, IfOk, OnErr, false};
 ghost use Rattle.mc_core.specs.Holdings.{has_fresh};
 ghost use Rattle.mc_words.specs.hand.Arenas.{IsHandOf, setup_of, view};
@@ -16,8 +16,8 @@ use mc_stripe::NoMemory;
 use mc_words::{Arena, Hand, StripeHeld};
 use std::sync::Wait;
 
-/// Deletes the key, waiting for the lock of its stripe, and says whether it had an item. Who refers to that item reads it on, until
-/// it is released. At want of memory the key is as before, and no entry is written. (memcached's `item_unlink`)
+/// Deletes the key, waiting for the lock of its stripe, and returns whether it had an item. Who refers to that item reads it on,
+/// until it is released. At want of memory the key is as before, and no entry is written. (memcached's `item_unlink`)
 pub fn delete<R: Wait>(rt: &R, arena: &Arena, hand: &mut Hand, key: u64) -> Result<bool, NoMemory>
     requires arena { IsHandOf arena.now hand.old }
     requires ready { IsReady (view hand.old) }

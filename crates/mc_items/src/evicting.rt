@@ -139,7 +139,7 @@ const TRIES: u64 = 5;
 /// How a class without a free chunk came to one.
 #[derive(Clone, Copy)]
 pub enum Supply {
-    /// It was given the next page.
+    /// The class was given the next page.
     Page,
     /// One of its chunks had died, and was put back.
     Dead,
@@ -148,7 +148,7 @@ pub enum Supply {
 }
 
 // Frees a chunk for its class: evicts its item, if nobody holds it and its key's stripe is free; or puts it back where it died
-// meanwhile. Says which, if it did.
+// meanwhile. Returns which, if it did.
 fn free_one(
     arena: &Arena,
     hand: &mut Hand,
@@ -184,7 +184,7 @@ fn free_one(
     }
 }
 
-// Frees the first chunk of the class's oldest five that is to be had, and says how, if there was one. (after items.c's
+// Frees the first chunk of the class's oldest five that is to be had, and returns how, if there was one. (after items.c's
 // `lru_pull_tail`, which tries five)
 pub(crate) fn evict_one(
     arena: &Arena,

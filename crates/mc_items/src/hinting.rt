@@ -24,9 +24,9 @@ pub fn hint(item: &Ref) -> Hint
     item.reference.hint()
 }
 
-/// Gets a reference to the item of a hint, if it is there still, by one exchange and no lock. `Gone` where it was deleted or evicted,
-/// or stands in another chunk; `Contended` where it is there, but others came between, so that one may try again; `TooManyRefs` at
-/// 255 chunks of the hand, which is tested first. Nothing is changed then. (own)
+/// Gets a reference to the item of a hint, if it is there still, by one exchange and no lock. `Gone` where the item was deleted
+/// or evicted, or is in another chunk; `Contended` where it is there, but others came between, so that one may try again;
+/// `TooManyRefs` at 255 chunks of the hand, which is tested first. A refused call changes nothing. (own)
 pub fn again(arena: &Arena, hand: &mut Hand, hint: Hint) -> Result<Ref, Again>
     requires arena { IsHandOf arena.now hand.old }
     requires ready { IsReady (view hand.old) }

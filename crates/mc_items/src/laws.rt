@@ -6,7 +6,7 @@ pub fn kept_refs_keep_items()
     ensures { KeptRefsKeepItems }
 {}
 
-/// So it is after a release, of each item that the hand holds still.
+/// After a release each other reference of the hand to an item is one still, and the item's words are the same.
 pub fn held_refs_keep_items()
     ensures { HeldRefsKeepItems }
 {}

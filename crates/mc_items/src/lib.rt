@@ -1,7 +1,29 @@
 //! Items in shared memory, as a cache knows them: by their keys.
 //!
-//! Every call takes the arena that threads share and the hand that a thread acts with. A reference holds its item: its words stay
-//! as they are until it is released, whoever stores, deletes or evicts meanwhile.
+//! Each call takes the arena that threads share, by `&`, and the hand with which a thread acts, by `&mut`. The hand has no lock,
+//! fills no chunk and holds at most 255 chunks, and each call leaves it so.
+//!
+//! - [`set`] stores an item of n words under a key, and returns its stamp. [`set_within`] gives up after n tries for each lock.
+//! - [`get`] returns a [`Ref`] to the key's item, and [`try_get`] does so without waiting. [`read`] and [`word`] read the item's
+//!   words, and [`release`] gives the reference back.
+//! - [`hint`] makes a hint of a reference, and [`again`] gets the item by the hint with no lock, if it is there still.
+//! - [`touch`] and [`bump`] make an item the one of its class that is evicted last, and [`delete`] deletes a key.
+//!
+//! ```rust
+//! fn read_own<R: Wait>(rt: &R, alloc: Global, arena: &Arena, hand: &mut Hand) -> Option<Vec<u64>> {
+//!     set(rt, arena, hand, 3, &[7, 8, 9]).ok()?;
+//!     let Ok(Some(item)) = get(rt, arena, hand, 3) else {
+//!         return None;
+//!     };
+//!     let found = read(alloc, arena, hand, &item);
+//!     release(arena, hand, item);
+//!     found.ok()
+//! }
+//! ```
+//!
+//! A caller may rely on this: a reference holds its item, whose words stay as they are until the release, whoever stores,
+//! deletes, evicts or moves meanwhile ([`laws`]). A set may evict another key's item, so a get may find nothing. Pages are moved
+//! by `mc_mover`, and bytes packed by `mc_byte_items`. CALLING.md has the contracts.
 #![tactic(auto)]
 
 mod bumping;

@@ -32,7 +32,7 @@ impl Ref {
         self.stamp
     }
 
-    /// How many words it has.
+    /// How many words the item has.
     pub fn len(&self) -> u64
         ensures len { result ≡ item_len self.now }
     {

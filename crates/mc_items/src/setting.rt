@@ -1,4 +1,4 @@
-//! Items that are set.
+//! The set of an item, which waits for its locks.
 ghost use Rattle.std.specs.Prelude.{◌≡◌, ◌≤◌, IfErr, IfOk, OnErr, false, length, true};
 ghost use Rattle.mc_core.specs.Holdings.{has_fresh};
 ghost use Rattle.mc_core.specs.State.{is_class};
@@ -42,10 +42,10 @@ pub enum SetError {
     NoMemory(Refused),
 }
 
-/// Stores an item of these words under the key, in place of the one that it had, and says its stamp. Its chunk is a free one of the
-/// lowest class where key, stamp, length and words fit; else a dead one; else one of a new page; else the oldest item of five that nobody
-/// holds is evicted. It waits for the locks of the slabs and of the key's stripe. (memcached's `process_update_command`, with
-/// items.c's `do_item_alloc` and `do_store_item`)
+/// Stores an item of these words under the key, in place of the one that it had, and returns its stamp. Its chunk is a free one
+/// of the lowest class where key, stamp, length and words fit; else a dead one; else one of a new page; else the oldest item of
+/// five that nobody holds is evicted. It waits for the locks of the slabs and of the key's stripe. (memcached's
+/// `process_update_command`, with items.c's `do_item_alloc` and `do_store_item`)
 pub fn set<R: Wait>(
     rt: &R,
     arena: &Arena,

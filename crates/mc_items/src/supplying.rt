@@ -95,7 +95,7 @@ pub(crate) fn grow_for(
     }
 }
 
-// Gives a class without a free chunk one: of the next page, or where no page is left, by an eviction. Says how, if it did.
+// Gives a class without a free chunk one: of the next page, or where no page is left, by an eviction. Returns how, if it did.
 fn make_free(
     arena: &Arena,
     hand: &mut Hand,

@@ -1,4 +1,4 @@
-//! Keys that are touched.
+//! The touch of a key: its item becomes the newest of its class.
 ghost use Rattle.std.specs.Prelude.{◌≡◌, IfOk, Ok, OnErr, false, true};
 ghost use Rattle.mc_words.specs.hand.Arenas.{IsHandOf, setup_of, view};
 ghost use Rattle.mc_words.specs.hand.Observers.{locks_of, number_of};
@@ -14,9 +14,9 @@ use mc_stripe::NoMemory;
 use mc_words::{Arena, Hand};
 use std::sync::Wait;
 
-/// Makes the key's item the one of its class that is evicted last, waiting for the locks of its stripe and of the slabs, and says
-/// whether it has one. It is a get, and the reference is given up. At want of memory all is as before. (memcached's `item_touch`;
-/// the move is its `do_item_bump`)
+/// Makes the key's item the one of its class that is evicted last, and returns whether the key has one. It waits for the locks of
+/// the key's stripe and of the slabs. It is a get, and the reference is given up. At want of memory all is as before.
+/// (memcached's `item_touch`; the move is its `do_item_bump`)
 pub fn touch<R: Wait>(rt: &R, arena: &Arena, hand: &mut Hand, key: u64) -> Result<bool, NoMemory>
     requires arena { IsHandOf arena.now hand.old }
     requires ready { IsReady (view hand.old) }

@@ -1,4 +1,4 @@
--- What the typed calls answer.
+-- The answers of the keeper's typed calls.
 use Rattle.std.specs.Prelude.{◌≡◌, ℕ, Bool, true, false, ◌⊎◌, if◌then◌else◌, List, Option, Some, None, Result, Ok, Err, ⊤}
 use Rattle.std.specs.Borrow.{Fml, MutBor, follows_so}
 use Rattle.std.specs.Option.{is_some, option_and_then, option_map}
@@ -31,7 +31,7 @@ words_of m key = option_map (λ item. item.words) (option_and_then (item_at m.it
 abbrev pub hold_answer : Machine → ℕ → ℕ → Result Bool HoldError
 hold_answer m worker key = if is_full m.holds worker then Err TooManyRefs else Ok (is_some (linked_chunk m.items key))
 
--- memory may run out only where there is an item to hold
+-- a hold may also end for lack of memory, but only where there is an item to hold
 abbrev pub MayHold : Result Bool HoldError → Result Bool HoldError → Type 0
 MayHold (Err refusal) result = result ≡ Err refusal
 MayHold (Ok false) result = result ≡ Ok false
@@ -41,7 +41,7 @@ MayHold (Ok true) result = (result ≡ Ok true) ⊎ (result ≡ Err (NoMemory tt
 abbrev pub held_words : Machine → ℕ → ℕ → Option (List ℕ)
 held_words m worker key = option_map (λ item. item.words) (option_and_then (item_at m.items) (last_hold m worker key))
 
--- a page begins to move, or why it doesn't
+-- the answer without the source: a page begins to move, or why none does
 abbrev pub told_answer : Result ℕ Reassign → Result (Unit {0}) Reassign
 told_answer (Err refusal) = Err refusal
 told_answer (Ok source) = Ok tt
@@ -51,6 +51,6 @@ abbrev pub acted_answer : Machine → Option Decision → Option Acted
 acted_answer m None = None
 acted_answer m (Some d) = Some (record { decision = d; answer = told_answer (answer_of m.slabs (Some d.src) d.dst) })
 
--- the keeper is this machine once what it lent is given back
+-- once what the keeper lent is given back, the keeper is this machine
 abbrev pub EndsAs : MutBor Machine → Machine → Fml
 EndsAs keeper m = follows_so the_row the_row keeper.ghost_name none (λ _ _. ⊤) (λ n. n ≡ m)

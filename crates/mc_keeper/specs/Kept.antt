@@ -17,8 +17,7 @@ use Rattle.mc_keeper.specs.declared.keeper.Keeper.TheInside.{Inside}
 abbrev pub IsIndexed : List (ℕ × ChunkId) → Items → Type 0
 IsIndexed index items = (key : ℕ) → chunk_of index key ≡ linked_chunk items key
 
--- the decider was fed windows of as many classes, and no class has fewer evictions than it was told of last, so it refuses
--- no window
+-- the decider has as many classes as the memory, and no class has fewer evictions than in its last window, so it refuses no window
 pub record IsWatched (slabs : SlabState) (decider : DeciderState) : Type 0 where
   pub of_each : length decider.per_page ≡ length slabs.classes
   pub risen : (class : ℕ) → evictions_of decider.windows class ≤ number_of (eviction_counts slabs) class
@@ -35,12 +34,12 @@ abbrev pub dead_items : List Owner → Holds → Items → ℕ → ℕ
 dead_items owners holds [] class = 0
 dead_items owners holds (placed ∷ items) class = truth (is_dead_item owners holds class placed) + dead_items owners holds items class
 
--- the dead items of each of so many classes are counted
+-- the counts are those of the dead items of each of n classes
 pub record AreCounted (classes : ℕ) (owners : List Owner) (holds : Holds) (items : Items) (counts : List ℕ) : Type 0 where
   pub of_each : length counts ≡ classes
   pub dead : (class : ℕ) → 1 ≤ class → class ≤ classes → slice_index_or counts (class - 1) 0 ≡ dead_items owners holds items class
 
--- what the keeper keeps
+-- the keeper is a consistent machine, and its decider, its index and its counts are that machine's
 pub record AreKept (keeper : Inside) : Type 0 where
   pub watched : IsWatched keeper.slabs.state keeper.decider
   pub kept : IsConsistent keeper.table keeper.slabs.state keeper.items

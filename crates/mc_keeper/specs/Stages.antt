@@ -1,4 +1,4 @@
--- The stages of a command: the machines between its steps. Where memory runs out, one of them is what stands.
+-- The stages of a command: the machines between its steps. Where memory runs out, one of them is what remains.
 use Rattle.std.specs.Prelude.{ℕ, zero, suc, ◌+◌, if◌then◌else◌, List, [], ◌∷◌, ◌++◌, Option, Some, None}
 use Rattle.mc_classes.specs.Classes.{class_of}
 use Rattle.mc_pages.specs.declared.ids.ChunkId.{ChunkId}
@@ -16,12 +16,13 @@ use Rattle.mc_serial_spec.specs.Machine.{Machine, all_swept, swept, with_mode}
 use Rattle.mc_serial_spec.specs.Mover.{Counted, Turned, is_went, no_counts, turned, with_chunk}
 use Rattle.mc_serial_spec.specs.Supply.{supplied, supply}
 
--- the item is in this chunk, if there is one, and no page was asked for yet
+-- the machine with the item in this chunk, before a page is asked for; unchanged where there is no chunk
 abbrev pub placed : Machine → ℕ → ℕ → List ℕ → Option ChunkId → Machine
 placed m class key words None = m
 placed m class key words (Some chunk) = with_stored m class key words chunk
 
--- an item is stored: the class's dead are put back, then it has a free chunk where there is a way to one, then the item is in it
+-- the stages of storing an item: the class's dead chunks are put back; the class has a free chunk, if it can get one; and the item is in
+-- the chunk
 abbrev pub store_stages : Machine → ℕ → ℕ → List ℕ → List Machine
 store_stages m class key words =
     swept m class ∷ supplied m class ∷ placed (supplied m class) class key words (supply m class) ∷ []
@@ -39,28 +40,28 @@ reassign_stages m src dst = m ∷ begun m src dst (answer_of m.slabs src dst) �
 abbrev pub window_stages : Machine → List Machine
 window_stages m = let fed = with_window (all_swept m) in all_swept m ∷ fed ∷ (acted fed (decision fed)).machine ∷ []
 
--- the dead of the moving page's class are put back, and its next chunk is as before
+-- the machine after the dead chunks of the moving page's class were put back, before the next chunk is looked at
 abbrev pub with_source_swept : Machine → Option Moving → Machine
 with_source_swept m None = m
 with_source_swept m (Some move) = swept m move.src
 
--- at most so many chunks are looked at: each may be where it ends
+-- the stages of at most n looks at chunks: the command may end at each of them
 abbrev pub look_stages : ℕ → Counted → List Machine
 look_stages zero c = []
 look_stages (suc count) c =
     with_source_swept c.machine c.machine.slabs.moving ∷ look_stages count (with_chunk c c.machine.slabs.moving)
 
--- one turn, which is begun
+-- the stages of one turn, once it is begun
 abbrev pub turn_stages : Machine → Counts → List Machine
 turn_stages m counts = look_stages m.bulk (record { machine = record m { turns = m.turns + 1 }; counts = counts })
 
--- so many turns after these: each is about to begin, or ends early
+-- the stages of n more turns: each turn is about to begin, or ends early
 abbrev pub stages_from : ℕ → Turned → List Machine
 stages_from zero t = t.machine ∷ []
 stages_from (suc count) t = let next = turned t.machine t.counts in
     t.machine ∷ (turn_stages t.machine t.counts ++ (if is_went next.ending then stages_from count next else next.machine ∷ []))
 
--- so many turns
+-- the stages of n turns
 abbrev pub turns_stages : Machine → ℕ → List Machine
 turns_stages m count = stages_from count (record { machine = m; counts = no_counts; ending = Idle })
 

@@ -1,4 +1,4 @@
--- What the books say of all pages, and what each change makes of it.
+-- What the books record of all pages, and what each change adds to that.
 use Rattle.std.specs.Prelude.{ℕ, ◌-◌, ◌/◌, ◌==◌, ◌||◌, nat_le, nat_lt, if◌then◌else◌, List, [], ◌∷◌, ◌++◌, length, take, position, slice_get, slice_set, Option, Some, None}
 use Rattle.mc_classes.specs.Classes.{Classes, arena_pages_of, pages_of}
 use Rattle.mc_pages.specs.declared.ids.Moving.{Moving}
@@ -11,8 +11,7 @@ use Rattle.mc_pages.specs.Ledger.{all_untouched}
 use Rattle.mc_pages.specs.SlabState.{SlabState, is_untouched, granted_count}
 use Rattle.mc_map.specs.declared.glance.Glance.{Glance}
 
--- how many pages may be granted within the limit, the owner of each page, the pool with the page that came last standing last, and each
--- change of an owner
+-- how many pages the limit has; the owner of each page; the pool with the page that came last at the end; and each change of an owner
 pub record Book : Type 0 where
   pub within : ℕ
   pub owners : List Owner
@@ -39,8 +38,8 @@ pooled book = slice_get book.pool (length book.pool - 1)
 abbrev pub changed : Book → ℕ → Entry → Owner → Book
 changed book page entry owner = record book { owners = slice_set book.owners page owner; ledger = book.ledger ++ entry ∷ [] }
 
--- the class got the page that came last into the pool, if there is one, or else this untouched one, if there is one; pages are granted in the
--- order of their numbers, those within the limit first
+-- the class got the page that came last into the pool; or else this untouched one, if there is one. Pages are granted in the order of their
+-- numbers, those within the limit first
 abbrev pub grown : Book → ℕ → Option ℕ → Option ℕ → Book
 grown book class (Some page) untouched = record (changed book page (Taken page class) (Class class)) { pool = take (length book.pool - 1) book.pool }
 grown book class None (Some page) = changed book page (Granted page class (nat_le book.within page)) (Class class)
@@ -60,7 +59,7 @@ with_ended book move =
     if move.dst == 0 then record (changed book move.page (Ended move.page move.dst) Pool) { pool = book.pool ++ move.page ∷ [] }
     else changed book move.page (Ended move.page move.dst) (Class move.dst)
 
--- what is noted where no page was given: a page began to move, or a moving one has come to its end
+-- the books after no page was given: a page began to move, or a moving one came to its end
 abbrev pub noted_move : Book → Option Moving → Option Moving → Book
 noted_move book None (Some move) = with_began book move
 noted_move book (Some move) None = with_ended book move

@@ -9,15 +9,15 @@ use Rattle.mc_serial_spec.specs.Machine.{Machine}
 use Rattle.mc_keeper.specs.Calls.{words_of}
 use Rattle.mc_map.specs.declared.kept.ClassLine.{ClassLine}
 
--- an item of so many words comes into the class
+-- an item of n words goes to the class
 abbrev pub is_of : Classes → ℕ → ℕ → Bool
 is_of table class words = option_map_or (λ own. own == class) (class_of table (item_bytes words)) false
 
--- the bytes that such an item asks for, if it comes into the class
+-- the bytes that an item of n words asks for, if the item goes to the class
 abbrev pub bytes_as : Classes → ℕ → ℕ → Option ℕ
 bytes_as table class words = if is_of table class words then Some (item_bytes words) else None
 
--- the bytes that the key's item asks for, if it has one in the class
+-- the bytes that the key's item asks for, if the key has one in the class
 abbrev pub bytes_in : Machine → ℕ → ℕ → Option ℕ
 bytes_in m class key = option_and_then (λ words. bytes_as m.table class (length words)) (words_of m key)
 
@@ -25,7 +25,7 @@ bytes_in m class key = option_and_then (λ words. bytes_as m.table class (length
 abbrev pub linked_count : Machine → ℕ → List ℕ → ℕ
 linked_count m class keys = count_by (λ key. is_some (bytes_in m class key)) keys
 
--- the bytes that these ask for
+-- the bytes that the items of these keys ask for in the class
 abbrev pub asked_bytes : Machine → ℕ → List ℕ → ℕ
 asked_bytes m class keys = sum_by (λ key. unwrap_or (bytes_in m class key) 0) keys
 
@@ -33,7 +33,8 @@ asked_bytes m class keys = sum_by (λ key. unwrap_or (bytes_in m class key) 0) k
 abbrev pub chunks_of : Classes → ℕ → ℕ
 chunks_of table class = if class == 0 || nat_lt (length table.sizes) class then 0 else per_page_of table class
 
--- the line tells what the class has of the items of these keys; each chunk of its pages is free, cleared, linked, held without a key, or dead
+-- the line has the class's numbers, with the items of these keys; each chunk of its pages is free, cleared, linked, held without a key, or
+-- dead
 pub record IsLine (m : Machine) (keys : List ℕ) (line : ClassLine) : Type 0 where
   pub size : line.size ≡ size_of m.table line.class
   pub per_page : line.per_page ≡ per_page_of m.table line.class

@@ -16,11 +16,11 @@ use Rattle.mc_map.specs.Agree.{Agrees}
 use Rattle.mc_map.specs.Books.{Book, glance_of, noted}
 use Rattle.mc_map.specs.Kept.{IsLine}
 
--- the class of an item of so many words, or 0 where it is too large
+-- the class of an item of n words, or 0 where it is too large
 abbrev pub given_class : Classes → ℕ → ℕ
 given_class table words = unwrap_or (class_of table (item_bytes words)) 0
 
--- what the books say after a command that led from one machine to another
+-- the books after a command that led from one machine to another
 abbrev pub books_after : Book → Machine → Command → Machine → Book
 books_after book m (command.Set worker key words base) after = noted book (given_class m.table words) (glance_of m.slabs) (glance_of after.slabs)
 books_after book m (command.Reassign src dst) after = noted book 0 (glance_of m.slabs) (glance_of after.slabs)
@@ -35,19 +35,19 @@ books_after book m (command.Automove mode) after = book
 books_after book m command.Stats after = book
 books_after book m command.StatsSlabs after = book
 
--- something is to be told of a class with these numbers: it has pages, or an item was evicted
+-- a class with these numbers is shown: it has pages, or an item was evicted
 abbrev pub is_told : Numbers → Bool
 is_told numbers = nat_lt 0 numbers.pages || nat_lt 0 numbers.evictions
 
--- the classes of which something is to be told, of so many
+-- the classes that are shown, of the first n
 abbrev pub told_classes : SlabState → ℕ → List ℕ
 told_classes slabs count = filter (λ class. is_told (numbers_of (class_at slabs class))) (map (λ place. place + 1) (range_with_len 0 count))
 
--- the line, if something is to be told
+-- the line, if its class is shown
 abbrev pub told_line : ClassLine → List ClassLine
 told_line line = if nat_lt 0 line.pages || nat_lt 0 line.evictions then line ∷ [] else []
 
--- the map shows the machine and the books, which agree, and a line for each class of which something is to be told
+-- the map shows the machine and the books, which agree, and a line for each class that has pages or evictions
 pub record IsMap (m : Machine) (book : Book) (keys : List ℕ) (map : Map) : Type 0 where
   pub page : map.page ≡ m.table.page
   pub owners : map.owners.items ≡ book.owners

@@ -13,11 +13,11 @@ is_mark line = bytes_eq line (codes "# map")
 abbrev pub command_count : List ℕ → ℕ
 command_count line = if is_skipped (words_of line) then 0 else 1
 
--- the mark of a line with this number, above which stand so many commands, if it is one
+-- the mark of a line with this number, which has n commands above it, if the line is one
 abbrev pub mark_on : List ℕ → ℕ → ℕ → List Mark
 mark_on line number done = if is_mark line then record { line = number; done = done } ∷ [] else []
 
--- the marks of these lines, above which stand so many lines and so many commands
+-- the marks of these lines, which have this many lines and this many commands above them
 abbrev pub marks_of : ℕ → ℕ → List (List ℕ) → List Mark
 marks_of number done [] = []
 marks_of number done (line ∷ rest) = mark_on line (number + 1) done ++ marks_of (number + 1) (done + command_count line) rest

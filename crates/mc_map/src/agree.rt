@@ -1,4 +1,4 @@
-//! Whether the books are as a keeper's numbers say.
+//! Whether the books agree with a keeper's numbers.
 ghost use Rattle.std.specs.Prelude.{◌≡◌, true, count_by, length};
 ghost use Rattle.mc_pages.specs.Accounted.{is_of_class, is_pool};
 ghost use Rattle.mc_map.specs.Agree.{Agrees};
@@ -7,7 +7,7 @@ use mc_classes::ClassId;
 use mc_keeper::Keeper;
 use mc_pages::Owner;
 
-/// Whether each class has as many of these pages as the keeper says, and the pool, too.
+/// Whether each class has as many of these pages as the keeper counts, and the pool, too.
 pub(crate) fn agrees(keeper: &Keeper, owners: &[Owner]) -> bool
     ensures { result ≡ true → Agrees keeper.now.slabs owners.now }
 {

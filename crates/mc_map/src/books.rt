@@ -1,4 +1,4 @@
-//! What became of each page: who owns it, which pages the pool has, and the entries that say how it came so.
+//! What became of each page: who owns it, which pages the pool has, and the entries that record how it came there.
 ghost use Rattle.std.specs.Prelude.{◌≡◌, position, IfOk, OnOk};
 ghost use Rattle.mc_map.specs.Books.{changed, fresh_books, grown_next, noted, with_began, with_ended};
 ghost use Rattle.mc_pages.specs.SlabState.{is_untouched};
@@ -16,7 +16,7 @@ pub struct Books {
     /// How many pages may be granted within the limit. They are granted before those beyond it.
     within: u64,
     owners: Vec<Owner>,
-    /// The page that came last stands last.
+    /// The pages of the pool, the one that came last at the end.
     pool: Vec<PageId>,
     ledger: Vec<Entry>,
 }
@@ -49,7 +49,7 @@ impl Books {
         &self.owners
     }
 
-    /// The pages of the pool. The one that came last stands last.
+    /// The pages of the pool. The one that came last is at the end.
     pub fn pool(&self) -> &[PageId]
         ensures { result.now ≡ self.now.pool }
     {

@@ -18,13 +18,13 @@ use std::alloc::Global;
 /// A chunk that holds a move up.
 #[derive(Drop)]
 pub struct Blocker {
-    /// Which chunk of the moving page, from 0.
+    /// The index of the chunk on the moving page.
     pub chunk: u64,
     /// The key of the item in it.
     pub key: u64,
     /// Whether the key leads to the item.
     pub linked: bool,
-    /// Who holds it, once for each hold.
+    /// The workers that hold the item, once for each hold.
     pub workers: Vec<u64>,
 }
 
@@ -33,9 +33,9 @@ pub struct Blocker {
 pub enum Hang {
     /// No page moves.
     Idle,
-    /// These chunks hold it up; where there are none, nothing does.
+    /// These chunks hold the move up; where there are none, nothing does.
     Found(Vec<Blocker>),
-    /// To find them takes more looks at chunks than a keeper has turns.
+    /// The search for what holds the move up takes more looks at chunks than a keeper has turns.
     Unknown,
 }
 
@@ -74,7 +74,7 @@ impl From<Stop> for Lost {
 struct Probe {
     alloc: Global,
     keeper: Keeper,
-    /// How many chunks a turn of the keeper looks at that it stands for.
+    /// How many chunks a turn of the imitated keeper looks at.
     bulk: u64,
 }
 
@@ -110,7 +110,7 @@ impl Probe {
         Ok(())
     }
 
-    /// So many turns as they are with the other's bulk.
+    /// Does n turns as they are with the other's bulk.
     fn turns(&mut self, count: u64) -> Result<(), Lost> {
         for _ in 0..count {
             let Some(moving) = self.keeper.moving() else {
@@ -127,7 +127,7 @@ impl Probe {
         chunks_of(self.keeper.table(), moving.src).saturating_sub(moving.at)
     }
 
-    /// Looks at so many chunks, and gives those that are held.
+    /// Looks at n chunks, and gives those that are held.
     fn look(&mut self, count: u64) -> Result<Vec<u64>, Lost> {
         let mut held = Vec::new(self.alloc);
         for _ in 0..count {
@@ -256,7 +256,8 @@ fn blockers_after(
     blockers_of(alloc, probe, moving.src, items, keeper)
 }
 
-/// The same, on a probe of its own. It is dropped by a call, as its fields are many: where it goes out of scope takes most of a minute to prove.
+/// Does the commands anew on a probe of its own, and searches there for what holds the move up. The probe is dropped by a call,
+/// as its fields are many: where it goes out of scope takes most of a minute to prove.
 fn search(
     alloc: Global,
     moving: Moving,

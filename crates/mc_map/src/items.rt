@@ -1,4 +1,4 @@
-//! Which items were stored, and who holds which, as the answers of calls tell it.
+//! Which items were stored, and who holds which, as the answers of calls show it.
 ghost use Rattle.std.specs.Prelude.{◌≡◌};
 
 use crate::map::MapError;
@@ -21,16 +21,16 @@ struct Stored {
 #[derive(Drop)]
 pub(crate) struct HeldItem {
     pub key: u64,
-    /// Its number: items are numbered as they are stored.
+    /// The number of the item: items are numbered as they are stored.
     pub item: u64,
     /// The bytes that it asks for.
     pub bytes: u64,
-    /// Who holds it, once for each hold, in the order in which they were taken.
+    /// The workers that hold the item, once for each hold, in the order in which they were taken.
     pub workers: Vec<u64>,
 }
 
 impl HeldItem {
-    /// Whether it is in a chunk of the class.
+    /// Whether the item is in a chunk of the class.
     pub(crate) fn is_of(&self, table: &ClassTable, class: ClassId) -> bool {
         table.class_for(self.bytes) == Some(class)
     }
@@ -89,7 +89,7 @@ impl Items {
         }
     }
 
-    /// An item of so many bytes was stored under the key.
+    /// An item of n bytes was stored under the key.
     fn store(&mut self, key: u64, bytes: u64) -> Result<(), Refused> {
         reserve_entries(&mut self.last, 1)?;
         if !self.last.contains_key(&key) {
@@ -104,7 +104,7 @@ impl Items {
         Ok(())
     }
 
-    /// An item of so many bytes was stored under the key, or it wasn't.
+    /// An item of n bytes was stored under the key, or it wasn't.
     pub(crate) fn note_set(&mut self, stored: bool, key: u64, bytes: u64) -> Result<(), Refused> {
         if stored {
             self.store(key, bytes)?;

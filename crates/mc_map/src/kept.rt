@@ -1,4 +1,4 @@
-//! What each class keeps: its pages, and what is in its chunks.
+//! The numbers of a class on a map: its pages, and what is in its chunks.
 ghost use Rattle.std.specs.Prelude.{◌≡◌, ℕ, ◌≤◌, ◌^◌, length, IfOk, IfSome};
 ghost use Rattle.mc_pages.specs.SlabState.{IsClass};
 ghost use Rattle.mc_serial_spec.specs.Item.{item_bytes};
@@ -16,13 +16,13 @@ pub struct ClassLine {
     /// The bytes of a chunk.
     pub size: u64,
     pub per_page: u64,
-    /// Its pages, a moving one included.
+    /// How many pages the class has, a moving one included.
     pub pages: u64,
     /// Items to which their keys lead.
     pub linked: u64,
     /// Items that somebody holds, whether their keys lead to them or not.
     pub held: u64,
-    /// Those of the held items to which no key leads.
+    /// Held items to which no key leads.
     pub unlinked: u64,
     /// Items that neither a key leads to nor anybody holds.
     pub dead: u64,
@@ -60,11 +60,11 @@ struct Linked {
 #[derive(Clone, Copy)]
 struct Held {
     count: u64,
-    /// Those to which no key leads.
+    /// Held items of the class to which no key leads.
     unlinked: u64,
 }
 
-/// The bytes that an item of so many words asks for, if it comes into the class.
+/// The bytes that an item of n words asks for, if it comes into the class.
 fn bytes_as(table: &ClassTable, class: ClassId, words: u64) -> Option<u64>
     requires { words ≤ 2 ^ 60 }
     ensures bytes { result ≡ bytes_as table.now class words }
@@ -123,7 +123,7 @@ fn held_in(keeper: &Keeper, class: ClassId, items: &Items) -> Result<Held, MapEr
     Ok(Held { count, unlinked })
 }
 
-/// What the class has, of whose chunks so many are cleared.
+/// What the class has, with n of its chunks cleared.
 pub(crate) fn class_line(
     keeper: &Keeper,
     class: ClassId,

@@ -11,7 +11,7 @@ use mc_pages::{Entry, Owner};
 /// Why no map is shown.
 #[derive(Debug, PartialEq, Eq, Drop)]
 pub enum MapError {
-    /// The books aren't as the keeper's numbers say.
+    /// The books don't agree with the keeper's numbers.
     Books,
     /// Worker 0, which no script has, holds as much as it may.
     Refs,
@@ -36,7 +36,7 @@ pub struct Map {
     pub done: u64,
     /// Who owns each page, page 0 first.
     pub owners: Vec<Owner>,
-    /// The pages of the pool. The one that came last stands last.
+    /// The pages of the pool. The one that came last is at the end.
     pub pool: Vec<PageId>,
     /// The page on the move.
     pub moving: Option<Moving>,

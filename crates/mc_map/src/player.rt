@@ -85,7 +85,7 @@ impl Player {
         self.books.ledger()
     }
 
-    /// Does a command. Where it stops, some of it may be done, and what the books say may be behind.
+    /// Does a command. Where it stops, some of it may be done, and the books may be behind.
     pub fn play(&mut self, command: Command) -> Result<(), Stop>
         requires { IsValid command }
         ensures machine { OnOk result (option_map (λ served. served.machine) (serve self.old.keeper command) ≡ Some self.new.keeper) }
@@ -116,7 +116,7 @@ impl Player {
 
 /// What each command does.
 impl Player {
-    /// Stores so many words that count up from `base`, and notes the page that its class got or asked for.
+    /// Stores n words that count up from `base`, and notes the page that its class got or asked for.
     fn set(&mut self, key: u64, words: u64, base: u64) -> Result<(), Stop>
         requires { words ≤ 4096 }
         ensures machine { OnOk result (self.new.keeper ≡ (set_in self.old.keeper (class_of self.old.keeper.table (item_bytes words)) key (words_from base words)).machine) }
@@ -205,7 +205,7 @@ impl Player {
         self.note(0, before)
     }
 
-    /// So many turns of the mover.
+    /// Does n turns of the mover.
     fn turn(&mut self, turns: u64) -> Result<(), Stop>
         requires { turns ≤ 1000000 }
         ensures machine { OnOk result (option_map (λ turned. turned.machine) (after_turns self.old.keeper turns) ≡ Some self.new.keeper) }
@@ -241,7 +241,7 @@ impl Player {
     }
 }
 
-/// The class of an item of so many words, or 0 where it is too large.
+/// The class of an item of n words, or 0 where it is too large.
 fn given_class(table: &ClassTable, words: u64) -> u64
     requires { words ≤ 4096 }
     ensures { result ≡ given_class table.now words }
@@ -249,7 +249,7 @@ fn given_class(table: &ClassTable, words: u64) -> u64
     table.class_for(24 + 8 * words).unwrap_or(0)
 }
 
-/// Stores so many words that count up from `base`, and says whether there was room.
+/// Stores n words that count up from `base`, and returns whether there was room.
 fn store_words(
     alloc: Global,
     keeper: &mut Keeper,
@@ -265,7 +265,7 @@ fn store_words(
     Ok(stored == Stored::Yes)
 }
 
-/// So many words that count up from `base`, modulo 2^64.
+/// The n words that count up from `base`, modulo 2^64.
 fn counted_words(alloc: Global, base: u64, count: u64) -> Result<Vec<u64>, Refused>
     ensures { IfOk result (λ words. words.items ≡ words_from base count) }
 {
@@ -286,7 +286,7 @@ fn count_up(words: &mut [u64], base: u64)
 }
 
 impl Player {
-    /// What is shown now. `commands` are those that were done, as `run` says.
+    /// The map of what is there now. `commands` are those that were done, by `run`.
     pub fn map(&self, run: &Run, commands: &[Command]) -> Result<Map, MapError>
         requires mode { run.now.automove ≤ 2 }
         requires valid { All IsValid commands.now }
@@ -340,7 +340,7 @@ impl Player {
     }
 }
 
-/// Adds a line of which something is to be told: the class has pages, or an item was evicted.
+/// Adds a line of a class that is shown: the class has pages, or an item was evicted.
 fn push_told(lines: &mut Vec<ClassLine>, line: ClassLine) -> Result<(), Refused>
     ensures { OnOk result (lines.new.items ≡ lines.old.items ++ told_line line) }
 {

@@ -16,7 +16,7 @@ pub enum Misfit {
     NoMemory(Refused),
 }
 
-/// The owners of so many untouched pages after these entries, page 0 first. An entry that finds its page otherwise is refused.
+/// The owners of n untouched pages after these entries, page 0 first. An entry that finds its page otherwise is refused.
 pub fn owners_after(alloc: Global, pages: usize, entries: &[Entry]) -> Result<Vec<Owner>, Misfit>
     ensures owners { IfOk result (λ owners. replay (all_untouched pages) entries.now ≡ Some owners.items) }
     ensures misfit { result ≡ Err Misfit.Entry → replay (all_untouched pages) entries.now ≡ None }

@@ -16,9 +16,9 @@ use std::alloc::Global;
 /// A line `# map`.
 #[derive(Clone, Copy, Debug, PartialEq, Eq)]
 pub struct Mark {
-    /// Its number. Lines are numbered from 1, skipped ones too.
+    /// The number of the line. Lines are numbered from 1, skipped ones too.
     pub line: u64,
-    /// How many commands stand above it.
+    /// How many commands are above the line.
     pub done: u64,
 }
 
@@ -29,7 +29,7 @@ pub struct Script {
     pub marks: Vec<Mark>,
 }
 
-/// Reads a script, or says which is the first line that is no command.
+/// Reads a script, or returns which is the first line that is no command.
 pub fn read_script(alloc: Global, bytes: &[u8]) -> Result<Script, ScriptError>
     ensures commands { IfOk result (λ script. script_of bytes.now ≡ Ok script.commands.items) }
     ensures valid { IfOk result (λ script. All IsValid script.commands.items) }
@@ -61,7 +61,7 @@ fn marks(alloc: Global, bytes: &[u8]) -> Result<Vec<Mark>, Refused>
     Ok(marks)
 }
 
-/// Notes a line with this number, above which stand so many commands, if it is a mark.
+/// Notes a line with this number, which has `done` commands above it, if it is a mark.
 fn note_mark(marks: &mut Vec<Mark>, line: &[u8], number: u64, done: u64) -> Result<(), Refused>
     ensures { OnOk result (marks.new.items ≡ marks.old.items ++ mark_on line.now number done) }
 {

@@ -1,4 +1,4 @@
-//! Maps that grow.
+//! Hash maps that grow.
 ghost use Rattle.std.specs.Prelude.{◌≤◌, OnErr, OnOk, IsOk};
 ghost use Rattle.std.specs.HashMap.{IsReordered, IsUnchanged, spare};
 
@@ -6,7 +6,7 @@ use crate::refused::Refused;
 use std::collections::HashMap;
 use std::hash::Hash;
 
-/// Room for so many more entries. The entries stay, whatever the answer, and where there is no room all stays.
+/// Room for n more entries. The entries stay, whatever the answer, and where there is no room all stays.
 pub fn reserve_entries<K: Eq + Hash, V>(
     map: &mut HashMap<K, V>,
     additional: usize,

@@ -1,4 +1,4 @@
-//! A value in a room of its own.
+//! Boxes: values in a room of their own.
 ghost use Rattle.std.specs.Prelude.{◌≡◌, IfOk, box_value};
 
 use crate::refused::Refused;

@@ -1,8 +1,8 @@
-//! The evidence.
+//! The value that is evidence of a refusal, `Refused`.
 use std::marker::Model;
 use thiserror::Error;
 
-/// The allocator refused memory. It has no size, and can't be copied, so that each tells of a refusal of its own.
+/// The allocator refused memory. The value has no size, and can't be copied, so each reports a refusal of its own.
 #[derive(Debug, PartialEq, Eq, Drop, Error)]
 #[error("out of memory")]
 pub struct Refused {

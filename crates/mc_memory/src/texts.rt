@@ -3,7 +3,7 @@ ghost use Rattle.std.specs.Prelude.{◌≡◌, ◌≤◌, ◌+◌, ◌++◌, if�
 
 use crate::refused::Refused;
 
-/// These characters behind the last. Where there is no room, the text stays.
+/// Adds these characters at the text's end. Where there is no room, the text stays.
 pub fn push_str(text: &mut String, more: &str) -> Result<(), Refused>
     ensures bytes { string_bytes text.new ≡ (if is_ok result then string_bytes text.old ++ more.now else string_bytes text.old) }
     ensures len { string_len text.new ≡ (if is_ok result then string_len text.old + length more.now else string_len text.old) }

@@ -4,7 +4,7 @@ ghost use Rattle.std.specs.Prelude.{◌≡◌, ◌≤◌, ◌<◌, ◌+◌, ◌-
 use crate::refused::Refused;
 use std::alloc::Global;
 
-/// An empty vector with room for so many elements.
+/// An empty vector with room for n elements.
 pub fn with_capacity<T: Drop>(alloc: Global, capacity: usize) -> Result<Vec<T>, Refused>
     ensures items { IfOk result (λ list. list.items ≡ []) }
     ensures len { IfOk result (λ list. vec_len list ≡ 0) }
@@ -14,7 +14,7 @@ pub fn with_capacity<T: Drop>(alloc: Global, capacity: usize) -> Result<Vec<T>, 
     Vec::with_capacity(alloc, capacity).map_err(|_| Refused::now())
 }
 
-/// Room for so many more elements. The elements stay, whatever the answer.
+/// Room for n more elements. The elements stay, whatever the answer.
 pub fn reserve<T: Drop>(list: &mut Vec<T>, additional: usize) -> Result<(), Refused>
     ensures items { list.new.items ≡ list.old.items }
     ensures len { vec_len list.new ≡ vec_len list.old }
@@ -49,7 +49,7 @@ pub fn insert<T: Drop>(list: &mut Vec<T>, index: usize, value: T) -> Result<(), 
     list.insert(index, value).map_err(|_| Refused::now())
 }
 
-/// As many elements as asked for: the first of the vector's, and behind them the value. Where there is no room, the elements stay.
+/// A vector with `count` elements: its own first ones, and behind them the value. Where there is no room, the elements stay.
 pub fn resize<T: Copy>(list: &mut Vec<T>, count: usize, value: T) -> Result<(), Refused>
     ensures items { list.new.items ≡ (if is_ok result then take count list.old.items ++ replicate (count - vec_len list.old) value else list.old.items) }
     ensures len { vec_len list.new ≡ (if is_ok result then count else vec_len list.old) }
@@ -79,7 +79,7 @@ pub fn from_slice<T: Copy>(alloc: Global, values: &[T]) -> Result<Vec<T>, Refuse
     Vec::from_slice(alloc, values).map_err(|_| Refused::now())
 }
 
-/// A vector of so many copies of a value.
+/// A vector of n copies of a value.
 pub fn filled<T: Copy>(alloc: Global, value: T, count: usize) -> Result<Vec<T>, Refused>
     ensures items { IfOk result (λ list. list.items ≡ replicate count value) }
     ensures len { IfOk result (λ list. vec_len list ≡ count) }

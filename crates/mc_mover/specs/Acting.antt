@@ -1,4 +1,4 @@
--- What clauses say of a call: of the hand, and of what was lent to it, before and after.
+-- What clauses state of a call: of the hand, and of what was lent to it, before and after.
 use Rattle.std.specs.Prelude.{◌≡◌, ◌≢◌, ℕ, ◌%◌, true, Some}
 use Rattle.std.specs.Option.{option_map}
 use Rattle.mc_pages.specs.declared.ids.ChunkId.{ChunkId}
@@ -31,23 +31,23 @@ IsLedTo hand held chunk =
 abbrev pub Acts : (ℕ → SlabsDoing) → Hand → SlabsHeld → Hand → SlabsHeld → Type 0
 Acts Does before found now left = Does (number_of before) (view before) (slabs_lent found) (view now) (slabs_lent left)
 
--- and so with a stripe's lock, too, until that was given back
+-- with the slabs lock and a stripe's lock the hand did this, by its number, until it gave the stripe's lock back
 abbrev pub ActsOnStripe : (ℕ → StripeDoing) → Hand → StripeHeld → SlabsHeld → Hand → SlabsHeld → Type 0
 ActsOnStripe Does before stripe found now left = Does (number_of before) (stripe_number stripe) (stripe_lent stripe) (view before) (slabs_lent found) (view now) (slabs_lent left)
 
--- it took the lock of the slabs, did this, and gave it back, once
+-- the hand took the slabs lock, did this, and gave the lock back, once
 abbrev pub ActsOnce : (ℕ → SlabsDoing) → Hand → Hand → Type 0
 ActsOnce Does before now = HoldsSlabs (Does (number_of before)) (view before) (view now)
 
--- it found the lock of the slabs with another hand, and did nothing
+-- the hand found the slabs lock with another hand, and did nothing
 abbrev pub FindsSlabsHeld : Hand → Hand → Type 0
 FindsSlabsHeld before now = (word : ℕ) × (word ≢ 0) × (view now ≡ slabs_missed word (view before))
 
--- its own calls are more by what the turn counted
+-- the hand's own calls are more by what the turn counted
 abbrev pub TellsTurn : Hand → Hand → Turn → Type 0
 TellsTurn before now turn = TellsAsCounted (number_of before) (counts_in turn) (view before) (view now)
 
--- and by what a turn found that stopped early
+-- the hand's own calls are more by what a turn found that stopped early
 abbrev pub TellsUntilStopped : Hand → Hand → Type 0
 TellsUntilStopped before now = TellsOfFewer (number_of before) (view before) (view now)
 
@@ -55,11 +55,11 @@ TellsUntilStopped before now = TellsOfFewer (number_of before) (view before) (vi
 abbrev pub SeesDead : Hand → ChunkId → Type 0
 SeesDead hand chunk = option_map is_dead (seen_head (view hand).row.looks chunk) ≡ Some true
 
--- it knows why the chunk's item may be taken away
+-- the hand knows why the chunk's item may be taken away
 abbrev pub KnowsReason : Setup → Hand → SlabsHeld → ChunkId → Type 0
 KnowsReason setup hand held chunk = knows_reason (slabs_lent held) (view hand).row.looks (view hand).row.holdings chunk ≡ true
 
--- its fresh chunk is for a copy of the item in this one, and nothing was written there
+-- the hand's fresh chunk is for a copy of this chunk's item, and nothing is written in it
 abbrev pub HasBlankCopy : Hand → ChunkId → Fresh → Type 0
 HasBlankCopy hand chunk fresh = (issue : ℕ) × (holding_of (fresh_chunk fresh) (view hand).row.holdings ≡ Some (copy_holding chunk (fresh_chunk fresh) issue (fresh_room fresh)))
 
@@ -67,7 +67,8 @@ HasBlankCopy hand chunk fresh = (issue : ℕ) × (holding_of (fresh_chunk fresh)
 abbrev pub EvictsAs : ChunkId → Found → ℕ → StripeDoing
 EvictsAs chunk found number stripe value view slabs now left = GivesEvicted number stripe value chunk found view now
 
--- by what was found: the item was moved to the fresh chunk; or it was unlinked or held, and that chunk given up
+-- what became of a rescue, by what was found: the item was moved to the fresh chunk; or the item was unlinked or held, and the fresh chunk
+-- was given up
 abbrev pub RescuesAs : ChunkId → Fresh → Found → ℕ → StripeDoing
 RescuesAs chunk fresh found number stripe value = GivesRescued number stripe value chunk (fresh_chunk fresh) (fresh_room fresh) found
 

@@ -5,7 +5,7 @@ use Rattle.mc_words.specs.item.Items.{item_with}
 use Rattle.mc_words.specs.hand.View.{View}
 use Rattle.mc_words.specs.hand.Views.{held_word_seen, word_filled}
 
--- these words were read of the one chunk, from this place on, and each was written into the copy
+-- the view after these words were read of the one chunk, from this place on, and each was written into the copy
 abbrev pub words_copied : ChunkId → ChunkId → ℕ → List ℕ → View → View
 words_copied chunk copy place [] view = view
 words_copied chunk copy place (word ∷ words) view = words_copied chunk copy (place + 1) words (word_filled copy place word (held_word_seen chunk place word view))

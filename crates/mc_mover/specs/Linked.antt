@@ -28,7 +28,7 @@ StripeDoing = ℕ → ReadyStripe → View → SlabState → View → SlabState 
 abbrev pub ReadsKey : ChunkId → ℕ → View → View → Type 0
 ReadsKey chunk key view now = Happens view [] (step.WordHeld chunk 0) now × (now ≡ key_seen chunk key view)
 
--- so, and another hand has the lock of its key's stripe
+-- the chunk's key was read, and another hand has the lock of the key's stripe
 pub record FindsLocked (chunk : ChunkId) (view now : View) : Type 0 where
   pub key : ℕ
   pub read : View
@@ -37,7 +37,8 @@ pub record FindsLocked (chunk : ChunkId) (view now : View) : Type 0 where
   pub busy : word ≢ 0
   pub is : now ≡ stripe_missed (key % view.setup.config.stripes) word read
 
--- so, the lock of its key's stripe was taken at once, whose history began with all that the hand had seen of it, and then this was done
+-- the chunk's key was read, and the lock of its stripe was taken at once. The stripe's history began with all that the hand had seen of it.
+-- Then this was done
 pub record ReachesStripe (chunk : ChunkId) (Does : ℕ → StripeDoing) (view : View) (slabs : SlabState) (now : View) (left : SlabState) : Type 0 where
   pub key : ℕ
   pub value : ReadyStripe
@@ -54,11 +55,11 @@ pub record ReachesStripe (chunk : ChunkId) (Does : ℕ → StripeDoing) (view : 
 abbrev pub OnlyGives : StripeDoing
 OnlyGives stripe value taken slabs now left = (now ≡ stripe_given stripe value taken) × (left ≡ slabs)
 
--- so, since the key leads to another chunk by now, or nowhere
+-- the lock was given back, and nothing was changed, since the key leads to another chunk by now, or nowhere
 abbrev pub FindsGone : ChunkId → ℕ → StripeDoing
 FindsGone chunk key stripe value taken slabs now left = (option_map (λ place. place.0) (place_of value.state key) ≢ Some chunk) × OnlyGives stripe value taken slabs now left
 
--- room was made for a call on the key and its entry, the class was swept as it had to be, and then this was done
+-- the hand made room for a call on the key and its entry, swept the class if a sweep was due, and then did this
 abbrev pub SavesWith : ℕ → SlabsDoing → (ℕ → BothDoing) → StripeDoing
 SavesWith number Swept Does stripe value taken slabs now left =
     IsStored number stripe value (λ ready view last after. Sweeping Swept (Does stripe) slabs ready view left last after) taken now
@@ -71,7 +72,7 @@ pub record GivesCopyUp (number class : ℕ) (chunk : ChunkId) (sweep : Sweep) (s
   pub fails : SavesWith number (SweepsToRescue class chunk sweep) (λ stripe. FailsToRescue chunk copy) stripe value taken slabs failed kept
   pub puts : SweepsOne copy failed kept now left
 
--- what became of the item, by what was found, in a turn whose sweep was due or done
+-- what became of the linked chunk's item, by what was found, in a turn whose sweep was due or done
 abbrev pub SavesAs : ℕ → ℕ → ChunkId → Sweep → Found → StripeDoing
 SavesAs number class chunk sweep Rescued stripe value taken slabs now left =
     SavesWith number (SweepsToRescue class chunk sweep) (λ stripe. Rescues number stripe chunk) stripe value taken slabs now left
@@ -82,7 +83,7 @@ SavesAs number class chunk sweep Busy stripe value taken slabs now left =
     ⊎ GivesCopyUp number class chunk sweep stripe value taken slabs now left
 SavesAs number class chunk sweep found stripe value taken slabs now left = ⊥
 
--- so, and then the chunk, which is dead, was cleared
+-- the chunk's key was read, its stripe was taken, the item was saved as was found, and then the dead chunk was cleared
 pub record SavesAndClears (number class : ℕ) (chunk : ChunkId) (sweep : Sweep) (found : Found) (view : View) (slabs : SlabState) (now : View) (left : SlabState) : Type 0 where
   pub saved : View
   pub kept : SlabState
@@ -90,15 +91,16 @@ pub record SavesAndClears (number class : ℕ) (chunk : ChunkId) (sweep : Sweep)
   pub clears : Clears saved kept chunk now
   pub left_is : left ≡ after_clear kept chunk
 
--- why a linked chunk holds up the move, which was seen unheld or held: it was held; its key leads elsewhere by now; or it was held or
--- unlinked before its item could be taken away. In this last case alone the turn's sweep is done then
+-- why a linked chunk, seen unheld or held, holds up the move: it was held; its key leads elsewhere by now; or it was held or unlinked
+-- before its item could be taken away. The turn's sweep is done only in the last case
 abbrev pub HoldsUp : ℕ → ℕ → ChunkId → Sweep → Bool → Sweep → SlabsDoing
 HoldsUp number class chunk sweep false next view slabs now left = ReachesStripe chunk (λ key. OnlyGives) view slabs now left × (next ≡ sweep)
 HoldsUp number class chunk sweep true next view slabs now left =
     (ReachesStripe chunk (FindsGone chunk) view slabs now left × (next ≡ sweep))
     ⊎ (ReachesStripe chunk (λ key. SavesAs number class chunk sweep Busy) view slabs now left × (next ≡ Done))
 
--- what was done, by what was found; the chunk was seen unheld or held; and whether the turn's sweep is due or done, before and afterwards
+-- what was done with a linked chunk that was seen unheld or held, by what was found; and whether the turn's sweep is due or done, before
+-- and afterwards
 abbrev pub VisitsLinked : ℕ → ℕ → ChunkId → Sweep → Bool → Found → Sweep → SlabsDoing
 VisitsLinked number class chunk sweep unheld Rescued next view slabs now left =
     (unheld ≡ true) × SavesAndClears number class chunk sweep Rescued view slabs now left × (next ≡ Done)

@@ -1,4 +1,4 @@
--- The automover's mode: what is done under the lock of the slabs.
+-- The automover's mode, set under the slabs lock.
 use Rattle.std.specs.Prelude.{◌≡◌, ℕ}
 use Rattle.mc_core.specs.declared.event.Change.TheVariants as change
 use Rattle.mc_words.specs.lock.Doing.{SlabsDoing}

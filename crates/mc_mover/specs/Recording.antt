@@ -15,7 +15,7 @@ use Rattle.mc_words.specs.lock.Doing.{Doing, HoldsSlabs, HoldsStripe, SlabsDoing
 use Rattle.mc_words.specs.page.Moves.{ChangesOnce}
 use Rattle.mc_words.specs.hand.Views.{stripe_changed}
 
--- by the hand of this number the stripe changed so
+-- the hand of this number made this change of the stripe
 abbrev pub Changes : StripeChange → ℕ → ℕ → Doing
 Changes how number stripe found taken left last = (left ≡ stripe_after how found) × (last ≡ stripe_changed how stripe found (number + 1) taken)
 
@@ -27,7 +27,7 @@ Leaves found taken left last = (left ≡ found) × (last ≡ taken)
 abbrev pub IsFull : ReadyStripe → Type 0
 IsFull stripe = (is_some stripe.state.recorded_from ≡ true) × (2 ^ 64 ≤ length stripe.state.history)
 
--- that was found, and nothing was done
+-- the stripe was found recording calls and unable to count one more, and nothing was done
 abbrev pub FindsFull : Doing
 FindsFull found taken left last = IsFull found × Leaves found taken left last
 
@@ -35,7 +35,7 @@ FindsFull found taken left last = IsFull found × Leaves found taken left last
 abbrev pub FindsNotFull : Doing
 FindsNotFull found taken left last = (¬ IsFull found) × Leaves found taken left last
 
--- each of these stripes changed so, one after another
+-- each of these stripes got this change, one after another
 abbrev pub ChangesEach : StripeChange → ℕ → List ℕ → View → View → Type 0
 ChangesEach how number [] view now = now ≡ view
 ChangesEach how number (stripe ∷ stripes) view now = (next : View) × HoldsStripe stripe (Changes how number stripe) view next × ChangesEach how number stripes next now
@@ -52,7 +52,7 @@ pub record StopsTrimming (number : ℕ) (Does : Doing) (view now : View) : Type 
   pub unfull : (below : ℕ) → below < stripe → TakesNotFull before below
   pub stops : HoldsStripe stripe Does before now
 
--- the hand last gave this stripe back as it had taken it, but changed so
+-- the hand last gave this stripe back as it had taken it, but with this change
 abbrev pub GivesBackChanged : StripeChange → View → ℕ → Type 0
 GivesBackChanged how view stripe = (value : ReadyStripe) × (last_taken view stripe ≡ Some value) × (last_given view stripe ≡ Some (stripe_after how value))
 

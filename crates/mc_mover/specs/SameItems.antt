@@ -9,18 +9,18 @@ use Rattle.mc_core.specs.State.{item_at}
 use Rattle.mc_words.specs.hand.View.{View}
 use Rattle.mc_mover.specs.Saving.{Rescues}
 
--- this item went from the one chunk to the other, under its key and with its stamp
+-- the item went from the one chunk to the other, under its key and with its stamp
 pub record KeepsItem (chunk copy : ChunkId) (item : List ℕ) (value left : ReadyStripe) (view now : View) : Type 0 where
-  -- its key led to the one, and leads to the other
+  -- the item's key led to the one chunk, and leads to the other
   pub led : place_of value.state (key_of item) ≡ Some (chunk, stamp_of item)
   pub leads : place_of left.state (key_of item) ≡ Some (copy, stamp_of item)
-  -- the hand held the other with just its words
+  -- the hand held the copy with just the item's words
   pub known : Known
   pub is_copy : known.chunk ≡ copy
   pub has_words : known.words ≡ item
   pub come : now.row.knows.known ≡ view.row.knows.known ++ known ∷ []
 
--- so it is with each rescue, and the item that memory had in the original as it was taken away
+-- each rescue keeps the item that memory had in the original as the rescue took it away
 abbrev pub RescuesKeepItems : Type 0
 RescuesKeepItems = (number stripe : ℕ) (chunk : ChunkId) (slabs : SlabState) (value : ReadyStripe) (view : View) (kept : SlabState) (left : ReadyStripe) (now : View) →
     (rescues : Rescues number stripe chunk slabs value view kept left now) → KeepsItem chunk rescues.copy (item_at rescues.moves.condemns.happens.was.moment.state chunk) value left view now

@@ -30,7 +30,7 @@ BothDoing = SlabState → ReadyStripe → View → SlabState → ReadyStripe →
 abbrev pub FindsNoTarget : ChunkId → SlabState → View → View → Type 0
 FindsNoTarget chunk slabs view now = PassesAll chunk.page (class_at slabs (class_of_page slabs chunk.page)).free view now
 
--- so, and then the dead of the class were put back
+-- no free chunk could be had for a copy of the item, and then the dead chunks of the class were put back
 pub record SweepsForTarget (class : ℕ) (chunk : ChunkId) (view : View) (slabs : SlabState) (now : View) (left : SlabState) : Type 0 where
   pub passed : View
   pub none : FindsNoTarget chunk slabs view passed
@@ -41,7 +41,8 @@ abbrev pub SweepsToEvict : ℕ → ChunkId → Sweep → SlabsDoing
 SweepsToEvict class chunk Due view slabs now left = Sweeps (class_at slabs class).order view slabs now left
 SweepsToEvict class chunk Done view slabs now left = SweepsForTarget class chunk view slabs now left
 
--- and before it is taken to a free chunk: likewise, but in such a turn nothing, where that chunk could be had at once
+-- what comes before an item is taken to a free chunk: a sweep. In a turn that made its sweep before, one comes only where no free chunk
+-- could be had
 abbrev pub SweepsToRescue : ℕ → ChunkId → Sweep → SlabsDoing
 SweepsToRescue class chunk Due view slabs now left = Sweeps (class_at slabs class).order view slabs now left
 SweepsToRescue class chunk Done view slabs now left = ((now ≡ view) × (left ≡ slabs)) ⊎ SweepsForTarget class chunk view slabs now left
@@ -60,7 +61,7 @@ pub record Evicts (number stripe : ℕ) (chunk : ChunkId) (slabs : SlabState) (v
   pub condemns : Condemns number stripe chunk value passed left now
   pub same : kept ≡ slabs
 
--- so, but the item was found unlinked or held
+-- no free chunk could be had for a copy, and the item was found unlinked or held
 pub record FailsToEvict (chunk : ChunkId) (slabs : SlabState) (value : ReadyStripe) (view : View) (kept : SlabState) (left : ReadyStripe) (now : View) : Type 0 where
   pub passed : View
   pub passes : FindsNoTarget chunk slabs view passed
@@ -73,7 +74,7 @@ pub record MovesItem (number stripe : ℕ) (chunk copy : ChunkId) (room : ℕ) (
   pub stamp : ℕ
   pub filled : View
   pub copies : Copies chunk copy key stamp view filled
-  -- it fits there
+  -- the item fits the chunk of its copy
   pub fits : 3 + length copies.words ≤ room
   pub condemned : View
   pub lifted : ReadyStripe
@@ -91,7 +92,7 @@ pub record FailsToMove (chunk copy : ChunkId) (view now : View) : Type 0 where
   pub finds : FindsHeld filled chunk found
   pub dropped : now ≡ chunk_discarded copy found
 
--- a free chunk was handed out for a copy, in the chunk's place; it has so much room
+-- a free chunk was handed out for a copy, in the chunk's place, and the item was moved to it
 pub record Rescues (number stripe : ℕ) (chunk : ChunkId) (slabs : SlabState) (value : ReadyStripe) (view : View) (kept : SlabState) (left : ReadyStripe) (now : View) : Type 0 where
   pub copy : ChunkId
   pub popped : View
@@ -99,7 +100,7 @@ pub record Rescues (number stripe : ℕ) (chunk : ChunkId) (slabs : SlabState) (
   pub moves : MovesItem number stripe chunk copy (room_in view.setup.table (class_of_page slabs chunk.page)) value popped left now
   pub kept_is : kept ≡ after_replace slabs copy chunk
 
--- so, but the item couldn't be moved
+-- a free chunk was handed out for a copy, in the chunk's place, but the item couldn't be moved
 pub record FailsToRescue (chunk copy : ChunkId) (slabs : SlabState) (value : ReadyStripe) (view : View) (kept : SlabState) (left : ReadyStripe) (now : View) : Type 0 where
   pub popped : View
   pub pops : PopsOff view slabs chunk copy popped
@@ -114,7 +115,7 @@ GivesEvicted number stripe value chunk Evicted view now =
 GivesEvicted number stripe value chunk Busy view now = (last : View) × FindsHeld view chunk last × (now ≡ stripe_given stripe value last)
 GivesEvicted number stripe value chunk found view now = ⊥
 
--- the item was moved to its copy; or the copy was given up, and then put back, or seen in use
+-- the item was moved to its copy; or the copy was given up, and then its chunk was put back, or seen in use
 abbrev pub GivesRescued : ℕ → ℕ → ReadyStripe → ChunkId → ChunkId → ℕ → Found → SlabsDoing
 GivesRescued number stripe value chunk copy room Rescued view slabs now left =
     (after : ReadyStripe) × (last : View) × MovesItem number stripe chunk copy room value view after last × (now ≡ stripe_given stripe after last) × (left ≡ slabs)
@@ -136,7 +137,7 @@ pub record EvictsWithoutTarget (number : ℕ) (chunk : ChunkId) (found : Found) 
   pub gives : GivesEvicted number stripe value chunk found passed now
   pub same : left ≡ slabs
 
--- the dead of the class were put back, and then came the one or the other
+-- the dead chunks of the class were put back, and then the item was rescued to a free chunk, or evicted as there was none
 pub record SweepsAndSaves (number class : ℕ) (chunk : ChunkId) (found : Found) (stripe : ℕ) (value : ReadyStripe) (view : View) (slabs : SlabState) (now : View) (left : SlabState) : Type 0 where
   pub swept : View
   pub between : SlabState

@@ -18,7 +18,7 @@ SweepsClasses (class ∷ classes) view slabs now left =
 abbrev pub classes_swept : Bool → SlabState → List ℕ
 classes_swept sweep slabs = if sweep then range_with_len 1 (length slabs.classes) else []
 
--- the survey says what these pages and lists are
+-- the survey has the numbers of these pages and lists, whether a move runs, and the mode
 pub record IsSurvey (slabs : SlabState) (survey : Survey) : Type 0 where
   pub classes : survey.classes.items ≡ map numbers_of slabs.classes
   pub totals : survey.totals ≡ totals_of slabs
@@ -37,7 +37,7 @@ pages_in survey = map (λ numbers. numbers.pages) survey.classes.items
 abbrev pub free_in : Survey → List ℕ
 free_in survey = map (λ numbers. numbers.free) survey.classes.items
 
--- the dead were put back, if that was asked for, and the survey says what was left then
+-- the dead chunks were put back, if that was asked for, and the survey is of what was left then
 pub record Surveys (sweep : Bool) (survey : Survey) (view : View) (slabs : SlabState) (now : View) (left : SlabState) : Type 0 where
   pub sweeps : SweepsClasses (classes_swept sweep slabs) view slabs now left
   pub is : IsSurvey left survey

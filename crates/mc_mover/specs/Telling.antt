@@ -1,4 +1,4 @@
--- What a turn tells: an eviction or a rescue for each item that was saved, and no other call.
+-- What a turn records: an eviction or a rescue for each item that was saved, and no other call.
 use Rattle.std.specs.Prelude.{◌≡◌, ℕ, ◌+◌, ◌%◌, ◌<◌, Bool, true, false, not, ◌||◌, List, [], ◌∷◌, length, map, count_by, All}
 use Rattle.std.specs.List.{sum_by}
 use Rattle.mc_pages.specs.declared.moves.Found.{Found}
@@ -17,12 +17,12 @@ abbrev pub is_eviction : Call → Bool
 is_eviction (Evict hand key) = true
 is_eviction other = false
 
--- or took it to another chunk
+-- the call took a key's item to another chunk
 abbrev pub is_rescue : Call → Bool
 is_rescue (Rescue hand key) = true
 is_rescue other = false
 
--- or neither
+-- the call neither evicted a key's item nor took it to another chunk
 abbrev pub is_other : Call → Bool
 is_other call = not (is_eviction call || is_rescue call)
 
@@ -45,24 +45,24 @@ abbrev pub with_own_calls : ℕ → ℕ → List Call → List Own → List Own
 with_own_calls number stripes [] mine = mine
 with_own_calls number stripes (call ∷ calls) mine = with_own_calls number stripes calls (map (with_own_call number (called_key call % stripes) call) mine)
 
--- how many of a hand's own calls are such
+-- how many of a hand's own calls pass the test
 abbrev pub calls_told : (Call → Bool) → View → ℕ
 calls_told is view = sum_by (λ (own : Own). sum_by (count_by is) own.calls) view.row.knows.mine
 
--- of the hand's own calls as many evictions and rescues came as counted, and no other; it said nothing, and gave out no stamp
+-- the hand's own calls got as many evictions and rescues as counted, and no other; the hand stored no words, and gave out no stamp
 pub record TellsAsCounted (number : ℕ) (counts : Counts) (view now : View) : Type 0 where
   pub calls : List Call
   pub own : All (IsSaving number) calls
   pub evicted : count_by is_eviction calls ≡ counts.evicted
   pub rescued : count_by is_rescue calls ≡ counts.rescued
-  -- just these came
+  -- the hand's own calls got just these calls
   pub come : now.row.knows.mine ≡ with_own_calls number view.setup.config.stripes calls view.row.knows.mine
-  -- so of each kind there are so many more
+  -- the hand's own calls of each kind grew by those of that kind that came
   pub more : (is : Call → Bool) → calls_told is now ≡ calls_told is view + count_by is calls
   pub said : now.row.knows.said ≡ view.row.knows.said
   pub ids : now.row.ids ≡ view.row.ids
 
--- so the hand has so many more evictions and rescues among its calls, and as many others as before
+-- the hand's own calls have as many more evictions and rescues as counted, and as many others as before
 abbrev pub TellingsAreCounted : Type 0
 TellingsAreCounted = (number : ℕ) (counts : Counts) (view now : View) → TellsAsCounted number counts view now →
     (calls_told is_eviction now ≡ calls_told is_eviction view + counts.evicted)
@@ -73,7 +73,8 @@ TellingsAreCounted = (number : ℕ) (counts : Counts) (view now : View) → Tell
 abbrev pub own_of : ℕ → List Call → List Call → Own
 own_of number even odd = record { number = number; calls = even ∷ odd ∷ [] }
 
--- a hand of number 7 that took number 5 over: each call comes behind those on keys of the same stripe, under its own number
+-- a worked case of a hand of number 7 that took number 5 over: each call comes behind those on keys of the same stripe, under its own
+-- number
 abbrev pub OwnCallsComeApart : Type 0
 OwnCallsComeApart =
     with_own_calls 7 2 (Evict 7 4 ∷ Rescue 7 9 ∷ Evict 7 2 ∷ []) (own_of 5 [] (Evict 5 3 ∷ []) ∷ own_of 7 (Set 7 4 1 ∷ []) [] ∷ []) ≡
@@ -85,6 +86,6 @@ counts_in Idle = no_counts
 counts_in (Went counts) = counts
 counts_in (Finished counts) = counts
 
--- a turn that stopped early tells so of what it found, in fewer sections than a turn has
+-- a turn that stopped early added what it found to the hand's own calls, in fewer sections than a turn has
 abbrev pub TellsOfFewer : ℕ → View → View → Type 0
 TellsOfFewer number view now = (found : List Found) × (length found < view.setup.config.bulk) × TellsAsCounted number (counts_of found no_counts) view now

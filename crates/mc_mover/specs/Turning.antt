@@ -24,7 +24,7 @@ use Rattle.mc_mover.specs.Visiting.{LacksCall, Visits}
 abbrev pub no_counts : Counts
 no_counts = record { cleared = 0; rescued = 0; evicted = 0; busy = 0; locked = 0 }
 
--- one more chunk was found so; a rescue or an eviction clears, too
+-- the counts after one more chunk was found; a rescued or evicted one counts as cleared, too
 abbrev pub counted : Found → Counts → Counts
 counted Cleared counts = record counts { cleared = counts.cleared + 1 }
 counted Rescued counts = record counts { cleared = counts.cleared + 1; rescued = counts.rescued + 1 }
@@ -33,7 +33,7 @@ counted Busy counts = record counts { busy = counts.busy + 1 }
 counted Locked counts = record counts { locked = counts.locked + 1 }
 counted Already counts = counts
 
--- each of these counts is below
+-- each of the counts is below n
 abbrev pub AreBelow : ℕ → Counts → Type 0
 AreBelow most counts = (counts.cleared < most) × (counts.rescued < most) × (counts.evicted < most) × (counts.busy < most) × (counts.locked < most)
 
@@ -55,7 +55,7 @@ pub record Section (number : ℕ) (sweep : Sweep) (found : Found) (next : Sweep)
   pub is : now ≡ slabs_changed kept (change.Passed found) (number + 1) visited
   pub left_is : left ≡ after_passed kept found
 
--- sections that found these, one after another, each with the sweep due or done as the one before it left it
+-- the sections found these, one after another, each with the sweep due or done as the section before left it
 abbrev pub Sections : ℕ → Sweep → List Found → Sweep → SlabsDoing
 Sections number sweep [] last view slabs now left = (now ≡ view) × (left ≡ slabs) × (last ≡ sweep)
 Sections number sweep (found ∷ more) last view slabs now left =
@@ -65,7 +65,7 @@ Sections number sweep (found ∷ more) last view slabs now left =
 abbrev pub IsAtEnd : SlabState → Moving → Type 0
 IsAtEnd slabs move = (slabs.moving ≡ Some move) × (move.at ≡ (class_at slabs move.src).per_page)
 
--- the move isn't at the page's end, and goes on there; or it is, and the pass begins anew, as something held it up
+-- the move isn't at the page's end, and goes on; or it is, and the pass begins anew, as something held the pass up
 abbrev pub GoesOn : ℕ → SlabsDoing
 GoesOn number view slabs now left =
     ((move : Moving) × (slabs.moving ≡ Some move) × (move.at < (class_at slabs move.src).per_page) × (now ≡ view) × (left ≡ slabs))
@@ -87,7 +87,7 @@ EndsTurn number counts Idle view slabs now left = ⊥
 EndsTurn number counts (Went same) view slabs now left = (same ≡ counts) × GoesOn number view slabs now left
 EndsTurn number counts (Finished same) view slabs now left = (same ≡ counts) × Finishes number view slabs now left
 
--- as many sections as a turn has from the move's position, which found these; its sweep is due at first
+-- as many sections as a turn has were done from the move's position, and found these; the sweep is due at first
 pub record LooksFrom (number : ℕ) (counts : Counts) (view : View) (slabs : SlabState) (now : View) (left : SlabState) : Type 0 where
   pub move : Moving
   pub runs : slabs.moving ≡ Some move
@@ -97,7 +97,7 @@ pub record LooksFrom (number : ℕ) (counts : Counts) (view : View) (slabs : Sla
   pub last : Sweep
   pub sections : Sections number Due found last view slabs now left
 
--- so, and then this
+-- as many sections as a turn has were done, and then this was done
 pub record Looks (number : ℕ) (counts : Counts) (Ends : SlabsDoing) (view : View) (slabs : SlabState) (now : View) (left : SlabState) : Type 0 where
   pub looked : View
   pub kept : SlabState
@@ -110,8 +110,8 @@ Turns number Idle view slabs now left = (slabs.moving ≡ None) × (now ≡ view
 Turns number (Went counts) view slabs now left = Looks number counts (GoesOn number) view slabs now left
 Turns number (Finished counts) view slabs now left = Looks number counts (Finishes number) view slabs now left
 
--- fewer sections than a turn has, from the move's position, its sweep due at first, and then there was no memory for the item of the next
--- chunk, which is as before
+-- fewer sections than a turn has were done from the move's position, with the sweep due at first. Then there was no memory for the next
+-- chunk's item, and the chunk is as before
 pub record LacksMemory (number : ℕ) (view : View) (slabs : SlabState) (now : View) (left : SlabState) : Type 0 where
   pub first : Moving
   pub began : slabs.moving ≡ Some first
@@ -123,7 +123,7 @@ pub record LacksMemory (number : ℕ) (view : View) (slabs : SlabState) (now : V
   pub sections : Sections number Due found last view slabs looked kept
   pub move : Moving
   pub runs : kept.moving ≡ Some move
-  -- it is as many chunks further on the same page
+  -- the move is further on the same page, by a chunk for each section
   pub further : (move.page ≡ first.page) × (move.src ≡ first.src) × (move.at ≡ first.at + length found)
   pub within : move.at < (class_at kept move.src).per_page
   pub lacks : LacksCall (chunk_at_position move) looked kept now left

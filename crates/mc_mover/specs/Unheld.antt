@@ -1,4 +1,4 @@
--- Nobody holds what a turn clears: in the moment before the item is taken away, and in the one before the chunk is cleared.
+-- What a turn clears is held by nobody: in the moment before the item is taken away, and in the one before the chunk is cleared.
 use Rattle.std.specs.Prelude.{◌≡◌, ℕ, false, []}
 use Rattle.mc_pages.specs.declared.ids.ChunkId.{ChunkId}
 use Rattle.mc_pages.specs.declared.moves.Found.{Found}
@@ -21,7 +21,7 @@ use Rattle.mc_mover.specs.Visiting.{Visits}
 abbrev pub IsUnheldAt : (chunk : ChunkId) (view : View) (step : Step) (now : View) → Happens view [] step now → Type 0
 IsUnheldAt chunk view step now happens = holders chunk happens.was.moment.state.holdings ≡ 0
 
--- so it is where a chunk is cleared, and where the item of one is taken away before
+-- no hand held the chunk in the lawful moment in which it was cleared, nor when its item was taken away before
 abbrev pub NobodyHolds : (number class : ℕ) (chunk : ChunkId) (sweep : Sweep) (found : Found) (next : Sweep) (view : View) (slabs : SlabState) (now : View) (left : SlabState) →
     Visits number class chunk sweep found next view slabs now left → Type 0
 NobodyHolds number class chunk sweep Cleared next view slabs now left visits = IsUnheldAt chunk _ _ _ visits.0.clears.happens
@@ -31,7 +31,7 @@ NobodyHolds number class chunk sweep Evicted next view slabs now left visits =
     IsUnheldAt chunk _ _ _ visits.does.1.reaches.does.does.does.condemns.happens × IsUnheldAt chunk _ _ _ visits.does.1.clears.happens
 NobodyHolds number class chunk sweep found next view slabs now left visits = Unit {0}
 
--- whatever a section found
+-- whatever a section found, no hand held its chunk in the moment in which it was cleared, nor when its item was taken away before
 abbrev pub ClearsUnheld : Type 0
 ClearsUnheld = (number : ℕ) (sweep : Sweep) (found : Found) (next : Sweep) (view : View) (slabs : SlabState) (now : View) (left : SlabState) →
     (section : Section number sweep found next view slabs now left) →
@@ -41,7 +41,7 @@ ClearsUnheld = (number : ℕ) (sweep : Sweep) (found : Found) (next : Sweep) (vi
 abbrev pub SeesUncleared : ChunkId → View → Type 0
 SeesUncleared chunk view = (head : Head) × Happens view [] (step.Head chunk) (head_seen chunk head view) × (is_out head.tag ≡ false)
 
--- so it is of each chunk that counts as busy
+-- the header of each chunk that counts as busy was seen first, and isn't that of a cleared chunk
 abbrev pub BusyIsUncleared : Type 0
 BusyIsUncleared = (number : ℕ) (sweep next : Sweep) (view : View) (slabs : SlabState) (now : View) (left : SlabState) →
     (section : Section number sweep Busy next view slabs now left) → SeesUncleared (chunk_at_position section.move) view

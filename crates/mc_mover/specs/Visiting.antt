@@ -18,7 +18,7 @@ use Rattle.mc_mover.specs.declared.sweep.Sweep.{Sweep}
 use Rattle.mc_mover.specs.Linked as linked
 use Rattle.mc_mover.specs.Linked.{VisitsLinked}
 
--- the hand saw the chunk's header, and it is so
+-- the hand saw the chunk's header, and the property holds of the header
 pub record SeesHead (chunk : ChunkId) (is_so : Head → Bool) (view now : View) : Type 0 where
   pub head : Head
   pub so : is_so head ≡ true
@@ -33,14 +33,14 @@ SeesCleared chunk view now = SeesHead chunk (λ head. is_out head.tag) view now
 abbrev pub SeesUnlinked : ChunkId → View → View → Type 0
 SeesUnlinked chunk view now = SeesHead chunk (λ head. not (is_linked head.tag) && not (is_out head.tag)) view now
 
--- so, and it is free or dead, and was cleared
+-- the chunk was seen unlinked or free, and as nobody holds it, it was cleared
 pub record ClearsUnused (chunk : ChunkId) (view : View) (slabs : SlabState) (now : View) (left : SlabState) : Type 0 where
   pub seen : View
   pub sees : SeesUnlinked chunk view seen
   pub clears : Clears seen slabs chunk now
   pub left_is : left ≡ after_clear slabs chunk
 
--- so, but somebody holds it
+-- the chunk was seen unlinked or free, but somebody holds it
 pub record FindsUnlinkedHeld (chunk : ChunkId) (view now : View) : Type 0 where
   pub seen : View
   pub sees : SeesUnlinked chunk view seen

@@ -1,4 +1,4 @@
-//! What a turn of the mover answers.
+//! The answers of a turn of the mover, and its counts.
 ghost use Rattle.std.specs.Prelude.{◌≡◌, ◌^◌};
 ghost use Rattle.mc_mover.specs.Turning.{AreBelow, counted, no_counts};
 
@@ -8,15 +8,15 @@ use mc_pages::Found;
 /// How many chunks a turn found of each kind. What was cleared before isn't counted.
 #[derive(Clone, Copy, PartialEq, Eq)]
 pub struct Counts {
-    /// Free and dead ones, and those whose item was rescued or evicted. All are cleared now.
+    /// Chunks that are cleared now: free and dead ones, and those whose item was rescued or evicted.
     pub cleared: u64,
-    /// Those whose item was taken to another chunk.
+    /// Chunks whose item was taken to another chunk.
     pub rescued: u64,
-    /// Those whose item was evicted, as its class had no other chunk.
+    /// Chunks whose item was evicted, as its class had no other chunk.
     pub evicted: u64,
-    /// Those whose item somebody held.
+    /// Chunks whose item somebody held.
     pub busy: u64,
-    /// Those whose key's stripe another hand had.
+    /// Chunks whose key's stripe another hand had.
     pub locked: u64,
 }
 
@@ -72,7 +72,7 @@ pub enum Turn {
 pub enum TryTurn {
     /// Another hand has the lock of the slabs.
     Held,
-    /// The room for a call on a key was refused. The chunk at hand is as before, and the move's position is there; what was done for chunks
-    /// before it stands, and dead chunks may have been put back.
+    /// The room for a call on a key was refused. The chunk at hand is as before, and the move's position is there. What was done
+    /// for chunks before it stays, and dead chunks may have been put back.
     NoMemory(Refused),
 }

@@ -1,4 +1,4 @@
-//! Laws of what a turn does and tells, each the contract of a function with nothing to do.
+//! Laws of what a turn does and returns, each the contract of a function with nothing to do.
 ghost use Rattle.mc_mover.specs.Answering.{FinishesExactly};
 ghost use Rattle.mc_mover.specs.SameItems.{RescuesKeepItems};
 ghost use Rattle.mc_mover.specs.Telling.{OwnCallsComeApart, TellingsAreCounted};
@@ -15,7 +15,7 @@ pub fn tellings_are_counted()
     ensures { TellingsAreCounted }
 {}
 
-/// A turn says that the page came to its destination exactly where a page moved as the turn began, and none moves any more.
+/// A turn answers `Finished` exactly where a page moved as the turn began, and none moves any more.
 pub fn turns_finish_exactly()
     ensures { FinishesExactly }
 {}

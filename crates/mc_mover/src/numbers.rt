@@ -1,4 +1,4 @@
-//! What a survey tells.
+//! The numbers that a survey reads.
 ghost use Rattle.std.specs.Prelude.{◌≡◌, IfOk};
 ghost use Rattle.mc_mover.specs.Surveying.{evictions_in, free_in, pages_in};
 

@@ -1,4 +1,4 @@
-//! Moves that begin, and the mode of who begins them.
+//! Moves that begin, and the automover's mode.
 ghost use Rattle.std.specs.Prelude.{◌≡◌, ◌≤◌};
 ghost use Rattle.mc_words.specs.hand.Arenas.{IsHandOf, view};
 ghost use Rattle.mc_words.specs.hand.Observers.{locks_of, number_of};

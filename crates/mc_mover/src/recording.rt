@@ -14,11 +14,11 @@ use mc_stripe::Trim;
 use mc_words::{Arena, Hand};
 use std::sync::Wait;
 
-/// Trims what is recorded of the past: the history of each stripe, from 0 on, one at a time, and then the ledger. The calls and entries
-/// so far aren't recorded any more, and take no memory but what they left, each key's stamp and each page's owner. It waits for each
-/// lock. It ends at the first refusal, whose stripe is as before; what was trimmed stays trimmed, and the ledger isn't then. It is `Full`
-/// exactly where that stripe records and the place of its next call would pass the greatest number of 64 bits, which is tested before
-/// memory is asked for; no stripe that was trimmed was so. (own)
+/// Trims what is recorded of the past: the history of each stripe, from 0 on, one at a time, and then the ledger. The calls and
+/// entries so far aren't recorded any more, and take no memory but what they left, each key's stamp and each page's owner. It
+/// waits for each lock. It ends at the first refusal, whose stripe is as before; what was trimmed stays trimmed, and the ledger
+/// isn't then. The refusal is `Full` exactly where that stripe records and the place of its next call would pass the greatest
+/// number of 64 bits. This is tested before memory is asked for; no stripe that was trimmed was so. (own)
 pub fn trim<R: Wait>(rt: &R, arena: &Arena, hand: &mut Hand) -> Result<(), Trim>
     requires arena { IsHandOf arena.now hand.old }
     requires ready { IsReady (view hand.old) }
@@ -63,9 +63,9 @@ pub fn trim_ledger<R: Wait>(rt: &R, arena: &Arena, hand: &mut Hand)
     arena.give_slabs(hand, held);
 }
 
-/// Has each stripe forget its calls: from then on none is recorded. It waits for each lock, from 0 on, one at a time. What the contracts say
-/// of the history stands, as it tells of all calls. That a call asks for no memory for its entry then is seen in the benchmark, and no
-/// clause says it. (own)
+/// Has each stripe forget its calls: from then on none is recorded. It waits for each lock, from 0 on, one at a time. What the
+/// contracts state of the history holds on, as it is of all calls. That a call asks for no memory for its entry then is seen in
+/// the benchmark, and no clause states it. (own)
 pub fn forget<R: Wait>(rt: &R, arena: &Arena, hand: &mut Hand)
     requires arena { IsHandOf arena.now hand.old }
     requires ready { IsReady (view hand.old) }

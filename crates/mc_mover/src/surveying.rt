@@ -67,7 +67,7 @@ fn sweep_classes(arena: &Arena, hand: &mut Hand, held: &mut SlabsHeld, sweep: bo
     }
 }
 
-// What pages and lists say. The room for the list of classes was made before.
+// Reads the numbers of pages and lists. The room for the list of classes was made before.
 fn read_slabs(slabs: &Slabs, count: u64, room: Vec<Numbers>) -> Survey
     requires count { count ≡ length slabs.now.state.classes }
     requires empty { room.items ≡ [] }

@@ -1,10 +1,10 @@
-//! Whether a turn has swept the class of its page.
+//! Whether a turn's sweep of the class is due or done.
 
 /// The sweep that a turn makes before it saves its first item: the dead of the class of the moving page are put back.
 #[derive(Clone, Copy, Drop)]
 pub enum Sweep {
     /// No item was to be saved yet in this turn.
     Due,
-    /// It was made.
+    /// The sweep was made.
     Done,
 }

@@ -1,4 +1,4 @@
-//! Turns of the mover.
+//! A turn of the mover, under one hold of the slabs lock.
 ghost use Rattle.std.specs.Prelude.{◌≡◌, ◌≤◌, true, false, length, None, Err, IfOk, OnErr};
 ghost use Rattle.mc_core.specs.Holdings.{has_fresh};
 ghost use Rattle.mc_words.specs.hand.Arenas.{IsHandOf, view};
@@ -22,17 +22,18 @@ use std::sync::Wait;
 /// begins anew if some chunks held it up, and else the page comes to its destination. It waits for the lock of the slabs, and for no
 /// other. (slabs.c's `slab_rebalance_move` and `slab_rebalance_finish`; that a rescue keeps an item's age is own)
 ///
-/// The dead of the class are put back once a turn, before its first rescue or eviction, and once more before each later item that finds
-/// no free chunk, as an eviction has to have seen that none is dead. So a turn of rescues alone looks at each chunk of the class once. (own)
+/// The dead of the class are put back once a turn, before its first rescue or eviction. They are put back once more before each
+/// later item that finds no free chunk, as an eviction has to have seen that none is dead. So a turn of rescues alone looks at
+/// each chunk of the class once. (own)
 ///
-/// Where hands have waited for that lock, the turn lets other threads run before it takes it, as often as it looks at chunks: turns that
-/// follow each other at once leave nobody else in between. (own)
+/// Where hands have waited for the slabs lock, the turn lets other threads run before it takes the lock, as often as it looks at
+/// chunks. Else turns that follow each other at once would leave nobody else in between. (own)
 ///
-/// Of the hand's own calls just the evictions and the rescues that it counts come, each in its key's stripe; it says nothing, and gives out
-/// no stamp.
+/// The hand's own calls are more by just the evictions and the rescues that the turn counts, each in its key's stripe. The hand
+/// stores no words, and gives out no stamp.
 ///
-/// `NoMemory` where the room for a call on a key was refused: the chunk at hand is as before, and the move's position is there; what was
-/// done for chunks before it stands.
+/// `NoMemory` where the room for a call on a key was refused: the chunk at hand is as before, and the move's position is there.
+/// What was done for chunks before it stays.
 pub fn turn<R: Wait>(rt: &R, arena: &Arena, hand: &mut Hand) -> Result<Turn, NoMemory>
     requires arena { IsHandOf arena.now hand.old }
     requires ready { IsReady (view hand.old) }
@@ -56,7 +57,7 @@ pub fn turn<R: Wait>(rt: &R, arena: &Arena, hand: &mut Hand) -> Result<Turn, NoM
     answer
 }
 
-/// The same, but it waits for nobody: `Held` where another hand has the lock of the slabs.
+/// The same as `turn`, but it waits for nobody: `Held` where another hand has the slabs lock.
 pub fn try_turn(arena: &Arena, hand: &mut Hand) -> Result<Turn, TryTurn>
     requires arena { IsHandOf arena.now hand.old }
     requires ready { IsReady (view hand.old) }

@@ -1,4 +1,4 @@
--- The command line as clap is told it.
+-- The command line as clap gets it.
 use Rattle.std.specs.Prelude.{List, ℕ, codes, Some}
 use Rattle.clap.specs.Words.{App, Rule, new_app, new_rule, with_rule}
 use Rattle.clap.specs.declared.builder.action.ArgAction.TheVariants.{SetTrue}

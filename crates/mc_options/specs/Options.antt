@@ -8,13 +8,14 @@ use Rattle.mc_options.specs.declared.settings.Options.{Options}
 
 -- ---- the value of an option
 
--- what follows the front of a text, where it begins so
+-- what follows this front in a text; none where the text doesn't begin with the front
 abbrev pub after : List ℕ → List ℕ → Option (List ℕ)
 after [] text = Some text
 after (x ∷ front) [] = None
 after (x ∷ front) (y ∷ text) = if x == y then after front text else None
 
--- what follows `--name` in a word: nothing, so that the next word is the value; `=` (61) and the value; else it is another word
+-- the value of `--name` by what follows the name in its word. Nothing: the next word. `=` (61): what follows it. Anything else: the value
+-- that later words give
 abbrev pub value_from : Option (List ℕ) → List (List ℕ) → Option (List ℕ) → Option (List ℕ)
 value_from (Some []) rest later = slice_get rest 0
 value_from (Some (byte ∷ value)) rest later = if byte == 61 then Some value else later
@@ -42,7 +43,7 @@ IsNumber text = IsNumeral 10 (without_leading_plus text) × (digits_value 10 (wi
 abbrev pub IsMode : List ℕ → Type 0
 IsMode text = IsNumber text × (digits_value 10 (without_leading_plus text) ≤ 2)
 
--- the number that a value writes, or what it is where there is no value
+-- the number that a value writes; where there is no value, the default
 abbrev pub number_or : ℕ → Option (List ℕ) → ℕ
 number_or default None = default
 number_or default (Some text) = digits_value 10 (without_leading_plus text)
@@ -51,7 +52,7 @@ number_or default (Some text) = digits_value 10 (without_leading_plus text)
 abbrev pub is_short_number : List ℕ → Bool
 is_short_number digits = nat_le 1 (length digits) && nat_le (length digits) 5 && all_ascii_digits digits
 
--- the number that they write
+-- the number that these digits write, if it is short
 abbrev pub short_number_of : List ℕ → Option ℕ
 short_number_of digits = if is_short_number digits then Some (digits_value 10 digits) else None
 
@@ -59,12 +60,12 @@ short_number_of digits = if is_short_number digits then Some (digits_value 10 di
 abbrev pub is_slash : ℕ → Bool
 is_slash byte = byte == 47
 
--- two such numbers with a slash between them, and 0 and 0 for any other text
+-- two short numbers with a slash between them, and 0 and 0 for any other text
 abbrev pub factor_of : List ℕ → ℕ × ℕ
 factor_of text = if is_short_number (before_first is_slash text) && is_short_number (after_first is_slash text)
     then (digits_value 10 (before_first is_slash text), digits_value 10 (after_first is_slash text)) else (0, 0)
 
--- the factor of a value, or 2 and 1 where there is none
+-- the factor of a value; 2 and 1 where there is no value
 abbrev pub factor_or : Option (List ℕ) → ℕ × ℕ
 factor_or None = (2, 1)
 factor_or (Some text) = factor_of text
@@ -83,7 +84,7 @@ written (joined name value) = (codes "--" ++ name ++ (61 ∷ value)) ∷ []
 written (apart name value) = (codes "--" ++ name) ∷ value ∷ []
 written flag = codes "--threads" ∷ []
 
--- the name that stands behind the hyphens
+-- the name behind the hyphens
 abbrev pub name_of : Choice → List ℕ
 name_of (joined name value) = name
 name_of (apart name value) = name
@@ -108,7 +109,7 @@ is_hyphenated [] = false
 is_hyphenated (byte ∷ []) = false
 is_hyphenated (byte ∷ more ∷ rest) = byte == 45
 
--- the option takes the value, and a word of its own may be one if it doesn't look like an option; the flag has none
+-- the option takes the value; a value in a word of its own doesn't look like an option; the flag has no value
 abbrev pub IsTaken : Choice → Type 0
 IsTaken (joined name value) = TakesValue name value
 IsTaken (apart name value) = TakesValue name value × (is_hyphenated value ≡ false)

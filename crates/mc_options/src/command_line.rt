@@ -1,4 +1,4 @@
-//! The command line of `mcslab`.
+//! The options of `mcslab` as clap gets them, and `options`, which reads the words.
 ghost use Rattle.std.specs.Prelude.{◌≡◌, ◌≤◌, IfErr, IfOk, IfSome, codes, drop, false, map};
 ghost use Rattle.std.specs.Str.{all_ascii_digits};
 ghost use Rattle.clap.specs.Words.{app_of, first_value, found_of, kind_of, one_text, rule_of};
@@ -12,11 +12,11 @@ use mc_classes::Config;
 use std::alloc::{AllocError, Global};
 use std::convert::AsStr;
 
-/// What the help says of the program.
+/// The help's text about the program.
 const ABOUT: &str =
     "Runs a script on a slab memory: commands from standard input, replies to standard output";
 
-/// What it says of the options whose values are numbers.
+/// The help's texts about the options whose values are numbers.
 const PAGE_HELP: &str = "Bytes of a page; default 1024, a multiple of 8 from 64 to 16384";
 
 const LIMIT_HELP: &str =

@@ -3,7 +3,8 @@ use clap::Error;
 use clap::error::ErrorKind;
 use std::io;
 
-/// Why a command line can't be taken. That memory ran out `clap` or the standard library says, by an error that is no evidence.
+/// Why a command line can't be taken. That memory ran out `clap` or the standard library reports, by an error that is no
+/// evidence.
 #[derive(Debug, Drop)]
 pub enum CommandLineError {
     /// The options are refused, or help was asked for.

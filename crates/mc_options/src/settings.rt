@@ -1,4 +1,4 @@
-//! What a command line asks for.
+//! The options of a run: its configuration, its mode, and whether threads do the lines.
 use mc_classes::Config;
 
 /// What a run is started with.

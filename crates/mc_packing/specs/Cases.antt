@@ -1,4 +1,4 @@
--- Worked packings.
+-- Worked packings, which the prover computes.
 use Rattle.std.specs.Prelude.{◌≡◌, [], ◌∷◌}
 use Rattle.mc_packing.specs.Packing.{IsPackingOf, packed, value_in}
 
@@ -18,6 +18,6 @@ ZerosCount = (packed (5 ∷ []) [] ≡ 1 ∷ 0 ∷ 5 ∷ []) × (packed (5 ∷ 0
 abbrev pub NoPackings : Type 0
 NoPackings = (¬ IsPackingOf (5 ∷ []) (1 ∷ 0 ∷ 5 ∷ 0 ∷ [])) × (¬ IsPackingOf (5 ∷ []) (1 ∷ 1 ∷ 5 ∷ 256 ∷ []))
 
--- the value that is read
+-- a worked case of the value that is read
 abbrev pub ValueRead : Type 0
 ValueRead = value_in (1 ∷ 2 ∷ 5 ∷ 513 ∷ []) ≡ 1 ∷ 2 ∷ []

@@ -10,7 +10,7 @@ AreBytes bytes = (place : ℕ) → slice_index bytes place < 256
 abbrev pub AreWords : List ℕ → Type 0
 AreWords words = (place : ℕ) → slice_index words place < 2 ^ 64
 
--- the word of the first eight of these bytes, the first lowest: where bytes are wanting, it has zeros
+-- the word of the first eight of these bytes, the first lowest; missing bytes are 0
 unfoldable pub word_of : List ℕ → ℕ
 word_of bytes = from_le_bytes w64 bytes
 
@@ -18,16 +18,16 @@ word_of bytes = from_le_bytes w64 bytes
 unfoldable pub bytes_in : ℕ → List ℕ
 bytes_in word = to_le_bytes w64 word
 
--- how many words so many bytes fill, the last one perhaps in part
+-- how many words n bytes fill, the last one perhaps in part
 abbrev pub words_for : ℕ → ℕ
 words_for bytes = (bytes + 7) / 8
 
--- so many words of these bytes, eight bytes a word
+-- the first n words of these bytes, eight bytes a word
 unfoldable pub words_from : ℕ → List ℕ → List ℕ
 words_from zero bytes = []
 words_from (suc more) bytes = word_of bytes ∷ words_from more (drop 8 bytes)
 
--- these bytes as words
+-- the words that these bytes fill, eight bytes a word
 abbrev pub words_of : List ℕ → List ℕ
 words_of bytes = words_from (words_for (length bytes)) bytes
 
@@ -35,12 +35,12 @@ words_of bytes = words_from (words_for (length bytes)) bytes
 unfoldable pub packed : List ℕ → List ℕ → List ℕ
 packed key value = length key ∷ length value ∷ words_of key ++ words_of value
 
--- so many bytes of these words, or eight of each where there are fewer
+-- the first n bytes of these words, or all their bytes where there are fewer
 unfoldable pub bytes_of : ℕ → List ℕ → List ℕ
 bytes_of count [] = []
 bytes_of count (word ∷ words) = take count (bytes_in word) ++ bytes_of (count - 8) words
 
--- the words are just those of so many bytes: none is wanting or too many, and behind the last byte its word has zeros
+-- the words are just those of n bytes: none is missing, none is extra, and behind the last byte the last word has zeros
 abbrev pub AreWhole : ℕ → List ℕ → Type 0
 AreWhole count words = (words ≡ words_of (bytes_of count words)) × (length (bytes_of count words) ≡ count)
 
@@ -56,7 +56,7 @@ value_in words = bytes_of (slice_index words 1) (drop (2 + words_for (slice_inde
 abbrev pub IsPackingOf : List ℕ → List ℕ → Type 0
 IsPackingOf key words = words ≡ packed key (value_in words)
 
--- behind the lengths, as many words as the key fills
+-- the words behind the two lengths, as many as the key fills
 abbrev pub key_words : List ℕ → List ℕ → List ℕ
 key_words key words = take (words_for (length key)) (drop 2 words)
 
@@ -64,16 +64,16 @@ key_words key words = take (words_for (length key)) (drop 2 words)
 abbrev pub value_words : List ℕ → List ℕ → List ℕ
 value_words key words = drop (2 + words_for (length key)) words
 
--- the word has zeros behind so many of its bytes
+-- the word has zeros behind its first n bytes
 abbrev pub EndsInZeros : ℕ → ℕ → Type 0
 EndsInZeros bytes word = word_of (take bytes (bytes_in word)) ≡ word
 
--- so many bytes fill the words from this place on: there are as many, and behind the last byte its word has zeros
+-- n bytes fill the words from this place on: the list has just enough words, and behind the last byte the last word has zeros
 pub record FillsFrom (place count : ℕ) (words : List ℕ) : Type 0 where
   pub len : length words ≡ place + words_for count
   pub zeros : 0 < count % 8 → EndsInZeros (count % 8) (slice_index words (length words - 1))
 
--- by lengths, key, number and last word they are those of an item of this key, with a value of so many bytes
+-- by lengths, key, count and last word, the words are those of an item of this key with a value of n bytes
 pub record LooksPacked (key : List ℕ) (count : ℕ) (words : List ℕ) : Type 0 where
   pub key_len : slice_index words 0 ≡ length key
   pub value_len : slice_index words 1 ≡ count

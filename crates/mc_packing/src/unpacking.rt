@@ -31,7 +31,7 @@ pub fn unpack(words: &[u64], key: &[u8], into: &mut Vec<u8>) -> Result<(), Refus
     push_value(words, 2 + count_words(key), into)
 }
 
-/// The same for a value that begins at the place `begin`.
+/// Puts the value that begins at the place `begin` behind the bytes that are there. Where there is no room, these stay.
 fn push_value(words: &[u64], begin: usize, into: &mut Vec<u8>) -> Result<(), Refused>
     requires lengths { 2 ≤ begin }
     requires begin { begin ≤ length words.now }

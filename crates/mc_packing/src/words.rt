@@ -15,7 +15,7 @@ pub(crate) fn count_words(bytes: &[u8]) -> usize
     bytes.len().div_ceil(WORD)
 }
 
-/// How many words so many bytes fill, the last one perhaps in part.
+/// How many words n bytes fill, the last one perhaps in part.
 #[inline(always)]
 pub fn words_for_bytes(bytes: u64) -> u64
     ensures words { result ≡ words_for bytes }
@@ -46,7 +46,7 @@ fn eight_bytes(word: u64) -> [u8; WORD]
     word.to_le_bytes()
 }
 
-/// What follows the first eight of these bytes.
+/// The bytes behind the first eight of these.
 #[inline(always)]
 pub fn after_word(bytes: &[u8]) -> &[u8]
     ensures { result.now ≡ drop 8 bytes.now }
@@ -54,7 +54,7 @@ pub fn after_word(bytes: &[u8]) -> &[u8]
     &bytes[WORD.min(bytes.len())..]
 }
 
-/// Writes the bytes as words, over whatever stands there.
+/// Writes the bytes as words, over what is there.
 #[tactic(auto, using(crate::proofs::Loops::write_more, crate::proofs::Loops::all_written))]
 pub(crate) fn write_words(into: &mut [u64], bytes: &[u8])
     requires { length into.old ≡ words_for (length bytes.now) }
@@ -84,7 +84,7 @@ pub(crate) fn are_words_of(words: &[u64], bytes: &[u8]) -> bool
     true
 }
 
-/// Whether the words have just so many bytes: no word is wanting or too many, and behind the last byte its word has zeros.
+/// Whether the words have just n bytes: no word is missing or extra, and behind the last byte its word has zeros.
 #[tactic(auto, using(crate::proofs::Whole::full, crate::proofs::Whole::as_many, crate::proofs::Whole::last, crate::proofs::Whole::last_back))]
 pub(crate) fn are_whole(words: &[u64], count: u64) -> bool
     ensures whole { result ≡ true → AreWhole count words.now }
@@ -101,7 +101,7 @@ pub(crate) fn are_whole(words: &[u64], count: u64) -> bool
     ends_in_zeros(words[full as usize], more)
 }
 
-/// Whether the word has zeros behind so many of its bytes.
+/// Whether the word has zeros behind its first n bytes.
 pub fn ends_in_zeros(word: u64, bytes: usize) -> bool
     requires { bytes ≤ 8 }
     ensures { IsTrue result ↔ EndsInZeros bytes word }
@@ -128,8 +128,7 @@ pub fn write_part(into: &mut [u8], place: usize, word: u64)
     into[place..].copy_from_slice(&eight_bytes(word)[..part]);
 }
 
-/// Puts so many bytes of the word behind those that are there, or all eight where it is asked for more. There is room for as many as
-/// are asked for.
+/// Puts the first n bytes of the word behind those that are there, or all eight where n is above 8. There is room for n bytes.
 #[tactic(auto, using(crate::proofs::Bytes::all_eight))]
 pub(crate) fn push_word(into: &mut Vec<u8>, word: u64, count: usize)
     requires { vec_len into.old + count ≤ vec_capacity into.old }
@@ -145,8 +144,8 @@ pub(crate) fn push_word(into: &mut Vec<u8>, word: u64, count: usize)
     }
 }
 
-/// Puts so many bytes of the words behind those that are there, or eight of each where the words are fewer. Where there is no room,
-/// these stay.
+/// Puts the first n bytes of the words behind those that are there, or all bytes of the words where they have fewer. Where there
+/// is no room, the bytes stay.
 pub(crate) fn push_bytes(into: &mut Vec<u8>, words: &[u64], count: usize) -> Result<(), Refused>
     ensures bytes { OnOk result (into.new.items ≡ into.old.items ++ bytes_of count words.now) }
     ensures refused { OnErr result (into.new.items ≡ into.old.items) }

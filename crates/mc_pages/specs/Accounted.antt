@@ -15,14 +15,14 @@ use Rattle.mc_pages.specs.SlabState.{SlabState, IsClass, class_at, page_count}
 abbrev pub truth : Bool → ℕ
 truth b = if b then 1 else 0
 
--- the owner's page stands in the class's page list
+-- the page of this owner is in the class's page list: the class owns the page, or the page moves from the class
 abbrev pub is_of_class : ℕ → Owner → Bool
 is_of_class class Untouched = false
 is_of_class class Pool = false
 is_of_class class (Class own) = own == class
 is_of_class class (owner.Moving src dst) = src == class
 
--- the page lies in the pool; one that was never granted doesn't
+-- the page of this owner is in the pool; a page that was never granted isn't
 abbrev pub is_pool : Owner → Bool
 is_pool Pool = true
 is_pool other = false
@@ -32,7 +32,7 @@ abbrev pub is_moving : Owner → Bool
 is_moving (owner.Moving src dst) = true
 is_moving other = false
 
--- how many chunks of the page were cut, on a page with so many
+-- how many chunks of the page were cut, where a page has n chunks
 abbrev pub cut_count : Option ChunkId → ℕ → ℕ → ℕ
 cut_count None page per_page = per_page
 cut_count (Some next) page per_page = if next.page == page then next.index else per_page
@@ -48,7 +48,7 @@ uncut_count slabs class None = 0
 uncut_count slabs class (Some next) =
     if is_of_class class (owner_at slabs.owners next.page) then (class_at slabs class).per_page - next.index else 0
 
--- how often the chunk stands in the lists of the class
+-- how often the chunk is in the free list and in the hand-out order of the class
 abbrev pub places_in : SlabState → ℕ → ChunkId → ℕ
 places_in slabs class chunk = times chunk (class_at slabs class).free + times chunk (class_at slabs class).order
 
@@ -56,7 +56,7 @@ places_in slabs class chunk = times chunk (class_at slabs class).free + times ch
 abbrev pub is_cleared : SlabState → ℕ → ChunkId → Bool
 is_cleared slabs class chunk = is_moving (owner_at slabs.owners chunk.page) && is_cut slabs class chunk && places_in slabs class chunk == 0
 
--- so many first chunks of a page
+-- the first n chunks of a page
 abbrev pub first_chunks : ℕ → ℕ → List ChunkId
 first_chunks page count = map (λ index. record { page = page; index = index }) (range_with_len 0 count)
 
@@ -86,19 +86,19 @@ pub record IsMove (slabs : SlabState) (move : Moving) : Type 0 where
 pub record IsAccounted (slabs : SlabState) : Type 0 where
   -- the owners are what the ledger's entries made of untouched pages
   pub replays : replay (all_untouched (page_count slabs)) slabs.ledger ≡ Some slabs.owners
-  -- each page of a class stands once in its page list, and no other page does
+  -- each page of a class is once in the class's page list, and no other page is in the list
   pub pages : (class page : ℕ) → IsClass slabs class →
       count_by (λ p. p == page) (class_at slabs class).pages ≡ truth (is_of_class class (owner_at slabs.owners page))
   -- a page that is of a class is of one of the classes
   pub owned : (class page : ℕ) → IsTrue (is_of_class class (owner_at slabs.owners page)) → IsClass slabs class
-  -- each page of the pool stands once in its list, and no other page does
+  -- each page of the pool is once in the pool's list, and no other page is in the list
   pub pool : (page : ℕ) → count_by (λ p. p == page) slabs.pool ≡ truth (is_pool (owner_at slabs.owners page))
   -- no page is moving but that of the move that runs
   pub one_move : (page : ℕ) → IsTrue (is_moving (owner_at slabs.owners page)) → option_map (λ move. move.page) slabs.moving ≡ Some page
   pub move : (move : Moving) → slabs.moving ≡ Some move → IsMove slabs move
-  -- no more pages were granted within the limit than it has room for
+  -- no more pages were granted within the limit than fit into it
   pub limit : ordinary_count slabs.ledger ≤ slabs.limit / slabs.page
-  -- beyond it each class got one at most, and has one to stay from then on
+  -- beyond the limit each class got one page at most, and has one to stay from then on
   pub grace : KeepsGrace slabs.owners slabs.ledger
   -- each cut chunk is in one place: once in the free list or in the hand-out order, or cleared; and no other chunk is
   pub chunks : (class : ℕ) (chunk : ChunkId) → IsClass slabs class →

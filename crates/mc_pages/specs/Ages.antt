@@ -16,15 +16,15 @@ pub record AgesState : Type 0 where
 abbrev pub ages_of : Inside → AgesState
 ages_of ages = record { ages = ages.ages.items; clock = ages.clock }
 
--- nothing was handed out yet
+-- the ages before any chunk was handed out
 abbrev pub fresh_ages : ℕ → AgesState
 fresh_ages chunks = record { ages = replicate chunks 0; clock = 0 }
 
--- the age of the chunk whose row stands at this place
+-- the age of the chunk whose row is at this place
 abbrev pub age_at : AgesState → ℕ → ℕ
 age_at ages place = slice_index_or ages.ages place 0
 
--- that chunk's age is what the clock says, and the clock goes on
+-- the ages after the chunk at this place got the clock's time as its age, and the clock went on by 1
 abbrev pub renewed : AgesState → ℕ → AgesState
 renewed ages place = record { ages = slice_set ages.ages place ages.clock; clock = counted ages.clock 1 }
 

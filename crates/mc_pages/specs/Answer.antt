@@ -23,12 +23,12 @@ abbrev pub is_same : Option ℕ → ℕ → Bool
 is_same None dst = false
 is_same (Some src) dst = src == dst
 
--- the source that is named, or else the pick
+-- the source that is named, or else the one that the search picks
 abbrev pub source_of : SlabState → Option ℕ → ℕ → Option ℕ
 source_of slabs None dst = pick slabs dst
 source_of slabs (Some src) dst = Some src
 
--- the answer where there is this source
+-- the answer to a move from this source, if there is one: the source, or why no page may move
 abbrev pub answer_from : SlabState → ℕ → Option ℕ → Result ℕ Reassign
 answer_from slabs dst None = Err BadClass
 answer_from slabs dst (Some src) =
@@ -40,7 +40,7 @@ answer_from slabs dst (Some src) =
 abbrev pub answer_at_rest : SlabState → Option ℕ → ℕ → Result ℕ Reassign
 answer_at_rest slabs src dst = if is_same src dst then Err Same else answer_from slabs dst (source_of slabs src dst)
 
--- whether a page may begin to move, and then the class that gives it: the first test that applies
+-- whether a page may begin to move, and from which class: while another moves the answer is `Busy`
 abbrev pub answer_if : SlabState → Option ℕ → ℕ → Option Moving → Result ℕ Reassign
 answer_if slabs src dst (Some move) = Err Busy
 answer_if slabs src dst None = answer_at_rest slabs src dst

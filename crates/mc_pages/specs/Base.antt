@@ -9,14 +9,14 @@ use Rattle.mc_pages.specs.declared.ledger.Entry.TheVariants.{Granted}
 use Rattle.mc_pages.specs.Ledger.{owner_after, page_of}
 use Rattle.mc_pages.specs.SlabState.{SlabState, is_untouched, page_count}
 
--- all entries of a ledger, how many aren't recorded any more, of how many pages they tell, and the room to record more
+-- all entries of a ledger, how many of them aren't recorded any more, how many pages they are about, and the room to record more
 pub record Entries : Type 0 where
-  -- all that there were, the oldest first
+  -- all entries that there were, the oldest first
   pub all : List Entry
-  -- so many, the oldest, aren't recorded
+  -- how many entries, the oldest, aren't recorded
   pub trimmed : ℕ
   pub pages : ℕ
-  -- there is room to record so many more
+  -- room to record n more entries
   pub room : ℕ
 
 -- the entries that are recorded
@@ -27,7 +27,7 @@ recorded all trimmed = drop trimmed all
 abbrev pub never_granted : BasePage
 never_granted = record { owner = Untouched; grace = None }
 
--- the class that got the page beyond the limit, if one did, where before the entry this was known of it
+-- the class that got the page beyond the limit after the entry, if one did, by what was known before the entry
 abbrev pub grace_after : Entry → Option ℕ → Option ℕ
 grace_after (Granted page class grace) known = if grace then Some class else None
 grace_after entry known = known

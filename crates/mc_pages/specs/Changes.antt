@@ -47,7 +47,7 @@ with_given slabs class page = record (with_class slabs class (with_page (class_a
 abbrev pub pooled_page : SlabState → Option ℕ
 pooled_page slabs = slice_get slabs.pool (length slabs.pool - 1)
 
--- fewer pages than the limit has room for were granted within it
+-- fewer pages were granted within the limit than fit into it
 abbrev pub has_ordinary_page : SlabState → Bool
 has_ordinary_page slabs = nat_lt (ordinary_count slabs.ledger) (slabs.limit / slabs.page)
 
@@ -55,7 +55,7 @@ has_ordinary_page slabs = nat_lt (ordinary_count slabs.ledger) (slabs.limit / sl
 abbrev pub is_without_page : SlabState → ℕ → Bool
 is_without_page slabs class = length (class_at slabs class).pages == 0
 
--- the page that is granted next to a class: the lowest that never was, within the limit, or beyond it as the class's first
+-- the page that is granted next to a class: the lowest untouched one, within the limit, or beyond it as the class's first
 abbrev pub granted_page : SlabState → ℕ → Option ℕ
 granted_page slabs class = if has_ordinary_page slabs || is_without_page slabs class then untouched_page slabs else None
 
@@ -67,9 +67,9 @@ next_page slabs class = option_or (pooled_page slabs) (granted_page slabs class)
 pub record HasNoPageFor (slabs : SlabState) (class : ℕ) : Type 0 where
   -- the pool is empty
   pub pool : slabs.pool ≡ []
-  -- as many pages were granted within the limit as it has room for
+  -- as many pages were granted within the limit as fit into it
   pub limit : slabs.limit / slabs.page ≤ ordinary_count slabs.ledger
-  -- and the class has a page
+  -- the class has a page, so that the grace isn't open to it
   pub page : 1 ≤ length (class_at slabs class).pages
 
 -- an untouched page is given to the class, beyond the limit where none is left within it

@@ -1,11 +1,11 @@
--- A class's lists in the rows, and how a change of the class stands there.
+-- A class's lists in the rows, and what a change of the class changes there.
 use Rattle.std.specs.Prelude.{◌≡◌, ◌≢◌, ℕ}
 use Rattle.mc_pages.specs.declared.rows.ListName.TheVariants.{Free, HandedOut}
 use Rattle.mc_pages.specs.ClassState.{ClassState}
 use Rattle.mc_pages.specs.Rows.{RowsState, IsList}
 use Rattle.mc_pages.specs.Linked.{AreLinked, chunks_of, sizes_of}
 
--- both lists of a class are in the rows
+-- both lists of the class at this place are in the rows
 abbrev pub IsPlace : RowsState → ℕ → Type 0
 IsPlace rows place = IsList rows (Free place) × IsList rows (HandedOut place)
 
@@ -13,7 +13,7 @@ IsPlace rows place = IsList rows (Free place) × IsList rows (HandedOut place)
 abbrev pub with_lists : ClassState → RowsState → ℕ → ClassState
 with_lists class rows place = record class { free = chunks_of rows (Free place); order = chunks_of rows (HandedOut place) }
 
--- the class at this place has changed so, and no other has
+-- the class at this place changed by this function, and no other class changed
 pub record HasBecome (before after : RowsState) (place : ℕ) (change : ClassState → ClassState) : Type 0 where
   pub linked : AreLinked after
   pub sizes : sizes_of after ≡ sizes_of before

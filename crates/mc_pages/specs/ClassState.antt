@@ -3,8 +3,8 @@ use Rattle.std.specs.Prelude.{ℕ, ◌+◌, ◌-◌, ◌^◌, min, ◌==◌, Boo
 use Rattle.mc_pages.specs.declared.ids.ChunkId.{ChunkId}
 use Rattle.mc_pages.specs.declared.numbers.Numbers.{Numbers}
 
--- the bytes of a chunk, the chunks of a page, the pages, the free chunks with the next to hand out first,
--- the handed-out chunks with the oldest first, and how many items were evicted
+-- the bytes of a chunk; the chunks of a page; the pages; the free chunks, the next to hand out first; the handed-out chunks, the oldest
+-- first; and how many items were evicted
 pub record ClassState : Type 0 where
   pub size : ℕ
   pub per_page : ℕ
@@ -21,7 +21,7 @@ new_class size per_page = record { size = size; per_page = per_page; pages = [];
 abbrev pub is_chunk : ChunkId → ChunkId → Bool
 is_chunk a b = a.page == b.page && a.index == b.index
 
--- how often the chunk stands in the list
+-- how often the chunk is in the list
 abbrev pub times : ChunkId → List ChunkId → ℕ
 times chunk chunks = count_by (λ c. is_chunk c chunk) chunks
 
@@ -56,7 +56,7 @@ abbrev pub with_before : ChunkId → ChunkId → List ChunkId → List ChunkId
 with_before new old [] = []
 with_before new old (c ∷ chunks) = if is_chunk c old then new ∷ c ∷ chunks else c ∷ with_before new old chunks
 
--- a free chunk takes the place of a handed-out one, which stands directly behind it then
+-- a free chunk takes the place of a handed-out one, which is directly behind it then
 abbrev pub replaced : ClassState → ChunkId → ChunkId → ClassState
 replaced class new old = record class { free = without new class.free; order = with_before new old class.order }
 
@@ -76,15 +76,15 @@ with_page class page = record class { pages = class.pages ++ page ∷ [] }
 abbrev pub without_page : ClassState → ℕ → ClassState
 without_page class page = record class { pages = filter (λ p. not (p == page)) class.pages }
 
--- a counter that counts on by so many, and stays at its greatest value once there
+-- a counter after n more, which stops at its greatest value
 abbrev pub counted : ℕ → ℕ → ℕ
 counted counter more = min (counter + more) (2 ^ 64 - 1)
 
--- one of its items was evicted to make room
+-- the class after one of its items was evicted to make room
 abbrev pub evicted : ClassState → ClassState
 evicted class = record class { evictions = counted class.evictions 1 }
 
--- its numbers
+-- the numbers of a class: its pages, its free chunks and its evictions
 abbrev pub numbers_of : ClassState → Numbers
 numbers_of class = record { pages = length class.pages; free = length class.free; evictions = class.evictions }
 

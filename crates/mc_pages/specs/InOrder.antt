@@ -18,7 +18,7 @@ use Rattle.mc_pages.specs.Accounted.{truth, is_moving, IsAccounted}
 abbrev pub roomless : List ClassState → List RoomyClass
 roomless classes = map (λ state. record { state = state; room = 0 }) classes
 
--- what the whole holds
+-- the slab memory as a record of lists, by what is in memory
 abbrev pub slabs_of : Inside → SlabState
 slabs_of slabs = record {
   page = slabs.page;
@@ -38,11 +38,11 @@ slabs_of slabs = record {
   automove = slabs.automove;
 }
 
--- the whole as its callers see it
+-- the slab memory as its callers see it
 abbrev pub value_of : Inside → SlabValue
 value_of slabs = record { state = slabs_of slabs; writes = slabs.rows.writes }
 
--- so many pages were granted, the lowest ones
+-- n pages were granted, the lowest ones
 pub record AreGranted (owners : List Owner) (granted : ℕ) : Type 0 where
   pub within : granted ≤ length owners
   pub below : (page : ℕ) → page < granted → IsTrue (not (is_untouched (owner_at owners page)))
@@ -59,7 +59,7 @@ pub record IsBeingCut (slabs : SlabState) (chunk : ChunkId) : Type 0 where
 abbrev pub populated_count : List ClassState → ℕ
 populated_count classes = count_by (λ class. nat_lt 0 (length class.pages)) classes
 
--- all is accounted for; of at most 127 pages, with 1 to 256 chunks each, the lowest so many were granted
+-- every page and every chunk is accounted for; there are at most 127 pages, with 1 to 256 chunks each, and the lowest n are granted
 pub record IsInOrder (slabs : SlabState) (granted : ℕ) : Type 0 where
   pub accounted : IsAccounted slabs
   pub lowest : AreGranted slabs.owners granted
@@ -78,7 +78,7 @@ is_awaited moving class = option_map_or (λ move. move.dst == class) moving fals
 abbrev pub room_at : List RoomyClass → ℕ → ℕ
 room_at classes class = (slice_index_or classes (class - 1) no_class).room
 
--- there are rows for all chunks that so many pages can have, and lists for all classes
+-- the rows are enough for n pages of the most chunks, and for a free list and a hand-out order of each class
 pub record HasRows (classes : List ClassState) (pages : ℕ) (sizes : Sizes) : Type 0 where
   pub rows : sizes.rows ≡ pages * sizes.most
   pub most : (class : ℕ) → 1 ≤ class → (slice_index_or classes (class - 1) (new_class 0 0)).per_page ≤ sizes.most
@@ -87,18 +87,18 @@ pub record HasRows (classes : List ClassState) (pages : ℕ) (sizes : Sizes) : T
   pub free_lengths : sizes.free_lengths ≡ length classes
   pub handed_out_lengths : sizes.handed_out_lengths ≡ length classes
 
--- what is in memory is in order: its lists stand in the rows, by age, and what a move's end adds has room
+-- the memory is in order: the lists are in the rows, the hand-out orders go by age, and there is room for what the end of a move adds
 pub record AreKept (slabs : Inside) : Type 0 where
   pub order : IsInOrder (slabs_of slabs) slabs.granted
   pub ordinary : slabs.ordinary ≡ ordinary_count slabs.ledger.all
-  -- there is room for what the end of a move adds
+  -- the ledger has room for the entry that the end of a move adds
   pub ledger : truth (is_some slabs.moving) ≤ slabs.ledger.room
   pub base : slabs.ledger.pages ≡ vec_len slabs.owners
   pub pool : vec_len slabs.pool + truth (is_awaited slabs.moving 0) ≤ vec_capacity slabs.pool
   pub classes : (class : ℕ) → IsClass (slabs_of slabs) class →
       length (class_at (slabs_of slabs) class).pages + truth (is_awaited slabs.moving class) ≤ room_at slabs.classes.items class
-  -- the lists stand in the rows
+  -- the lists are in the rows
   pub linked : AreLinked slabs.rows
-  -- and each hand-out order goes by age
+  -- each hand-out order goes by age
   pub aged : HasAges slabs.rows slabs.ages
   pub rows : HasRows (slabs_of slabs).classes (vec_len slabs.owners) (sizes_of slabs.rows)

@@ -11,7 +11,7 @@ use Rattle.mc_pages.specs.declared.rows.Field.TheVariants.{Next, Previous, Head,
 use Rattle.mc_pages.specs.ClassState.{times}
 use Rattle.mc_pages.specs.Rows.{RowsState, IsRow, row_at, field_of, length_of, with_field, with_mark, lengthened, shortened}
 
--- the chunks from this one on, at most so many
+-- the chunks from this one on, at most n
 abbrev pub walk : (ChunkId → Option ChunkId) → ℕ → Option ChunkId → List ChunkId
 walk next zero link = []
 walk next (suc count) None = []
@@ -21,17 +21,17 @@ walk next (suc count) (Some chunk) = chunk ∷ walk next count (next chunk)
 abbrev pub chunks_of : RowsState → ListName → List ChunkId
 chunks_of rows list = walk (λ chunk. field_of rows (Next chunk)) (length_of rows list) (field_of rows (Head list))
 
--- where a list goes on behind a chunk; behind no chunk its head stands
+-- the field that leads from a chunk to the next one of its list; for no chunk it is the head of the list
 abbrev pub forth : ListName → Option ChunkId → Field
 forth list None = Head list
 forth list (Some chunk) = Next chunk
 
--- and where it goes back to
+-- the field that leads from a chunk to the one before it in its list; for no chunk it is the tail of the list
 abbrev pub back : ListName → Option ChunkId → Field
 back list None = Tail list
 back list (Some chunk) = Previous chunk
 
--- each chunk leads to the one behind it, and that one back
+-- the list runs from here: each chunk leads to the next one, and each leads back
 abbrev pub IsRun : (Option ChunkId → Option ChunkId) → (Option ChunkId → Option ChunkId) → Option ChunkId → List ChunkId → Type 0
 IsRun next previous from [] = (next from ≡ None) × (previous None ≡ from)
 IsRun next previous from (chunk ∷ chunks) = (next from ≡ Some chunk) × (previous (Some chunk) ≡ from) × IsRun next previous (Some chunk) chunks
@@ -48,7 +48,7 @@ pub record IsLinked (rows : RowsState) (lists : ListName → List ChunkId) (loos
   pub once : (list : ListName) (chunk : ChunkId) → times chunk (lists list) ≤ 1
   pub apart : (list other : ListName) (chunk : ChunkId) → other ≢ list → 1 ≤ times chunk (lists list) → times chunk (lists other) ≡ 0
   pub sides : (list : ListName) (chunk : ChunkId) → 1 ≤ times chunk (lists list) → (row_at rows chunk).mark ≡ mark_of list
-  -- a chunk that is marked as one of a list is in one, but for the loose one, which is on its way to another list
+  -- a chunk that is marked as one of a list is in one, but for the loose chunk, which is on its way to another list
   pub listed : (chunk : ChunkId) → loose ≢ Some chunk → (row_at rows chunk).mark ≢ Unlisted → (list : ListName) × (1 ≤ times chunk (lists list))
   pub placed : (list : ListName) (chunk : ChunkId) → 1 ≤ times chunk (lists list) → IsRow rows chunk
 
@@ -56,7 +56,7 @@ pub record IsLinked (rows : RowsState) (lists : ListName → List ChunkId) (loos
 abbrev pub AreLinked : RowsState → Type 0
 AreLinked rows = IsLinked rows (chunks_of rows) None
 
--- and so they are but for the mark of this chunk
+-- the rows are lists, but for the mark of this chunk
 abbrev pub AreLinkedBut : RowsState → ChunkId → Type 0
 AreLinkedBut rows chunk = IsLinked rows (chunks_of rows) (Some chunk)
 
@@ -79,7 +79,7 @@ pub record Sizes : Type 0 where
   pub free_lengths : ℕ
   pub handed_out_lengths : ℕ
 
--- how many rows, own rows of lists and lengths there are here, and the most chunks of a page
+-- the sizes of the rows: how many rows, own rows of lists and lengths there are, and the most chunks of a page
 abbrev pub sizes_of : RowsState → Sizes
 sizes_of rows = record {
   most = rows.most;
@@ -90,7 +90,7 @@ sizes_of rows = record {
   handed_out_lengths = length rows.handed_out_lengths;
 }
 
--- two chunks become neighbours; None stands for the list's end
+-- two chunks become neighbours; None is the list's end
 abbrev pub joined : RowsState → ListName → Option ChunkId → Option ChunkId → RowsState
 joined rows list before behind = with_field (with_field rows (forth list before) behind) (back list behind) before
 

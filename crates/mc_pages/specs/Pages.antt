@@ -5,7 +5,7 @@ use Rattle.mc_pages.specs.Ledger.{owner_at}
 use Rattle.mc_pages.specs.SlabState.{SlabState, page_count, is_untouched}
 use Rattle.mc_pages.specs.Accounted.{truth}
 
--- how often the page stands in the page lists of all classes
+-- how often the page is in the page lists of all classes
 abbrev pub times_listed : SlabState → ℕ → ℕ
 times_listed slabs page = sum_by (λ class. count_by (λ p. p == page) class.pages) slabs.classes
 
@@ -13,11 +13,11 @@ times_listed slabs page = sum_by (λ class. count_by (λ p. p == page) class.pag
 abbrev pub is_on_the_move : SlabState → ℕ → Bool
 is_on_the_move slabs page = option_map_or (λ move. move.page == page) slabs.moving false
 
--- how often a class has the page to stay: one on the move stands in its source's list, and doesn't stay
+-- how often a class has the page to stay; a page on the move is in its source's list, and doesn't stay
 abbrev pub times_with_a_class : SlabState → ℕ → ℕ
 times_with_a_class slabs page = if is_on_the_move slabs page then 0 else times_listed slabs page
 
--- how often the page stands in the pool
+-- how often the page is in the pool's list
 abbrev pub times_pooled : SlabState → ℕ → ℕ
 times_pooled slabs page = count_by (λ p. p == page) slabs.pool
 

@@ -12,9 +12,9 @@ entries_of entries = record {
   room = vec_capacity entries.tail - vec_len entries.tail;
 }
 
--- of the entries that aren't in memory there is a count, and what they left of each page
+-- the entries that aren't in memory are counted, and the base has what they left of each page
 pub record IsRecorded (entries : Inside) : Type 0 where
-  -- so many entries aren't in memory, as far as 64 bits can tell
+  -- the count of the entries that aren't in memory, which stops at 2^64 - 1
   pub trimmed : entries.trimmed ≡ min (length entries.past.entries) (2 ^ 64 - 1)
-  -- the base is what these left
+  -- the base is what the entries that aren't in memory left
   pub base : entries.base.items ≡ left_by (replicate (vec_len entries.base) never_granted) entries.past.entries

@@ -1,4 +1,4 @@
--- A size class without its lists, with the room of its page list, and all classes with the lists that stand in the rows.
+-- A size class without its lists, with the room of its page list, and all classes with the lists that are in the rows.
 use Rattle.std.specs.Prelude.{ℕ, ◌≤◌, List, [], length, map, slice_index_or, vec_len, vec_capacity}
 use Rattle.std.specs.List.{range_with_len}
 use Rattle.mc_pages.specs.ClassState.{ClassState, new_class}
@@ -30,7 +30,7 @@ state_of class = record {
 abbrev pub roomy_of : Inside → RoomyClass
 roomy_of class = record { state = state_of class; room = class.room }
 
--- so many pages fit into the page list, and no more are there
+-- the page list has the room that the class counts, and no more pages than that
 pub record HasRoom (class : Inside) : Type 0 where
   pub pages : class.room ≤ vec_capacity class.pages
   pub within : vec_len class.pages ≤ class.room

@@ -11,8 +11,7 @@ use Rattle.mc_pages.specs.declared.rows.Field.TheVariants.{Next, Previous, Head,
 use Rattle.mc_pages.specs.declared.rows.Change.{Change}
 use Rattle.mc_pages.specs.declared.rows.Change.TheVariants as change
 
--- the most chunks that a page has, a row for each chunk, the own rows of the lists, their lengths,
--- and how many fields were written
+-- the most chunks of a page; a row for each chunk; the own rows of the lists; their lengths; and how many fields were written
 pub record RowsState : Type 0 where
   pub most : ℕ
   pub rows : List Row
@@ -26,7 +25,7 @@ pub record RowsState : Type 0 where
 abbrev pub no_row : Row
 no_row = record { next = None; previous = None; mark = Unlisted }
 
--- so many rows, and lists of so many classes, all empty
+-- this many rows, and lists of this many classes, all empty
 abbrev pub fresh_rows : ℕ → ℕ → ℕ → RowsState
 fresh_rows most rows classes = record {
   most = most;
@@ -38,7 +37,7 @@ fresh_rows most rows classes = record {
   writes = 0;
 }
 
--- where a chunk's row stands
+-- the place of a chunk's row
 abbrev pub row_place : ℕ → ChunkId → ℕ
 row_place most chunk = chunk.page * most + chunk.index
 
@@ -56,7 +55,7 @@ abbrev pub length_of : RowsState → ListName → ℕ
 length_of rows (Free class) = slice_index_or rows.free_lengths class 0
 length_of rows (HandedOut class) = slice_index_or rows.handed_out_lengths class 0
 
--- what a field holds
+-- the chunk to which a field leads, or none
 abbrev pub field_of : RowsState → Field → Option ChunkId
 field_of rows (Next chunk) = (row_at rows chunk).next
 field_of rows (Previous chunk) = (row_at rows chunk).previous
@@ -99,12 +98,12 @@ with_field rows (Tail list) link = with_ends rows list (record (ends_of rows lis
 abbrev pub with_mark : RowsState → ChunkId → Mark → RowsState
 with_mark rows chunk mark = with_row rows chunk (record (row_at rows chunk) { mark = mark })
 
--- one thing is written
+-- the rows after this change was written
 abbrev pub with_change : RowsState → Change → RowsState
 with_change rows (change.Link field link) = with_field rows field link
 with_change rows (change.Mark chunk mark) = with_mark rows chunk mark
 
--- it is written into one of the rows, and leads to none or to one of them
+-- the change writes into one of the rows, and a link that it writes leads to one of them or to none
 abbrev pub IsChange : RowsState → Change → Type 0
 IsChange rows (change.Link field link) = IsField rows field × IfSome link (IsRow rows)
 IsChange rows (change.Mark chunk mark) = IsRow rows chunk

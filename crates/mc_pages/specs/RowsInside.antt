@@ -15,6 +15,6 @@ rows_of rows = record {
   writes = rows.writes.total;
 }
 
--- there are few rows, and few of a page
+-- there are at most 32512 rows, and at most 256 for a page
 abbrev pub HasSpace : Inside → Type 0
 HasSpace rows = (vec_len rows.rows ≤ 32512) × (rows.most ≤ 256)

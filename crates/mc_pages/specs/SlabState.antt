@@ -16,11 +16,11 @@ pub record SlabState : Type 0 where
   -- the bytes of a page, and the bytes of pages that may be granted but for the first ones of classes
   pub page : ℕ
   pub limit : ℕ
-  -- class 1 first
+  -- the classes, class 1 first
   pub classes : List ClassState
-  -- page 0 first
+  -- the owner of each page, page 0 first
   pub owners : List Owner
-  -- the page that came last into the pool stands last
+  -- the pages of the pool, the one that came last at the end
   pub pool : List ℕ
   -- all entries, the oldest first, and how many of them, the oldest, aren't recorded any more
   pub ledger : List Entry
@@ -67,7 +67,7 @@ fresh_slabs table = record {
 abbrev pub page_count : SlabState → ℕ
 page_count slabs = slabs.limit / slabs.page + length slabs.classes
 
--- the classes are numbered from 1
+-- this is the number of a class of the memory: classes are numbered from 1
 abbrev pub IsClass : SlabState → ℕ → Type 0
 IsClass slabs class = (1 ≤ class) × (class ≤ length slabs.classes)
 
@@ -86,7 +86,7 @@ class_of_owner (variants.Moving src dst) = src
 abbrev pub class_of_page : SlabState → ℕ → ℕ
 class_of_page slabs page = class_of_owner (owner_at slabs.owners page)
 
--- the class whose chunk it is
+-- the class that has the chunk's page
 abbrev pub class_of_chunk : SlabState → ChunkId → ClassState
 class_of_chunk slabs chunk = class_at slabs (class_of_page slabs chunk.page)
 
@@ -103,7 +103,7 @@ untouched_page slabs = position is_untouched slabs.owners
 abbrev pub granted_count : SlabState → ℕ
 granted_count slabs = count_by (λ owner. not (is_untouched owner)) slabs.owners
 
--- the numbers of the whole
+-- the totals of a slab memory
 abbrev pub totals_of : SlabState → Totals
 totals_of slabs = record {
   granted = granted_count slabs;

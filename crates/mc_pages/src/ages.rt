@@ -1,6 +1,6 @@
 //! How old each chunk is, against a clock that goes on by one with each chunk that is handed out or touched.
 //!
-//! An age is what the clock said when the chunk last came to the back of its class's hand-out order: the lower, the older. (after
+//! An age is the clock's time when the chunk last came to the back of its class's hand-out order: the lower, the older. (after
 //! the field `time` of memcached's items; a clock that counts in place of seconds is own)
 ghost use Rattle.std.specs.Prelude.{◌≡◌, ◌<◌, length, IfOk};
 ghost use Rattle.mc_pages.specs.Ages.{fresh_ages, age_at, renewed, inherited};
@@ -13,7 +13,7 @@ use std::marker::Model;
 #[derive(Drop)]
 pub(crate) struct Ages {
     ages: Vec<u64>,
-    /// It stays at 2^64 - 1 once there. From then on ages may be equal.
+    /// The clock stays at 2^64 - 1 once there. From then on ages may be equal.
     clock: u64,
 }
 
@@ -26,7 +26,7 @@ impl Model for Ages {
 }
 
 impl Ages {
-    /// Ages for so many chunks.
+    /// Ages for n chunks.
     pub(crate) fn new(alloc: Global, chunks: usize) -> Result<Ages, Refused>
         ensures { IfOk result (λ ages. ages ≡ fresh_ages chunks) }
     {
@@ -36,7 +36,7 @@ impl Ages {
         })
     }
 
-    /// The age of the chunk whose row stands at this place.
+    /// The age of the chunk whose row is at this place.
     pub(crate) fn age(&self, place: usize) -> u64
         requires { place < length self.now.ages }
         ensures { result ≡ age_at self.now place }

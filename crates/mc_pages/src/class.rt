@@ -65,7 +65,7 @@ impl SlabClass {
         self.pages[0]
     }
 
-    /// Makes room for so many pages.
+    /// Makes room for n pages.
     pub(crate) fn make_room(&mut self, pages: usize) -> Result<(), Refused>
         requires { pages ≤ 129 }
         ensures state { self.new.state ≡ self.old.state }

@@ -6,7 +6,7 @@ use mc_classes::{ClassId, PageId};
 pub struct ChunkId {
     /// The page, from 0.
     pub page: PageId,
-    /// Which chunk of the page, from 0.
+    /// The index of the chunk on its page, from 0.
     pub index: u64,
 }
 

@@ -14,17 +14,17 @@ ghost use Rattle.mc_pages.specs.Accounted.{IsAccounted};
 ghost use Rattle.mc_pages.specs.Pages.{times_listed, places_of};
 ghost use Rattle.mc_pages.specs.Unaccounted.{nothing_granted, page_of_no_class, last_page_moves, past_the_limit, grace_twice, grace_given_away, cursor_past_the_classes, unknown_mode};
 
-/// Each page is in one place: with a class, in the pool, on the move, or among those that were never granted. The one on
-/// the move stands in one page list, its source's. What isn't a page is nowhere.
+/// Each page is in one place: with a class, in the pool, on the move, or among those that were never granted. The one on the move
+/// is in one page list, its source's. What isn't a page is nowhere.
 pub fn no_page_is_lost()
     ensures once { (slabs : SlabState) (page : ℕ) → IsAccounted slabs → page < page_count slabs → places_of slabs page ≡ 1 }
     ensures moving { (slabs : SlabState) (move : Moving) → IsAccounted slabs → slabs.moving ≡ Some move → times_listed slabs move.page ≡ 1 }
     ensures nowhere { (slabs : SlabState) (page : ℕ) → IsAccounted slabs → page_count slabs ≤ page → places_of slabs page ≡ 0 }
 {}
 
-/// A memory in which nothing was granted is accounted for. With a page that is owned by a class that isn't there, with the
-/// last page of a class on the move, with more pages within the limit than it has room for, with two pages beyond it for one
-/// class, with one that the class gave away, with the cursor past the classes, or with an unknown mode it isn't.
+/// A memory in which nothing was granted is accounted for. Seven others aren't, each for one reason: a page is owned by a class
+/// that isn't there; the last page of a class is on the move; more pages were granted within the limit than fit into it; one
+/// class has two pages beyond it; a class gave its page beyond it away; the cursor is past the classes; or the mode is unknown.
 pub fn unaccounted_memories()
     ensures nothing_granted { IsAccounted nothing_granted }
     ensures page_of_no_class { IsAccounted page_of_no_class → ⊥ }
@@ -36,8 +36,8 @@ pub fn unaccounted_memories()
     ensures unknown_mode { IsAccounted unknown_mode → ⊥ }
 {}
 
-/// What is recorded goes on from what the other entries left: it leads from the base's owners to those of now. And base and
-/// what is recorded have, together, each page that was granted within the limit, and each that a class got beyond it.
+/// The recorded entries go on from what the others left: they lead from the base's owners to those of now. Base and recorded
+/// entries have, together, each page that was granted within the limit, and each that a class got beyond it.
 pub fn ledger_goes_on()
     ensures replayed { (slabs : SlabState) → IsAccounted slabs → replay (owners_in (base_of slabs)) (tail_of slabs) ≡ Some slabs.owners }
     ensures within_limit { (slabs : SlabState) → IsAccounted slabs → count_by is_within_limit (base_of slabs) + ordinary_count (tail_of slabs) ≡ ordinary_count slabs.ledger }
@@ -45,7 +45,7 @@ pub fn ledger_goes_on()
 {}
 
 /// What some entries leave of two pages: of one that was granted within the limit, moved and was taken again; of one that was
-/// granted beyond it, which is told of the page for good; and of one on the move.
+/// granted beyond it, which the base records for good; and of one on the move.
 pub fn worked_bases()
     ensures never_granted { left_by two_pages [] ≡ two_pages }
     ensures granted { left_by two_pages (Granted 0 3 false ∷ []) ≡ record { owner = Class 3; grace = None } ∷ never_granted ∷ [] }
@@ -55,9 +55,9 @@ pub fn worked_bases()
     ensures pooled { left_by two_pages (Granted 0 3 false ∷ Began 0 3 0 ∷ Ended 0 0 ∷ []) ≡ record { owner = Pool; grace = None } ∷ never_granted ∷ [] }
 {}
 
-/// Which of two chunks stands before the other: in 2, 0, 1 the first before the last, which isn't before it, and none before itself or
-/// before one that isn't there. Where no chunk stands twice, of two at most one is before the other, what is before one is before
-/// those behind it, and both stay so where a third leaves the list.
+/// Which of two chunks comes first in a list. In 2, 0, 1 the first is before the last, which isn't before it, and none is before
+/// itself or before one that isn't there. Where no chunk is twice in the list, of two chunks at most one is before the other.
+/// What is before one is before those behind it, and both stay so where a third leaves the list.
 pub fn one_before_another()
     ensures forth { comes_before (nth 2) (nth 1) three ≡ true }
     ensures not_back { comes_before (nth 1) (nth 2) three ≡ false }

@@ -1,11 +1,11 @@
-//! Who owns a page, and the entries that say how it changed hands.
+//! Who owns a page, and the entries that record how it changed hands.
 ghost use Rattle.std.specs.Prelude.{◌≡◌};
 ghost use Rattle.mc_pages.specs.Base.{page_after, never_granted};
 ghost use Rattle.mc_pages.specs.Ledger.{page_of};
 
 use mc_classes::{ClassId, PageId};
 
-/// Who owns a page.
+/// The owner of a page.
 #[derive(Clone, Copy, PartialEq, Eq)]
 pub enum Owner {
     /// Nobody yet: it was never granted.
@@ -37,7 +37,7 @@ impl Owner {
 /// What some first entries of the ledger left of a page.
 #[derive(Clone, Copy, PartialEq, Eq)]
 pub struct BasePage {
-    /// Who owned it.
+    /// The owner of the page.
     pub owner: Owner,
     /// The class that got it beyond the limit, if one did.
     pub grace: Option<ClassId>,
@@ -46,7 +46,7 @@ pub struct BasePage {
 /// One change of a page's owner.
 #[derive(Clone, Copy, PartialEq, Eq)]
 pub enum Entry {
-    /// An untouched page was given to a class; beyond the limit, as its first, where it says so.
+    /// An untouched page was given to a class; with `true` beyond the limit, as the class's first.
     Granted(PageId, ClassId, bool),
     /// A page of the pool was given to a class.
     Taken(PageId, ClassId),

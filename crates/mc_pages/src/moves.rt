@@ -1,20 +1,20 @@
-//! What a move of a page is asked and told.
+//! The requests for a page's move, and the answers to them.
 use mc_memory::Refused;
 
 /// What the mover found at a chunk of the moving page, and did.
 #[derive(Clone, Copy, PartialEq, Eq)]
 pub enum Found {
-    /// It was free or dead, and is cleared now.
+    /// The chunk was free or dead, and is cleared now.
     Cleared,
-    /// Its item was taken to another chunk of the class, and it is cleared now.
+    /// The chunk's item was taken to another chunk of the class, and the chunk is cleared now.
     Rescued,
-    /// Its item was evicted, as the class had no other chunk, and it is cleared now.
+    /// The chunk's item was evicted, as the class had no other chunk, and the chunk is cleared now.
     Evicted,
-    /// Somebody holds its item.
+    /// Somebody holds the chunk's item.
     Busy,
     /// The item lock of its key was taken.
     Locked,
-    /// It was cleared before.
+    /// The chunk was cleared before.
     Already,
 }
 
@@ -60,7 +60,7 @@ pub enum Reassign {
     Busy,
     /// Source and destination are one.
     Same,
-    /// There is no such class, the source is the pool, or no class can be picked.
+    /// A class doesn't exist, the source is the pool, or no class can be picked.
     BadClass,
     /// The source has fewer than two pages.
     NoSpare,

@@ -1,9 +1,9 @@
 //! The numbers of a class and of the whole, for statistics and for the automover.
 
-/// What a class has.
+/// The numbers of a class.
 #[derive(Clone, Copy, PartialEq, Eq)]
 pub struct Numbers {
-    /// Its pages, a moving one included.
+    /// How many pages the class has, a moving one included.
     pub pages: u64,
     /// The chunks of its free list.
     pub free: u64,

@@ -1,4 +1,4 @@
-//! Entries that no memory is kept for.
+//! The entries of the ledger that take no memory any more, for contracts alone.
 ghost use Rattle.std.specs.Prelude.{◌≡◌, ◌++◌, List, []};
 ghost use Rattle.std.specs.Borrow.{ftrue};
 ghost use Rattle.mc_pages.specs.declared.ledger.Entry.{Entry as AnEntry};
@@ -19,14 +19,14 @@ impl Model for Past {
 unsafe impl Send for Past {}
 
 impl Past {
-    /// None yet.
+    /// No entries yet.
     pub(crate) fn new() -> Past
         ensures { result.entries ≡ [] }
     {
         Past {}
     }
 
-    /// With these behind.
+    /// These entries, and more behind them.
     pub(crate) fn and(&self, more: &[Entry]) -> Past
         ensures { result.entries ≡ self.now.entries ++ more.now }
     {

@@ -15,7 +15,7 @@ pub(crate) struct Recorded {
     past: Past,
     /// How many these are, or the greatest number if they are more.
     trimmed: u64,
-    /// What these left of each page.
+    /// What the entries that aren't recorded left of each page.
     base: Vec<BasePage>,
     /// The entries behind them.
     tail: Vec<Entry>,
@@ -34,7 +34,7 @@ impl Model for Recorded {
 }
 
 impl Recorded {
-    /// No entry, of so many pages.
+    /// No entry yet, of n pages.
     pub(crate) fn new(alloc: Global, pages: usize) -> Result<Recorded, Refused>
         ensures none { IfOk result (λ entries. entries ≡ record { all = []; trimmed = 0; pages = pages; room = entries.room }) }
     {
@@ -46,7 +46,7 @@ impl Recorded {
         })
     }
 
-    /// Makes room for so many more entries.
+    /// Makes room for n more entries.
     pub(crate) fn reserve(&mut self, additional: usize) -> Result<(), Refused>
         ensures same { self.new ≡ record self.old { room = self.new.room } }
         ensures room { OnOk result (additional ≤ self.new.room) }

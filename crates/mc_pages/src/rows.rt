@@ -1,7 +1,7 @@
 //! The free lists and hand-out orders of all classes, as doubly linked rows.
 //!
-//! Each chunk has a row, whatever class its page is cut for. No call walks but `at`, and none takes memory but `new`.
-//! The links and the prefix of a free chunk stand in the chunk itself in slabs.c; rows beside the pages are own.
+//! Each chunk has a row, whatever class its page is cut for. No call walks but `at`, and none takes memory but `new`. In slabs.c
+//! the links and the prefix of a free chunk are in the chunk itself; rows beside the pages are own.
 
 mod calls;
 mod fields;
@@ -22,7 +22,7 @@ pub(crate) enum Mark {
     HandedOut,
 }
 
-/// One of the two lists of a class, by the class's place: class 1 stands at 0.
+/// One of the two lists of a class, by the class's place: class 1 is at 0.
 #[derive(Clone, Copy, PartialEq, Eq)]
 pub enum ListName {
     /// The chunks that are free, with the next to hand out first.
@@ -44,7 +44,7 @@ pub(crate) enum Field {
     Tail(ListName),
 }
 
-/// What is written into a field.
+/// A change of the rows: a field gets a link, or a chunk a mark.
 #[derive(Clone, Copy, PartialEq, Eq)]
 pub(crate) enum Change {
     /// The chunk to which a field leads.

@@ -1,4 +1,4 @@
-//! A slab memory in a place that hands share, as what lies behind the slabs lock.
+//! A slab memory in a box, which hands share behind the slabs lock.
 ghost use Rattle.std.specs.Prelude.{◌≡◌, IfOk};
 ghost use Rattle.std.specs.Borrow.{Lends, sem};
 ghost use Rattle.mc_pages.specs.contracts.shared.SharedSlabs.{the_row as shared_row};

@@ -1,4 +1,4 @@
-//! The sequential value behind the slabs lock: all pages and all chunks.
+//! `Slabs`: the sequential value behind the slabs lock, all pages and all chunks.
 ghost use Rattle.std.specs.Prelude.{◌≡◌, ℕ, ◌-◌, ◌^◌, ◌*◌, min, ◌<◌, ◌≤◌, length, slice_get, IfOk, None};
 ghost use Rattle.std.specs.Option.{option_map};
 ghost use Rattle.mc_pages.specs.ClassState.{new_class, numbers_of};
@@ -50,7 +50,7 @@ pub struct Slabs {
     granted: usize,
     /// How many of them were granted within the limit.
     ordinary: usize,
-    /// The page that came last stands last.
+    /// The pages of the pool, the one that came last at the end.
     pool: Vec<PageId>,
     ledger: Recorded,
     uncut: Option<ChunkId>,
@@ -105,7 +105,7 @@ impl Slabs {
         })
     }
 
-    /// Who owns the page.
+    /// The owner of the page.
     pub fn owner(&self, page: PageId) -> Owner
         requires { page < length self.now.state.owners }
         ensures owner { result ≡ owner_at self.now.state.owners page }
@@ -114,7 +114,7 @@ impl Slabs {
         self.owners[page as usize]
     }
 
-    /// What the class has.
+    /// The numbers of the class.
     pub fn numbers(&self, class: ClassId) -> Numbers
         requires { IsClass self.now.state class }
         ensures numbers { result ≡ numbers_of (class_at self.now.state class) }
@@ -139,7 +139,7 @@ impl Slabs {
         slab.per_page()
     }
 
-    /// What all classes have together.
+    /// The numbers of all classes together.
     pub fn totals(&self) -> Totals
         ensures totals { result ≡ totals_of self.now.state }
         ensures accounted { IsAccounted self.now.state }
@@ -162,7 +162,7 @@ impl Slabs {
         self.ledger.tail()
     }
 
-    /// How many changes came before them, or the greatest number if they are more.
+    /// How many changes came before the recorded ones; the greatest number if they are more.
     pub fn trimmed(&self) -> u64
         ensures trimmed { result ≡ min self.now.state.trimmed (2 ^ 64 - 1) }
         ensures within { self.now.state.trimmed ≤ length self.now.state.ledger }
@@ -189,8 +189,7 @@ impl Slabs {
         self.ledger.trim();
     }
 
-    /// The rows in which the free lists and the hand-out orders of all classes stand. What was written there is what
-    /// `writes` counts.
+    /// The rows that have the free lists and the hand-out orders of all classes. `writes` counts what was written there.
     pub fn rows(&self) -> &Rows
         ensures linked { AreLinked result.now }
         ensures free { (class : ℕ) → IsClass self.now.state class → chunks_of result.now (Free (class - 1)) ≡ (class_at self.now.state class).free }
@@ -220,7 +219,7 @@ impl Slabs {
         self.automove = mode;
     }
 
-    /// Where in `classes` the page's class stands.
+    /// The place of the page's class in `classes`.
     #[tactic(auto, using(crate::proofs::Owners::within_from_class_of_owner))]
     fn class_place(&self, page: PageId) -> usize
         requires { IsClass self.now.state (class_of_page self.now.state page) }

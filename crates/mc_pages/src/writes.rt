@@ -1,4 +1,4 @@
-//! A count that contracts alone read.
+//! A count of the fields of rows that were written, for contracts alone.
 ghost use Rattle.std.specs.Prelude.{◌≡◌, ℕ, ◌+◌};
 ghost use Rattle.std.specs.Borrow.{ftrue};
 
@@ -14,18 +14,18 @@ impl Model for Writes {
     ghost also_owns = { λ _. ftrue };
 }
 
-// It owns nothing.
+// A `Writes` owns nothing.
 unsafe impl Send for Writes {}
 
 impl Writes {
-    /// None yet.
+    /// No field was written yet.
     pub(crate) fn new() -> Writes
         ensures { result.total ≡ 0 }
     {
         Writes {}
     }
 
-    /// One more.
+    /// Counts one more field.
     pub(crate) fn add(&mut self)
         ensures { self.new.total ≡ self.old.total + 1 }
     {}

@@ -19,7 +19,7 @@ colour_of class = slice_index_or colours (class % 10) []
 abbrev pub place_text : ℕ → ℕ → List ℕ
 place_text x y = codes "<rect x=\"" ++ decimal x ++ codes "\" y=\"" ++ decimal y ++ codes "\""
 
--- a box that is filled so
+-- a box with this fill
 abbrev pub box_text : ℕ → ℕ → List ℕ → List ℕ
 box_text x y fill = place_text x y ++ codes " width=\"24\" height=\"17\" fill=\"" ++ fill ++ codes "\"/>\n"
 
@@ -31,10 +31,10 @@ cell_text x y Pool = box_text x y (codes "url(#pool)")
 cell_text x y (Class class) = box_text x y (colour_of class)
 cell_text x y (Moving src dst) = box_text x y (colour_of src) ++ box_text x y (codes "url(#moving)")
 
--- the cells of the first so many pages in column k, page 0 first: a column is 24 wide, a row 20 high
+-- the cells of the first n pages in column k, page 0 first: a column is 24 wide, a row 20 high
 abbrev pub column_text : ℕ → List Owner → ℕ → List ℕ
 column_text k owners pages = flat_map (λ page. cell_text (76 + k * 24) (64 + page * 20) (owner_at owners page)) (range_with_len 0 pages)
 
--- the cells of the first so many columns, column 0 first
+-- the cells of the first n columns, column 0 first
 abbrev pub cells_text : List (List Owner) → ℕ → List ℕ
 cells_text columns count = flat_map (λ k. column_text k (slice_index_or columns k []) (length (slice_index_or columns k []))) (range_with_len 0 count)

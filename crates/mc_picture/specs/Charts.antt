@@ -14,7 +14,7 @@ abbrev pub chart_error_of : misfit.Misfit → ChartError
 chart_error_of misfits.Entry = errors.Misfit
 chart_error_of (misfits.NoMemory refused) = errors.Memory
 
--- behind the old text stands a chart in which column k shows what the first k entries make of so many untouched pages
+-- a chart is behind the old text, in which column k shows what the first k entries make of n untouched pages
 pub record IsChart (pages : ℕ) (entries : List Entry) (old new : List ℕ) : Type 0 where
   pub columns : List (List Owner)
   pub replayed : map Some columns ≡ replays pages entries (length entries + 1)

@@ -1,4 +1,4 @@
--- A chart: cells, and what stands before and behind them.
+-- A chart: cells, and the text before and behind them.
 use Rattle.std.specs.Prelude.{◌≡◌, ℕ, List, ◌++◌, length}
 use Rattle.mc_pages.specs.declared.ledger.Owner.{Owner}
 use Rattle.mc_picture.specs.Cells.{cells_text}
@@ -7,7 +7,7 @@ use Rattle.mc_picture.specs.Cells.{cells_text}
 abbrev pub Extends : List ℕ → List ℕ → Type 0
 Extends old new = (more : List ℕ) × (new ≡ old ++ more)
 
--- behind the old text stand the cells of these columns, with some text before them and some behind
+-- the cells of these columns are behind the old text, with some text before them and some behind
 pub record IsDrawn (columns : List (List Owner)) (old new : List ℕ) : Type 0 where
   pub front : List ℕ
   pub back : List ℕ

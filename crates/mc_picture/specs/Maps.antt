@@ -10,11 +10,11 @@ use Rattle.mc_picture.specs.Aligned.{left, right}
 use Rattle.mc_picture.specs.Lines.{ledger_text}
 use Rattle.mc_picture.specs.Moves.{move_text}
 
--- where in the script, and how many commands are done
+-- the heading of a map: its place in the script, and how many commands are done
 unfoldable pub heading_text : List ℕ → ℕ → List ℕ
 heading_text heading done = codes "map " ++ heading ++ codes ", " ++ decimal done ++ codes " commands done\n\n"
 
--- how many pages of so many bytes are where
+-- the line that counts the pages: granted, in the pool, and moved
 unfoldable pub totals_text : ℕ → ℕ → Totals → List ℕ
 totals_text page pages totals =
     codes "pages of " ++ decimal page ++ codes " bytes: " ++ decimal totals.granted ++ codes " of " ++ decimal pages ++ codes " granted, "
@@ -31,15 +31,15 @@ owner_text (Moving src dst) = if dst == 0 then right 5 src ++ codes ">p" else ri
 unfoldable pub start_text : ℕ → List ℕ
 start_text page = if page % 8 == 0 then right 4 page else []
 
--- the end of a line, behind eight pages and behind the last of so many
+-- the end of a line, behind eight pages and behind the last of n
 unfoldable pub end_text : ℕ → ℕ → List ℕ
 end_text page pages = if page % 8 == 7 || page == pages - 1 then codes "\n" else []
 
--- a page of these, by its number
+-- the text of one of these pages, by its number
 unfoldable pub page_text : List Owner → ℕ → List ℕ
 page_text owners page = start_text page ++ owner_text (slice_index_or owners page Untouched) ++ end_text page (length owners)
 
--- the first so many pages of these
+-- the first n pages of these owners
 abbrev pub pages_text : List Owner → ℕ → List ℕ
 pages_text owners count = flat_map (page_text owners) (range_with_len 0 count)
 
@@ -55,11 +55,11 @@ page_legend = codes "  a number is a class, 4>1 moves from class 4 to 1, p is th
 unfoldable pub owners_text : List Owner → List ℕ
 owners_text owners = page_columns ++ pages_text owners (length owners) ++ page_legend
 
--- a class, the bytes of its chunks, and how many pages it has
+-- the text of a class, of the bytes of its chunks, and of how many pages it has
 unfoldable pub sizes_text : ClassLine → List ℕ
 sizes_text line = right 5 line.class ++ right 7 line.size ++ right 7 line.pages
 
--- how many of a class's chunks are an item's, held, dead, free and cleared
+-- the text of how many of a class's chunks are an item's, held, dead, free and cleared
 unfoldable pub chunks_text : ClassLine → List ℕ
 chunks_text line = right 8 line.linked ++ right 6 line.held ++ right 6 line.dead ++ right 6 line.free ++ right 9 line.cleared
 
@@ -79,11 +79,11 @@ line_columns = codes "\nclass   size  pages  linked  held  dead  free  cleared  
 unfoldable pub lines_text : List ClassLine → List ℕ
 lines_text lines = if length lines == 0 then codes "\nno class has a page\n" else line_columns ++ flat_map line_text lines
 
--- who owns each page, and what each class has
+-- the text of who owns each page, and of what each class has
 unfoldable pub front_text : List ℕ → Map → List ℕ
 front_text heading map =
     heading_text heading map.done ++ totals_text map.page (length map.owners.items) map.totals ++ owners_text map.owners.items ++ lines_text map.classes.items
 
--- a map under this heading: its pages and classes, how pages changed hands, and where a move hangs
+-- the text of a map under this heading: its pages and classes, how pages changed hands, and what holds a move up
 unfoldable pub map_text : List ℕ → Map → List ℕ
 map_text heading map = front_text heading map ++ ledger_text map.ledger.items ++ move_text map.moving map.chunks map.hang ++ codes "\n"

@@ -5,7 +5,7 @@ use Rattle.mc_classes.specs.Classes.{Classes, per_page_of, size_of}
 use Rattle.mc_waste.specs.Tables.{waste_of}
 use Rattle.mc_picture.specs.declared.classes.ClassRow.{ClassRow}
 
--- what is known of the class: its sizes, the most that an item leaves unused, and what is left of a page
+-- the row of a class: its sizes, the most that an item leaves unused, and what is left of a page
 abbrev pub row_of : Classes → ℕ → ClassRow
 row_of table class = record {
   class = class;
@@ -15,6 +15,6 @@ row_of table class = record {
   rest = table.page % size_of table class;
 }
 
--- that of the first so many classes, class 1 first
+-- the rows of the first n classes, class 1 first
 abbrev pub rows_of : Classes → ℕ → List ClassRow
 rows_of table count = map (λ place. row_of table (place + 1)) (range_with_len 0 count)

@@ -16,7 +16,7 @@ row_text row = right 5 row.class ++ right 7 row.size ++ right 15 row.per_page ++
 unfoldable pub table_note : List ℕ
 table_note = codes " bytes, and beyond them a first one for each class; an item of n words asks for 24 + 8 n bytes\n\n"
 
--- how many pages there are, and of which size
+-- the text of how many pages there are, and of which size
 unfoldable pub memory_text : ℕ → ℕ → List ℕ
 memory_text pages page = decimal pages ++ codes " pages of " ++ decimal page ++ table_note
 

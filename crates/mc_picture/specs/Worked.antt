@@ -1,10 +1,10 @@
--- Worked examples of what is written.
+-- Worked examples of what is written, which the prover computes.
 use Rattle.std.specs.Prelude.{◌≡◌, [], ◌∷◌, ◌++◌, Some, None, codes}
 use Rattle.mc_pages.specs.declared.ledger.Owner.TheVariants.{Untouched, Pool, Class, Moving}
 use Rattle.mc_picture.specs.Maps.{heading_text, line_text, lines_text, pages_text, totals_text}
 use Rattle.mc_picture.specs.Tables.{memory_text, row_text}
 
--- what stands before the page map
+-- a worked case of the text before the page map
 abbrev pub HeadingShown : Type 0
 HeadingShown =
     heading_text (codes "at line 7") 12 ++ totals_text 1024 8 (record { granted = 5; pool = 1; moved = 2; rescues = 30; evictions_nomem = 40; busy = 50 })

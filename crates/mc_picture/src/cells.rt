@@ -7,7 +7,7 @@ use mc_pages::Owner;
 use std::alloc::AllocError;
 use std::fmt::Write;
 
-/// The sides of a cell, and where the first one stands.
+/// The sides of a cell, and the place of the first one.
 const WIDTH: usize = 24;
 
 const HEIGHT: usize = 20;

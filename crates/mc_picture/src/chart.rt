@@ -24,11 +24,11 @@ const LEAST: usize = 640;
 /// Why no chart is drawn.
 #[derive(Debug, PartialEq, Eq, Drop)]
 pub enum ChartError {
-    /// There are more entries than a chart has columns for, or more pages than it has rows.
+    /// The entries are more than a chart has columns for, or the pages more than it has rows.
     Large,
     /// An entry finds its page otherwise.
     Misfit,
-    /// Memory ran out, as std's strings say by an error that is no evidence.
+    /// Memory ran out, as std's strings report by an error that is no evidence.
     Memory,
 }
 
@@ -57,7 +57,7 @@ impl From<AllocError> for ChartError {
     }
 }
 
-/// Adds a chart of so many pages, each of `page` bytes: in column k stands what the first k entries of the ledger make of them.
+/// Adds a chart of n pages, each of `page` bytes: column k shows what the first k entries of the ledger make of them.
 pub fn write_chart(
     alloc: Global,
     pages: usize,
@@ -105,7 +105,7 @@ fn legend_at(pages: usize) -> usize
     row_at(pages) + 52
 }
 
-/// Adds what stands before the cells: the head, the title and the names of the rows.
+/// Adds what is before the cells: the head, the title and the names of the rows.
 fn write_front(sheet: &Sheet, text: &mut String) -> Result<(), AllocError>
     ensures { OnOk result (Extends (string_bytes text.old) (string_bytes text.new)) }
 {
@@ -116,7 +116,7 @@ fn write_front(sheet: &Sheet, text: &mut String) -> Result<(), AllocError>
     write_names(sheet.pages, text)
 }
 
-/// Adds what stands behind the cells: the numbers of classes in them, the axis and the legend.
+/// Adds what is behind the cells: the numbers of classes in them, the axis and the legend.
 fn write_back(columns: &[Vec<Owner>], sheet: &Sheet, text: &mut String) -> Result<(), AllocError>
     ensures { OnOk result (Extends (string_bytes text.old) (string_bytes text.new)) }
 {
@@ -174,7 +174,7 @@ fn write_names(pages: usize, text: &mut String) -> Result<(), AllocError>
     Ok(())
 }
 
-/// Adds what stands in the cells of all columns.
+/// Adds the texts in the cells of all columns.
 #[tactic(auto, using(crate::proofs::Extends::extends_on))]
 fn write_labels(columns: &[Vec<Owner>], text: &mut String) -> Result<(), AllocError>
     ensures { OnOk result (Extends (string_bytes text.old) (string_bytes text.new)) }
@@ -188,7 +188,7 @@ fn write_labels(columns: &[Vec<Owner>], text: &mut String) -> Result<(), AllocEr
     Ok(())
 }
 
-/// Adds what stands in the cells of a column. `before` has the owners of the column before.
+/// Adds the texts in the cells of a column. `before` has the owners of the column before.
 #[tactic(auto, using(crate::proofs::Extends::extends_on))]
 fn write_column_labels(
     place: usize,
@@ -211,7 +211,8 @@ fn write_column_labels(
     Ok(())
 }
 
-/// Adds the number of the class where a page comes to it, as the colour alone doesn't tell it, and p where it comes to the pool.
+/// Adds the number of the class to which a page comes, as the colour alone doesn't show it, or p where the page comes to the
+/// pool.
 #[tactic(auto, using(crate::proofs::Extends::extends, crate::proofs::Extends::extends_same))]
 fn write_label(
     x: usize,

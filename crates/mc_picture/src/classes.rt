@@ -65,7 +65,7 @@ pub fn write_classes(
     write_rows(rows, text)
 }
 
-/// Adds how many pages of so many bytes there are.
+/// Adds how many pages there are, and of how many bytes.
 #[tactic(auto, unfolding(crate::specs::Tables::memory_text))]
 fn write_memory(pages: u64, page: u64, text: &mut String) -> Result<(), AllocError>
     ensures memory { OnOk result (string_bytes text.new ≡ string_bytes text.old ++ memory_text pages page) }

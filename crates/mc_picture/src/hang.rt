@@ -7,7 +7,7 @@ use mc_map::{Blocker, Hang, Moving};
 use std::alloc::AllocError;
 use std::fmt::Write;
 
-/// Adds where a move hangs: the page, the mover's place among so many chunks, and what holds it up.
+/// Adds where a move hangs: the page, the mover's place among the page's chunks, and what holds it up.
 pub(crate) fn write_move(
     moving: Option<Moving>,
     chunks: u64,
@@ -34,7 +34,7 @@ fn write_page(moving: Moving, text: &mut String) -> Result<(), AllocError>
     write!(text, "  page {page} moves from class {src}")
 }
 
-/// Adds at which of so many chunks the mover is.
+/// Adds the mover's place among the page's chunks.
 fn write_position(moving: Moving, chunks: u64, text: &mut String) -> Result<(), AllocError>
     ensures position { OnOk result (string_bytes text.new ≡ string_bytes text.old ++ position_text moving chunks) }
 {

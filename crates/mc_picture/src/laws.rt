@@ -1,7 +1,8 @@
 //! Worked examples of what is written, computed by the prover: the contract of a function with nothing to do.
 ghost use Rattle.mc_picture.specs.Worked.{HeadingShown, LineShown, MemoryShown, NoLinesShown, PagesShown, RowsShown};
 
-/// What stands before a page map, a page map, the line of a class and no line; and of the class table its heading and lines.
+/// The texts before a page map, of a page map, of the line of a class and of no line; and of the class table its heading and
+/// lines.
 pub fn worked_texts()
     ensures heading { HeadingShown }
     ensures pages { PagesShown }

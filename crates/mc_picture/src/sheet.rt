@@ -1,10 +1,10 @@
-//! What a chart is drawn of.
+//! The sheet of a chart: pages, ledger and classes, no more than it has room for.
 ghost use Rattle.std.specs.Prelude.{◌≤◌, length};
 
 use crate::classes::ClassRow;
 use mc_pages::Entry;
 
-/// So many pages, the bytes of each, the ledger of their owners, and the classes: no more of each than a chart has room for.
+/// The pages, the bytes of each, the ledger of their owners, and the classes: no more of each than a chart has room for.
 #[derive(Drop)]
 pub(crate) struct Sheet<'a> {
     pub(crate) pages: usize,

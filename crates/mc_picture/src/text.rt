@@ -8,7 +8,7 @@ use mc_map::{ClassLine, Map, Owner, Totals};
 use std::alloc::AllocError;
 use std::fmt::Write;
 
-/// How many pages stand in a line of the page map.
+/// How many pages a line of the page map has.
 const PAGES_A_LINE: usize = 8;
 
 /// Adds the text of a map under this heading: who owns each page, what each class has, the ledger, and where the move hangs.
@@ -41,7 +41,7 @@ fn write_heading(heading: &str, done: u64, text: &mut String) -> Result<(), Allo
     writeln!(text, "map {heading}, {done} commands done\n")
 }
 
-/// Adds how many pages of so many bytes are where.
+/// Adds how many pages there are, of how many bytes, and where they are.
 #[tactic(auto, unfolding(crate::specs::Maps::totals_text))]
 fn write_totals(
     page: u64,

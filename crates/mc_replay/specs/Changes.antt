@@ -11,7 +11,7 @@ use Rattle.mc_core.specs.Rows.{chunk_at}
 use Rattle.mc_script.specs.Words.{◌>>=◌, number_of, words_of}
 use Rattle.mc_script.specs.Forms.{source_of}
 
--- what the mover found
+-- the kind of find that this name writes
 unfoldable pub found_of : List ℕ → Option Found
 found_of name =
     if bytes_eq name (codes "Cleared") then Some found.Cleared
@@ -22,7 +22,7 @@ found_of name =
     else if bytes_eq name (codes "Already") then Some found.Already
     else None
 
--- those with a class, a mode, a stripe or a key
+-- the change of this name on a class, a mode, a stripe or a key
 unfoldable pub number_change : List ℕ → ℕ → Option Change
 number_change name number =
     if bytes_eq name (codes "Grow") then Some (change.Grow number)
@@ -60,7 +60,7 @@ change_of (name ∷ one ∷ two ∷ []) =
     else None
 change_of words = None
 
--- one change and those that follow
+-- the list of one change and those that follow, if each is one
 abbrev pub followed_by : Option Change → Option (List Change) → Option (List Change)
 followed_by None rest = None
 followed_by (Some change) None = None
@@ -71,6 +71,6 @@ abbrev pub changes_in : List (List ℕ) → Option (List Change)
 changes_in [] = Some []
 changes_in (part ∷ parts) = followed_by (change_of (words_of part)) (changes_in parts)
 
--- the changes of a text, which stand between commas
+-- the changes of a text, which commas separate
 unfoldable pub changes_of : List ℕ → Option (List Change)
 changes_of text = changes_in (slice_split (λ byte. byte == 44) text)

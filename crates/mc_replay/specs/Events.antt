@@ -23,12 +23,12 @@ unfoldable pub event_after : List Change → Option (ℕ × Step) → Option Eve
 event_after before None = None
 event_after before (Some deed) = Some (record { hand = deed.0; before = before; step = deed.1 })
 
--- the same where the changes may not be readable
+-- the event of this hand and step, after these changes, if they are readable
 abbrev pub event_if : Option (List Change) → Option (ℕ × Step) → Option Event
 event_if None deed = None
 event_if (Some before) deed = event_after before deed
 
--- the event that a line writes whose first colon, if it has one, stands at this place
+-- the event that a line writes whose first colon, if it has one, is at this place
 abbrev pub event_at : List ℕ → Option ℕ → Option Event
 event_at line None = event_after [] (deed_of (words_of line))
 event_at line (Some colon) = event_if (changes_of (drop (colon + 1) line)) (deed_of (words_of (take colon line)))

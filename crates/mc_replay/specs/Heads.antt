@@ -1,4 +1,4 @@
--- The lines before the events.
+-- The lines of a list before its events: its configuration and its hands.
 use Rattle.std.specs.Prelude.{ℕ, codes, if◌then◌else◌, List, [], ◌∷◌, Option, Some, None}
 use Rattle.std.specs.Str.{bytes_eq}
 use Rattle.mc_classes.specs.declared.config.Config.{Config}
@@ -13,7 +13,7 @@ four_of one two three four = do
   d ← number_of four
   Some (a, b, c, d)
 
--- the same of a list of four words
+-- the four numbers that a list of four words writes
 unfoldable pub last_four_of : List (List ℕ) → Option (ℕ × ℕ × ℕ × ℕ)
 last_four_of (one ∷ two ∷ three ∷ four ∷ []) = four_of one two three four
 last_four_of words = None

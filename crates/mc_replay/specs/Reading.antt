@@ -1,7 +1,7 @@
--- What is read.
+-- What the reader of lists has read.
 use Rattle.std.specs.Prelude.{◌≡◌, ◌++◌, ℕ, List}
 
--- the reader gave some bytes more, and they stand behind those that were there
+-- the reader gave some bytes more, which are behind those that were there
 pub record GivesMore (given_old given_new old new : List ℕ) : Type 0 where
   pub piece : List ℕ
   pub gave : given_new ≡ given_old ++ piece

@@ -1,4 +1,4 @@
--- How a run ends that isn't done.
+-- How a run ends that fails.
 use Rattle.std.specs.Prelude.{ℕ}
 use Rattle.mc_replay.specs.declared.fault.Refusal.{Refusal}
 use Rattle.mc_replay.specs.declared.fault.Refusal.TheVariants as refusal

@@ -14,7 +14,7 @@ bare_step name =
     else if bytes_eq name (codes "GiveSlabs") then Some step.GiveSlabs
     else None
 
--- those on a stripe, a class or a key
+-- the step of this name on a stripe, a class or a key
 unfoldable pub number_step : List ℕ → ℕ → Option Step
 number_step name number =
     if bytes_eq name (codes "TakeStripe") then Some (step.TakeStripe number)
@@ -25,7 +25,7 @@ number_step name number =
     else if bytes_eq name (codes "Unlink") then Some (step.Unlink number)
     else None
 
--- those on a chunk, and a join of two hands
+-- the step of this name on a chunk, or a join of two hands
 unfoldable pub chunk_step : List ℕ → ℕ → ℕ → Option Step
 chunk_step name page index =
     if bytes_eq name (codes "Head") then Some (step.Head (chunk_at page index))
@@ -40,7 +40,7 @@ chunk_step name page index =
     else if bytes_eq name (codes "Join") then Some (step.Join page index)
     else None
 
--- those on a chunk with a place in it or an issue number
+-- the step of this name on a chunk, with a place in it or an issue number
 unfoldable pub place_step : List ℕ → ℕ → ℕ → ℕ → Option Step
 place_step name page index place =
     if bytes_eq name (codes "Word") then Some (step.Word (chunk_at page index) place)

@@ -1,4 +1,4 @@
--- The lines that are written.
+-- The lines that are written of a list's answer and of the state after it.
 use Rattle.std.specs.Prelude.{◌≡◌, ℕ, ◌+◌, ◌-◌, ◌^◌, ◌++◌, ◌==◌, true, false, if◌then◌else◌, List, [], ◌∷◌, length, codes, decimal, flat_map, is_some, map, min, slice_get, Bool, Option, Some, None, Result, Ok, Err}
 use Rattle.std.specs.BTreeSet.{insert_key}
 use Rattle.std.specs.Ordering.{nat_cmp}
@@ -58,15 +58,15 @@ moving_line move =
     codes "moving " ++ decimal move.page ++ codes " " ++ decimal move.src ++ codes " " ++ decimal move.dst
     ++ codes " at " ++ decimal move.at ++ codes " busy " ++ decimal move.busy ++ codes "\n"
 
--- the pages in the pool, and the moves that ended
+-- the text of the pages in the pool, and of the moves that ended
 abbrev pub page_counts : Totals → List ℕ
 page_counts totals = codes "totals pool " ++ decimal totals.pool ++ codes " moved " ++ decimal totals.moved
 
--- what became of items on moving pages
+-- the text of what became of items on moving pages
 abbrev pub item_counts : Totals → List ℕ
 item_counts totals = codes " rescues " ++ decimal totals.rescues ++ codes " nomem " ++ decimal totals.evictions_nomem ++ codes " busy " ++ decimal totals.busy
 
--- the automover's mode
+-- the text of the automover's mode
 abbrev pub mode_text : ℕ → List ℕ
 mode_text automove = codes " automove " ++ decimal automove ++ codes "\n"
 
@@ -74,19 +74,19 @@ mode_text automove = codes " automove " ++ decimal automove ++ codes "\n"
 abbrev pub totals_line : Totals → ℕ → List ℕ
 totals_line totals automove = (page_counts totals ++ item_counts totals) ++ mode_text automove
 
--- the lines of the owners of so many pages
+-- the lines of the owners of n pages
 abbrev pub owners_text : ℕ → SlabState → List ℕ
 owners_text pages slabs = flat_map (λ page. owner_line page (owner_at slabs.owners page)) (range_with_len 0 pages)
 
--- a class and its free list
+-- the text of a class and its free list
 abbrev pub free_text : ℕ → List ChunkId → List ℕ
 free_text class chunks = (codes "class " ++ decimal class ++ codes " free [") ++ chunks_text chunks
 
--- a hand-out order
+-- the text of a hand-out order
 abbrev pub order_text : List ChunkId → List ℕ
 order_text chunks = codes "] order [" ++ chunks_text chunks
 
--- how often a class evicted
+-- the text of how often a class evicted
 abbrev pub evictions_text : ℕ → List ℕ
 evictions_text count = codes "] evictions " ++ decimal count ++ codes "\n"
 
@@ -94,7 +94,7 @@ evictions_text count = codes "] evictions " ++ decimal count ++ codes "\n"
 abbrev pub class_line : ℕ → ClassState → List ℕ
 class_line class state = (free_text class state.free ++ order_text state.order) ++ evictions_text state.evictions
 
--- the lines of so many classes
+-- the lines of n classes
 abbrev pub classes_text : ℕ → SlabState → List ℕ
 classes_text count slabs = flat_map (λ place. class_line (place + 1) (class_at slabs (place + 1))) (range_with_len 0 count)
 
@@ -111,7 +111,7 @@ trimmed_entries count = if count == 0 then [] else codes "trimmed ledger " ++ de
 abbrev pub ledger_text : SlabState → List ℕ
 ledger_text slabs = trimmed_entries (min slabs.trimmed (2 ^ 64 - 1)) ++ flat_map entry_line (base.tail_of slabs)
 
--- what stands behind the slabs lock
+-- the text of what is behind the slabs lock
 abbrev pub slabs_text : Classes → SlabState → List ℕ
 slabs_text table slabs =
     ((owners_text (arena_pages_of table) slabs ++ ledger_text slabs) ++ classes_text (length table.sizes) slabs)
@@ -167,21 +167,21 @@ with_stored keys (call.Rescue hand key ∷ calls) = with_stored keys calls
 abbrev pub keys_text : ℕ → StripeState → List ℕ → List ℕ
 keys_text number stripe keys = flat_map (λ key. key_line number key (place_of stripe key)) keys
 
--- the keys that those calls left which aren't recorded, by rising key; of a stripe that records none they aren't told
+-- the keys that the calls left which aren't recorded, by rising key; none for a stripe that records no calls
 abbrev pub left_keys : StripeState → List ℕ
 left_keys stripe = if is_some stripe.recorded_from then map (λ entry. entry.0) (base_of stripe) else []
 
--- the line that says how many calls aren't recorded, none where all are
+-- the line that counts the calls that aren't recorded, none where all are
 abbrev pub trimmed_line : ℕ → ℕ → List ℕ
 trimmed_line number count = if count == 0 then [] else codes "trimmed " ++ decimal number ++ codes " " ++ decimal count ++ codes "\n"
 
--- what stands behind the lock of the stripe of this number: where its keys lead, how many calls aren't recorded, and those that are
+-- the text of what is behind the lock of the stripe of this number: where its keys lead, how many calls aren't recorded, and those that are
 abbrev pub stripe_text : ℕ → StripeState → List ℕ
 stripe_text number stripe =
     (keys_text number stripe (with_stored (left_keys stripe) (tail_of stripe)) ++ trimmed_line number (min (trimmed_of stripe) (2 ^ 64 - 1)))
     ++ flat_map (call_line number) (tail_of stripe)
 
--- what stands behind the slabs lock, if nobody has it
+-- the text of what is behind the slabs lock, if nobody has it
 abbrev pub free_slabs_text : State → List ℕ
 free_slabs_text state = if state.slabs_lock == 0 then slabs_text state.table state.slabs else codes "slabs none\n"
 
@@ -190,17 +190,17 @@ abbrev pub is_free : Option ℕ → Bool
 is_free None = false
 is_free (Some word) = word == 0
 
--- what stands behind the lock of the stripe of this number, if nobody has it
+-- the text of what is behind the lock of the stripe of this number, if nobody has it
 abbrev pub free_stripe_text : State → ℕ → List ℕ
 free_stripe_text state number =
     if is_free (slice_get state.stripe_locks number) then stripe_text number (stripe_at state number).state
     else codes "stripe " ++ decimal number ++ codes " none\n"
 
--- what stands behind so many stripes' locks
+-- the text of what is behind the locks of n stripes
 abbrev pub stripes_text : ℕ → State → List ℕ
 stripes_text stripes state = flat_map (free_stripe_text state) (range_with_len 0 stripes)
 
--- what stands in a state with so many stripes
+-- the text of a state with n stripes
 abbrev pub standing_text : ℕ → State → List ℕ
 standing_text stripes state = (heads_text state ++ free_slabs_text state) ++ stripes_text stripes state
 
@@ -213,11 +213,11 @@ told_text stripes (Err place) = codes "answer NotAllowed " ++ decimal place ++ c
 pub record IsAnswer (config : Config) (hands : ℕ) (events : List Event) (text : List ℕ) : Type 0 where
   pub exact : (table : Classes) → IsTableOf config table → text ≡ told_text config.stripes (play (new_state table config.stripes hands 0) events)
 
--- the same, behind the list's first line
+-- the bytes are the list's first line, and what is to be written of these events
 pub record IsWritten (name : List ℕ) (config : Config) (hands : ℕ) (events : List Event) (bytes : List ℕ) : Type 0 where
   pub exact : (table : Classes) → IsTableOf config table → bytes ≡ (name ++ codes "\n") ++ told_text config.stripes (play (new_state table config.stripes hands 0) events)
 
--- that was written behind what a writer held
+-- the bytes that are to be written of this list were added to what a writer held
 pub record WritesList (name : List ℕ) (config : Config) (hands : ℕ) (events : List Event) (old new : Option (List ℕ)) : Type 0 where
   pub bytes : List ℕ
   pub is : IsWritten name config hands events bytes

@@ -1,4 +1,4 @@
-//! How a run ends when it isn't done.
+//! Why a run ends early, and the status that it ends with.
 ghost use Rattle.std.specs.Prelude.{◌≡◌};
 ghost use Rattle.mc_replay.specs.Status.{fault_at, status_of};
 ghost use Rattle.mc_replay.specs.declared.fault.NoMemory.TheVariants.{Seen, Told};
@@ -15,18 +15,19 @@ use thiserror::Error;
 pub enum NoMemory {
     /// What a call of `mc_memory` asked for was refused.
     Seen(Refused),
-    /// The standard library says so, of words and parts that it collects, texts that it formats, and sets. Its error is no evidence.
+    /// The standard library reported it, of words and parts that it collects, texts that it formats, and sets. Its error is no
+    /// evidence.
     Told,
 }
 
 /// Why a line can't be taken.
 #[derive(Debug, PartialEq, Eq, Drop)]
 pub enum Refusal {
-    /// It is none of those that may stand there.
+    /// The line is none of those that may be there.
     Form,
-    /// Its configuration is refused.
+    /// The list's configuration is refused.
     Config(ConfigError),
-    /// Its hands aren't from 1 to 64.
+    /// The list's hands aren't from 1 to 64.
     Hands,
     /// Memory ran out.
     Memory(NoMemory),
@@ -35,7 +36,7 @@ pub enum Refusal {
 /// Why a run was not done.
 #[derive(Debug, PartialEq, Eq, Drop, Error)]
 pub enum RunFault {
-    /// The line of this number, from 1, is none of those that may stand there.
+    /// The line of this number, from 1, is none of those that may be there.
     #[error("line {0}")]
     Line(u64),
     /// The line of this number has a configuration that is refused.

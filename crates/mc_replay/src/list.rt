@@ -15,7 +15,7 @@ pub struct Accepted {
 /// A list of events, with the configuration and the number of hands that play it.
 #[derive(Drop)]
 pub struct List<'a> {
-    /// Its first line.
+    /// The first line of the list.
     pub name: &'a [u8],
     pub config: Config,
     pub hands: u64,

@@ -1,11 +1,11 @@
 //! `mc_replay`: plays lists of events from standard input, and writes what each answers on standard output.
 //!
-//! A list begins with a line `list ..`, which is written back as it is. Then come its configuration, its hands, its
-//! events, and what it is to answer between `answer` and `end`, which is passed over. Written is the answer of the model,
-//! and after `Ok` what stands then.
+//! A list begins with a line `list ..`, which is written back as it is. Then come its configuration, its hands and its events.
+//! Between `answer` and `end` is what the list is to answer, which is passed over. The program writes the model's answer, and
+//! after `Ok` the state.
 //!
-//! It ends with status 0, or with a line on standard error and 2 where a line can't be read, 3 where a stream failed and 4
-//! where memory ran out.
+//! It ends with status 0, or with a line on standard error and another status: 2 where a line can't be read, 3 where a stream
+//! failed, and 4 where memory ran out.
 #![tactic(auto)]
 
 ghost use Rattle.std.specs.Prelude.{◌≡◌, ◌<◌};
@@ -48,7 +48,7 @@ fn serve<R: Input + Print + AllocGlobal, I: Ledger, O: Ledger>(
     }
 }
 
-/// Tells on standard error what kept the run from being done, and gives the status to end with.
+/// Prints on standard error what kept the run from being done, and returns the status to end with.
 fn tell(rt: &impl Eprint, fault: RunFault) -> u8
     ensures { result ≡ status_of fault }
 {

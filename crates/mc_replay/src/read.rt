@@ -1,13 +1,13 @@
-//! What is read: the bytes of the input, and the lists in them.
+//! The input: its bytes, and the lists in them.
 //!
-//! A line ends with LF or CR LF, the last one perhaps with the input. Its words stand between spaces. A line without words
-//! is skipped, and so is one whose first word begins with `#`. A list is
+//! A line ends with LF or CR LF, the last one perhaps with the input. Spaces separate its words. A line without words is
+//! skipped, and so is one whose first word begins with `#`. A list is
 //!
 //! ```text
 //! list ..                                            any text, which is written back
 //! config PAGE LIMIT FIRST NUM DEN MAX STRIPES BULK
 //! hands N                                            from 1 to 64
-//! e HAND STEP ARGUMENT .. [: CHANGE, CHANGE ..]      an event: the changes before it, in order, stand behind the colon
+//! e HAND STEP ARGUMENT .. [: CHANGE, CHANGE ..]      an event: behind the colon the changes before it, in order
 //! answer ..
 //! ..                                                 passed over
 //! end

@@ -1,22 +1,22 @@
-//! What a list answers, and what stands then, line by line.
+//! The answer of a list, and the state after it, line by line.
 //!
 //! ```text
 //! answer Ok | answer NotAllowed PLACE
 //! head PAGE INDEX WORD                               where it isn't 0
 //! owner PAGE Class CLASS | Pool | Moving SRC DST     not of untouched pages
-//! trimmed ledger COUNT                               where it isn't 0: so many entries stand before those that follow
+//! trimmed ledger COUNT                               where it isn't 0: n entries come before those that follow
 //! ledger Granted PAGE CLASS GRACE | Taken PAGE CLASS | Began PAGE SRC DST | Ended PAGE CLASS
 //! class CLASS free [PAGE.INDEX ..] order [PAGE.INDEX ..] evictions COUNT
 //! moving PAGE SRC DST at INDEX busy COUNT            where a page moves
 //! totals pool COUNT moved COUNT rescues COUNT nomem COUNT busy COUNT automove MODE
 //! index STRIPE KEY PAGE INDEX STAMP                  by rising key
-//! trimmed STRIPE COUNT                               where it isn't 0: so many calls stand before those that follow
+//! trimmed STRIPE COUNT                               where it isn't 0: n calls come before those that follow
 //! history STRIPE Set HAND KEY STAMP | Get HAND KEY STAMP-or-none | Delete HAND KEY WAS-THERE | Evict HAND KEY | Rescue HAND KEY
 //! end
 //! ```
 //!
-//! The lines from `head` to `history` stand after Ok alone. Those from `owner` to `totals` are `slabs none` where somebody
-//! has the slabs lock, and those of a stripe are `stripe STRIPE none` where somebody has its lock.
+//! The lines from `head` to `history` come after `Ok` alone. Where somebody has the slabs lock, `slabs none` is in place of the
+//! lines from `owner` to `totals`. Where somebody has a stripe's lock, `stripe STRIPE none` is in place of the stripe's lines.
 ghost use Rattle.std.specs.Prelude.{◌≡◌, ◌++◌, IfOk, OnOk, codes, decimal, string_bytes};
 ghost use Rattle.mc_replay.specs.Written.{IsAnswer, free_slabs_text, free_stripe_text, standing_text, stripes_text};
 
@@ -30,7 +30,7 @@ use mc_core::{State, Stop, replay};
 use mc_memory::push_str;
 use std::alloc::Global;
 
-/// The answer of the list, what stands after it, and the line `end`.
+/// The answer of the list, the state after it, and the line `end`.
 pub fn answer(alloc: Global, list: &List) -> Result<String, NoMemory>
     ensures { IfOk result (λ text. IsAnswer list.now.config list.now.hands list.now.events.items (string_bytes text)) }
 {
@@ -59,7 +59,7 @@ fn stop_answer(alloc: Global, place: u64) -> Result<String, NoMemory>
     Ok(format!(in alloc; "answer NotAllowed {place}\nend\n")?)
 }
 
-/// What stands in a state with so many stripes.
+/// The text of a state with n stripes.
 #[tactic(auto, using(crate::proofs::Ranges::appends_three))]
 fn standing(alloc: Global, text: &mut String, state: &State, stripes: u64) -> Result<(), NoMemory>
     ensures { OnOk result (string_bytes text.new ≡ string_bytes text.old ++ standing_text stripes state.now) }
@@ -69,7 +69,7 @@ fn standing(alloc: Global, text: &mut String, state: &State, stripes: u64) -> Re
     free_stripes(alloc, text, state, stripes)
 }
 
-/// What stands behind the slabs lock, if nobody has it.
+/// The text of what is behind the slabs lock, if nobody has it.
 fn free_slabs(alloc: Global, text: &mut String, state: &State) -> Result<(), NoMemory>
     ensures { OnOk result (string_bytes text.new ≡ string_bytes text.old ++ free_slabs_text state.now) }
 {
@@ -79,7 +79,7 @@ fn free_slabs(alloc: Global, text: &mut String, state: &State) -> Result<(), NoM
     }
 }
 
-/// What stands behind the locks of so many stripes.
+/// The text of what is behind the locks of n stripes.
 fn free_stripes(
     alloc: Global,
     text: &mut String,
@@ -94,7 +94,7 @@ fn free_stripes(
     Ok(())
 }
 
-/// What stands behind the lock of a stripe, if nobody has it.
+/// The text of what is behind the lock of a stripe, if nobody has it.
 fn free_stripe(alloc: Global, text: &mut String, state: &State, number: u64) -> Result<(), NoMemory>
     ensures { OnOk result (string_bytes text.new ≡ string_bytes text.old ++ free_stripe_text state.now number) }
 {

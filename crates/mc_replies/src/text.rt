@@ -1,6 +1,6 @@
 //! The lines that a run writes, put together in memory before any of them is written.
 //!
-//! Where memory runs out in a line, the text that stood there stays, and some of the line may follow it.
+//! Where memory runs out in a line, the text that was there stays, and some of the line may follow it.
 ghost use Rattle.std.specs.Prelude.{◌≡◌, ◌≤◌, ◌+◌, ◌++◌, [], ◌∷◌, codes, decimal, length, vec_len, vec_capacity, IsOk, OnOk};
 ghost use Rattle.std.specs.Io.{StartsWith};
 ghost use Rattle.mc_watch.specs.Texts.{line};
@@ -84,7 +84,7 @@ fn word_of(ending: Ending) -> &'static [u8]
     }
 }
 
-/// Adds what some turns did.
+/// Adds the line of what some turns did.
 pub fn push_turn_line(text: &mut Vec<u8>, ending: Ending, counts: Counts) -> Result<(), Refused>
     ensures line { OnOk result (text.new.items ≡ text.old.items ++ turn_line ending counts) }
     ensures kept { StartsWith text.new.items text.old.items }

@@ -78,7 +78,7 @@ bare_of (verb ∷ what ∷ []) = if bytes_eq verb (codes "stats") && bytes_eq wh
 bare_of words = None
 
 infixr 20 ◌or◌
--- the command of the one form, or else that of the other, none where there is neither
+-- the command of the one form, or else that of the other; none where neither form gives one
 abbrev pub ◌or◌ : Option Command → Option Command → Option Command
 one or other = option_or one other
 

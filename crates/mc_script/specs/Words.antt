@@ -6,15 +6,15 @@ use Rattle.std.specs.Str.{all_ascii_digits}
 use Rattle.std.specs.Str.Parse.{digits_value}
 
 infixl 10 ◌>>=◌
--- what the second makes of the value that the first has, none where the first has none: so goes a `do` on
+-- what the function gives for the value that is there, and none where there is none, as a `do` needs
 abbrev pub ◌>>=◌ : {A B : Type 0} → Option A → (A → Option B) → Option B
 found >>= next = option_and_then next found
 
--- the only byte that stands between words
+-- the only byte that separates words
 abbrev pub space : ℕ
 space = 32
 
--- the words of a line: what stands between spaces, where that isn't empty
+-- the words of a line: what is between spaces, where that isn't empty
 abbrev pub words_of : List ℕ → List (List ℕ)
 words_of line = filter (λ word. not (length word == 0)) (slice_split (λ byte. byte == space) line)
 
@@ -26,7 +26,7 @@ is_number word = nat_le 1 (length word) && nat_le (length word) 20 && all_ascii_
 abbrev pub number_of : List ℕ → Option ℕ
 number_of word = if is_number word then Some (digits_value 10 word) else None
 
--- that number, if it is from low to high
+-- the number that a word writes, if it is from low to high
 abbrev pub number_between : ℕ → ℕ → List ℕ → Option ℕ
 number_between low high word = do
   number ← number_of word

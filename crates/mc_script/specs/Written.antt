@@ -1,4 +1,4 @@
--- How a command is written.
+-- The line that a command is written as.
 use Rattle.std.specs.Prelude.{ℕ, List, [], ◌∷◌, ◌++◌, codes, Option, Some, None}
 use Rattle.std.specs.Fmt.{decimal}
 use Rattle.std.specs.List.{join_with_byte}
@@ -26,6 +26,6 @@ words_for (Turn turns) = codes "turn" ∷ decimal turns ∷ []
 words_for Stats = codes "stats" ∷ []
 words_for StatsSlabs = codes "stats" ∷ codes "slabs" ∷ []
 
--- its line: the words with one space between them, and LF
+-- the line of a command: its words with one space between them, and LF
 abbrev pub text_of : Command → List ℕ
 text_of command = join_with_byte space (words_for command) ++ 10 ∷ []

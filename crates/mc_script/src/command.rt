@@ -15,7 +15,7 @@ pub enum Command {
         worker: u64,
         key: u64,
     },
-    /// `<worker> get <key>`: the item's words are told.
+    /// `<worker> get <key>`: the reply has the item's words.
     Get {
         worker: u64,
         key: u64,
@@ -46,12 +46,12 @@ pub enum Command {
     },
     /// `window`: a window of the automover ends.
     Window,
-    /// `turn <n>`: so many turns of the mover, from 1 to 1,000,000.
+    /// `turn <n>`: n turns of the mover, from 1 to 1,000,000.
     Turn {
         turns: u64,
     },
-    /// `stats`: the general statistics are told.
+    /// `stats`: the reply has the general statistics.
     Stats,
-    /// `stats slabs`: the numbers of each class are told.
+    /// `stats slabs`: the reply has the numbers of each class.
     StatsSlabs,
 }

@@ -19,7 +19,7 @@ fn first_byte(line: &[u8]) -> Option<u8>
     line.iter().copied().find(|byte| *byte != b' ')
 }
 
-/// What stands between the spaces of a line.
+/// The pieces between the spaces of a line.
 pub fn words(alloc: Global, line: &[u8]) -> Result<Vec<&[u8]>, AllocError>
     ensures { IfOk result (λ words. map (λ word. word.now) words.items ≡ words_of line.now) }
 {

@@ -45,14 +45,14 @@ impl<'a> Iterator for Lines<'a> {
     }
 }
 
-/// Where the first LF stands.
+/// The place of the first LF.
 fn newline(bytes: &[u8]) -> Option<usize>
     ensures { result ≡ position (λ byte. byte == 10) bytes.now }
 {
     bytes.iter().position(|byte| *byte == b'\n')
 }
 
-/// A line that ended with LF, without the CR that stood before it.
+/// A line that ended with LF, without the CR before the LF.
 fn without_carriage_return(line: &[u8]) -> &[u8]
     ensures { result.now ≡ strip_carriage_return line.now }
 {

@@ -30,7 +30,7 @@ fn with_digit(value: u64, byte: u8) -> Option<u64>
     value.checked_mul(10)?.checked_add(u64::from(byte - b'0'))
 }
 
-/// That number, if it is from `low` to `high`.
+/// The number of a word, if it is from `low` to `high`.
 pub(crate) fn number_between(low: u64, high: u64, word: &[u8]) -> Option<u64>
     ensures { result ≡ number_between low high word.now }
 {

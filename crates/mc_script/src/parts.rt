@@ -43,14 +43,14 @@ fn word_start(line: &[u8]) -> Option<usize>
     line.iter().position(|byte| *byte != b' ')
 }
 
-/// Where the first space stands.
+/// The place of the first space.
 fn first_space(line: &[u8]) -> Option<usize>
     ensures { result ≡ position (λ byte. byte == 32) line.now }
 {
     line.iter().position(|byte| *byte == b' ')
 }
 
-/// How many bytes stand before the first space.
+/// How many bytes are before the first space.
 fn word_length(line: &[u8]) -> usize
     ensures within { result ≤ length line.now }
     ensures first { result ≡ position_or_len (λ byte. byte == 32) line.now }

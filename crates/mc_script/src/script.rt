@@ -1,4 +1,4 @@
-//! A whole script.
+//! A whole script: the bytes that are read to its commands.
 ghost use Rattle.std.specs.Prelude.{◌≡◌, ℕ, IfOk, All};
 ghost use Rattle.mc_script.specs.Command.{IsValid};
 ghost use Rattle.mc_script.specs.Forms.{command_of};

@@ -12,7 +12,7 @@ use Rattle.mc_serial_spec.specs.Lines.{Served, serve, after_all}
 abbrev pub IsAccountedAfter : Classes → ℕ → ℕ → List Command → Type 0
 IsAccountedAfter table bulk mode commands = (m : Machine) → after_all (fresh_machine table bulk mode) commands ≡ Some m → IsAccounted m.slabs
 
--- two texts of statistics add up, so many bytes being granted: those of `stats slabs` and of `stats`
+-- two texts of statistics add up, where n bytes are granted: that of `stats slabs` and that of `stats`
 pub record AddUp (table : Classes) (malloced : ℕ) (slabs general : List ℕ) : Type 0 where
   -- of each class its pages and free chunks; the pages of the pool; and the other numbers
   pub pages : List ℕ
@@ -23,7 +23,7 @@ pub record AddUp (table : Classes) (malloced : ℕ) (slabs general : List ℕ) :
   pub rescues : ℕ
   pub evictions : ℕ
   pub busy : ℕ
-  -- are what is told
+  -- the two texts are those of these numbers
   pub told : slabs ≡ slabs_text table pages free malloced
   pub told_in_general : general ≡ general_text pool running moved rescues evictions busy
   pub pages_of_each : length pages ≡ length table.sizes
@@ -33,7 +33,7 @@ pub record AddUp (table : Classes) (malloced : ℕ) (slabs general : List ℕ) :
       (total - slice_index free (class - 1)) + slice_index free (class - 1) ≡ total
   -- the pages of the classes and of the pool are all that was granted
   pub granted : (sum pages + pool) * table.page ≡ malloced
-  -- which keep the limit, but for the first pages of classes, of which each has a page
+  -- the granted bytes keep the limit, but for the first page of each class that has a page
   pub within : malloced ≤ table.limit + count_by (nat_lt 0) pages * table.page
 
 -- `stats slabs` after these commands, and `stats` directly behind it, add up
@@ -41,11 +41,11 @@ abbrev pub StatisticsAddUp : Classes → ℕ → ℕ → List Command → Type 0
 StatisticsAddUp table bulk mode commands = (m : Machine) (first second : Served) → after_all (fresh_machine table bulk mode) commands ≡ Some m
     → serve m StatsSlabs ≡ Some first → serve first.machine Stats ≡ Some second → (malloced : ℕ) × AddUp table malloced first.reply second.reply
 
--- the text of `stats slabs` says that so many bytes are granted
+-- the text of `stats slabs` prints that n bytes are granted
 abbrev pub TellsGranted : Classes → ℕ → List ℕ → Type 0
 TellsGranted table malloced text = (pages free : List ℕ) × (text ≡ slabs_text table pages free malloced)
 
--- `stats slabs` tells after more commands no fewer bytes than before them
+-- `stats slabs` prints after more commands no fewer granted bytes than before them
 abbrev pub GrantedStays : Classes → ℕ → ℕ → List Command → List Command → Type 0
 GrantedStays table bulk mode commands more = (m last : Machine) (first then : Served) → after_all (fresh_machine table bulk mode) commands ≡ Some m
     → after_all m more ≡ Some last → serve m StatsSlabs ≡ Some first → serve last StatsSlabs ≡ Some then

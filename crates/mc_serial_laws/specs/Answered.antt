@@ -1,4 +1,4 @@
--- Commands with the replies to them, and what these alone tell: the words stored last, and the words held.
+-- Commands with the replies to them, and what these alone show: the words stored last, and the words held.
 use Rattle.std.specs.Prelude.{ℕ, ◌==◌, not, ◌&&◌, if◌then◌else◌, List, [], ◌∷◌, codes, Option, Some, None}
 use Rattle.std.specs.Option.{option_map_or}
 use Rattle.std.specs.Str.{bytes_eq}
@@ -14,7 +14,7 @@ pub record Answered : Type 0 where
   pub command : Command
   pub reply : List ℕ
 
--- these commands with their replies, before which others were answered; the last first
+-- these commands with their replies, behind those that were answered before; the last is first in the list
 abbrev pub answers : Machine → List Command → List Answered → List Answered
 answers m [] before = before
 answers m (command ∷ commands) before =
@@ -38,18 +38,18 @@ pub record HeldWords : Type 0 where
   pub key : ℕ
   pub words : List ℕ
 
--- one more hold, of a key with these words
+-- the holds with one more, of a key with these words, if the key has any
 abbrev pub with_held : ℕ → Option (List ℕ) → List HeldWords → List HeldWords
 with_held key None held = held
 with_held key (Some words) held = record { key = key; words = words } ∷ held
 
--- without the first hold of this key
+-- the holds without the first of this key
 abbrev pub without_held : ℕ → List HeldWords → List HeldWords
 without_held key [] = []
 without_held key (first ∷ held) = if first.key == key then held else first ∷ without_held key held
 
--- what a worker holds after a command and its reply, where the keys have these words: a hold that found its key comes
--- first, and a drop that was not refused takes out the first hold of its key
+-- a worker's holds after a command and its reply, where the keys have these words. A hold that found its key adds one at the front. A drop
+-- that wasn't refused removes the first of its key
 abbrev pub held_after : ℕ → Command → List ℕ → (ℕ → Option (List ℕ)) → List HeldWords → List HeldWords
 held_after worker (Hold own key) reply words held =
     if own == worker && bytes_eq reply (key_line (codes "HELD") key) then with_held key (words key) held else held

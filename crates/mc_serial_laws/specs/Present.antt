@@ -13,7 +13,7 @@ abbrev pub words_or_none : ℕ → Option (List ℕ) → List ℕ
 words_or_none key None = key_line (codes "NOT_FOUND") key
 words_or_none key (Some words) = words_line (codes "VALUE") key words
 
--- this answer where the key has an item, or else NOT_FOUND
+-- the line with this answer where the key has an item, or else with NOT_FOUND
 abbrev pub found_or_none : List ℕ → ℕ → Option (List ℕ) → List ℕ
 found_or_none answer key None = key_line (codes "NOT_FOUND") key
 found_or_none answer key (Some words) = key_line answer key
@@ -22,11 +22,11 @@ found_or_none answer key (Some words) = key_line answer key
 abbrev pub unless_full : ℕ → ℕ → List ℕ → List ℕ
 unless_full holds key reply = if holds == 255 then key_line (codes "TOO_MANY_REFS") key else reply
 
--- the reply to a get of a key by a worker with so many holds, where the key has these words, or no item
+-- the reply to a get of a key by a worker with n holds, where the key has these words, or no item
 abbrev pub reply_to_get : ℕ → ℕ → Option (List ℕ) → List ℕ
 reply_to_get holds key item = unless_full holds key (words_or_none key item)
 
--- and to a hold
+-- the reply to a hold of a key by a worker with n holds, where the key has these words, or no item
 abbrev pub reply_to_hold : ℕ → ℕ → Option (List ℕ) → List ℕ
 reply_to_hold holds key item = unless_full holds key (found_or_none (codes "HELD") key item)
 
@@ -34,14 +34,14 @@ reply_to_hold holds key item = unless_full holds key (found_or_none (codes "HELD
 abbrev pub holds_of : ℕ → List Answered → ℕ
 holds_of worker told = length (held_words worker told)
 
--- whoever asks now for the key finds these words, or finds no item
+-- get, hold, touch and delete, asked now, find these words for the key, or find no item
 pub record Finds (m : Machine) (told : List Answered) (key : ℕ) (item : Option (List ℕ)) : Type 0 where
   pub get : (worker : ℕ) (served : Served) → serve m (Get worker key) ≡ Some served → served.reply ≡ reply_to_get (holds_of worker told) key item
   pub hold : (worker : ℕ) (served : Served) → serve m (Hold worker key) ≡ Some served → served.reply ≡ reply_to_hold (holds_of worker told) key item
   pub touch : (worker : ℕ) (served : Served) → serve m (Touch worker key) ≡ Some served → served.reply ≡ found_or_none (codes "TOUCHED") key item
   pub delete : (worker : ℕ) (served : Served) → serve m (Delete worker key) ≡ Some served → served.reply ≡ found_or_none (codes "DELETED") key item
 
--- after these commands each key has no item, or its last words; and get, hold, touch and delete agree which
+-- after these commands each key has no item, or its last words; and get, hold, touch and delete agree which of the two
 abbrev pub TellsOneItem : Classes → ℕ → ℕ → List Command → Type 0
 TellsOneItem table bulk mode commands = (m : Machine) (key : ℕ) → after_all (fresh_machine table bulk mode) commands ≡ Some m
     → let told = answers (fresh_machine table bulk mode) commands [] in

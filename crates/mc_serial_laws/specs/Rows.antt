@@ -1,4 +1,4 @@
--- Worked examples of the plain machine.
+-- Worked examples of the plain machine, which the prover computes.
 use Rattle.std.specs.Prelude.{◌≡◌, ℕ, true, false, List, [], ◌∷◌, ◌++◌, codes, map, Some, None}
 use Rattle.std.specs.List.{range_with_len}
 use Rattle.mc_classes.specs.Classes.{Classes}
@@ -17,7 +17,7 @@ four_classes = record { page = 1024; limit = 4096; sizes = 48 ∷ 96 ∷ 192 ∷
 abbrev pub replies : List Command → List ℕ
 replies commands = replies_to (fresh_machine four_classes 64 0) commands
 
--- so many items of so many words, from this key on
+-- the commands that set `count` items of `words` words each, from this key on
 abbrev pub sets : ℕ → ℕ → ℕ → ℕ → List Command
 sets key count words base = map (λ k. Set 1 k words base) (range_with_len key count)
 
@@ -86,7 +86,7 @@ abbrev pub TooManyHeld : Type 0
 TooManyHeld = replies (sets 1 8 61 0 ++ Hold 1 1 ∷ Hold 1 2 ∷ Hold 1 3 ∷ Hold 1 4 ∷ Hold 1 5 ∷ Set 1 9 61 0 ∷ [])
     ≡ codes "STORED 1\r\nSTORED 2\r\nSTORED 3\r\nSTORED 4\r\nSTORED 5\r\nSTORED 6\r\nSTORED 7\r\nSTORED 8\r\nHELD 1\r\nHELD 2\r\nHELD 3\r\nHELD 4\r\nHELD 5\r\nNO_ROOM 9\r\n"
 
--- a hold keeps the words that stood when it was taken
+-- a hold keeps the words that were there when it was taken
 abbrev pub ShadowedHold : Type 0
 ShadowedHold = replies (Set 1 1 3 7 ∷ Hold 1 1 ∷ Set 1 1 3 50 ∷ Get 1 1 ∷ Drop 1 1 ∷ Drop 1 1 ∷ [])
     ≡ codes "STORED 1\r\nHELD 1\r\nSTORED 1\r\nVALUE 1 3 50 51 52\r\nDROPPED 1 3 7 8 9\r\nNOT_HELD 1\r\n"
@@ -111,7 +111,7 @@ abbrev pub PageToTheLeader : Type 0
 PageToTheLeader = replies (Automove 1 ∷ sets 11 15 20 0 ++ sets 1 3 61 0 ++ Window ∷ Set 1 4 61 0 ∷ Window ∷ Set 1 5 61 0 ∷ Window ∷ Turn 1 ∷ [])
     ≡ codes "OK\r\nSTORED 11\r\nSTORED 12\r\nSTORED 13\r\nSTORED 14\r\nSTORED 15\r\nSTORED 16\r\nSTORED 17\r\nSTORED 18\r\nSTORED 19\r\nSTORED 20\r\nSTORED 21\r\nSTORED 22\r\nSTORED 23\r\nSTORED 24\r\nSTORED 25\r\nSTORED 1\r\nSTORED 2\r\nSTORED 3\r\nWINDOW none\r\nSTORED 4\r\nWINDOW none\r\nSTORED 5\r\nWINDOW 3 4 OK\r\nTURN FINISHED 5 0 5 0 0\r\n"
 
--- a set takes a free chunk before it puts back what is dead, so the dead item stands until its page moves
+-- a set takes a free chunk before it puts dead ones back, so a dead item stays until its page moves
 abbrev pub PopsBeforeItSweeps : Type 0
 PopsBeforeItSweeps = replies (sets 1 7 61 0 ++ Delete 1 1 ∷ Set 1 8 61 0 ∷ Reassign (Some 4) 1 ∷ Turn 1 ∷ [])
     ≡ codes "STORED 1\r\nSTORED 2\r\nSTORED 3\r\nSTORED 4\r\nSTORED 5\r\nSTORED 6\r\nSTORED 7\r\nDELETED 1\r\nSTORED 8\r\nOK\r\nTURN FINISHED 2 0 1 0 0\r\n"
@@ -163,8 +163,8 @@ MoverEvictionsAreApart = replies_to (fresh_machine (record four_classes { limit 
     (sets 11 20 20 0 ++ sets 1 8 61 0 ++ Reassign (Some 3) 0 ∷ Turn 1 ∷ Set 1 9 3 0 ∷ Set 1 50 61 0 ∷ Window ∷ Set 1 51 61 0 ∷ Window ∷ Set 1 52 61 0 ∷ Window ∷ [])
     ≡ codes "STORED 11\r\nSTORED 12\r\nSTORED 13\r\nSTORED 14\r\nSTORED 15\r\nSTORED 16\r\nSTORED 17\r\nSTORED 18\r\nSTORED 19\r\nSTORED 20\r\nSTORED 21\r\nSTORED 22\r\nSTORED 23\r\nSTORED 24\r\nSTORED 25\r\nSTORED 26\r\nSTORED 27\r\nSTORED 28\r\nSTORED 29\r\nSTORED 30\r\nSTORED 1\r\nSTORED 2\r\nSTORED 3\r\nSTORED 4\r\nSTORED 5\r\nSTORED 6\r\nSTORED 7\r\nSTORED 8\r\nOK\r\nTURN FINISHED 5 0 5 0 0\r\nSTORED 9\r\nSTORED 50\r\nWINDOW none\r\nSTORED 51\r\nWINDOW none\r\nSTORED 52\r\nWINDOW 3 4 OK\r\n"
 
--- what the answers tell of the words: key 1 was stored anew while it was held, and a third set of it was refused; key 2
--- was deleted while it was held; the last hold of key 1 was dropped
+-- the words that the answers of a run show: key 1 was stored anew while it was held, and a third set of it was refused. Key 2 was deleted
+-- while it was held. The last hold of key 1 was dropped
 abbrev pub WordsFromAnswers : Type 0
 WordsFromAnswers = let told = answers (fresh_machine four_classes 64 0) (
     Set 1 1 3 7 ∷ Hold 1 1 ∷ Set 1 1 2 50 ∷ Set 2 2 1 9 ∷ Hold 1 2 ∷ Delete 2 2 ∷ Hold 1 1 ∷ Drop 1 1 ∷ Drop 2 1 ∷ Set 1 1 100 0 ∷ []
@@ -172,13 +172,13 @@ WordsFromAnswers = let told = answers (fresh_machine four_classes 64 0) (
     (last_words 1 told ≡ Some (50 ∷ 51 ∷ [])) × (last_words 2 told ≡ None)
     × (held_words 1 told ≡ record { key = 2; words = 9 ∷ [] } ∷ record { key = 1; words = 7 ∷ 8 ∷ 9 ∷ [] } ∷ []) × (held_words 2 told ≡ [])
 
--- what these commands were answered, the last first
+-- these commands with their replies, the last first
 abbrev told_of : List Command → List Answered
 told_of commands = answers (fresh_machine four_classes 64 0) commands []
 
--- what the answers show of key 1. It is seen behind windows, statistics, a refused drop and a refused set; not behind a
--- stored set of another key, a turn or a delete; and again behind a get. A hold of it counts until it is dropped, and no
--- more behind a stored set of it or a delete, where a drop gives back the newer hold first
+-- what the answers show of key 1. The key is seen after windows, statistics, a refused drop and a refused set; not after another key's
+-- stored set, a turn or a delete; and again after a get. A hold of the key counts until it is dropped, and not after a stored set of the
+-- key or a delete
 abbrev pub SeenFromAnswers : Type 0
 SeenFromAnswers =
     (is_seen 1 (told_of (Set 1 1 3 7 ∷ Window ∷ Stats ∷ StatsSlabs ∷ Drop 1 1 ∷ Set 1 1 100 0 ∷ Reassign (Some 4) 1 ∷ Automove 1 ∷ [])) ≡ true)

@@ -19,8 +19,8 @@ shows key (Hold worker own) reply = own == key && bytes_eq reply (key_line (code
 shows key (Touch worker own) reply = own == key && bytes_eq reply (key_line (codes "TOUCHED") key)
 shows key command reply = false
 
--- the line may have taken the key's item away: a stored set, which may evict another key's; a delete of the key that
--- found it; and turns, which evict what they can't rescue
+-- the line may have taken the key's item away: a stored set, which may evict another key's item; a delete that found the key; and turns,
+-- which evict what they can't rescue
 abbrev pub may_take : ℕ → Command → List ℕ → Bool
 may_take key (Set worker own count base) reply = bytes_eq reply (key_line (codes "STORED") own)
 may_take key (Delete worker own) reply = own == key && bytes_eq reply (key_line (codes "DELETED") key)
@@ -33,8 +33,8 @@ is_seen key [] = false
 is_seen key (answered ∷ before) =
     shows key answered.command answered.reply || (not (may_take key answered.command answered.reply) && is_seen key before)
 
--- how many holds of the key's item a worker has after a command and its reply, where it had so many: one more after
--- HELD, one fewer after a drop, and none after a stored set or a delete that found the key, as the item is another's then
+-- how many holds of the key's item a worker has after a command and its reply, where it had n: one more after HELD, and one fewer after a
+-- drop. A stored set, or a delete that found the key, leaves none, as the item is another's then
 abbrev pub holds_after : ℕ → ℕ → Command → List ℕ → ℕ → ℕ
 holds_after worker key (Hold own asked) reply holds = if own == worker && (asked == key && bytes_eq reply (key_line (codes "HELD") key)) then holds + 1 else holds
 holds_after worker key (Drop own asked) reply holds = if own == worker && asked == key then holds - 1 else holds

@@ -1,7 +1,7 @@
 //! What follows of the plain machine alone: laws over every run, and worked examples.
 //!
-//! The machine is `mc_serial_spec`'s definition, and `run_serial` of `mc_driver` writes what it replies. So what is said here
-//! of its replies is said of every text that such a run has written.
+//! The machine is `mc_serial_spec`'s definition, and `run_serial` of `mc_driver` writes what it replies. So a law of its replies
+//! holds of every text that such a run has written.
 #![tactic(auto)]
 
 mod laws;

@@ -1,4 +1,4 @@
--- Counts that stand by place: for each page, one at each index, and 0 beyond.
+-- Counts by place: for each page, one at each index, and 0 beyond.
 use Rattle.std.specs.Prelude.{◌≡◌, ℕ, ◌<◌, List, [], length, map, slice_index_or, Vec}
 use Rattle.std.specs.Global.{Global}
 use Rattle.mc_pages.specs.declared.ids.ChunkId.{ChunkId}

@@ -5,11 +5,11 @@ use Rattle.mc_serial_spec.specs.Holds.{Holds, hold_count, most_holds}
 use Rattle.mc_serial_parts.specs.CountsByPlace.{count_at}
 use Rattle.mc_serial_parts.specs.declared.holds.Holds.TheInside.{Inside}
 
--- the hold that was taken last stands last in the vector
+-- the chunks that each worker holds, the last hold first; in the vector the last hold is last
 abbrev pub holds_of : Inside → Holds
 holds_of holds = map (λ chunks. reverse chunks.items) holds.by_worker.items
 
--- there is a list for each worker, none is too long, and each chunk's holds are counted
+-- the holds have a list for each worker, none is too long, and each chunk's holds are counted
 pub record AreHolds (holds : Inside) : Type 0 where
   pub of_each : length holds.by_worker.items ≡ 64
   pub few : All (λ chunks. length chunks ≤ most_holds) (holds_of holds)

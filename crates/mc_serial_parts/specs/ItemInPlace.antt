@@ -1,4 +1,4 @@
--- What stands in a chunk's place.
+-- The item in a chunk's place, if there is one.
 use Rattle.std.specs.Prelude.{if◌then◌else◌, Option, Some, None}
 use Rattle.mc_serial_spec.specs.Item.{Item}
 use Rattle.mc_serial_parts.specs.declared.place.Place.TheInside.{Inside}

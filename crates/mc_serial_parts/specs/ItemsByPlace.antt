@@ -1,4 +1,4 @@
--- Items that stand by place: for each page, an item or none at each index.
+-- Items by place: for each page, an item or none at each index.
 use Rattle.std.specs.Prelude.{◌≡◌, ℕ, ◌+◌, ◌<◌, List, [], ◌∷◌, length, map, slice_index_or, Option, Some, None, Vec}
 use Rattle.std.specs.Global.{Global}
 use Rattle.mc_pages.specs.declared.ids.ChunkId.{ChunkId}

@@ -1,4 +1,4 @@
--- Where keys lead, by entries in whatever order.
+-- The chunks to which keys lead, by entries in any order.
 use Rattle.std.specs.Prelude.{◌≡◌, ℕ, cond, List, Option}
 use Rattle.std.specs.Ordering.{nat_cmp}
 use Rattle.std.specs.BTreeMap.{is_at}

@@ -4,7 +4,7 @@ use Rattle.mc_serial_spec.specs.Item.{words_from}
 use Rattle.mc_serial_parts.specs.declared.item.NewWords.{NewWords}
 use Rattle.mc_serial_parts.specs.declared.item.NewWords.TheVariants.{Copied, Counted}
 
--- the words that are copied, or those that count up
+-- the words of a new item: copied words, or those that count up
 abbrev pub words_in : NewWords → List ℕ
 words_in (Copied words) = words.now
 words_in (Counted base count) = words_from base count

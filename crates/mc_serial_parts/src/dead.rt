@@ -26,7 +26,7 @@ impl Model for DeadCounts {
 }
 
 impl DeadCounts {
-    /// None of so many classes has a dead chunk.
+    /// None of n classes has a dead chunk.
     pub fn new(alloc: Global, classes: u64) -> Result<DeadCounts, Refused>
         ensures fresh { IfOk result (λ counts. counts ≡ replicate classes 0) }
     {
@@ -44,7 +44,7 @@ impl DeadCounts {
         self.by_class[class as usize - 1]
     }
 
-    /// The class has one more.
+    /// Counts one more dead chunk of the class.
     pub fn increment(&mut self, class: ClassId)
         requires first { 1 ≤ class }
         requires last { class ≤ length self.old }
@@ -54,7 +54,7 @@ impl DeadCounts {
         self.by_class[class as usize - 1] += 1;
     }
 
-    /// The class has one less.
+    /// Counts one dead chunk of the class less.
     pub fn decrement(&mut self, class: ClassId)
         requires first { 1 ≤ class }
         requires last { class ≤ length self.old }
@@ -81,7 +81,7 @@ impl Model for LastDead {
 }
 
 impl LastDead {
-    /// No chunk of so many classes was counted yet.
+    /// No chunk of n classes was counted yet.
     pub fn new(alloc: Global, classes: u64) -> Result<LastDead, Refused>
         ensures fresh { IfOk result (λ last. last ≡ replicate classes None) }
     {

@@ -51,7 +51,7 @@ impl HoldCounts {
         }
     }
 
-    /// Sees to it that the chunk has a place.
+    /// Makes a place for the chunk, if it has none.
     pub(crate) fn reach(&mut self, chunk: ChunkId) -> Result<(), Refused>
         ensures there { OnOk result (IsReached self.new chunk) }
         ensures same { CountAlike self.old self.new }
@@ -61,7 +61,7 @@ impl HoldCounts {
         Ok(())
     }
 
-    /// One hold more.
+    /// Counts one more hold of the chunk.
     pub(crate) fn increment(&mut self, chunk: ChunkId)
         requires there { IsReached self.old chunk }
         requires few { count_at self.old chunk < 65535 }
@@ -70,7 +70,7 @@ impl HoldCounts {
         self.pages[chunk.page as usize][chunk.index as usize] += 1;
     }
 
-    /// One hold less.
+    /// Counts one hold of the chunk less.
     pub(crate) fn decrement(&mut self, chunk: ChunkId)
         requires { 1 ≤ count_at self.old chunk }
         ensures decremented { (other : ChunkId) → count_at self.new other + truth (is_chunk chunk other) ≡ count_at self.old other }
@@ -79,7 +79,7 @@ impl HoldCounts {
     }
 }
 
-/// Sees to it that there are counts for the page.
+/// Makes counts for the page, if it has none.
 fn reach_page(alloc: Global, pages: &mut Vec<Vec<u16>>, page: u64) -> Result<(), Refused>
     ensures there { OnOk result (page < length pages.new.items) }
     ensures same { CountAlike (counts_of pages.old.items) (counts_of pages.new.items) }
@@ -90,7 +90,7 @@ fn reach_page(alloc: Global, pages: &mut Vec<Vec<u16>>, page: u64) -> Result<(),
     Ok(())
 }
 
-/// Sees to it that the page has a count at the index.
+/// Makes a count of the page at the index, if it has none.
 fn reach_index(counts: &mut Vec<u16>, index: u64) -> Result<(), Refused>
     ensures there { OnOk result (index < length counts.new.items) }
     ensures same { (at : ℕ) → slice_index_or counts.new.items at 0 ≡ slice_index_or counts.old.items at 0 }

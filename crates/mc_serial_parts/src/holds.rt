@@ -1,4 +1,4 @@
-//! Which chunks the workers hold.
+//! The chunks that each worker holds.
 ghost use Rattle.std.specs.Prelude.{◌≡◌, ◌<◌, false, Some, IfOk, OnOk, OnErr, length, position, reverse};
 ghost use Rattle.std.specs.List.{remove};
 ghost use Rattle.mc_pages.specs.ClassState.{is_chunk};
@@ -10,7 +10,7 @@ use mc_pages::ChunkId;
 use std::alloc::Global;
 use std::marker::Model;
 
-/// How many workers there can be, the thread that moves pages counted as worker 0.
+/// How many workers a run has at most, the thread that moves pages counted as worker 0.
 const WORKERS: usize = 64;
 
 /// The most chunks that a worker may hold (own).
@@ -20,7 +20,7 @@ const MAX_HOLDS: usize = 255;
 #[derive(Drop)]
 pub struct Holds {
     by_worker: Vec<Vec<ChunkId>>,
-    /// How many holds there are of each chunk, so that no list is searched to see whether it is held.
+    /// The count of the holds of each chunk, so that no list is searched to see whether it is held.
     counts: HoldCounts,
 }
 
@@ -87,8 +87,8 @@ impl Holds {
         Ok(())
     }
 
-    /// The worker gives back the hold of the chunk that it took last, which stands at this place: of all that it holds the one
-    /// taken last stands at 0.
+    /// The worker gives back the hold of the chunk that it took last, which is at this place: of all holds of the worker the one
+    /// taken last is at 0.
     pub fn give_back(&mut self, worker: u64, chunk: ChunkId, place: usize)
         requires worker { worker < 64 }
         requires first { position (λ c. is_chunk c chunk) (held_by self.old worker) ≡ Some place }
@@ -99,7 +99,7 @@ impl Holds {
     }
 }
 
-/// Removes the chunk behind which so many stand.
+/// Removes the chunk that has n others behind it.
 fn take_out(chunks: &mut Vec<ChunkId>, behind: usize)
     requires { behind < length chunks.old.items }
     ensures removed { reverse chunks.new.items ≡ remove (reverse chunks.old.items) behind }

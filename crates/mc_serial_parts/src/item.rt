@@ -1,4 +1,4 @@
-//! What is stored under a key.
+//! An item of the keeper, and the words of one that comes.
 ghost use Rattle.std.specs.Prelude.{◌≡◌, ◌≤◌, ◌^◌, length, OnOk, OnErr};
 ghost use Rattle.mc_serial_spec.specs.Item.{new_item, unlinked, words_from};
 ghost use Rattle.mc_serial_parts.specs.NewWords.{words_in};
@@ -10,14 +10,14 @@ use std::marker::Model;
 /// The words of an item that comes.
 #[derive(Clone, Copy)]
 pub enum NewWords<'a> {
-    /// They are copied from these.
+    /// The words are copied from these.
     Copied(&'a [u64]),
-    /// So many that count up: base, base + 1 and so on, modulo 2^64.
+    /// The words count up: base, base + 1 and so on, modulo 2^64.
     Counted { base: u64, count: u64 },
 }
 
 impl NewWords<'_> {
-    /// How many they are.
+    /// How many words they are.
     pub fn count(&self) -> u64
         ensures count { result ≡ length (words_in self.now) }
     {
@@ -68,28 +68,28 @@ impl Item {
         Ok(())
     }
 
-    /// Its key.
+    /// The key of the item.
     pub fn key(&self) -> u64
         ensures key { result ≡ self.now.key }
     {
         self.key
     }
 
-    /// Its words.
+    /// The words of the item.
     pub fn words(&self) -> &[u64]
         ensures words { result.now ≡ self.now.words }
     {
         self.words.as_slice()
     }
 
-    /// Whether its key leads to it.
+    /// Whether the item's key leads to it.
     pub fn is_linked(&self) -> bool
         ensures linked { result ≡ self.now.linked }
     {
         self.linked
     }
 
-    /// Its key leads to it no more.
+    /// The item's key leads to it no more.
     pub(crate) fn unlink(&mut self)
         ensures unlinked { self.new ≡ unlinked self.old }
     {
@@ -111,7 +111,7 @@ fn copy_words(alloc: Global, all: &mut Vec<u64>, words: &[u64]) -> Result<(), Re
     Ok(())
 }
 
-/// Writes so many words, base, base + 1 and so on, modulo 2^64, in the place of what was there.
+/// Writes n words, base, base + 1 and so on, modulo 2^64, in the place of what was there.
 fn write_words(alloc: Global, all: &mut Vec<u64>, base: u64, words: u64) -> Result<(), Refused>
     ensures words { OnOk result (all.new.items ≡ words_from base words) }
     ensures unchanged { OnErr result (all.new.items ≡ all.old.items) }

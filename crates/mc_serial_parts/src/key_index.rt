@@ -1,4 +1,4 @@
-//! Where each key leads.
+//! The chunk to which each key leads.
 ghost use Rattle.std.specs.Prelude.{◌≡◌, nat_eq, [], None, Some, IfOk, OnOk, OnErr};
 ghost use Rattle.std.specs.BTreeMap.{is_at};
 ghost use Rattle.std.specs.Map.{set_value};
@@ -11,7 +11,7 @@ use std::alloc::Global;
 use std::collections::HashMap;
 use std::marker::Model;
 
-/// The chunk to which each key leads. Contracts see the entries in some order, of which they say nothing.
+/// The chunk to which each key leads. Contracts see the entries in some order, and state nothing of it.
 #[derive(Drop)]
 pub struct KeyIndex {
     chunks: HashMap<u64, ChunkId>,
@@ -27,7 +27,7 @@ impl Model for KeyIndex {
 }
 
 impl KeyIndex {
-    /// No key leads anywhere, and there is room for so many.
+    /// No key leads anywhere, and there is room for n keys.
     pub fn new(alloc: Global, keys: usize) -> Result<KeyIndex, Refused>
         ensures empty { IfOk result (λ index. index ≡ []) }
     {

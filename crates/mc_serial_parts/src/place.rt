@@ -28,7 +28,7 @@ impl Model for Place {
 }
 
 impl Place {
-    /// No item, and no room.
+    /// A place without an item, and without room for one.
     pub(crate) fn empty(alloc: Global) -> Place
         ensures empty { result ≡ None }
     {

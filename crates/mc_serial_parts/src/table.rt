@@ -31,7 +31,7 @@ impl Model for ItemTable {
 }
 
 impl ItemTable {
-    /// No chunk has an item.
+    /// A table in which no chunk has an item.
     pub fn new(alloc: Global) -> ItemTable
         ensures empty { result ≡ [] }
     {
@@ -95,7 +95,7 @@ impl ItemTable {
     }
 }
 
-/// Whether there is a place for the chunk.
+/// Whether the table has a place for the chunk.
 fn has_place(pages: &[Vec<Place>], chunk: ChunkId) -> bool
     ensures yes { result ≡ true → HasPlace (places_of pages.now) chunk }
     ensures no { result ≡ false → slice_index_or (slice_index_or (places_of pages.now) chunk.page []) chunk.index None ≡ None }
@@ -125,7 +125,7 @@ fn relocate(alloc: Global, pages: &mut Vec<Vec<Place>>, old: ChunkId, new: Chunk
     }
 }
 
-/// Sees to it that there is a place for the chunk.
+/// Makes a place for the chunk, if the table has none.
 fn reach(alloc: Global, pages: &mut Vec<Vec<Place>>, chunk: ChunkId) -> Result<(), Refused>
     ensures there { OnOk result (HasPlace (places_of pages.new.items) chunk) }
     ensures same { items_from 0 (places_of pages.new.items) ≡ items_from 0 (places_of pages.old.items) }
@@ -135,7 +135,7 @@ fn reach(alloc: Global, pages: &mut Vec<Vec<Place>>, chunk: ChunkId) -> Result<(
     Ok(())
 }
 
-/// Sees to it that there are places for the page.
+/// Makes places for the page, if the table has none.
 fn reach_page(alloc: Global, pages: &mut Vec<Vec<Place>>, page: u64) -> Result<(), Refused>
     ensures there { OnOk result (page < length pages.new.items) }
     ensures same { items_from 0 (places_of pages.new.items) ≡ items_from 0 (places_of pages.old.items) }
@@ -146,7 +146,7 @@ fn reach_page(alloc: Global, pages: &mut Vec<Vec<Place>>, page: u64) -> Result<(
     Ok(())
 }
 
-/// Sees to it that the page has a place at the index.
+/// Makes a place of the page at the index, if it has none.
 fn reach_index(alloc: Global, places: &mut Vec<Place>, index: u64) -> Result<(), Refused>
     ensures there { OnOk result (index < length places.new.items) }
     ensures same { AreAlike places.old.items places.new.items }

@@ -1,4 +1,4 @@
--- The automover: what a window tells the decider, and what is done with its decision.
+-- The automover: what a window feeds the decider, and what is done with the decision.
 use Rattle.std.specs.Prelude.{ℕ, ◌==◌, if◌then◌else◌, List, length, map, Option, None, Result, Ok, Err}
 use Rattle.mc_pages.specs.declared.moves.Reassign.{Reassign}
 use Rattle.mc_pages.specs.SlabState.{SlabState}
@@ -8,19 +8,19 @@ use Rattle.mc_watch.specs.declared.decider.Decision.{Decision}
 use Rattle.mc_watch.specs.Decider.{after_window, decision_of}
 use Rattle.mc_serial_spec.specs.Machine.{Machine}
 
--- of each class, how many of its items were ever evicted to make room
+-- how many items of each class were ever evicted to make room
 abbrev pub eviction_counts : SlabState → List ℕ
 eviction_counts slabs = map (λ class. class.evictions) slabs.classes
 
--- its pages
+-- how many pages each class has
 abbrev pub page_counts : SlabState → List ℕ
 page_counts slabs = map (λ class. length class.pages) slabs.classes
 
--- and its free chunks
+-- how many free chunks each class has
 abbrev pub free_counts : SlabState → List ℕ
 free_counts slabs = map (λ class. length class.free) slabs.classes
 
--- a page begins to move, where the answer says so
+-- the machine after a page began to move, where the answer allows that
 abbrev pub begun : Machine → Option ℕ → ℕ → Result ℕ Reassign → Machine
 begun m src dst (Err refusal) = m
 begun m src dst (Ok source) = record m { slabs = after_begin m.slabs src source dst }
@@ -29,7 +29,7 @@ begun m src dst (Ok source) = record m { slabs = after_begin m.slabs src source 
 abbrev pub with_asked_page : Machine → ℕ → Machine
 with_asked_page m class = begun m None class (answer_of m.slabs None class)
 
--- a window ends: the automover is fed its numbers
+-- the machine after a window ended, with its numbers fed to the automover
 abbrev pub with_window : Machine → Machine
 with_window m = record m { decider = after_window m.decider (eviction_counts m.slabs) (page_counts m.slabs) (free_counts m.slabs) }
 

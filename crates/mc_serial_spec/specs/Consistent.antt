@@ -9,7 +9,7 @@ use Rattle.mc_pages.specs.Accounted.{truth, IsAccounted}
 use Rattle.mc_serial_spec.specs.Item.{is_linked_to}
 use Rattle.mc_serial_spec.specs.Items.{Items, chunk_cmp}
 
--- how often the chunk stands among the items
+-- how often the chunk is among the items
 abbrev pub places : ChunkId → Items → ℕ
 places chunk [] = 0
 places chunk (placed ∷ items) = truth (is_at (chunk_cmp chunk) placed.chunk) + places chunk items
@@ -33,5 +33,5 @@ pub record IsConsistent (table : Classes) (slabs : SlabState) (items : Items) : 
   pub one_link : (key : ℕ) → links key items ≤ 1
   -- a chunk with an item is handed out
   pub handed_out : (chunk : ChunkId) → places chunk items ≤ times chunk (class_of_chunk slabs chunk).order
-  -- and a chunk that is handed out has an item
+  -- a chunk that is handed out has an item
   pub stored : (class : ℕ) (chunk : ChunkId) → IsClass slabs class → times chunk (class_at slabs class).order ≤ places chunk items

@@ -1,4 +1,4 @@
--- What is stored under a key.
+-- An item of the plain machine, and the words of one that comes.
 use Rattle.std.specs.Prelude.{ℕ, ◌+◌, ◌*◌, ◌%◌, ◌^◌, ◌==◌, Bool, true, false, ◌&&◌, List, map}
 use Rattle.std.specs.List.{range_with_len}
 
@@ -8,11 +8,11 @@ pub record Item : Type 0 where
   pub words : List ℕ
   pub linked : Bool
 
--- what an item of so many words takes: key, stamp and length, then the words, 8 bytes each
+-- the bytes of an item of n words: 24 for key, stamp and length, and 8 for each word
 abbrev pub item_bytes : ℕ → ℕ
 item_bytes words = 24 + 8 * words
 
--- so many words, base, base + 1 and so on, modulo 2^64
+-- n words: base, base + 1 and so on, modulo 2^64
 abbrev pub words_from : ℕ → ℕ → List ℕ
 words_from base words = map (λ i. (base + i) % 2 ^ 64) (range_with_len 0 words)
 
@@ -20,10 +20,10 @@ words_from base words = map (λ i. (base + i) % 2 ^ 64) (range_with_len 0 words)
 abbrev pub new_item : ℕ → List ℕ → Item
 new_item key words = record { key = key; words = words; linked = true }
 
--- the key leads to it
+-- the item's key is this key, and leads to the item
 abbrev pub is_linked_to : ℕ → Item → Bool
 is_linked_to key item = item.linked && item.key == key
 
--- its key leads to it no more; whoever holds it still does
+-- the item after its key leads to it no more; whoever holds it still does
 abbrev pub unlinked : Item → Item
 unlinked item = record item { linked = false }

@@ -7,7 +7,7 @@ use Rattle.std.specs.BTreeMap.{is_at}
 use Rattle.mc_pages.specs.declared.ids.ChunkId.{ChunkId}
 use Rattle.mc_serial_spec.specs.Item.{Item, is_linked_to, unlinked}
 
--- by page, then by index
+-- the order of chunks: by page, then by index
 abbrev pub chunk_cmp : ChunkId → ChunkId → Ordering
 chunk_cmp a b = ordering_then (nat_cmp a.page b.page) (nat_cmp a.index b.index)
 
@@ -41,7 +41,7 @@ abbrev pub without_item : Items → ChunkId → Items
 without_item [] chunk = []
 without_item (placed ∷ items) chunk = cond (is_at (chunk_cmp chunk) placed.chunk) items (placed ∷ without_item items chunk)
 
--- the chunk's item, if it has one, is another
+-- the items after the item of this chunk, if it has one, was replaced
 abbrev pub with_changed_item : Items → ChunkId → Item → Items
 with_changed_item [] chunk item = []
 with_changed_item (placed ∷ items) chunk item =

@@ -1,4 +1,4 @@
--- What the plain machine answers to each command, and what it is afterwards.
+-- The reply of the plain machine to each command, and the machine after it.
 use Rattle.std.specs.Prelude.{◌≡◌, ℕ, ◌*◌, Bool, List, [], ◌∷◌, ◌++◌, length, find, codes, Option, Some, None, Result, Ok, Err, if◌then◌else◌}
 use Rattle.std.specs.Option.{is_some, option_and_then, option_map, option_map_or}
 use Rattle.mc_classes.specs.Classes.{class_of}
@@ -122,7 +122,7 @@ moved m src dst answer = record {
   machine = begun m (Some src) dst answer;
 }
 
--- the decision, if there is one, is acted on
+-- what a decision does, if there is one: the machine after it, and the reply
 abbrev pub acted : Machine → Option Decision → Served
 acted m None = told m (line (codes "WINDOW none"))
 acted m (Some d) = moved m d.src d.dst (answer_of m.slabs (Some d.src) d.dst)

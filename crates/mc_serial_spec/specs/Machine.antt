@@ -10,8 +10,8 @@ use Rattle.mc_watch.specs.Decider.{DeciderState, fresh_decider}
 use Rattle.mc_serial_spec.specs.Items.{Items, is_linked, is_unlinked, without_item}
 use Rattle.mc_serial_spec.specs.Holds.{Holds, no_holds, is_held}
 
--- the size classes, how many chunks a turn of the mover looks at, the pages and chunks, the items, who holds which,
--- how many turns of the mover were done, and the windows that the automover was fed
+-- the size classes; how many chunks a turn of the mover looks at; the pages and chunks; the items; who holds which; how many turns were
+-- done; and the windows that the automover was fed
 pub record Machine : Type 0 where
   pub table : Classes
   pub bulk : ℕ
@@ -41,11 +41,11 @@ fresh_machine table bulk mode = record {
 abbrev pub has_free : Machine → ℕ → Bool
 has_free m class = nat_lt 0 (length (class_at m.slabs class).free)
 
--- neither does a key lead to the chunk's item nor does anybody hold it
+-- no key leads to the chunk's item, and nobody holds it
 abbrev pub is_dead : Machine → ChunkId → Bool
 is_dead m chunk = is_unlinked m.items chunk && not (is_held m.holds chunk)
 
--- its key leads to the chunk's item, and nobody holds it
+-- a key leads to the chunk's item, and nobody holds it
 abbrev pub is_linked_unheld : Machine → ChunkId → Bool
 is_linked_unheld m chunk = is_linked m.items chunk && not (is_held m.holds chunk)
 
@@ -78,6 +78,6 @@ with_new_page m class (Some page) = record m { slabs = with_cut_page (after_grow
 abbrev pub extended : Machine → ℕ → Machine
 extended m class = if has_free m class then m else with_new_page m class (next_page m.slabs class)
 
--- with no free chunk its dead are put back, and if there is none it gets a page
+-- the machine after a class without a free chunk got its dead chunks back, and a page where it had none dead
 abbrev pub stocked : Machine → ℕ → Machine
 stocked m class = if has_free m class then m else extended (swept m class) class

@@ -28,7 +28,8 @@ target m class page = find (λ chunk. not (chunk.page == page)) (class_at m.slab
 abbrev pub with_cleared : Machine → ChunkId → Machine
 with_cleared m chunk = record m { slabs = after_clear m.slabs chunk; items = without_item m.items chunk }
 
--- the item goes into this chunk, if there is one, in the old one's place of the hand-out order; else it is evicted
+-- an item's chunk is cleared: the item goes to the new chunk, in the old one's place of the hand-out order, or is evicted where there is no
+-- new chunk
 abbrev pub with_saved : Machine → ChunkId → Option ChunkId → Looked
 with_saved m old None = record { machine = with_cleared m old; found = Evicted }
 with_saved m old (Some new) = record {
@@ -36,11 +37,11 @@ with_saved m old (Some new) = record {
   found = Rescued;
 }
 
--- an idle item's chunk is cleared: its class's dead are put back before, so that the item may come into one of them
+-- an idle item's chunk is cleared: the class's dead chunks are put back before, so that the item may go to one of them
 abbrev pub saved : Machine → ℕ → ChunkId → Looked
 saved m class chunk = let ready = swept m class in with_saved ready chunk (target ready class chunk.page)
 
--- what is done with a chunk of the moving page, and its class
+-- what the mover does with this chunk of the moving page and of the class
 abbrev pub looked_at : Machine → ℕ → ChunkId → Looked
 looked_at m class chunk =
     if is_cleared m.slabs class chunk then record { machine = m; found = Already }
@@ -53,7 +54,7 @@ looked_at m class chunk =
 abbrev pub no_counts : Counts
 no_counts = record { cleared = 0; rescued = 0; evicted = 0; busy = 0; locked = 0 }
 
--- no more than so many of each kind
+-- no count is above n
 pub record AreAtMost (most : ℕ) (counts : Counts) : Type 0 where
   pub cleared : counts.cleared ≤ most
   pub rescued : counts.rescued ≤ most
@@ -61,7 +62,7 @@ pub record AreAtMost (most : ℕ) (counts : Counts) : Type 0 where
   pub busy : counts.busy ≤ most
   pub locked : counts.locked ≤ most
 
--- one more chunk; those whose item was rescued or evicted were cleared too
+-- the counts after one more chunk was found; a rescued or evicted one counts as cleared, too
 abbrev pub with_count : Counts → Found → Counts
 with_count counts Cleared = record counts { cleared = counts.cleared + 1 }
 with_count counts Rescued = record counts { cleared = counts.cleared + 1; rescued = counts.rescued + 1 }
@@ -91,12 +92,12 @@ abbrev pub with_chunk : Counted → Option Moving → Counted
 with_chunk c None = c
 with_chunk c (Some move) = if is_at_end c.machine move then c else with_looked c.counts (looked_at c.machine move.src (chunk_at_position move))
 
--- at most so many chunks are looked at
+-- the state after at most n looks at chunks
 abbrev pub with_chunks : ℕ → Counted → Counted
 with_chunks zero c = c
 with_chunks (suc count) c = with_chunks count (with_chunk c c.machine.slabs.moving)
 
--- a turn, or more of them
+-- the machine after one turn or more, their counts, and how the last one ended
 pub record Turned : Type 0 where
   pub machine : Machine
   pub counts : Counts
@@ -131,7 +132,7 @@ abbrev pub is_went : Ending → Bool
 is_went Went = true
 is_went ending = false
 
--- one turn and then more, until so many are done or one is idle or ends a move; none where the run has no turns left
+-- one turn and then more, until n are done or one is idle or ends a move; none where the run has no turns left
 abbrev pub turns_from : ℕ → Turned → Option Turned
 turns_from zero t = Some t
 turns_from (suc count) t =
@@ -140,6 +141,6 @@ turns_from (suc count) t =
     if is_went next.ending then turns_from count next else Some next)
     else None
 
--- so many turns, as far as there is something to do
+-- n turns, as far as there is something to do
 abbrev pub after_turns : Machine → ℕ → Option Turned
 after_turns m count = turns_from count (record { machine = m; counts = no_counts; ending = Idle })

@@ -21,7 +21,7 @@ abbrev pub with_eviction : Machine → ℕ → Option ChunkId → Machine
 with_eviction m class None = m
 with_eviction m class (Some chunk) = let back = after_reclaim m chunk in record back { slabs = after_evicted back.slabs class }
 
--- with no free chunk an item is evicted
+-- the machine after a class without a free chunk evicted an item
 abbrev pub relieved : Machine → ℕ → Machine
 relieved m class = if has_free m class then m else with_eviction m class (victim m class)
 
@@ -29,7 +29,7 @@ relieved m class = if has_free m class then m else with_eviction m class (victim
 abbrev pub supplied : Machine → ℕ → Machine
 supplied m class = relieved (stocked m class) class
 
--- the chunk that the class hands out next then
+-- the chunk that the class hands out next, once it came to a free one
 abbrev pub supply : Machine → ℕ → Option ChunkId
 supply m class = first_free (class_at (supplied m class).slabs class)
 

@@ -15,14 +15,14 @@ impl Model for Record {
 }
 
 impl Record {
-    /// None yet.
+    /// No bytes yet.
     pub(crate) fn new() -> Record
         ensures { result.bytes ≡ [] }
     {
         Record {}
     }
 
-    /// With these, behind those that are noted.
+    /// This record with more bytes at its end.
     pub(crate) fn and(&self, more: &[u8]) -> Record
         ensures { result.bytes ≡ self.now.bytes ++ more.now }
     {
@@ -41,7 +41,7 @@ impl Model for Count {
 }
 
 impl Count {
-    /// Not yet.
+    /// A count of 0.
     pub(crate) fn new() -> Count
         ensures { result.total ≡ 0 }
     {

@@ -76,7 +76,7 @@ impl<R: Read> RecordedReader<R> {
     }
 }
 
-/// A writer that tells contracts what it took. One that doesn't tell its bytes does so behind this.
+/// A writer whose contracts record what it took. A writer whose bytes aren't known is put behind this.
 #[derive(Drop)]
 pub struct RecordedWriter<W: Write> {
     inner: W,

@@ -59,7 +59,7 @@ impl<R: Read, L: Ledger> Source for Input<R, L> {
         // What came before the answer were interruptions alone.
         ensures retried { OnOk result (self.new.reader.errors.total ≡ self.old.reader.errors.total) }
 
-        // A failure tells an error, the only one, or that all of 2^64 - 1 reads were interrupted.
+        // A failure reports an error, the only one, or that all of 2^64 - 1 reads were interrupted.
         ensures failed { OnErr result ((self.new.reader.errors.total ≡ self.old.reader.errors.total + 1)
             ⊎ ((self.new.reader.errors.total ≡ self.old.reader.errors.total)
             × (self.new.reader.interruptions.total ≡ self.old.reader.interruptions.total + (2 ^ 64 - 1)))) }
@@ -195,7 +195,7 @@ impl<W: Write, L: Ledger> Sink for Output<W, L> {
     }
 }
 
-/// Writes until all of `bytes` is written or a write fails, and says how many bytes were written.
+/// Writes until all of `bytes` is written or a write fails, and returns how many bytes were written.
 fn write_out<W: Write>(writer: &mut W, bytes: &[u8]) -> usize
     ensures bound { result ≤ length bytes.now }
     ensures bytes { Appends (W.contents writer.old) (W.contents writer.new) (take result bytes.now) }

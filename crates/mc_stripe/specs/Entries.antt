@@ -33,6 +33,6 @@ module _ {X : Type 0} where
   by_key [] = []
   by_key (entry ∷ entries) = with_entry (by_key entries) entry.0 entry.1
 
-  -- no key stands in two of the entries
+  -- no key is in two of the entries
   abbrev pub HasEachKeyOnce : List (ℕ × X) → Type 0
   HasEachKeyOnce entries = IsDistinct nat_eq (keys_of entries)

@@ -17,15 +17,15 @@ calls_of calls = record {
   room = vec_capacity calls.tail - vec_len calls.tail;
 }
 
--- of the calls that aren't in memory there is a count, and, where calls are recorded, the stamps that they left
+-- the calls that aren't in memory are counted; where calls are recorded, the base has the stamps that they left
 pub record IsRecorded (calls : RecordedInside) : Type 0 where
-  -- so many calls aren't in memory, as far as 64 bits can tell
+  -- the count of the calls that aren't in memory, which stops at 2^64 - 1
   pub trimmed : calls.trimmed ≡ min (length calls.past.calls) (2 ^ 64 - 1)
-  -- and they can, where calls are recorded
+  -- where calls are recorded, the count of those that aren't in memory is below 2^64
   pub fits : calls.is_recorded ≡ true → length calls.past.calls < 2 ^ 64
-  -- the base is what these left
+  -- the base is what the calls that aren't in memory left
   pub base : calls.is_recorded ≡ true → replay [] calls.past.calls ≡ Some (by_key calls.base.items)
-  -- which has no key twice
+  -- the base has no key twice
   pub once : HasEachKeyOnce calls.base.items
   -- no call is in memory where none is recorded
   pub none : calls.is_recorded ≡ false → calls.tail.items ≡ []
@@ -38,11 +38,12 @@ state_of stripe = record { index = by_key stripe.index.entries; aside = stripe.a
 abbrev pub ready_of : Inside → ReadyStripe
 ready_of stripe = record { state = state_of stripe; ready = stripe.ready; entry = stripe.entry }
 
--- the stripe is legal; and there is room for what it says. What made room for an entry is kept until one is put there
+-- the stripe is legal and has the room that its flags promise: `entry` for an entry, and `ready` for a call. Room for an entry stays until
+-- an entry uses it
 pub record IsInOrder (stripe : Inside) : Type 0 where
   pub legal : IsLegal (state_of stripe)
   -- the index has room where that is known
   pub spare : stripe.spare_entry ≡ true → 0 < spare stripe.index
-  -- and it is known where room for an entry was made
+  -- where the stripe has room for an entry of the call that comes, that room is known
   pub entry : stripe.entry ≡ true → stripe.spare_entry ≡ true
   pub call : stripe.ready ≡ true → CanTell stripe.calls

@@ -1,4 +1,4 @@
--- What is so after every call: the history is legal, and makes the index.
+-- What holds of a stripe after every call: its history is legal, and makes its index.
 use Rattle.std.specs.Prelude.{◌≡◌, ◌≤◌, ℕ, [], length, Some, None}
 use Rattle.mc_pages.specs.declared.ids.ChunkId.{ChunkId}
 use Rattle.mc_stripe.specs.Entries.{AreRising}
@@ -7,7 +7,7 @@ use Rattle.mc_stripe.specs.StripeState.{StripeState, place_of, stamps_of, trimme
 
 -- the history is right, from no key on, and leaves the stamps of the index, an entry aside counted in
 pub record IsLegal (stripe : StripeState) : Type 0 where
-  -- the index is in its one form
+  -- the index is by rising key, which is its one form
   pub rising : AreRising stripe.index
   -- the key aside is not in the index
   pub apart : (entry : ℕ × (ChunkId × ℕ)) → stripe.aside ≡ Some entry → place_of stripe entry.0 ≡ None

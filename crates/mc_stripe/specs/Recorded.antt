@@ -6,14 +6,14 @@ use Rattle.mc_stripe.specs.History.{Stamps, replay}
 
 -- all calls of a stripe, which of them are recorded, and the room to record more
 pub record Calls : Type 0 where
-  -- all that there were, the oldest first
+  -- all calls that there were, the oldest first
   pub all : List Call
   -- the place of the first call that is recorded, none where no call is
   pub recorded_from : Option ℕ
-  -- there is room to record so many more
+  -- room to record n more calls
   pub room : ℕ
 
--- one more call can be told
+-- where calls are recorded, there is room to record one more
 abbrev pub CanTell : Calls → Type 0
 CanTell calls = IfSome calls.recorded_from (λ from. 0 < calls.room)
 
@@ -25,10 +25,10 @@ count_trimmed all recorded_from = option_map_or (λ from. from) recorded_from (l
 abbrev pub recorded : List Call → Option ℕ → List Call
 recorded all recorded_from = drop (count_trimmed all recorded_from) all
 
--- the stamps that the others leave
+-- the stamps that the calls leave which aren't recorded
 abbrev pub left_by_trimmed : List Call → Option ℕ → Stamps
 left_by_trimmed all recorded_from = option_map_or (λ stamps. stamps) (replay [] (take (count_trimmed all recorded_from) all)) []
 
--- where calls are recorded, those are that come after this many
+-- where calls are recorded, those are recorded that come behind the first n
 abbrev pub recorded_behind : Option ℕ → ℕ → Option ℕ
 recorded_behind recorded_from count = option_map (λ from. count) recorded_from

@@ -11,11 +11,11 @@ StampMap = ℕ → Option ℕ
 abbrev pub no_stamps : StampMap
 no_stamps key = None
 
--- this key has this stamp or none, and all others have theirs
+-- the stamps where this key has this stamp or none, and all other keys have theirs
 abbrev pub with_stamp : StampMap → ℕ → Option ℕ → StampMap
 with_stamp stamps key stamp other = if other == key then stamp else stamps other
 
--- the call's reply is right: what it tells of its key is so
+-- the call's reply is right: what it records of its key agrees with the stamps before the call
 abbrev pub IsReply : Call → StampMap → Type 0
 IsReply (Set hand key stamp) stamps = ⊤
 IsReply (Get hand key found) stamps = found ≡ stamps key

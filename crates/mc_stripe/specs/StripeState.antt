@@ -24,12 +24,12 @@ pub record StripeState : Type 0 where
 -- the stripe, and for what room was made
 pub record ReadyStripe : Type 0 where
   pub state : StripeState
-  -- there is room for one more call
+  -- the stripe has room for one more call
   pub ready : Bool
-  -- there is room for one more entry of the index
+  -- the index of the stripe has room for one more entry
   pub entry : Bool
 
--- there is room for one more call, and for the entry that it may store
+-- the stripe has room for one more call, and for the entry that the call may store
 abbrev pub can_store : ReadyStripe → Bool
 can_store stripe = stripe.ready && stripe.entry
 
@@ -70,6 +70,6 @@ trimmed_of stripe = count_trimmed stripe.history stripe.recorded_from
 abbrev pub tail_of : StripeState → List Call
 tail_of stripe = recorded stripe.history stripe.recorded_from
 
--- the stamps of the keys as the others left them
+-- the stamps of the keys as the calls that aren't recorded left them
 abbrev pub base_of : StripeState → Stamps
 base_of stripe = left_by_trimmed stripe.history stripe.recorded_from

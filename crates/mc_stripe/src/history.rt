@@ -3,7 +3,7 @@
 /// The key of an item.
 pub type Key = u64;
 
-/// What tells the items from each other that were ever stored: no two have the same.
+/// The number by which items differ from each other: no two that were ever stored have the same.
 pub type Stamp = u64;
 
 /// A hand: who calls, numbered from 0.

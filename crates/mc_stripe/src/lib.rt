@@ -1,9 +1,29 @@
 //! One item lock's part of the items, as a sequential value, [`Stripe`].
 //!
-//! A stripe has an index, from each of its keys to the chunk and the stamp of the key's item, and the history of all
-//! calls on its keys. The history is legal: each entry tells what was so when it was written, and all of them together
-//! make the index. After the item locks of memcached's thread.c and the hash table of assoc.c; stamps and the history
-//! are own.
+//! A stripe has an index, from each of its keys to the chunk and the stamp of the key's item. It also has the history of all
+//! calls on its keys. After the item locks of memcached's thread.c and the hash table of assoc.c; stamps and the history are own.
+//!
+//! - [`Stripe::new`] has no keys. [`Stripe::reserve`] makes room for a call and an entry, and [`Stripe::reserve_call`] for a
+//!   call.
+//! - [`Stripe::find`] looks a key up. [`Stripe::link`], `unlink`, `got`, `evict` and `rescue` change the index and record one
+//!   call each. [`Stripe::lift`] puts an entry aside until `rescue` or `link` brings its key back.
+//! - [`Stripe::history`] lends the recorded calls. [`Stripe::trim`] and [`Stripe::forget`] take calls out of memory, and
+//!   [`Stripe::base`] lends the stamps that they left.
+//!
+//! ```rust
+//! fn store(stripe: &mut Stripe, hand: HandId, key: Key, chunk: ChunkId, stamp: Stamp) -> Result<bool, NoMemory> {
+//!     stripe.reserve()?;
+//!     if stripe.find(key).is_some() || stripe.aside().is_some() {
+//!         return Ok(false);
+//!     }
+//!     stripe.link(hand, key, chunk, stamp);
+//!     Ok(true)
+//! }
+//! ```
+//!
+//! A caller may rely on a legal history: each reply is right for the calls before it, and all of them together make the index
+//! ([`one_replay`], [`replay_is_exact`]). Calls that record take no memory, so only `reserve`, `reserve_call` and `trim` can
+//! fail. The crate knows nothing of words, headers and threads: `mc_core` has the model of them, and `mc_words` the memory.
 #![tactic(auto)]
 
 mod history;

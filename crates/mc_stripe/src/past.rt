@@ -1,4 +1,4 @@
-//! Calls that no memory is kept for.
+//! The calls of a stripe that take no memory any more, for contracts alone.
 ghost use Rattle.std.specs.Prelude.{◌≡◌, ◌++◌, List, []};
 ghost use Rattle.std.specs.Borrow.{ftrue};
 ghost use Rattle.mc_stripe.specs.declared.history.Call.{Call as ACall};
@@ -19,14 +19,14 @@ impl Model for Past {
 unsafe impl Send for Past {}
 
 impl Past {
-    /// None yet.
+    /// No calls yet.
     pub(crate) fn new() -> Past
         ensures { result.calls ≡ [] }
     {
         Past {}
     }
 
-    /// With these behind.
+    /// These calls, and more behind them.
     pub(crate) fn and(&self, more: &[Call]) -> Past
         ensures { result.calls ≡ self.now.calls ++ more.now }
     {

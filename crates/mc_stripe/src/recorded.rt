@@ -14,7 +14,7 @@ use mc_pages::ChunkId;
 use std::alloc::Global;
 use std::marker::Model;
 
-/// What stands behind a key in the index.
+/// What the index has for a key.
 type Place = (ChunkId, Stamp);
 
 /// All calls on a stripe's keys. The newest are in memory, or none is.
@@ -44,7 +44,7 @@ impl Model for Recorded {
 }
 
 impl Recorded {
-    /// No call was told.
+    /// No call is recorded yet.
     #[tactic(auto, using(crate::proofs::Once::once_empty))]
     pub(crate) fn new(alloc: Global) -> Recorded
         ensures all { result.all ≡ [] }

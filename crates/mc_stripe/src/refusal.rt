@@ -1,4 +1,4 @@
-//! Refusals of a stripe.
+//! Why a stripe makes no room, or isn't trimmed.
 use mc_memory::Refused;
 
 /// Memory ran out.

@@ -1,4 +1,4 @@
-//! The sequential value behind a stripe's lock.
+//! The stripe: the sequential value behind a stripe's lock.
 ghost use Rattle.std.specs.Prelude.{◌≡◌, ◌≢◌, ◌≤◌, ◌^◌, true, length, is_some, None, Some, Err, OnOk, OnErr, IsOk, IsSome, IfSome};
 ghost use Rattle.mc_stripe.specs.StripeState.{can_store, new_stripe, key_aside, place_of};
 ghost use Rattle.mc_stripe.specs.Changes.{after_link, after_unlink, after_got, after_evict, after_lift, after_rescue, after_reserve, after_reserve_call, after_trim, after_forget, used_up};
@@ -125,7 +125,8 @@ impl Stripe {
         self.calls.trim(&self.index, self.aside)
     }
 
-    /// No call is recorded from now on, and none of those so far. A call that is told then needs no room but that of its index entry. (own)
+    /// No call is recorded from now on, and none of those so far. A later call then needs no room but that of its index entry.
+    /// (own)
     pub fn forget(&mut self)
         ensures forgets { self.new ≡ record self.old { state = after_forget self.old.state } }
         ensures legal { IsLegal self.new.state }

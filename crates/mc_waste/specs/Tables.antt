@@ -6,7 +6,7 @@ use Rattle.mc_classes.specs.Classes.{Classes, size_of}
 use Rattle.mc_classes.specs.Refusals.{is_below_max, rounded_up}
 use Rattle.mc_waste.specs.Waste.{grown, least_item}
 
--- the sizes from a raw size on, so many at most before the last one
+-- the sizes from a raw size on, at most n of them before the last one
 unfoldable pub sizes_from : ℕ → Config → ℕ → List ℕ
 sizes_from zero config raw = config.max ∷ []
 sizes_from (suc more) config raw =
@@ -23,6 +23,6 @@ waste_of table class =
     if nat_le (least_item table class) (size_of table class) then Some (size_of table class - least_item table class)
     else None
 
--- that of each class, class 1 first
+-- how many bytes the smallest item of each class leaves unused, class 1 first; none for a class to which no item goes
 abbrev pub wastes_of : Classes → List (Option ℕ)
 wastes_of table = map (λ class. waste_of table class) (range_with_len 1 (length table.sizes))

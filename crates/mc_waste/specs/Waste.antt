@@ -4,17 +4,17 @@ use Rattle.mc_classes.specs.declared.config.Config.{Config}
 use Rattle.mc_classes.specs.Classes.{Classes, IsTableOf, class_of, size_of}
 use Rattle.mc_classes.specs.Refusals.{first_size, refusal_of, rounded_up}
 
--- the bytes of an item of so many words: 24 for its key, stamp and length, and 8 for each word
+-- the bytes of an item of n words: 24 for its key, stamp and length, and 8 for each word
 abbrev pub item_bytes : ℕ → ℕ
 item_bytes words = 24 + 8 * words
 
--- in the table of an accepted configuration an item of so many words goes to this class
+-- in the table of an accepted configuration an item of n words goes to this class
 pub record GoesTo (config : Config) (table : Classes) (words class : ℕ) : Type 0 where
   pub is_accepted : refusal_of config ≡ None
   pub is_table : IsTableOf config table
   pub goes : class_of table (item_bytes words) ≡ Some class
 
--- so many bytes times the factor, less what is left of a byte
+-- n bytes times the factor, rounded down to whole bytes
 abbrev pub grown : Config → ℕ → ℕ
 grown config bytes = bytes * config.num / config.den
 
@@ -28,7 +28,7 @@ most_chunk config table class bytes =
     else if nat_lt class 63 then grown config (grown config (bytes - 8))
     else config.max
 
--- of each 100 bytes of a chunk its item leaves fewer than so many unused
+-- an item leaves less than this percentage of its chunk unused
 abbrev pub WastesLessThan : ℕ → ℕ → ℕ → Type 0
 WastesLessThan percent bytes size = 100 * (size - bytes) < percent * size
 
@@ -36,7 +36,7 @@ WastesLessThan percent bytes size = 100 * (size - bytes) < percent * size
 abbrev pub least_item : Classes → ℕ → ℕ
 least_item table class = if class == 1 then item_bytes 0 else item_bytes ((size_of table (class - 1) - 24) / 8 + 1)
 
--- no item of the class leaves more of its chunk unused than so many bytes, and one leaves so many
+-- no item of the class leaves more than n bytes of its chunk unused, and one item leaves n
 pub record IsWorst (table : Classes) (class waste : ℕ) : Type 0 where
   pub met : (words : ℕ) × (class_of table (item_bytes words) ≡ Some class) × (item_bytes words + waste ≡ size_of table class)
   pub most : (words : ℕ) → class_of table (item_bytes words) ≡ Some class → size_of table class ≤ item_bytes words + waste

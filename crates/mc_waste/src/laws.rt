@@ -14,8 +14,8 @@ pub fn chunks_are_bounded()
     ensures met { (config : Config) (table : Classes) (class : ℕ) → refusal_of config ≡ None → IsTableOf config table → 1 < class → class < length table.sizes → size_of table class ≡ most_chunk config table class (size_of table (class - 1) + 8) }
 {}
 
-/// As a share, with no rounding to reckon with: between the first class and the last an item has more than `den / num` of
-/// its chunk, and in any class above the first but a 63rd more than the square of that. A chunk of the first class has the
+/// The waste as a share, with no rounding to reckon with. Between the first class and the last an item has more than `den / num`
+/// of its chunk. In any class above the first but a 63rd it has more than the square of that. A chunk of the first class has the
 /// first size.
 pub fn waste_is_a_share()
     ensures first { (config : Config) (table : Classes) (words : ℕ) → GoesTo config table words 1 → size_of table 1 ≡ first_size config }

@@ -18,11 +18,11 @@ pub record DeciderState : Type 0 where
   pub per_page : List ℕ
   pub windows : List Window
 
--- before any window
+-- a decider before any window
 abbrev pub fresh_decider : Classes → DeciderState
 fresh_decider table = record { per_page = map (λ size. table.page / size) table.sizes; windows = [] }
 
--- after one more window, with these numbers
+-- the decider after one more window, with these numbers
 abbrev pub after_window : DeciderState → List ℕ → List ℕ → List ℕ → DeciderState
 after_window decider evictions pages free =
     record decider { windows = record { evictions = evictions; pages = pages; free = free } ∷ decider.windows }
@@ -31,7 +31,7 @@ after_window decider evictions pages free =
 abbrev pub number_of : List ℕ → ℕ → ℕ
 number_of numbers class = slice_index_or numbers (class - 1) 0
 
--- what the newest of these windows tells of a class; before the first window nothing was evicted and no class had pages
+-- how many items of the class were evicted by the newest of these windows, 0 before the first
 abbrev pub evictions_of : List Window → ℕ → ℕ
 evictions_of [] class = 0
 evictions_of (newest ∷ before) class = number_of newest.evictions class
@@ -54,11 +54,11 @@ rise windows class = evictions_of windows class - evictions_of (drop 1 windows) 
 abbrev pub is_quiet : List Window → ℕ → Bool
 is_quiet windows class = rise windows class == 0 && nat_lt 2 (pages_of windows class)
 
--- the lowest of so many classes that passes a test
+-- the lowest of n classes that passes a test
 abbrev pub lowest : ℕ → (ℕ → Bool) → Option ℕ
 lowest count test = find test (range_with_len 1 count)
 
--- the greatest rise of so many classes in the newest window
+-- the greatest rise of n classes in the newest window
 abbrev pub greatest_rise : ℕ → List Window → ℕ
 greatest_rise count windows = fold max 0 (map (rise windows) (range_with_len 1 count))
 
@@ -66,11 +66,11 @@ greatest_rise count windows = fold max 0 (map (rise windows) (range_with_len 1 c
 abbrev pub leader : ℕ → List Window → Option ℕ
 leader count windows = lowest count (λ class. nat_lt 0 (rise windows class) && rise windows class == greatest_rise count windows)
 
--- this class led the newest window
+-- the class led the newest window
 abbrev pub is_led_by : ℕ → List Window → ℕ → Bool
 is_led_by count windows class = option_map_or (λ led. led == class) (leader count windows) false
 
--- so it is in the newest window and in the two before it
+-- the test holds for the newest window and for the two before it
 abbrev pub in_all_three : (List Window → Bool) → List Window → Bool
 in_all_three test windows = test windows && (test (drop 1 windows) && test (drop 2 windows))
 
@@ -78,11 +78,11 @@ in_all_three test windows = test windows && (test (drop 1 windows) && test (drop
 abbrev pub quiet_class : DeciderState → Option ℕ
 quiet_class decider = lowest (length decider.per_page) (λ class. in_all_three (λ windows. is_quiet windows class) decider.windows)
 
--- and the one that gets it: the class that led the last three windows
+-- the class that gets a page by the evictions: the one that led the last three windows
 abbrev pub steady_class : DeciderState → Option ℕ
 steady_class decider = lowest (length decider.per_page) (λ class. in_all_three (λ windows. is_led_by (length decider.per_page) windows class) decider.windows)
 
--- a page goes from the one to the other, where there are both
+-- a page goes from the quiet class to the steady one, where there are both
 abbrev pub eviction_rule : DeciderState → Option Decision
 eviction_rule decider = option_and_then (λ dst. option_map (λ src. record { src = src; dst = dst }) (quiet_class decider)) (steady_class decider)
 
@@ -94,7 +94,7 @@ has_spare_page decider class = nat_le 2 (pages_of decider.windows class) && nat_
 abbrev pub free_page_rule : DeciderState → Option Decision
 free_page_rule decider = option_map (λ src. record { src = src; dst = 0 }) (lowest (length decider.per_page) (has_spare_page decider))
 
--- what the last three windows say, or else the free chunks
+-- the decision by the evictions of the last three windows, or else by the free chunks
 abbrev pub decision_of : DeciderState → Option Decision
 decision_of decider = option_or (eviction_rule decider) (free_page_rule decider)
 

@@ -21,7 +21,7 @@ fresh_class per_page = record {
   quiet = false ∷ false ∷ false ∷ [];
 }
 
--- before any window nothing was evicted, no class was quiet and none led
+-- what is remembered before any window: nothing was evicted, no class was quiet and none led
 abbrev pub nothing_remembered : List ℕ → Remembered
 nothing_remembered per_page = record { classes = map fresh_class per_page; leaders = None ∷ None ∷ None ∷ [] }
 
@@ -41,7 +41,7 @@ all_noted (class ∷ classes) (evictions ∷ more_evictions) (pages ∷ more_pag
     noted class evictions pages free ∷ all_noted classes more_evictions more_pages more_free
 all_noted classes evictions pages free = []
 
--- the lowest class that passes a test: they are numbered from 1
+-- the lowest class that passes a test; classes are numbered from 1
 abbrev pub lowest_watched : (Watched → Bool) → List Watched → Option ℕ
 lowest_watched test classes = option_map (λ place. place + 1) (position test classes)
 
@@ -64,7 +64,7 @@ abbrev pub remembered : List ℕ → List Window → Remembered
 remembered per_page [] = nothing_remembered per_page
 remembered per_page (newest ∷ before) = after_noted (remembered per_page before) newest
 
--- each window has a number of each kind for each of so many classes
+-- each window has a number of each kind for each of n classes
 abbrev pub AreWhole : ℕ → List Window → Type 0
 AreWhole count [] = Unit {0}
 AreWhole count (newest ∷ before) = (length newest.evictions ≡ count) × (length newest.pages ≡ count) × (length newest.free ≡ count) × AreWhole count before

@@ -16,16 +16,16 @@ fresh_four = fresh_decider (record { page = 1024; limit = 4096; sizes = four 48 
 abbrev pub moves : ℕ → ℕ → Option Decision
 moves src dst = Some (record { src = src; dst = dst })
 
--- after a window with these evictions so far; the classes have 3, 1, 1 and 2 pages, and no chunk is free
+-- the decider after a window with these evictions so far; the classes have 3, 1, 1 and 2 pages, and no chunk is free
 abbrev pub after_evictions : DeciderState → List ℕ → DeciderState
 after_evictions decider evictions = after_window decider evictions (four 3 1 1 2) (four 0 0 0 0)
 
--- after several such windows
+-- the decider after several windows with these evictions, each with 3, 1, 1 and 2 pages and no free chunk
 abbrev pub after_all_evictions : DeciderState → List (List ℕ) → DeciderState
 after_all_evictions decider [] = decider
 after_all_evictions decider (evictions ∷ more) = after_all_evictions (after_evictions decider evictions) more
 
--- what is decided after each of them
+-- the decision after each of these windows, the first window's first
 abbrev pub decisions : DeciderState → List (List ℕ) → List (Option Decision)
 decisions decider [] = []
 decisions decider (evictions ∷ more) =
@@ -45,12 +45,12 @@ five_windows = four 0 0 0 5 ∷ four 0 7 0 6 ∷ four 0 7 0 9 ∷ four 0 7 0 10 
 abbrev pub ThreeRunning : Type 0
 ThreeRunning = decisions fresh_four five_windows ≡ None ∷ None ∷ None ∷ None ∷ moves 1 4 ∷ []
 
--- then the evictions of class 4 become fewer
+-- after the five windows, a window in which the evictions of class 4 become fewer is refused
 abbrev pub FewerEvictions : Type 0
 FewerEvictions =
     refusal_of (after_all_evictions fresh_four five_windows) (four 0 7 0 10) (four 3 1 1 2) (four 0 0 0 0) ≡ Some Backwards
 
--- and a list is too short, which is told first
+-- a window with fewer evictions and a list that is too short is refused for the list
 abbrev pub ShortList : Type 0
 ShortList = refusal_of (after_all_evictions fresh_four five_windows) (four 0 7 0 10) (four 3 1 1 2) [] ≡ Some Length
 

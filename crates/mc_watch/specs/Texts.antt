@@ -2,7 +2,7 @@
 use Rattle.std.specs.Prelude.{◌≡◌, ◌≤◌, ℕ, ◌+◌, ◌*◌, ◌-◌, ◌==◌, if◌then◌else◌, nat_lt, List, [], ◌∷◌, ◌++◌, length, slice_index, codes, decimal, count_by}
 use Rattle.mc_classes.specs.Classes.{Classes, IsClass, size_of, per_page_of}
 
--- each line ends with CR LF
+-- a line of the statistics, which ends with CR LF
 abbrev pub line : List ℕ → List ℕ
 line text = text ++ codes "\r\n"
 

@@ -57,14 +57,14 @@ impl Decider {
         })
     }
 
-    /// Takes the numbers of a window, one of each for each class, class 1 first: its evictions so far, its pages and its
-    /// free chunks. Says whether a page is to move. It takes no memory.
+    /// Takes the numbers of a window, one of each for each class, class 1 first: its evictions so far, its pages and its free
+    /// chunks. Returns whether a page is to move. It takes no memory.
     ///
-    /// A class is quiet in a window where none of its items was evicted and it has more than 2 pages. A window is led by
-    /// the lowest class with the most evictions, if there were any. A page goes from the lowest class that was quiet in
-    /// the last three windows to the class that led all three. Where there aren't both, the lowest class with at least 2
-    /// pages, and more free chunks than two and a half pages have, gives a page to the pool (own threshold). A decision
-    /// resets nothing (own). At a refusal the decider stays as it was.
+    /// A class is quiet in a window where none of its items was evicted and it has more than 2 pages. A window is led by the
+    /// lowest class with the most evictions, if there were any. A page goes from the lowest class that was quiet in the last
+    /// three windows to the class that led all three. Where there aren't both, a class may give a page to the pool: the lowest
+    /// with at least 2 pages and more free chunks than two and a half pages have (own threshold). A decision resets nothing
+    /// (own). At a refusal the decider stays as it was.
     pub fn feed(
         &mut self,
         evictions: &[u64],
@@ -90,7 +90,7 @@ impl Decider {
         Ok(self.decision())
     }
 
-    /// What the last three windows say, or else the last one's free chunks.
+    /// The decision by the evictions of the last three windows, or else by the last one's free chunks.
     fn decision(&self) -> Option<Decision>
         ensures { result ≡ decision_of self.now }
     {

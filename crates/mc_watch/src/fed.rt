@@ -15,18 +15,18 @@ impl Model for Fed {
     ghost also_owns = { λ _. ftrue };
 }
 
-// It owns nothing.
+// A `Fed` owns nothing.
 unsafe impl Send for Fed {}
 
 impl Fed {
-    /// None yet.
+    /// No windows yet.
     pub(crate) fn new() -> Fed
         ensures { result.windows ≡ [] }
     {
         Fed {}
     }
 
-    /// One more, with these numbers.
+    /// These windows and one more, with these numbers.
     pub(crate) fn then(&self, evictions: &[u64], pages: &[u64], free: &[u64]) -> Fed
         ensures { result.windows ≡ record { evictions = evictions.now; pages = pages.now; free = free.now } ∷ self.now.windows }
     {

@@ -1,7 +1,7 @@
 //! Worked examples of the decider, computed by the prover: each the contract of a function with nothing to do.
 ghost use Rattle.mc_watch.specs.Rows.{FewerEvictions, NoSparePage, ShortList, SparePage, ThreeRunning, ThreeWindows};
 
-/// What is decided and refused, window by window.
+/// The decisions and the refusals of worked windows.
 pub fn worked_windows()
     ensures three_windows { ThreeWindows }
     ensures three_running { ThreeRunning }

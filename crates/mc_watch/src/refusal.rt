@@ -1,4 +1,4 @@
-//! Why a decider can't be made or fed.
+//! Why a decider isn't made, or refuses a window.
 
 use mc_memory::Refused;
 use thiserror::Error;

@@ -13,11 +13,11 @@ pub(crate) struct Watched {
     evictions: u64,
     /// How many of these in the last window.
     rise: u64,
-    /// Its pages.
+    /// How many pages the class had in the last window.
     pages: u64,
-    /// Its free chunks.
+    /// How many free chunks the class had in the last window.
     free: u64,
-    /// Whether it was quiet in the last three windows, the newest first.
+    /// Whether the class was quiet in the last three windows, the newest first.
     quiet: [bool; 3],
 }
 
@@ -49,7 +49,7 @@ impl Watched {
         self.quiet = [is_quiet, self.quiet[0], self.quiet[1]];
     }
 
-    /// Whether it was quiet in all of the last three windows.
+    /// Whether the class was quiet in all of the last three windows.
     fn has_been_quiet(&self) -> bool
         ensures { result ≡ has_been_quiet self.now }
     {

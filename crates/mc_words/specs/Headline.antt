@@ -44,8 +44,8 @@ abbrev pub holders_among : ChunkId → List View → ℕ
 holders_among chunk [] = 0
 holders_among chunk (view ∷ views) = holds chunk view.row.holdings + holders_among chunk views
 
--- each page has the one owner that the ledger replays: the untouched rest, the pool, a class of the table or the move; it stands once in the
--- list of its class, or once in the pool's, and in no other; and no page moves but that of the one move
+-- each page has the one owner that the ledger replays: untouched, the pool, a class of the table, or the move. It is once in its class's
+-- list or once in the pool's, and in no other list. At most one page moves
 pub record ArePagesOwned (setup : Setup) (slabs : SlabState) : Type 0 where
   pub replays : replay (all_untouched (arena_pages_of setup.table)) slabs.ledger ≡ Some slabs.owners
   pub classes : (class page : ℕ) → IsClass slabs class → count_by (λ p. p == page) (class_at slabs class).pages ≡ truth (is_of_class class (owner_at slabs.owners page))
@@ -53,17 +53,17 @@ pub record ArePagesOwned (setup : Setup) (slabs : SlabState) : Type 0 where
   pub pool : (page : ℕ) → count_by (λ p. p == page) slabs.pool ≡ truth (is_pool (owner_at slabs.owners page))
   pub move : (a b : ℕ) → IsTrue (is_moving (owner_at slabs.owners a)) → IsTrue (is_moving (owner_at slabs.owners b)) → a ≡ b
 
--- granted bytes keep limit and grace: the bytes of the pages that were granted within the limit are at most the limit; beyond it a class got one
--- page at most, and it always has a page of its own from then on, which isn't moving
+-- granted bytes keep limit and grace: the pages that were granted within the limit have at most the limit's bytes. Beyond the limit a class
+-- got one page at most, and has a page of its own from then on, which isn't moving
 pub record KeepLimitAndGrace (setup : Setup) (slabs : SlabState) : Type 0 where
   pub limit : ordinary_count slabs.ledger * setup.table.page ≤ setup.table.limit
   pub grace : KeepsGrace slabs.owners slabs.ledger
 
--- a chunk of the class stands so often on its free list and in its hand-out order
+-- the chunk is this often on the class's free list, and this often in its hand-out order
 abbrev pub Stands : SlabState → ℕ → ChunkId → ℕ → ℕ → Type 0
 Stands slabs class chunk free out = (times chunk (class_at slabs class).free ≡ free) × (times chunk (class_at slabs class).order ≡ out)
 
--- the chunk is free, and stands once on the class's free list, and not in its hand-out order
+-- the chunk is free; it is once on the class's free list, and not in the hand-out order
 abbrev pub IsFreeChunk : SlabState → ℕ → ChunkId → Head → Type 0
 IsFreeChunk slabs class chunk head = (head.tag ≡ Free) × Stands slabs class chunk 1 0
 
@@ -71,7 +71,7 @@ IsFreeChunk slabs class chunk head = (head.tag ≡ Free) × Stands slabs class c
 abbrev pub IsClearedChunk : SlabState → ℕ → ChunkId → Head → Type 0
 IsClearedChunk slabs class chunk head = (head.tag ≡ Out) × Stands slabs class chunk 0 0 × (is_moving (owner_at slabs.owners chunk.page) ≡ true)
 
--- the chunk is handed out, and stands once in the class's hand-out order, and not on its free list
+-- the chunk is handed out; it is once in the class's hand-out order, and not on the free list
 abbrev pub IsChunkOut : SlabState → ℕ → ChunkId → Head → Type 0
 IsChunkOut slabs class chunk head = ((head.tag ≡ Unlinked) ⊎ (head.tag ≡ Linked)) × Stands slabs class chunk 0 1
 
@@ -79,9 +79,9 @@ IsChunkOut slabs class chunk head = ((head.tag ≡ Unlinked) ⊎ (head.tag ≡ L
 abbrev pub IsInOnePlace : SlabState → ℕ → ChunkId → Head → Type 0
 IsInOnePlace slabs class chunk head = IsFreeChunk slabs class chunk head ⊎ IsClearedChunk slabs class chunk head ⊎ IsChunkOut slabs class chunk head
 
--- with the slabs lock free: the value is of the arena's table, with its classes, its chunks a page and its pages, and accounted for; each page has
--- one owner, as the ledger replays; granted bytes keep limit and grace; each cut chunk is once on a free list, cleared, or handed out; and no
--- other stands in a list: those of a class have chunks of its own pages alone
+-- pages and lists behind the free slabs lock are of the arena's table, and accounted for. Each page has one owner, as the ledger replays,
+-- and granted bytes keep limit and grace. Each cut chunk is once on a free list, cleared, or handed out. The lists of a class have chunks
+-- of its own pages alone
 pub record IsAccountedFor (setup : Setup) (words : List ℕ) (slabs : SlabState) : Type 0 where
   pub of_table : IsOfTable setup.table slabs
   pub pages : ArePagesOwned setup slabs
@@ -91,15 +91,15 @@ pub record IsAccountedFor (setup : Setup) (words : List ℕ) (slabs : SlabState)
   pub only : (class : ℕ) (chunk : ChunkId) → IsClass slabs class → 1 ≤ places_in slabs class chunk →
       (is_of_class class (owner_at slabs.owners chunk.page) ≡ true) × (chunk.index < (class_at slabs class).per_page)
 
--- a chunk that somebody holds is handed out with the issue number that it had as it was got, its page is a class's, and each word that its
--- holder knows of it stands there: so it was neither handed out, cleared nor cut anew
+-- a chunk that somebody holds is handed out with the issue number that it had as the hand got it. Its page is a class's, and each word that
+-- its holder knows is there. So nobody handed the chunk out, cleared it or cut it anew
 pub record IsKeptIn (setup : Setup) (words : List ℕ) (holding : Holding) : Type 0 where
   pub handed_out : IsHandedOut (header_in setup words holding.chunk) holding.issue
   pub owned : 1 ≤ class_in setup words holding.chunk
   pub shows : (place word : ℕ) → slice_get (words_of holding) place ≡ Some (Some word) → data_in setup words holding.chunk place ≡ word
 
--- between any two atomic steps: with the slabs lock free, pages, bytes and chunks are accounted for by the value at home; each header counts
--- exactly its holders, and one more where a key leads to it; and what anybody holds is kept
+-- the promise between any two atomic steps. With the slabs lock free, the value at home accounts for pages, bytes and chunks. Each header
+-- counts exactly its holders, and one more where a key leads to the chunk. What anybody holds is kept
 pub record Headline (setup : Setup) (t : Words) : Type 0 where
   pub free : slice_index t.words slabs_word ≡ 0 → (slabs : SlabState) × (get_elem? t.homes 0 ≡ some (some (OfSlabs slabs))) × IsAccountedFor setup t.words slabs
   pub counts : (chunk : ChunkId) → has_chunk setup.table chunk ≡ true →
@@ -130,8 +130,8 @@ pub record StaysTheSame (setup : Setup) (before now : Words) (holding : Holding)
 abbrev pub HeldStaysTheSame : Type 0
 HeldStaysTheSame = (setup : Setup) (before now : Words) (hand : ℕ) (holding : Holding) → Rule setup before → Rule setup now → IsHeldInBoth before now hand holding → StaysTheSame setup before now holding
 
--- the same of the moment of which a hand knows its view, by the words that the table had then, the value behind the lock and the holdings of
--- all hands
+-- the headline of a hand's view, in the view's lawful moment: on the words that the table had then, the value behind the slabs lock, and
+-- the holdings of all hands
 pub record HeadlineOf (view : View) (was : LawfulView view) : Type 0 where
   pub free : slice_index was.words slabs_word ≡ 0 → IsAccountedFor view.setup was.words was.moment.state.slabs
   pub counts : (chunk : ChunkId) → has_chunk view.setup.table chunk ≡ true →
@@ -147,8 +147,8 @@ ViewsGiveHeadline = (view : View) (was : LawfulView view) → HeadlineOf view wa
 abbrev pub HasSameData : Setup → List ℕ → List ℕ → ChunkId → Type 0
 HasSameData setup before now chunk = (place : ℕ) → place < room_in setup.table (class_in setup before chunk) → data_in setup now chunk place ≡ data_in setup before chunk place
 
--- the chunk is handed out with its issue, its page is of the same class, and the words that the hand itself doesn't write are the same; of a
--- reference they all are
+-- the chunk is handed out with its issue, and its page is of the same class. The words that the hand itself doesn't write are the same;
+-- those of a reference all are
 pub record StaysThroughout (setup : Setup) (before now : List ℕ) (moment : Moment) (hand : ℕ) (chunk : ChunkId) (issue : ℕ) (run : List Event) : Type 0 where
   pub handed_out : IsHandedOut (header_in setup now chunk) issue
   pub owned : 1 ≤ class_in setup now chunk
@@ -156,14 +156,13 @@ pub record StaysThroughout (setup : Setup) (before now : List ℕ) (moment : Mom
   pub unfilled : list_all (λ event. not (fills hand chunk event)) run ≡ true → HasSameData setup before now chunk
   pub referred : (held : Holds moment hand chunk issue) → is_fresh held.holding ≡ false → HasSameData setup before now chunk
 
--- *what a hand keeps over a run stays so in each state of it*: whatever events come behind those of one state, each of them allowed, while the
--- hand holds the chunk before and behind each, in any state that some of them lead to, from the first on, the chunk was handed out all along with
--- this issue, for one class, with the same words
+-- *what a hand keeps over a run stays so in each state of the run*. Events lead from one state to another, each allowed, and the hand holds
+-- the chunk before and after each. Then in each state between, the chunk is handed out with this issue, for one class, with the same words
 abbrev pub HeldStaysThroughout : Type 0
 HeldStaysThroughout = (setup : Setup) (before now : Words) (was : Rule setup before) (is : Rule setup now) (hand : ℕ) (chunk : ChunkId) (issue : ℕ) (run more : List Event) →
     is.ruled.run ≡ was.ruled.run ++ run → KeepsHolding was.ruled.moment hand chunk issue (run ++ more) → StaysThroughout setup before.words now.words was.ruled.moment hand chunk issue run
 
--- *and so in each moment of which some hand knows its view*
+-- *what a hand keeps over a run stays so in each moment of which some hand knows its view*
 abbrev pub ViewsStayThroughout : Type 0
 ViewsStayThroughout = (first last : View) (was : LawfulView first) (is : LawfulView last) (hand : ℕ) (chunk : ChunkId) (issue : ℕ) (run more : List Event) → last.setup ≡ first.setup →
     is.run ≡ was.run ++ run → KeepsHolding was.moment hand chunk issue (run ++ more) → StaysThroughout first.setup was.words is.words was.moment hand chunk issue run

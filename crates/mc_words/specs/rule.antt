@@ -1,4 +1,4 @@
--- The rule of the table.
+-- The rule of the table, in parts.
 pub mod Layout
 pub mod Meaning
 pub mod Happens

@@ -1,4 +1,4 @@
-//! The arena.
+//! The arena: the table that hands share, and what it was made with.
 pub(crate) mod beginning;
 pub(crate) mod creation;
 pub(crate) mod end;
@@ -53,21 +53,21 @@ impl Arena {
     ghost use Rattle.mc_core.specs.State.{has_chunk};
     ghost use Rattle.mc_words.specs.hand.Arenas.{setup_of};
 
-    /// What it was configured with.
+    /// The configuration of the arena.
     pub fn config(&self) -> &Config
         ensures config { result.now ≡ (setup_of self.now).config }
     {
         self.plan.config()
     }
 
-    /// Its size classes.
+    /// The size classes of the arena.
     pub fn classes(&self) -> &ClassTable
         ensures classes { result.now ≡ (setup_of self.now).table }
     {
         self.plan.classes()
     }
 
-    /// Whether it has such a chunk: a header that may be looked at.
+    /// Whether the arena has the chunk: a header that may be looked at.
     #[inline(always)]
     pub fn has_chunk(&self, chunk: ChunkId) -> bool
         ensures { result ≡ has_chunk (setup_of self.now).table chunk }

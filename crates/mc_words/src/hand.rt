@@ -20,10 +20,10 @@ const MOST_STAMPS: u64 = STAMP_UNIT - 1;
 pub struct Hand {
     pub(crate) seat: HandSeat,
     pub(crate) number: u64,
-    /// How many chunks it holds.
+    /// How many chunks the hand holds.
     pub(crate) chunks: u64,
     pub(crate) locks: Locks,
-    /// How many stamps it gave out.
+    /// How many stamps the hand gave out.
     pub(crate) stamps: u64,
     /// How many of its chunks it fills.
     pub(crate) fresh: u64,
@@ -41,7 +41,7 @@ impl Hand {
     ghost use Rattle.mc_words.specs.lock.Slots.{number_of};
     ghost use Rattle.mc_words.specs.hand.Tallies.{next_stamp};
 
-    /// How many chunks it holds, 256 at most: fresh ones, and those that it has references to.
+    /// How many chunks the hand holds, 256 at most: fresh ones, and those that it has references to.
     pub fn refs(&self) -> u64
         ensures count { result ≡ length (view self.now).row.holdings }
         ensures most { LawfulView (view self.now) → result ≤ 256 }
@@ -49,14 +49,14 @@ impl Hand {
         self.chunks
     }
 
-    /// Whether it has no lock.
+    /// Whether the hand has no lock.
     pub fn unlocked(&self) -> bool
         ensures unlocked { result ≡ is_unlocked (view self.now) }
     {
         self.locks.is_neither()
     }
 
-    /// Whether it has no lock and holds no chunk, so that another may take it over.
+    /// Whether the hand has no lock and holds no chunk, so that another may take it over.
     pub fn idle(&self) -> bool
         ensures idle { result ≡ is_idle (view self.now) }
     {
@@ -74,7 +74,7 @@ impl Hand {
         }
     }
 
-    /// Whether it fills a chunk.
+    /// Whether the hand fills a chunk.
     pub fn has_fresh(&self) -> bool
         ensures fresh { result ≡ has_fresh (view self.now).row.holdings }
     {

@@ -5,7 +5,7 @@ ghost use Rattle.mc_core.specs.Head.{decode, is_linked, is_out};
 ghost use Rattle.mc_words.specs.item.Again.{is_there};
 ghost use Rattle.mc_words.specs.page.Owner.{is_unused};
 
-/// What an issue number is multiplied by.
+/// The number by which a header's word multiplies the issue number.
 pub(crate) const ISSUE_UNIT: u64 = 262_144;
 
 /// What a tag's number is multiplied by. From one tag to the next it is added once.

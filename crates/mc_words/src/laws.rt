@@ -14,13 +14,13 @@ pub fn held_stays_the_same()
     ensures { HeldStaysTheSame }
 {}
 
-/// The same holds of the moment of which a hand knows its view, so that a caller has it before each call and behind it.
+/// The promise holds of the moment of which a hand knows its view, so that a caller has it before each call and behind it.
 pub fn views_give_headline()
     ensures { ViewsGiveHeadline }
 {}
 
-/// While a hand keeps a holding over a run of events, the chunk is handed out with that issue number, for one class and with the same
-/// words, in each state of the run.
+/// While a hand keeps a holding over a run of events, each state of the run has the chunk handed out with that issue number. It
+/// is of one class and has the same words.
 pub fn held_stays_throughout()
     ensures rule { HeldStaysThroughout }
     ensures views { ViewsStayThroughout }

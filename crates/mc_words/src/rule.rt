@@ -36,17 +36,17 @@ impl TableRule<Slot, HandView, Plan> for LawfulTable {
 
 pub(crate) type SharedTable = Table<Slot, HandView, Plan, LawfulTable, Global>;
 
-/// What a hand steps with.
+/// The seat by which a hand steps on the table.
 pub(crate) type HandSeat = Seat<Slot, HandView>;
 
-// What a step tells is picked by the function that makes it.
+// The function that makes a step picks what the step shows.
 impl Play<Slot, HandView> for Brand {
     ghost use Rattle.std.specs.Prelude.{◌≡◌};
 
     ghost then = { λ step me found now. now ≡ me };
 }
 
-/// One hand of two.
+/// The join that makes one hand of two.
 pub struct BothHands;
 
 impl Join<HandView> for BothHands {
@@ -57,7 +57,7 @@ impl Join<HandView> for BothHands {
     ghost spent = { spent_view };
 }
 
-/// A hand that was made of two is told so.
+/// A hand that was made of two learns of that.
 pub struct ToldOfBoth;
 
 impl Play<Slot, HandView> for ToldOfBoth {

@@ -4,7 +4,7 @@ use Rattle.std.specs.Option.{option_map_or}
 use Rattle.mc_script.specs.declared.command.Command.{Command}
 use Rattle.mc_script.specs.declared.command.Command.TheVariants.{Set, Delete, Get, Hold, Drop, Touch}
 
--- whose line it is, and about which key, if it is a worker's
+-- the worker of a line, and the key that the line is about
 pub record Asked : Type 0 where
   pub worker : ℕ
   pub key : ℕ
@@ -31,7 +31,7 @@ is_asked_by worker command = option_map_or (λ asked. asked.worker == worker) (a
 abbrev pub lines_of : ℕ → List Command → List Command
 lines_of worker commands = filter (is_asked_by worker) commands
 
--- the line is no worker's, and so the mover's
+-- the line is the mover's, as it is no worker's
 abbrev pub is_movers : Command → Bool
 is_movers command = not (is_workers command)
 
@@ -39,7 +39,7 @@ is_movers command = not (is_workers command)
 abbrev pub lines_of_mover : List Command → List Command
 lines_of_mover commands = filter is_movers commands
 
--- whose line it is, the mover being worker 0
+-- the worker whose line a command is; the mover is worker 0
 abbrev pub worker_of : Command → ℕ
 worker_of command = option_map_or (λ asked. asked.worker) (asked_by command) 0
 

@@ -16,7 +16,7 @@ use Rattle.mc_workers.specs.Threads.{AreDone, IsServed}
 abbrev pub PassesLines : LetsOn → List Command → ℕ → Type 0
 PassesLines lets_on commands worker = PassedEach lets_on worker (length (lines_of worker commands))
 
--- so was the mover
+-- the mover was let on before and after each of its lines
 abbrev pub PassesMoves : LetsOn → List Command → Type 0
 PassesMoves lets_on commands = PassedEach lets_on 0 (length (lines_of_mover commands))
 
@@ -24,18 +24,18 @@ PassesMoves lets_on commands = PassedEach lets_on 0 (length (lines_of_mover comm
 abbrev pub StopsLines : LetsOn → Stops → List Command → ℕ → Type 0
 StopsLines lets_on stops commands worker = Stopped lets_on stops worker (length (lines_of worker commands))
 
--- so many workers from this number on were let on at each line, and so was the mover
+-- n workers from this number on, and the mover, were let on at each line
 pub record PassesAll (lets_on : LetsOn) (commands : List Command) (worker count : ℕ) : Type 0 where
   pub workers : (own : ℕ) → worker ≤ own → own < worker + count → PassesLines lets_on commands own
   pub mover : PassesMoves lets_on commands
 
--- one of these workers was stopped, or the mover was
+-- one of n workers from this number on was stopped, or the mover was
 abbrev pub StopsOne : LetsOn → Stops → List Command → ℕ → ℕ → Type 0
 StopsOne lets_on stops commands worker count =
     ((own : ℕ) × (worker ≤ own) × (own < worker + count) × StopsLines lets_on stops commands own)
     ⊎ StopsMoves lets_on stops 0 commands
 
--- one was stopped, and whoever wasn't was let on at each line: nobody's memory or thread was refused
+-- a worker or the mover was stopped, and each that wasn't was let on at each line; nobody's memory or thread was refused
 pub record StopsSome (lets_on : LetsOn) (stops : Stops) (commands : List Command) (worker count : ℕ) : Type 0 where
   pub workers : (own : ℕ) → worker ≤ own → own < worker + count
       → PassesLines lets_on commands own ⊎ StopsLines lets_on stops commands own
@@ -46,23 +46,24 @@ pub record StopsSome (lets_on : LetsOn) (stops : Stops) (commands : List Command
 abbrev pub RunPasses : LetsOn → List Command → Type 0
 RunPasses lets_on commands = PassesAll lets_on commands 1 (greatest_worker commands)
 
--- one of them was stopped, and whoever wasn't was let on at each line
+-- some thread of the run was stopped, and each that wasn't was let on at each line
 abbrev pub RunStops : LetsOn → Stops → List Command → Type 0
 RunStops lets_on stops commands = StopsSome lets_on stops commands 1 (greatest_worker commands)
 
--- a worker's thread ended so: its lines were done, each let on; or it was stopped at one; or neither, where memory was refused
+-- how a worker's thread ended: its lines were done, each let on; the gate stopped it at one; or memory was refused
 pub record EndsServed (lets_on : LetsOn) (stops : Stops) (arena : Arena) (worker : ℕ) (commands : List Command) (hand : Hand) (ended : Result Served Ended) : Type 0 where
   pub served : IfOk ended (IsServed arena worker commands hand)
   pub passed : OnOk ended (PassesLines lets_on commands worker)
   pub stopped : ended ≡ Err Turns → StopsLines lets_on stops commands worker
 
--- so did the workers from this number on, each by one of these hands, and the mover
+-- the threads of the workers from this number on and of the mover ended. Where they did their lines by these hands, each was let on. Where
+-- `Turns` ended them, one was stopped
 pub record EndsJoined (lets_on : LetsOn) (stops : Stops) (arena : Arena) (worker : ℕ) (commands : List Command) (hands : List Hand) (mover : Hand) (ended : Result Joined Ended) : Type 0 where
   pub done : IfOk ended (AreDone arena worker commands hands mover)
   pub passed : OnOk ended (PassesAll lets_on commands worker (length hands))
   pub stopped : ended ≡ Err Turns → StopsSome lets_on stops commands worker (length hands)
 
--- one of two ends is a stop, and the other that or none
+-- one of two ends is `Turns`, and the other is `Turns`, too, or no error
 abbrev pub AreTurns : Result Served Ended → Result Joined Ended → Type 0
 AreTurns (Ok served) (Err Turns) = ⊤
 AreTurns (Err Turns) (Ok joined) = ⊤

@@ -3,11 +3,11 @@ use Rattle.std.specs.Prelude.{ℕ, ◌+◌, ◌<◌, ◌≤◌, ◌⊎◌}
 use Rattle.mc_workers.specs.declared.gate.Point.{Point}
 use Rattle.mc_workers.specs.declared.gate.Point.TheVariants.{Before, After}
 
--- what a gate says of a worker that it let on at this of its lines, before and after it
+-- the relation by which a gate let a worker on, at a line of the worker's, before or after it
 abbrev pub LetsOn : Type 1
 LetsOn = ℕ → ℕ → Point → Type 0
 
--- what it says of a worker that it stopped there
+-- the relation by which a gate stopped a worker, at a line of the worker's, before or after it
 abbrev pub Stops : Type 1
 Stops = ℕ → ℕ → Point → Type 0
 
@@ -15,7 +15,7 @@ Stops = ℕ → ℕ → Point → Type 0
 abbrev pub Passed : LetsOn → ℕ → ℕ → Type 0
 Passed lets_on worker nth = lets_on worker nth Before × lets_on worker nth After
 
--- so it was at each of its first lines, counted from 1
+-- the worker was let on before and after each of its first n lines, counted from 1
 abbrev pub PassedEach : LetsOn → ℕ → ℕ → Type 0
 PassedEach lets_on worker count = (nth : ℕ) → 1 ≤ nth → nth ≤ count → Passed lets_on worker nth
 
@@ -24,7 +24,7 @@ abbrev pub StoppedAt : LetsOn → Stops → ℕ → ℕ → Type 0
 StoppedAt lets_on stops worker nth =
     stops worker nth Before ⊎ (lets_on worker nth Before × stops worker nth After)
 
--- of so many lines the worker was let on at the first ones, and stopped at the next
+-- the worker was let on at the first of its n lines, and stopped at the next
 pub record Stopped (lets_on : LetsOn) (stops : Stops) (worker count : ℕ) : Type 0 where
   pub done : ℕ
   pub fewer : done < count

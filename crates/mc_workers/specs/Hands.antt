@@ -13,23 +13,23 @@ use Rattle.mc_items.specs.Keeping.{HoldsTheSame}
 abbrev pub IsReadyHandOf : Arena → Hand → Type 0
 IsReadyHandOf arena hand = IsHandOf arena hand × IsReady (view hand)
 
--- so is a worker's hand, which holds what these references are to
+-- the worker's hand is one of the arena's, may make any call, and holds what these references are to
 pub record IsKeeping (arena : Arena) (hand : Hand) (kept : List Ref) : Type 0 where
   pub hand_is : IsReadyHandOf arena hand
   pub keeps : AreKept (view hand) kept
 
--- behind a call the hand may make any call still, and has the same number
+-- the hand may make any call after the call, too, and has the same number
 pub record StaysReady (arena : Arena) (before now : Hand) : Type 0 where
   pub hand_is : IsReadyHandOf arena now
   pub number : number_of now ≡ number_of before
 
--- so has this one, which holds what it held
+-- the hand may make any call after the call, too, has the same number, and holds what it held
 pub record StaysHolding (arena : Arena) (before now : Hand) : Type 0 where
   pub hand_is : IsReadyHandOf arena now
   pub number : number_of now ≡ number_of before
   pub holdings : HoldsTheSame (view before) (view now)
 
--- so has a worker's, which holds what these references are to
+-- the worker's hand may make any call after the call, too, has the same number, and holds what these references are to
 pub record StaysKeeping (arena : Arena) (before now : Hand) (kept : List Ref) : Type 0 where
   pub hand_is : IsReadyHandOf arena now
   pub number : number_of now ≡ number_of before

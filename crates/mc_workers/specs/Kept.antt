@@ -31,7 +31,7 @@ pub record IsLastAt (key : ℕ) (kept : List Ref) (place : ℕ) : Type 0 where
   pub of_key : (d : Ref) → item_key (slice_index_or kept place d) ≡ key
   pub later : All (IsToOther key) (drop (place + 1) kept)
 
--- of the holds of the key this one came last, and these are left without it
+-- this hold is the last of the key, and these are the holds without it
 pub record IsLastOf (key : ℕ) (holds : List Hold) (last : Hold) (left : List Hold) : Type 0 where
   pub before : List Hold
   pub behind : List Hold

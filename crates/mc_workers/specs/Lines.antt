@@ -14,11 +14,11 @@ use Rattle.mc_workers.specs.Kept as kept
 use Rattle.mc_workers.specs.Replies.{reply_text}
 use Rattle.mc_workers.specs.Serving.{Serves}
 
--- the line that tells a reply to a command
+-- the line of a reply to a command
 abbrev pub reply_to : Command → Reply → List ℕ
 reply_to command reply = option_map_or (λ asked. reply_text asked.key reply) (asked_by command) []
 
--- lines that were done one after another, each with its reply, from these holds on to those; and what was told
+-- the lines were done one after another, each with its reply, from these holds on to those
 abbrev pub ServesEach : Setup → List Command → List Reply → List kept.Hold → Hand → List kept.Hold → Hand → Type 0
 ServesEach setup [] [] held before left now = (left ≡ held) × (now ≡ before)
 ServesEach setup (command ∷ commands) (reply ∷ replies) held before left now =
@@ -30,13 +30,13 @@ abbrev pub replies_to : List Command → List Reply → List ℕ
 replies_to (command ∷ commands) (reply ∷ replies) = reply_to command reply ++ replies_to commands replies
 replies_to commands replies = []
 
--- a line was done, and the line that tells its reply was added to the text
+-- a line was done, and the line of its reply was added to the text
 pub record AddsReply (setup : Setup) (command : Command) (held : List kept.Hold) (before : Hand) (text : List ℕ) (left : List kept.Hold) (now : Hand) (longer : List ℕ) : Type 0 where
   pub reply : Reply
   pub serves : Serves setup command reply held before left now
   pub added : longer ≡ text ++ reply_to command reply
 
--- so were all lines of the worker, in order
+-- all lines of the worker were done, in order, and the lines of their replies were added to the text
 pub record ServesLines (setup : Setup) (worker : ℕ) (commands : List Command) (held : List kept.Hold) (before : Hand) (text : List ℕ) (left : List kept.Hold) (now : Hand) (longer : List ℕ) : Type 0 where
   pub replies : List Reply
   pub serves : ServesEach setup (lines_of worker commands) replies held before left now
@@ -47,7 +47,7 @@ abbrev pub all_released : List Ref → View → View
 all_released [] view = view
 all_released (item ∷ items) view = chunk_released (item_chunk item) (all_released items view)
 
--- the worker's lines were done in order from no holds on, this was told, and what it still held was given back
+-- the worker's lines were done in order, from no holds on. The text has their replies, and what the worker still held was given back
 pub record DoesLines (setup : Setup) (worker : ℕ) (commands : List Command) (before : Hand) (text : List ℕ) (now : Hand) : Type 0 where
   pub replies : List Reply
   pub left : List kept.Hold

@@ -28,7 +28,7 @@ use Rattle.mc_workers.specs.Surveyed.{AreTellable, granted_in}
 abbrev pub pooled : Result (Unit {0}) Reassign → Option Acted
 pooled answer = Some (record { decision = record { src = 3; dst = 0 }; answer = answer })
 
--- source and destination come in this order, and the answer behind them
+-- the line of a window has source and destination in this order, and then the answer
 abbrev pub WindowsAreTold : Type 0
 WindowsAreTold =
     (window_text (pooled (Ok tt)) ≡ codes "WINDOW " ++ decimal 3 ++ codes " " ++ decimal 0 ++ codes " OK\r\n")
@@ -43,7 +43,7 @@ abbrev pub IsFedInEveryMode : Type 0
 IsFedInEveryMode = (decider : DeciderState) (survey : Survey) → refusal_for decider survey ≡ None →
     decider_after decider survey ≡ after_window decider (evictions_in survey) (pages_in survey) (free_in survey)
 
--- numbers that it refuses change nothing
+-- numbers that the decider refuses change nothing
 abbrev pub RefusedNumbersChangeNothing : Type 0
 RefusedNumbersChangeNothing = (decider : DeciderState) (survey : Survey) (refusal : Feed) → refusal_for decider survey ≡ Some refusal →
     (decider_after decider survey ≡ decider) × (decision_after decider survey ≡ None)
@@ -53,11 +53,11 @@ abbrev pub DecisionsAreActedOn : Type 0
 DecisionsAreActedOn = (decision : Decision) (acted : Acted) (before now : Hand) →
     (ActsOnDecision (Some decision) None before now → ⊥) × (ActsOnDecision None (Some acted) before now → ⊥)
 
--- what a turn counted that cleared 3 chunks, one of them by a rescue, and found 2 busy
+-- the counts of a turn that cleared 3 chunks, one of them by a rescue, and found 2 busy
 abbrev pub first_counts : turns.Counts
 first_counts = record { cleared = 3; rescued = 1; evicted = 0; busy = 2; locked = 0 }
 
--- what a turn counted that cleared 4 chunks, one of them by an eviction, and found 5 with their stripe locked
+-- the counts of a turn that cleared 4 chunks, one of them by an eviction, and found 5 with their stripe locked
 abbrev pub last_counts : turns.Counts
 last_counts = record { cleared = 4; rescued = 0; evicted = 1; busy = 0; locked = 5 }
 
@@ -70,7 +70,7 @@ TurnsGoOnUntilDone =
     × (AreTurnsOf 2 (turn.Idle ∷ turn.Went last_counts ∷ []) Went → ⊥)
     × (AreTurnsOf 1 (turn.Went first_counts ∷ turn.Went last_counts ∷ []) Went → ⊥)
 
--- the sums are kind by kind
+-- the sums of a line's turns are kind by kind
 abbrev pub TurnsAreSummed : Type 0
 TurnsAreSummed =
     counts_of_all (turn.Went first_counts ∷ turn.Idle ∷ turn.Finished last_counts ∷ [])
@@ -87,7 +87,7 @@ TurnsAreCounted = (asked : ℕ) (ending : Ending) (counts : Counts) (mover : Mov
     DoesTurns asked ending counts mover before left now →
     (turns_of mover < turns_of left) × (turns_of left ≤ turns_of mover + asked) × (turns_of left ≤ 1000000)
 
--- one ends the run only where it asks for more than are left
+-- a line of turns ends the run only where it asks for more turns than are left
 abbrev pub TurnsRunOut : Type 0
 TurnsRunOut = (asked : ℕ) (mover : Mover) (before : Hand) (left : Mover) (now : Hand) →
     RunsOutOfTurns asked mover before left now → 1000000 < turns_of mover + asked
@@ -109,7 +109,7 @@ TotalsAreTold = (survey : Survey) →
 abbrev pub two_a_page : Classes
 two_a_page = record { page = 1024; limit = 4096; sizes = 512 ∷ [] }
 
--- a page of it has no three free chunks; bytes granted are those of whole pages
+-- a page of two chunks can't have three free ones; granted bytes are those of whole pages
 abbrev pub ClassesAreTold : Type 0
 ClassesAreTold = (survey : Survey) →
     (pages_in survey ≡ 1 ∷ [] → free_in survey ≡ 3 ∷ [] → AreTellable two_a_page survey → ⊥)

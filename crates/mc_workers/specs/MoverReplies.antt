@@ -34,11 +34,11 @@ totals_text survey =
 abbrev pub classes_text : Classes → Survey → List ℕ
 classes_text table survey = slabs_text table (pages_in survey) (free_in survey) (granted_in table survey)
 
--- both, those of the classes first
+-- the text of all statistics: those of the classes, and then the totals
 abbrev pub statistics_text : Classes → Survey → List ℕ
 statistics_text table survey = classes_text table survey ++ totals_text survey
 
--- the lines that tell a reply, where the classes are those of the table
+-- the lines of a reply, where the classes are those of the table
 abbrev pub mover_text : Classes → MoverReply → List ℕ
 mover_text table (Answer answer) = line (told_name answer)
 mover_text table Mode = line (codes "OK")
@@ -47,7 +47,7 @@ mover_text table (Turned ending counts) = turn_line ending counts
 mover_text table (Totals survey) = totals_text survey
 mover_text table (OfClasses survey) = classes_text table survey
 
--- what a reply has of a survey of the classes can be told
+-- a reply's survey of the classes, if it has one, can be printed
 abbrev pub CanTell : Classes → MoverReply → Type 0
 CanTell table (OfClasses survey) = AreTellable table survey
 CanTell table other = Unit {0}

@@ -21,19 +21,19 @@ MovesEach commands replies mover before left now = ⊥
 abbrev pub mover_texts : Classes → List MoverReply → List ℕ
 mover_texts table replies = flat_map (mover_text table) replies
 
--- a line was done, and the lines that tell its reply were added to the text
+-- a line was done, and the lines of its reply were added to the text
 pub record AddsMove (table : Classes) (command : Command) (mover : Mover) (before : Hand) (text : List ℕ) (left : Mover) (now : Hand) (longer : List ℕ) : Type 0 where
   pub reply : MoverReply
   pub serves : ServesMover command reply mover before left now
   pub added : longer ≡ text ++ mover_text table reply
 
--- so were all lines of the mover, in order
+-- all lines of the mover were done, in order, and the lines of their replies were added to the text
 pub record AddsMoves (table : Classes) (commands : List Command) (mover : Mover) (before : Hand) (text : List ℕ) (left : Mover) (now : Hand) (longer : List ℕ) : Type 0 where
   pub replies : List MoverReply
   pub moves : MovesEach (lines_of_mover commands) replies mover before left now
   pub added : longer ≡ text ++ mover_texts table replies
 
--- the mover's lines were done in order, with a decider that was fed no window and no turn begun at first, and this was told
+-- the mover's lines were done in order, with a fresh decider and no turn begun at first, and the text has their replies
 pub record MovesLines (table : Classes) (commands : List Command) (before : Hand) (text : List ℕ) (now : Hand) : Type 0 where
   pub first : Mover
   pub fresh : decider_of first ≡ fresh_decider table

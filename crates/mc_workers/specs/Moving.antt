@@ -1,4 +1,4 @@
--- What a line of the mover does by its hand, as the reply tells it.
+-- What a line of the mover does by its hand, as the reply reports it.
 use Rattle.std.specs.Prelude.{◌≡◌, ◌≢◌, ℕ, ◌+◌, ◌<◌, ◌≤◌, ◌==◌, true, false, ◌&&◌, is_none, is_some, if◌then◌else◌, List, [], ◌∷◌, ◌++◌, length, All, Option, Some, None, Result, Ok, Err, ◌⊎◌, ⊤}
 use Rattle.mc_pages.specs.declared.moves.Reassign.{Reassign}
 use Rattle.mc_pages.specs.declared.moves.Reassign.TheVariants.{NoMemory}
@@ -39,31 +39,33 @@ decider_of mover = mover.decider
 abbrev pub turns_of : Mover → ℕ
 turns_of mover = mover.turns
 
--- a page was asked for, and this was answered; it wasn't memory that was wanting
+-- a page was asked for, and got this answer, which isn't that memory was missing
 abbrev pub AsksForPage : Option ℕ → ℕ → Result (Unit {0}) Reassign → Hand → Hand → Type 0
 AsksForPage src dst answer before now = ActsOnce (λ number. Reassigns number src dst answer) before now × (answer ≢ Err (NoMemory tt))
 
--- why the decider doesn't take the numbers of a survey. In a run it takes all, as classes stay and evictions never fall, but no contract says so
+-- why the decider doesn't take the numbers of a survey. In a run it takes all, as classes stay and evictions never fall, but no contract
+-- states this
 abbrev pub refusal_for : DeciderState → Survey → Option Feed
 refusal_for decider survey = refusal_of decider (evictions_in survey) (pages_in survey) (free_in survey)
 
--- the decider at the end of a window with these numbers, in whatever mode; it stays where it doesn't take them
+-- the decider at the end of a window with these numbers, in any mode; a decider that refuses the numbers stays
 abbrev pub decider_after : DeciderState → Survey → DeciderState
 decider_after decider survey =
     if is_some (refusal_for decider survey) then decider else after_window decider (evictions_in survey) (pages_in survey) (free_in survey)
 
--- the decision that is acted on then: in mode 1 alone there may be one, and none where the decider didn't take the numbers
+-- the decision at a window's end: in mode 1 alone there may be one, and none where the decider refuses the numbers
 abbrev pub decision_after : DeciderState → Survey → Option Decision
 decision_after decider survey = if is_none (refusal_for decider survey) && survey.mode == 1 then decision_of (decider_after decider survey) else None
 
--- the page of the decision was asked for, and that is what became of it; or there is none, and nothing was done
+-- the page of the decision was asked for, and got the recorded answer; or there is no decision, and nothing was done
 abbrev pub ActsOnDecision : Option Decision → Option Acted → Hand → Hand → Type 0
 ActsOnDecision None None before now = now ≡ before
 ActsOnDecision (Some decision) (Some acted) before now =
     (acted.decision ≡ decision) × AsksForPage (Some decision.src) decision.dst acted.answer before now
 ActsOnDecision decision acted before now = ⊥
 
--- at a window's end the dead of all classes were put back, the decider was fed what was left then, and its decision was acted on
+-- at a window's end the dead chunks of all classes were put back; the decider got the numbers of what was left, and its decision was acted
+-- on
 pub record ActsOnWindow (acted : Option Acted) (mover : Mover) (before : Hand) (left : Mover) (now : Hand) : Type 0 where
   pub survey : Survey
   pub surveyed : Hand
@@ -77,7 +79,7 @@ TrimsAs (Ok all) before now = TrimsAll (number_of before) (view before).setup.co
 TrimsAs (Err trim.Full) before now = StopsTrimming (number_of before) FindsFull (view before) (view now)
 TrimsAs (Err (trim.NoMemory refused)) before now = StopsTrimming (number_of before) FindsNotFull (view before) (view now)
 
--- a window ended: so it was, and then all was trimmed, as far as that is told
+-- a window ended: the decision was acted on as `acted` reports, and then all was trimmed, as far as `trimmed` reports
 pub record EndsWindow (acted : Option Acted) (trimmed : Result (Unit {0}) Trim) (mover : Mover) (before : Hand) (left : Mover) (now : Hand) : Type 0 where
   pub decided : Hand
   pub acts : ActsOnWindow acted mover before left decided
@@ -100,17 +102,17 @@ ending_of turn.Idle = Idle
 ending_of (turn.Went counts) = Went
 ending_of (turn.Finished counts) = Finished
 
--- the page that it found on the move is so still
+-- the turn went on: it found a move and didn't end it
 abbrev pub WentOn : Turn → Type 0
 WentOn turn = ending_of turn ≡ Went
 
--- these turns were done one after another, each in one hold of the lock of the slabs, and each tells its evictions and rescues
+-- the turns were done one after another, each in one hold of the slabs lock, and each records its evictions and rescues
 abbrev pub TurnsEach : List Turn → Hand → Hand → Type 0
 TurnsEach [] before now = now ≡ before
 TurnsEach (turn ∷ turns) before now =
     (next : Hand) × ActsOnce (λ number. Turns number turn) before next × TellsTurn before next turn × TurnsEach turns next now
 
--- these counts, and those of a turn
+-- the counts with those of a turn added
 abbrev pub counts_with : Turn → Counts → Counts
 counts_with turn counts = record {
   cleared = counts.cleared + (counts_in turn).cleared;
@@ -125,7 +127,7 @@ abbrev pub counts_of_all : List Turn → Counts
 counts_of_all [] = no_counts
 counts_of_all (turn ∷ turns) = counts_with turn (counts_of_all turns)
 
--- the turns of a line that asks for so many: all but the last went on, and where the last did, too, there are as many as that
+-- the turns of a line that asks for n: all but the last went on, and where the last went on, too, there are n
 pub record AreTurnsOf (asked : ℕ) (turns : List Turn) (ending : Ending) : Type 0 where
   pub earlier : List Turn
   pub last : Turn
@@ -135,7 +137,7 @@ pub record AreTurnsOf (asked : ℕ) (turns : List Turn) (ending : Ending) : Type
   pub most : length turns ≤ asked
   pub enough : WentOn last → length turns ≡ asked
 
--- so many turns were asked for, and these were done, of the 1,000,000 that a run has; their sums are told, and how the last one ended
+-- n turns were asked for, and these were done, of the 1,000,000 that a run has. The reply has their sums, and how the last one ended
 pub record DoesTurns (asked : ℕ) (ending : Ending) (counts : Counts) (mover : Mover) (before : Hand) (left : Mover) (now : Hand) : Type 0 where
   pub turns : List Turn
   pub are : AreTurnsOf asked turns ending
@@ -163,12 +165,12 @@ ServesMover command.Stats (Totals survey) mover before left now = ActsOnce (λ n
 ServesMover command.StatsSlabs (Classes survey) mover before left now = ActsOnce (λ number. Surveys true survey) before now × (left ≡ mover)
 ServesMover command reply mover before left now = ⊥
 
--- a line of the mover that ended the run: only one of turns does
+-- a line of the mover that ended the run, which only a line of turns does
 abbrev pub StopsMover : Command → Mover → Hand → Mover → Hand → Type 0
 StopsMover (command.Turn asked) mover before left now = RunsOutOfTurns asked mover before left now
 StopsMover command mover before left now = ⊥
 
--- a line of the mover that didn't end well: nothing is said of it, but that a window trimmed nothing
+-- a line of the mover that didn't end well: all that is known is that a window trimmed nothing
 abbrev pub RefusesMover : Command → Hand → Hand → Type 0
 RefusesMover command.Window before now = RefusesWindow before now
 RefusesMover command before now = ⊤

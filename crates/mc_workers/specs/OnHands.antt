@@ -1,4 +1,4 @@
--- What clauses say of a line: of the hand that did it, and of the references that it keeps, before and after.
+-- What clauses state of a line: of the hand that did it, and of the references that it keeps, before and after.
 use Rattle.std.specs.Prelude.{ℕ, List}
 use Rattle.mc_words.specs.declared.arena.Arena.{Arena}
 use Rattle.mc_words.specs.declared.hand.Hand.{Hand}
@@ -26,20 +26,20 @@ abbrev pub ServesBy : Arena → Command → Reply → Hand → List Ref → Hand
 ServesBy arena command reply before kept now left =
     Serves (setup_of arena) command reply (holds_of (view before) kept) before (holds_of (view now) left) now
 
--- a line of a worker was done, and the line that tells its reply was added to the text
+-- a line of a worker was done, and the line of its reply was added to the text
 abbrev pub AddsReplyBy : Arena → Command → Hand → List Ref → List ℕ → Hand → List Ref → List ℕ → Type 0
 AddsReplyBy arena command before kept text now left longer =
     AddsReply (setup_of arena) command (holds_of (view before) kept) before text (holds_of (view now) left) now longer
 
--- all lines of a worker were done, in order, and the lines that tell their replies were added to the text
+-- all lines of a worker were done, in order, and the lines of their replies were added to the text
 abbrev pub ServesLinesBy : Arena → ℕ → List Command → Hand → List Ref → List ℕ → Hand → List Ref → List ℕ → Type 0
 ServesLinesBy arena worker commands before kept text now left longer =
     ServesLines (setup_of arena) worker commands (holds_of (view before) kept) before text (holds_of (view now) left) now longer
 
--- a line of the mover was done, and the line that tells its reply was added to the text
+-- a line of the mover was done, and the lines of its reply were added to the text
 abbrev pub AddsMoveBy : Arena → Command → Hand → Mover → List ℕ → Hand → Mover → List ℕ → Type 0
 AddsMoveBy arena command before mover text now left longer = AddsMove (setup_of arena).table command mover before text left now longer
 
--- all lines of the mover were done, in order, and the lines that tell their replies were added to the text
+-- all lines of the mover were done, in order, and the lines of their replies were added to the text
 abbrev pub AddsMovesBy : Arena → List Command → Hand → Mover → List ℕ → Hand → Mover → List ℕ → Type 0
 AddsMovesBy arena commands before mover text now left longer = AddsMoves (setup_of arena).table commands mover before text left now longer

@@ -4,7 +4,7 @@ use Rattle.mc_serial_spec.specs.Texts.{key_line, words_line}
 use Rattle.mc_workers.specs.declared.reply.Reply.{Reply}
 use Rattle.mc_workers.specs.declared.reply.Reply.TheVariants.{Stored, TooLarge, NoRoom, WornOut, Value, Held, Dropped, Deleted, Touched, NotFound, NotHeld, TooManyRefs}
 
--- the line that tells a reply about a key
+-- the line of a reply about a key
 abbrev pub reply_text : ℕ → Reply → List ℕ
 reply_text key Stored = key_line (codes "STORED") key
 reply_text key TooLarge = key_line (codes "TOO_LARGE") key

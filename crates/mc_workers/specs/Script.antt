@@ -18,7 +18,7 @@ use Rattle.mc_workers.specs.Asking.{greatest_worker}
 use Rattle.mc_workers.specs.MoverReplies.{statistics_text}
 use Rattle.mc_workers.specs.Threads.{AreDone}
 
--- an arena was made with so many hands; the mover's, the first, set the mode, and the others did nothing yet
+-- an arena was made with n hands; the mover's, the first, set the mode, and the others did nothing yet
 pub record IsOpened (config : Config) (mode hands : ℕ) (arena : Arena) (mover : Hand) (workers : List Hand) : Type 0 where
   pub made : IsMadeWith config hands 0 (setup_of arena)
   pub first : Hand
@@ -27,18 +27,18 @@ pub record IsOpened (config : Config) (mode hands : ℕ) (arena : Arena) (mover 
   pub others : AreHandsFrom arena 1 workers
   pub count : 1 + length workers ≡ hands
 
--- the dead of all classes were put back, and the survey says what was left then: pages and lists of this table
+-- the dead chunks of all classes were put back, and the survey is of what was left then: pages and lists of this table
 abbrev pub SurveysWhole : Classes → Survey → SlabsDoing
 SurveysWhole table survey view slabs now left = Surveys true survey view slabs now left × IsOfTable table left
 
--- what the workers were told, then what the mover was, and then the statistics of a survey that the one hand of all made last
+-- the text has the workers' replies, then the mover's, and then the statistics of a survey that the one hand of all made last
 pub record TellsAll (arena : Arena) (joined : Joined) (text : List ℕ) : Type 0 where
   pub survey : Survey
   pub last : Hand
   pub surveys : ActsOnce (λ number. SurveysWhole (setup_of arena).table survey) joined.hand last
   pub told : text ≡ joined.workers.items ++ joined.mover.items ++ statistics_text (setup_of arena).table survey
 
--- the script's lines were done on a new arena, with a hand for the mover and one for each worker up to the greatest, and this was told
+-- the script's lines were done on a new arena, with a hand for the mover and one for each worker. The text has their replies
 pub record ServesScript (config : Config) (mode : ℕ) (commands : List Command) (text : List ℕ) : Type 0 where
   pub arena : Arena
   pub mover : Hand

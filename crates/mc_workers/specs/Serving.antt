@@ -1,4 +1,4 @@
--- What a worker's line does by its hand, as the reply tells it.
+-- What a worker's line does by its hand, as the reply reports it.
 use Rattle.std.specs.Prelude.{◌≡◌, ◌≤◌, ℕ, List, [], ◌∷◌, ◌++◌, length, All, true, false, Some, None, Option}
 use Rattle.std.specs.Option.{option_map}
 use Rattle.mc_stripe.specs.declared.history.Call.TheVariants as call
@@ -21,7 +21,7 @@ use Rattle.mc_workers.specs.declared.reply.Reply.{Reply}
 use Rattle.mc_workers.specs.declared.reply.Reply.TheVariants.{Stored, TooLarge, NoRoom, WornOut, Value, Held, Dropped, Deleted, Touched, NotFound, NotHeld, TooManyRefs}
 use Rattle.mc_workers.specs.Kept.{Hold, IsLastOf, IsOfOther, hold_of}
 
--- the words were stored under the key, which the hand's own calls tell with the stamp
+-- the words were stored under the key, and the hand's own calls have the set with its stamp
 abbrev pub StoresWords : ℕ → List ℕ → Hand → Hand → Type 0
 StoresWords key words before now =
     (stamp : ℕ) × SetsItem (number_of before) key stamp words (view before) (view now) × TellsSet (number_of before) key stamp (view before) (view now)
@@ -34,12 +34,12 @@ AnswersSet key words NoRoom before now = RefusesSet (number_of before) key words
 AnswersSet key words WornOut before now = RefusesSet (number_of before) key words refused.WornOut (view before) (view now)
 AnswersSet key words other before now = ⊥
 
--- the key was looked up, and this reference to its item was got, which the hand's own calls tell with the item's stamp; or none
+-- the key was looked up, and the hand got this reference to its item, or none; the hand's own calls have the get with the item's stamp
 abbrev pub Finds : Setup → ℕ → Option Ref → Hand → Hand → Type 0
 Finds setup key found before now =
     Gets setup key found before now × TellsOn setup key (λ number. call.Get number key (option_map item_stamp found)) before now
 
--- the hand holds as many chunks as it may, and nothing was done
+-- the hand holds 255 chunks or more, and did nothing
 abbrev pub HoldsMost : Hand → Hand → Type 0
 HoldsMost before now = (255 ≤ length (view before).row.holdings) × (view now ≡ view before)
 
@@ -75,7 +75,7 @@ AnswersHold setup key NotFound held before left now = Finds setup key None befor
 AnswersHold setup key TooManyRefs held before left now = HoldsMost before now × (left ≡ held)
 AnswersHold setup key other held before left now = ⊥
 
--- the last hold of the key was given back; the words are those that stood there when it was taken
+-- the last hold of the key was given back; the words are those that were there when the hold was taken
 pub record DropsLast (key : ℕ) (words : List ℕ) (held : List Hold) (before : Hand) (left : List Hold) (now : Hand) : Type 0 where
   pub last : Hold
   pub is : IsLastOf key held last left

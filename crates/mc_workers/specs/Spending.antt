@@ -19,7 +19,7 @@ StopsMove lets_on stops nth command mover =
     StoppedAt lets_on stops 0 nth
     ⊎ (lets_on 0 nth Before × (1000000 < turns_of mover + turns_asked command))
 
--- behind so many turns these lines ask for more than the 1,000,000 of a run, by the one that the mover was let on at last
+-- after n turns these lines ask for more than the 1,000,000 of a run, by the line at which the mover was let on last
 pub record SpendsTurns (lets_on : LetsOn) (begun : ℕ) (lines : List Command) : Type 0 where
   pub done : ℕ
   pub fewer : done < length lines

@@ -1,4 +1,4 @@
--- Worked cases of what a worker's lines do and tell.
+-- Worked cases of what a worker's lines do and reply.
 use Rattle.std.specs.Prelude.{◌≡◌, ℕ, List, [], ◌∷◌, ◌++◌, codes}
 use Rattle.mc_words.specs.declared.hand.Hand.{Hand}
 use Rattle.mc_words.specs.hand.View.{Setup, View}
@@ -14,7 +14,7 @@ use Rattle.mc_workers.specs.Kept.{Hold, IsLastOf}
 use Rattle.mc_workers.specs.Lines.{all_released, replies_to}
 use Rattle.mc_workers.specs.Serving.{Serves}
 
--- of holds of keys 5, 6 and 5 the third is dropped by key 5, and the others stay as they stood
+-- of holds of keys 5, 6 and 5 the third is dropped by key 5, and the others stay
 abbrev pub TheLastHoldIsDropped : Type 0
 TheLastHoldIsDropped = (first other third last : Hold) (left : List Hold) → item_key first.item ≡ 5 → item_key other.item ≡ 6 → item_key third.item ≡ 5
     → IsLastOf 5 (first ∷ other ∷ third ∷ []) last left → (last ≡ third) × (left ≡ first ∷ other ∷ [])
@@ -23,15 +23,15 @@ TheLastHoldIsDropped = (first other third last : Hold) (left : List Hold) → it
 abbrev pub some_lines : List Command
 some_lines = Set 1 5 3 0 ∷ Turn 2 ∷ Get 2 5 ∷ Drop 1 5 ∷ []
 
--- each worker has its own, in their order, and the mover those of none
+-- each worker has its own lines, in their order, and the mover those of no worker
 abbrev pub LinesComeApart : Type 0
 LinesComeApart = (lines_of 1 some_lines ≡ Set 1 5 3 0 ∷ Drop 1 5 ∷ []) × (lines_of 2 some_lines ≡ Get 2 5 ∷ []) × (lines_of 3 some_lines ≡ []) × (lines_of_mover some_lines ≡ Turn 2 ∷ [])
 
--- the greatest of them is worker 2, whose line isn't the last; of the mover's lines alone it is 0
+-- the greatest worker of four lines is worker 2, whose line isn't the last; of the mover's lines alone the greatest is 0
 abbrev pub TheGreatestIsFound : Type 0
 TheGreatestIsFound = (greatest_worker some_lines ≡ 2) × (greatest_worker (Turn 2 ∷ []) ≡ 0) × (worker_of (Get 2 5) ≡ 2)
 
--- each reply is told about its own line's key
+-- each reply is about the key of its own line
 abbrev pub RepliesAreTold : Type 0
 RepliesAreTold = replies_to (Set 1 7 3 0 ∷ Touch 1 8 ∷ []) (Stored ∷ NotFound ∷ []) ≡ key_line (codes "STORED") 7 ++ key_line (codes "NOT_FOUND") 8
 
@@ -41,6 +41,6 @@ RepliesFitTheirLines = (setup : Setup) (worker key : ℕ) (held left : List Hold
     (Serves setup (Get worker key) Stored held before left now → ⊥) × (Serves setup (Get worker key) Held held before left now → ⊥) × (Serves setup (Drop worker key) NotFound held before left now → ⊥)
     × (Serves setup (Turn 1) NotHeld held before left now → ⊥)
 
--- what is still held is given back from the last on
+-- the holds that a worker still has are given back from the last on
 abbrev pub TheLastIsReleasedFirst : Type 0
 TheLastIsReleasedFirst = (first second : Ref) (view : View) → all_released (first ∷ second ∷ []) view ≡ chunk_released (item_chunk first) (chunk_released (item_chunk second) view)

@@ -1,4 +1,4 @@
-//! Why a thread ends.
+//! Why a thread of a run ends early.
 
 use crate::starting::Unstarted;
 use mc_memory::Refused;

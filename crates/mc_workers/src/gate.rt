@@ -1,6 +1,6 @@
-//! What a thread passes before and after each of its lines.
+//! The gate that a thread passes before and after each of its lines.
 
-/// Where a thread stands at a line.
+/// The place of a thread at a line.
 #[derive(Clone, Copy, PartialEq, Eq)]
 pub enum Point {
     /// The line isn't begun.
@@ -12,9 +12,9 @@ pub enum Point {
 /// Whether a thread goes on.
 #[derive(Clone, Copy, PartialEq, Eq)]
 pub enum Pass {
-    /// It does.
+    /// The thread goes on.
     Go,
-    /// It ends, and the run with it, by status 5.
+    /// The thread ends, and the run with it, by status 5.
     Stop,
 }
 
@@ -24,10 +24,10 @@ pub trait Gate {
     ghost use Rattle.mc_workers.specs.declared.gate.Point.{Point};
     ghost use Rattle.mc_workers.specs.declared.gate.Pass.TheVariants.{Go, Stop};
 
-    /// What is known where this worker was let on at this of its lines: nothing, unless the gate says more.
+    /// What is known where this worker was let on at this of its lines: nothing, unless the gate states more.
     ghost LetsOn: { Self → ℕ → ℕ → Point → Type 0 } = { λ _ _ _ _. ⊤ };
 
-    /// What is known where it was stopped there: nothing, unless the gate says more.
+    /// What is known where this worker was stopped at this of its lines: nothing, unless the gate states more.
     ghost Stops: { Self → ℕ → ℕ → Point → Type 0 } = { λ _ _ _ _. ⊤ };
 
     /// Called before and after each line's work, by the thread that does it. The mover is worker 0, and `nth` counts the worker's
@@ -45,7 +45,7 @@ impl Gate for Free {
     ghost use Rattle.std.specs.Prelude.{◌≡◌};
     ghost use Rattle.mc_workers.specs.declared.gate.Pass.TheVariants.{Go};
 
-    /// It stops nobody.
+    /// This gate stops nobody.
     ghost Stops = { λ _ _ _ _. ⊥ };
 
     fn pass(&self, _worker: u64, _nth: u64, _point: Point) -> Pass

@@ -1,4 +1,4 @@
-//! Lines that take and give back references which the worker keeps meanwhile.
+//! The lines `hold` and `drop`, by which a worker takes and gives back references.
 ghost use Rattle.std.specs.Prelude.{◌≡◌, All, IfOk, IfSome, None, OnErr, true};
 ghost use Rattle.mc_words.specs.hand.Arenas.{view};
 ghost use Rattle.mc_words.specs.hand.Idle.{is_idle};
@@ -64,7 +64,7 @@ pub(crate) fn drop_last(
     Ok(Reply::Dropped(words))
 }
 
-// Where the last reference to the key stands among those that are kept.
+// The place of the last reference to the key among those that are kept.
 fn place_of_last(kept: &[Ref], key: u64) -> Option<usize>
     ensures last { IfSome result (IsLastAt key kept.now) }
     ensures none { result ≡ None → All (IsToOther key) kept.now }

@@ -19,7 +19,7 @@ use mc_words::{Arena, Hand};
 use std::alloc::Global;
 use std::sync::Wait;
 
-/// Does a worker's line by its hand, with the references that it keeps, and says what is answered. It waits for the locks that the
+/// Does a worker's line by its hand, with the references that it keeps, and returns the reply. It waits for the locks that the
 /// calls on items wait for.
 ///
 /// Where memory runs out the line may be done in part, and the same references are kept.
@@ -82,7 +82,7 @@ fn get_words<R: Wait>(
     }
 }
 
-// Deletes the key, and says whether it had an item.
+// Deletes the key, and returns whether it had an item.
 fn delete_key<R: Wait>(rt: &R, arena: &Arena, hand: &mut Hand, key: u64) -> Result<Reply, Refused>
     requires ready { IsReadyHandOf arena.now hand.old }
     ensures stays { StaysHolding arena.now hand.old hand.new }
@@ -96,7 +96,7 @@ fn delete_key<R: Wait>(rt: &R, arena: &Arena, hand: &mut Hand, key: u64) -> Resu
     }
 }
 
-// Touches the key, and says whether it has an item.
+// Touches the key, and returns whether it has an item.
 fn touch_key<R: Wait>(rt: &R, arena: &Arena, hand: &mut Hand, key: u64) -> Result<Reply, Refused>
     requires ready { IsReadyHandOf arena.now hand.old }
     ensures stays { StaysReady arena.now hand.old hand.new }

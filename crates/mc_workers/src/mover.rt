@@ -1,4 +1,4 @@
-//! What the mover's thread owns beside its hand.
+//! The decider and the count of turns of the mover's thread.
 ghost use Rattle.std.specs.Prelude.{◌≡◌, IfOk, OnErr, OnOk};
 ghost use Rattle.mc_watch.specs.Decider.{fresh_decider};
 ghost use Rattle.mc_workers.specs.Moving.{decider_after, decider_of, decision_after, turns_of};

@@ -1,4 +1,4 @@
-//! Worked cases of what a line of the mover does and tells, each the contract of a function with nothing to do.
+//! Worked cases of what a line of the mover does and replies, each the contract of a function with nothing to do.
 ghost use Rattle.mc_workers.specs.MoverCases.{ClassesAreTold, DecidesInMode1Alone, DecisionsAreActedOn, IsFedInEveryMode, RefusedNumbersChangeNothing, RepliesAreOfTheirLines, TotalsAreTold, TurnsAreCounted, TurnsAreSummed, TurnsComeApart, TurnsGoOnUntilDone, TurnsRunOut, WindowsAreTold};
 
 /// The line of a window names source, destination and answer, in this order.
@@ -14,7 +14,7 @@ pub fn decisions_are_of_mode_1()
     ensures acted_on { DecisionsAreActedOn }
 {}
 
-/// A line does as many turns as are asked for, unless one finds no move or ends one, and tells their sums kind by kind.
+/// A line does as many turns as are asked for, unless one finds no move or ends one. The reply has their sums kind by kind.
 pub fn turns_go_on_until_done()
     ensures done { TurnsGoOnUntilDone }
     ensures summed { TurnsAreSummed }
@@ -28,7 +28,7 @@ pub fn turns_are_counted()
     ensures run_out { TurnsRunOut }
 {}
 
-/// The numbers of a survey are told each under its name; of no class more free chunks than its pages have.
+/// The statistics print each number of a survey under its name, and no class has more free chunks than its pages have.
 pub fn statistics_are_told()
     ensures totals { TotalsAreTold }
     ensures classes { ClassesAreTold }

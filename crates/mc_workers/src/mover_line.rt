@@ -19,8 +19,8 @@ use mc_words::{Arena, Hand};
 use std::alloc::Global;
 use std::sync::Wait;
 
-/// Does a line of the mover by its hand, and says what is answered. It waits for the lock of the slabs, and at the end of a window for that
-/// of each stripe, one at a time.
+/// Does a line of the mover by its hand, and returns the reply. It waits for the lock of the slabs, and at the end of a window
+/// for that of each stripe, one at a time.
 ///
 /// `Turns` where a turn would be the run's 1,000,001st: it isn't begun, and those of the line before it are done. Where memory runs out
 /// the line may be done in part; a window's was refused it before its trim. A trim that is refused ends nothing, and the reply has why.

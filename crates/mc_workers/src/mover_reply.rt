@@ -1,4 +1,4 @@
-//! What a line of the mover is answered.
+//! The replies to the mover's lines, and their text.
 ghost use Rattle.std.specs.Prelude.{◌≡◌, ◌++◌, OnOk};
 ghost use Rattle.std.specs.Io.{StartsWith};
 ghost use Rattle.mc_workers.specs.MoverReplies.{CanTell, mover_text, told_name};
@@ -31,17 +31,18 @@ pub enum MoverReply {
     Answer(Result<(), Reassign>),
     /// The automover has the mode that was asked for.
     Mode,
-    /// A window ended: what became of the decision, if one was acted on, and whether all was trimmed behind it, which isn't told.
+    /// A window ended: what became of the decision, if one was acted on, and whether all was trimmed after it, which no line
+    /// prints.
     Window(Option<Acted>, Result<(), Trim>),
     /// How the last turn ended, and what all turns of the line did.
     Turned(Ending, Counts),
-    /// What all classes have together.
+    /// The numbers of all classes together.
     Totals(Survey),
-    /// What each class has.
+    /// The numbers of each class.
     Classes(Survey),
 }
 
-/// Adds the lines that tell the reply. Where memory runs out, the text that stood there stays, and some of them may follow it.
+/// Adds the lines of the reply. Where memory runs out, the text that was there stays, and some of the lines may follow it.
 pub fn push_mover_reply(
     text: &mut Vec<u8>,
     table: &ClassTable,

@@ -1,4 +1,4 @@
-//! What a worker's line is answered.
+//! The replies to a worker's lines, and their text.
 ghost use Rattle.std.specs.Prelude.{◌≡◌, ◌++◌, OnOk};
 ghost use Rattle.mc_workers.specs.Replies.{reply_text};
 
@@ -34,7 +34,7 @@ pub enum Reply {
     TooManyRefs,
 }
 
-/// Adds the line that tells the reply. Where memory runs out, the text that stood there stays, and some of the line may follow it.
+/// Adds the line of the reply. Where memory runs out, the text that was there stays, and some of the line may follow it.
 pub fn push_reply(text: &mut Vec<u8>, key: u64, reply: &Reply) -> Result<(), Refused>
     ensures line { OnOk result (text.new.items ≡ text.old.items ++ reply_text key reply.now) }
 {

@@ -21,12 +21,12 @@ use std::alloc::Global;
 use std::sync::Wait;
 use std::thread::Threads;
 
-/// Does a script's lines on a new arena in this mode, each worker's in a thread of its own and the mover's in this one. The text has the
-/// replies to the workers from the lowest on, those to the mover, and the statistics of the classes and of the whole once all had
-/// ended.
+/// Does a script's lines on a new arena in this mode, each worker's in a thread of its own and the mover's in this one. The text
+/// has the replies to the workers from the lowest on, and those to the mover. Behind them are the statistics of the classes and
+/// of the whole once all had ended.
 ///
-/// `Memory` goes before `Thread`, and that before `Turns`: where it is `Turns`, the gate stopped a thread, or the mover's turns were spent,
-/// and each other thread was let on at all of its lines.
+/// `Memory` goes before `Thread`, and that before `Turns`. At `Turns` the gate stopped a thread, or the mover's turns were spent.
+/// Each other thread was let on at all of its lines.
 pub fn serve_script<R: Threads + Wait + Sync, G: Gate + Sync>(
     rt: &R,
     alloc: Global,
@@ -73,7 +73,7 @@ fn worker_of(command: &Command) -> u64
     }
 }
 
-// A new arena with so many hands, in this mode: the mover's hand, and those of the workers.
+// A new arena with n hands, in this mode: the mover's hand, and those of the workers.
 fn open_arena<R: Wait>(
     rt: &R,
     alloc: Global,

@@ -1,4 +1,4 @@
-//! Lines that store an item.
+//! The line that stores an item.
 ghost use Rattle.std.specs.Prelude.{◌≡◌, ◌≤◌, IfOk, OnOk};
 ghost use Rattle.mc_serial_spec.specs.Item.{words_from};
 ghost use Rattle.mc_words.specs.hand.Arenas.{view};
@@ -13,7 +13,7 @@ use mc_words::{Arena, Hand};
 use std::alloc::Global;
 use std::sync::Wait;
 
-// Stores so many words under the key: base, base + 1 and so on, modulo 2^64.
+// Stores n words under the key: base, base + 1 and so on, modulo 2^64.
 pub(crate) fn set_words<R: Wait>(
     rt: &R,
     alloc: Global,
@@ -39,7 +39,7 @@ pub(crate) fn set_words<R: Wait>(
     }
 }
 
-// So many words that count up from the base.
+// The n words that count up from the base, modulo 2^64.
 fn count_up(alloc: Global, base: u64, count: u64) -> Result<Vec<u64>, Refused>
     requires { count ≤ 4096 }
     ensures words { IfOk result (λ words. words.items ≡ words_from base count) }

@@ -4,8 +4,8 @@ ghost use Rattle.std.specs.Prelude.{◌≡◌, IfOk};
 use std::marker::Model;
 use std::thread::{Promise, PromisedHandle, Scope};
 
-/// A thread couldn't be started. Of why, std tells nothing, so this is no evidence about memory. It has no size, can't be copied, and `start`
-/// alone makes one.
+/// A thread couldn't be started. std doesn't report why, so this is no evidence about memory. It has no size, can't be copied,
+/// and `start` alone makes one.
 #[derive(Debug, PartialEq, Eq, Drop)]
 pub struct Unstarted {
     seen: (),

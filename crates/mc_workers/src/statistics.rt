@@ -12,7 +12,7 @@ use mc_watch::{stats_general, stats_slabs};
 use std::marker::Brand;
 use std::sync::ledger::{Blank, Ledger};
 
-// Adds both statistics, those of the classes first.
+// Adds the statistics of the classes, and then those of the whole.
 pub(crate) fn push_statistics(
     text: &mut Vec<u8>,
     table: &ClassTable,

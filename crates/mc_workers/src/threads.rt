@@ -57,11 +57,11 @@ impl<'a, G: Gate> Promise<Result<Served, Ended>> for DoneBy<'a, G> {
         p.arena.now p.worker p.commands.now p.hand.value ended };
 }
 
-/// Does the lines of all workers, from this number on by these hands, each in a thread of its own, and those of the mover in this one.
-/// Once all have ended, the mover's hand takes the others over.
+/// Does the lines of all workers, from this number on by these hands, each worker's in a thread of its own. The mover's lines are
+/// done in this thread. Once all have ended, the mover's hand takes the others over.
 ///
-/// `Memory` goes before `Thread`, and that before `Turns`: where it is `Turns`, the gate stopped a thread, or the mover's turns were spent,
-/// and each other thread was let on at all of its lines.
+/// `Memory` goes before `Thread`, and that before `Turns`. At `Turns` the gate stopped a thread, or the mover's turns were spent.
+/// Each other thread was let on at all of its lines.
 pub fn run_workers<R: Threads + Wait + Sync, G: Gate + Sync>(
     rt: &R,
     alloc: Global,
@@ -241,7 +241,7 @@ fn both_of(
     }
 }
 
-// Which of two ends is told.
+// The one of two ends that the run returns.
 fn first_of(own: Ended, others: Ended) -> Ended
     ensures memory { own ≡ Ended.Memory tt → result ≡ Ended.Memory tt }
     ensures memory_of_others { others ≡ Ended.Memory tt → result ≡ Ended.Memory tt }

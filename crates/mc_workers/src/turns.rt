@@ -16,8 +16,8 @@ use std::sync::Wait;
 // The most turns of a run (own).
 const MAX_TURNS: u64 = 1_000_000;
 
-// Does so many turns, or fewer where one finds no move or ends one. Says how the last one ended, and what they did in all. A turn that the
-// run hasn't left isn't begun, and ends the line.
+// Does n turns, or fewer where one finds no move or ends one. Returns how the last one ended, and what they did in all. A turn
+// that the run hasn't left isn't begun, and ends the line.
 pub(crate) fn do_turns<R: Wait>(
     rt: &R,
     arena: &Arena,

@@ -14,9 +14,9 @@ use mc_words::{Arena, Hand};
 use std::alloc::Global;
 use std::sync::Wait;
 
-// Puts the dead of all classes back, feeds the decider what is left then, and asks for the page that it decides on, in mode 1 alone. Then
-// it trims each stripe and the ledger. Says what became of the decision, and of the trim, whose refusal ends nothing. (slabs.c's automover;
-// the trim is own)
+// Puts the dead of all classes back, and feeds the decider what is left then. In mode 1 alone it asks for the page that the
+// decider decides on. Then it trims each stripe and the ledger. Returns what became of the decision, and of the trim, whose
+// refusal ends nothing. (slabs.c's automover; the trim is own)
 pub(crate) fn end_window<R: Wait>(
     rt: &R,
     alloc: Global,
@@ -36,7 +36,7 @@ pub(crate) fn end_window<R: Wait>(
     Ok((acted, trimmed))
 }
 
-// Trims each stripe, and then the ledger, and says how far it came.
+// Trims each stripe, and then the ledger, and returns how far it came.
 #[tactic(auto, using(crate::proofs::Trimmed::trims_as))]
 fn trim_all<R: Wait>(rt: &R, arena: &Arena, hand: &mut Hand) -> Result<(), Trim>
     requires ready { IsReadyHandOf arena.now hand.old }
@@ -46,7 +46,7 @@ fn trim_all<R: Wait>(rt: &R, arena: &Arena, hand: &mut Hand) -> Result<(), Trim>
     trim(rt, arena, hand)
 }
 
-// Asks for the page of the decision, if there is one, and tells what became of it.
+// Asks for the page of the decision, if there is one, and returns what became of it.
 fn act_on<R: Wait>(
     rt: &R,
     arena: &Arena,
@@ -66,7 +66,7 @@ fn act_on<R: Wait>(
     Ok(Some(Acted { decision, answer }))
 }
 
-// Asks for a page, and tells the answer.
+// Asks for a page, and returns the answer.
 pub(crate) fn ask_for_page<R: Wait>(
     rt: &R,
     arena: &Arena,

@@ -1,4 +1,4 @@
-//! Worked cases of what a worker's lines do and tell, each the contract of a function with nothing to do.
+//! Worked cases of what a worker's lines do and reply, each the contract of a function with nothing to do.
 ghost use Rattle.mc_workers.specs.WorkerCases.{LinesComeApart, RepliesAreTold, RepliesFitTheirLines, TheGreatestIsFound, TheLastHoldIsDropped, TheLastIsReleasedFirst};
 
 /// A drop gives back the hold of its key that came last, and no other.
@@ -12,7 +12,7 @@ pub fn lines_come_apart()
     ensures greatest { TheGreatestIsFound }
 {}
 
-/// Replies are told one behind the other, each about the key of its line; and no line has the reply of another one.
+/// Replies are printed one behind the other, each about the key of its line; and no line has the reply of another one.
 pub fn replies_to_workers_fit()
     ensures told { RepliesAreTold }
     ensures fit { RepliesFitTheirLines }

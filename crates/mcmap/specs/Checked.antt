@@ -6,7 +6,7 @@ use Rattle.mc_script.specs.Script.{script_of}
 use Rattle.mcmap.specs.declared.fault.Fault.{Fault}
 use Rattle.mcmap.specs.declared.fault.Fault.TheVariants.{WrongLines}
 
--- these bytes are a script: each line is a command, or is skipped
+-- the bytes are a script: each line is a command, or is skipped
 abbrev pub IsAcceptedScript : List ℕ → Type 0
 IsAcceptedScript bytes = (commands : List Command) × (script_of bytes ≡ Ok commands)
 
@@ -19,6 +19,6 @@ abbrev pub wrong_count : List (List ℕ) → ℕ
 wrong_count [] = 0
 wrong_count (line ∷ rest) = wrong_on line + wrong_count rest
 
--- these bytes are no script, and the fault tells how many of their lines are wrong
+-- the bytes are no script, and the fault has the count of their wrong lines
 abbrev pub IsRefusalOf : List ℕ → Fault → Type 0
 IsRefusalOf bytes fault = (is_err (script_of bytes) ≡ true) × (fault ≡ WrongLines (wrong_count (lines bytes)))

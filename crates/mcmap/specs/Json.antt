@@ -18,20 +18,20 @@ use Rattle.mc_map.specs.declared.map.Map.{Map}
 abbrev pub number_json : ℕ → Data
 number_json n = number (unsigned n)
 
--- a row of what each of these is
+-- the JSON array of these elements, each by this function
 abbrev pub row_json : {X : Type 0} → (X → Data) → List X → Data
 row_json json xs = array (items_of (map json xs))
 
--- members, and then these by their names
+-- the members with these added, by their names
 abbrev pub with_members : Members → List (List ℕ × Data) → Members
 with_members members [] = members
 with_members members (pair ∷ pairs) = with_members (put pair.0 pair.1 members) pairs
 
--- these by their names
+-- the JSON object of these members, by their names
 abbrev pub object_json : List (List ℕ × Data) → Data
 object_json pairs = object (with_members no_members pairs)
 
--- these numbers by their names
+-- the JSON object of these numbers, by their names
 abbrev pub pairs_json : List (List ℕ × ℕ) → Data
 pairs_json pairs = object_json (map (λ pair. (pair.0, number_json pair.1)) pairs)
 
@@ -49,7 +49,7 @@ chunk_counts line =
     ∷ (codes "free", line.free) ∷ (codes "cleared", line.cleared) ∷ (codes "asked", line.asked) ∷ (codes "bytes", line.bytes)
     ∷ (codes "evictions", line.evictions) ∷ []
 
--- what the line of a class says
+-- the numbers of a class's line, by their names
 abbrev pub class_counts : ClassLine → List (List ℕ × ℕ)
 class_counts line = (codes "class", line.class) ∷ (codes "size", line.size) ∷ (codes "per_page", line.per_page) ∷ (codes "pages", line.pages) ∷ chunk_counts line
 
@@ -83,7 +83,7 @@ abbrev pub moving_json : Option Moving → Data
 moving_json None = null
 moving_json (Some moving) = pairs_json (moving_counts moving)
 
--- what is told of a chunk that holds a move up, by its names
+-- the members of a chunk that holds a move up, by their names
 abbrev pub blocker_members : Blocker → List (List ℕ × Data)
 blocker_members blocker =
     (codes "chunk", number_json blocker.chunk) ∷ (codes "key", number_json blocker.key) ∷ (codes "linked", boolean blocker.linked)
@@ -93,13 +93,13 @@ blocker_members blocker =
 abbrev pub blocker_json : Blocker → Data
 blocker_json blocker = object_json (blocker_members blocker)
 
--- what holds a move up; null where no page moves, or it takes too many looks to find
+-- what holds a move up; null where no page moves, or the search takes too many looks
 abbrev pub hang_json : Hang → Data
 hang_json Idle = null
 hang_json (Found blockers) = row_json blocker_json blockers.items
 hang_json Unknown = null
 
--- the line of its mark, which is 0 at the end, how many commands are done, and the sizes of a page
+-- the first members of a map: the line of its mark, which is 0 at the end, how many commands are done, and the sizes of a page
 abbrev pub front_members : ℕ → Map → List (List ℕ × Data)
 front_members line map = (codes "line", number_json line) ∷ (codes "done", number_json map.done) ∷ (codes "page", number_json map.page) ∷ (codes "chunks", number_json map.chunks) ∷ []
 
@@ -113,7 +113,7 @@ page_members map =
 abbrev pub move_members : Map → List (List ℕ × Data)
 move_members map = (codes "ledger", row_json entry_json map.ledger.items) ∷ (codes "moving", moving_json map.moving) ∷ (codes "blockers", hang_json map.hang) ∷ []
 
--- what a map has, by its names
+-- the members of a map, by their names
 abbrev pub map_members : ℕ → Map → List (List ℕ × Data)
 map_members line map = front_members line map ++ (page_members map ++ move_members map)
 

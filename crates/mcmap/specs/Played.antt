@@ -21,13 +21,13 @@ use Rattle.mcmap.specs.Json.{map_json}
 use Rattle.mcmap.specs.declared.show.Form.{Form}
 use Rattle.mcmap.specs.declared.show.Form.TheVariants.{Text, Json}
 
--- these commands lead from a machine and its books to others: each is done as the plain machine does it, and noted in the books
+-- the commands lead from a machine and its books to others: each is done as the plain machine does it, and recorded in the books
 abbrev pub LeadTo : List Command → Machine → Book → Machine → Book → Type 0
 LeadTo [] m book after later = (after ≡ m) × (later ≡ book)
 LeadTo (command ∷ more) m book after later =
     (next : Machine) × (option_map (λ served. served.machine) (serve m command) ≡ Some next) × LeadTo more next (books_after book m command next) after later
 
--- behind the old text stands a chart of the ledger that these commands make, from a memory as the run configures it
+-- a chart of the ledger that these commands make is behind the old text, from a memory as the run configures it
 pub record IsChartOf (run : Run) (commands : List Command) (old new : List ℕ) : Type 0 where
   pub table : Classes
   pub is_table : IsTableOf run.config table
@@ -36,39 +36,39 @@ pub record IsChartOf (run : Run) (commands : List Command) (old new : List ℕ) 
   pub played : LeadTo commands (fresh_machine table run.config.bulk run.automove) (fresh_books table) machine books
   pub chart : IsChart (length books.owners) books.ledger old new
 
--- behind the old text stands the class table of this configuration
+-- the class table of this configuration is behind the old text
 pub record IsClassesOf (config : Config) (old new : List ℕ) : Type 0 where
   pub table : Classes
   pub is_table : IsTableOf config table
   pub text : new ≡ old ++ classes_text (pages_of table) table.page (rows_of table (length table.sizes))
 
--- where in the script a map is: at this line, or at the end, which is line 0
+-- the text of a map's place in the script: this line, or the end, which is line 0
 unfoldable pub place_text : ℕ → List ℕ
 place_text line = if line == 0 then codes "at the end" else codes "at line " ++ decimal line
 
--- behind the old text stands the map in this form: as text under a heading that says where in the script, as JSON a line with that of its mark, or
--- with 0 at the end
+-- the map in this form is behind the old text: as text under a heading with its place, or as a line of JSON with the line of its mark, 0
+-- for the end
 abbrev pub IsMapIn : Form → ℕ → Map → List ℕ → List ℕ → Type 0
 IsMapIn Text line map old new = new ≡ old ++ map_text (place_text line) map
 IsMapIn Json line map old new = new ≡ old ++ (compact_text (map_json line map) ++ codes "\n")
 
--- behind the old text stands a map of this machine and these books in this form
+-- a map of this machine and these books in this form is behind the old text
 pub record IsShown (form : Form) (line : ℕ) (m : Machine) (books : Book) (old new : List ℕ) : Type 0 where
   pub keys : List ℕ
   pub map : Map
   pub is_map : IsMap m books keys map
   pub text : IsMapIn form line map old new
 
--- these commands lead from a machine and its books to others, of which a map stands behind the old text then
+-- the commands lead from a machine and its books to others, of which a map is behind the old text
 pub record PlaysAndShows (form : Form) (line : ℕ) (commands : List Command) (m : Machine) (book : Book) (old : List ℕ) (after : Machine) (later : Book) (new : List ℕ) : Type 0 where
   pub played : LeadTo commands m book after later
   pub shown : IsShown form line after later old new
 
--- how many of so many commands are done at a mark: those above it, or as many as were done already
+-- how many of n commands are done at a mark: those above it, or as many as were done already
 abbrev pub done_at : ℕ → ℕ → Mark → ℕ
 done_at count done mark = max (min mark.done count) done
 
--- where so many commands were done, maps stand behind the old text: one at each of these marks, of what the commands above it lead to, and one at
+-- where n commands were done, maps are behind the old text: one at each of these marks, of what the commands above it lead to, and one at
 -- the end
 abbrev pub ShowsMaps : Form → List Command → ℕ → List Mark → Machine → Book → List ℕ → List ℕ → Type 0
 ShowsMaps form commands done [] m book old new =
@@ -78,7 +78,7 @@ ShowsMaps form commands done (mark ∷ marks) m book old new =
     × PlaysAndShows form mark.line (slice_range commands done (done_at (length commands) done mark)) m book old after later text
     × ShowsMaps form commands (done_at (length commands) done mark) marks after later text new
 
--- behind the old text stand the maps of these commands and marks, from a memory as the run configures it
+-- the maps of these commands and marks are behind the old text, from a memory as the run configures it
 pub record AreMapsOf (form : Form) (run : Run) (commands : List Command) (marks : List Mark) (old new : List ℕ) : Type 0 where
   pub table : Classes
   pub is_table : IsTableOf run.config table

@@ -14,7 +14,7 @@ use Rattle.mc_map.specs.Books.{Book}
 use Rattle.mcmap.specs.Played.{IsShown, ShowsMaps, done_at, place_text}
 use Rattle.mcmap.specs.declared.show.Form.{Form}
 
--- these in this order, of which the names rise
+-- the members in this order, of which the names rise
 abbrev pub in_order : List (List ℕ × Data) → Members
 in_order [] = no_members
 in_order (pair ∷ pairs) = member pair.0 pair.1 (in_order pairs)
@@ -94,11 +94,11 @@ MarksReached = map (λ (pair : ℕ × Mark). done_at 5 pair.0 pair.1) ((0, recor
 abbrev pub PlacesNamed : Type 0
 PlacesNamed = map place_text (0 ∷ 7 ∷ []) ≡ codes "at the end" ∷ codes "at line 7" ∷ []
 
--- two wrong lines, and one between them that isn't
+-- the count of two wrong lines with a right one between them
 abbrev pub WrongLinesCounted : Type 0
 WrongLinesCounted = (right wrong : List ℕ) → script_of right ≡ Ok [] → script_of wrong ≡ Err 1 → wrong_count (wrong ∷ right ∷ wrong ∷ []) ≡ 2
 
--- where there is no command, and a mark in line 3, it's that mark's map of the machine as it stands, and behind it that of the end
+-- a script without commands and with a mark in line 3 shows that mark's map of the machine, and then the map of the end
 abbrev pub OneMarkShown : Type 0
 OneMarkShown =
     (form : Form) (m : Machine) (book : Book) (old new : List ℕ) → ShowsMaps form [] 0 (record { done = 0; line = 3 } ∷ []) m book old new

@@ -3,7 +3,7 @@ use Rattle.std.specs.Prelude.{ℕ}
 use Rattle.mcmap.specs.declared.fault.Fault.{Fault}
 use Rattle.mcmap.specs.declared.fault.Fault.TheVariants.{Options, Words, Threads, Config, Script, TooLong, Read, Write, Memory, Turns, Chart, Books, WrongOptions, WrongLines}
 
--- 1 for what the program is started with, 2 for the script, 3 for a stream, 4 for memory, 5 for turns past the limit, 6 for its own books
+-- 1 for what the program is started with; 2 for the script; 3 for a stream; 4 for memory; 5 for turns past the limit; 6 for its own books
 abbrev pub status_of : Fault → ℕ
 status_of (Options error) = 1
 status_of Words = 1

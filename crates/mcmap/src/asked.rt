@@ -1,4 +1,4 @@
-//! What the command line asks for.
+//! The words of the command line: which view is asked for, and the options.
 ghost use Rattle.std.specs.Prelude.{◌≤◌, IfOk};
 
 use crate::fault::Fault;
@@ -11,7 +11,7 @@ use std::env::{self, Env};
 pub enum View {
     /// A map at each mark and at the end.
     Maps,
-    /// The same maps as JSON, one in a line.
+    /// A map at each mark and at the end as JSON, one in a line.
     Json,
     /// Pages over time.
     Chart,

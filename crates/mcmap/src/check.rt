@@ -78,7 +78,7 @@ fn write_factor(factor: &str, text: &mut String) -> Result<(), AllocError> {
     text.push_str("\n")
 }
 
-/// The ratio that a number above 1 with up to four decimals stands for, in lowest terms.
+/// The ratio of a number above 1 with up to four decimals, in lowest terms.
 fn ratio_of(decimal: &str) -> Option<(u64, u64)> {
     let (whole, part) = match decimal.split_once('.') {
         Some((whole, part)) => (short_number(whole)?, part),
@@ -118,7 +118,7 @@ fn power_of_ten(power: usize) -> Option<u64>
     }
 }
 
-/// Both numbers divided by this one, up to four times, as long as it divides both.
+/// Two numbers divided by this one, up to four times, as long as it divides both.
 fn divided(num: u64, den: u64, by: u64) -> (u64, u64)
     requires { 0 < by }
 {
@@ -147,7 +147,7 @@ pub fn check_script(alloc: Global, bytes: &[u8], text: &mut String) -> Result<()
     }
 }
 
-/// Adds what is wrong with each line, and says with how many something is.
+/// Adds what is wrong with each line, and returns with how many something is.
 fn write_lines(alloc: Global, bytes: &[u8], text: &mut String) -> Result<u64, Fault>
     ensures count { IfOk result (λ wrong. wrong ≡ wrong_count (lines bytes.now)) }
     ensures memory { IfErr result (λ fault. fault ≡ Fault.Memory) }

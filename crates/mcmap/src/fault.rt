@@ -41,16 +41,16 @@ pub enum Fault {
     /// The script asks for more than 1,000,000 turns of the mover.
     #[error("turns")]
     Turns,
-    /// There are more entries than a chart has columns.
+    /// The entries are more than a chart has columns.
     #[error("--svg: more than 4095 entries")]
     Chart,
-    /// `--check` found that the options are wrong, and said how.
+    /// `--check` found that the options are wrong, and printed how.
     #[error("the options are wrong")]
     WrongOptions,
-    /// `--check` found so many lines that are no commands, and said why.
+    /// `--check` found this many lines that are no commands, and printed why.
     #[error("{0} lines of the script are wrong")]
     WrongLines(u64),
-    /// The books aren't as the memory's numbers say.
+    /// The books don't agree with the memory's numbers.
     #[error("books")]
     Books,
 }

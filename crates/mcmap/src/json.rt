@@ -103,7 +103,7 @@ fn put_moves(alloc: Global, map: &Map, object: &mut Object<String, Value>) -> Re
     put(object, alloc, "blockers", hang_value(alloc, &map.hang)?)
 }
 
-/// These numbers by their names.
+/// A JSON object of these numbers, by their names.
 fn pairs_value(alloc: Global, pairs: &[(&str, u64)]) -> Result<Value, AllocError>
     ensures { IfOk result (λ value. view value ≡ pairs_json (map (λ pair. (pair.0.now, pair.1)) pairs.now)) }
 {
@@ -114,7 +114,7 @@ fn pairs_value(alloc: Global, pairs: &[(&str, u64)]) -> Result<Value, AllocError
     Ok(Value::Object(object))
 }
 
-/// These numbers in a row.
+/// A JSON array of these numbers.
 fn numbers_value(alloc: Global, numbers: &[u64]) -> Result<Value, AllocError>
     ensures { IfOk result (λ value. view value ≡ row_json number_json numbers.now) }
 {
@@ -136,7 +136,7 @@ fn owners_value(alloc: Global, owners: &[Owner]) -> Result<Value, AllocError>
     Ok(Value::Array(list))
 }
 
-/// Who owns a page.
+/// The owner of a page as JSON.
 fn owner_value(alloc: Global, owner: Owner) -> Result<Value, AllocError>
     ensures { IfOk result (λ value. view value ≡ owner_json owner) }
 {

@@ -13,7 +13,8 @@ pub fn worked_maps()
     ensures names { MapNames }
 {}
 
-/// How many commands are done at a mark, what is shown at one and where its heading says that it is, and how many lines of a script are wrong.
+/// Worked cases: how many commands are done at a mark, what is shown at one and what its heading names; and how many lines of a
+/// script are wrong.
 pub fn worked_scripts()
     ensures marks { MarksReached }
     ensures shown { OneMarkShown }

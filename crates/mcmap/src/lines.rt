@@ -61,12 +61,12 @@ fn worker_reason(worker: &[u8], verb: &[u8], words: &[&[u8]]) -> &'static str {
     }
 }
 
-/// Whether it is one of the words for what a worker does.
+/// Whether this is one of the words for what a worker does.
 fn is_of_worker(word: &[u8]) -> bool {
     is(word, b"set") || is_of_key(word)
 }
 
-/// Whether it is one of those that have a key alone.
+/// Whether this is one of the words that have a key alone.
 fn is_of_key(word: &[u8]) -> bool {
     is(word, b"get")
         || is(word, b"del")

@@ -1,8 +1,8 @@
 //! `mcmap`: runs a script of memory commands from standard input, and shows the memory at each line `# map` and at the end.
 //!
-//! It ends with status 0, or with a line on standard error and 1 where the command line is refused, 2 where the script is, 3 where a
-//! stream failed, 4 where memory ran out, 5 where the script asks for more than 1,000,000 turns of the mover, and 6 where its books aren't
-//! as the memory's numbers say, which is a fault of its own.
+//! It ends with status 0, or with a line on standard error and another status. This is 1 where the command line is refused; 2
+//! where the script is; 3 where a stream failed; 4 where memory ran out; and 5 where the script asks for more than 1,000,000
+//! turns of the mover. It is 6 where the books don't agree with the memory's numbers, which is the program's own fault.
 #![tactic(auto)]
 
 ghost use Rattle.std.specs.Prelude.{◌≡◌, ◌≤◌, All, IfOk, None};

@@ -1,4 +1,4 @@
-//! What is shown: maps, pages over time, and the class table.
+//! The views that are shown: maps, pages over time, and the class table.
 ghost use Rattle.std.specs.Prelude.{◌≡◌, ◌≤◌, ◌++◌, All, OnOk, length, string_bytes};
 ghost use Rattle.mc_picture.specs.Charts.{IsChart};
 ghost use Rattle.mc_picture.specs.Maps.{map_text};
@@ -72,7 +72,7 @@ fn play_maps(
     show_map(alloc, form, player, run, commands, 0, text)
 }
 
-/// How many of so many commands are done at a mark: those above it, or as many as were done already.
+/// How many of n commands are done at a mark: those above it, or as many as were done already.
 fn place_of(mark: Mark, count: usize, done: usize) -> usize
     ensures { result ≡ done_at count done mark }
 {
@@ -115,7 +115,7 @@ fn write_form(
     }
 }
 
-/// Adds a map as text, under a heading that says where in the script.
+/// Adds a map as text, under a heading with its place in the script.
 #[tactic(auto, unfolding(crate::specs::Played::place_text))]
 fn write_text(alloc: Global, map: &Map, line: u64, text: &mut String) -> Result<(), Fault>
     ensures map { OnOk result (string_bytes text.new ≡ string_bytes text.old ++ map_text (place_text line) map.now) }

@@ -1,4 +1,4 @@
-//! What `--help` ends with.
+//! The end of what `--help` prints: the forms of a script's lines.
 
 /// Which configurations are refused, the forms of a script's lines, and the statuses.
 pub const FORMS: &str = "

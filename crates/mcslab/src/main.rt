@@ -1,8 +1,8 @@
 //! `mcslab`: runs a script of memory commands from standard input, and replies on standard output.
 //!
-//! It ends with status 0, or with a line on standard error and 1 where the command line is refused, 2 where the
-//! script is, 3 where a stream failed, 4 where memory ran out and 5 where the script asks for more than 1,000,000 turns
-//! of the mover.
+//! It ends with status 0, or with a line on standard error and another status. This is 1 where the command line is refused; 2
+//! where the script is; 3 where a stream failed; 4 where memory ran out; and 5 where the script asks for more than 1,000,000
+//! turns of the mover.
 #![tactic(auto)]
 
 mod help;
@@ -102,7 +102,7 @@ fn run<R: Env + Input + Print + AllocGlobal + Threads + Wait + Sync>(rt: &R) -> 
     Ok(())
 }
 
-/// Tells on standard error what kept the run from being done, and gives the status to end with.
+/// Prints on standard error what kept the run from being done, and returns the status to end with.
 fn tell(rt: &impl Eprint, fault: RunFault) -> u8
     ensures { result ≡ status_of fault }
 {

@@ -4,6 +4,6 @@ use Rattle.mc_words.specs.declared.arena.Arena.{Arena}
 use Rattle.mc_words.specs.declared.hand.Hand.{Hand}
 use Rattle.mc_words.specs.hand.Arenas.{IsHandOf}
 
--- all are hands of the arena
+-- all these hands are hands of the arena
 abbrev pub AreHandsOf : Arena → List Hand → Type 0
 AreHandsOf arena hands = All (IsHandOf arena) hands

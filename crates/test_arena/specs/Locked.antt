@@ -18,14 +18,14 @@ pub record IsKeysStripe (arena : Arena) (hand : Hand) (held : StripeHeld) (chunk
   pub inside : stripe_number held < (setup_of arena).config.stripes
   pub key : stripe_read (view hand) chunk ≡ Some (stripe_number held)
 
--- the hand was lent that stripe, where a key leads to the chunk, which it saw linked
+-- the hand was lent the stripe of the chunk's key, where a key leads to the chunk, and the hand saw the chunk linked
 pub record LeadsTo (arena : Arena) (hand : Hand) (held : StripeHeld) (chunk : ChunkId) : Type 0 where
   pub of_key : IsKeysStripe arena hand held chunk
   pub lent : IsLentStripe (view hand) (stripe_number held) (stripe_lent held)
   pub leads : (key : ℕ) × (stamp : ℕ) × (place_of (stripe_lent held).state key ≡ Some (chunk, stamp))
   pub linked : was_linked (view hand).row.looks chunk ≡ true
 
--- the hand has that stripe, where there is room for a call, and nothing aside
+-- the hand has the stripe of the chunk's key, which has room for a call and nothing aside
 pub record MayTakeAway (arena : Arena) (hand : Hand) (held : StripeHeld) (chunk : ChunkId) : Type 0 where
   pub of_key : IsKeysStripe arena hand held chunk
   pub mine : HasStripe hand held

@@ -16,7 +16,7 @@ fn assert_same<T: Copy + PartialEq + Debug>(rt: &impl Abort, found: T, wanted: T
     assert_eq!(rt; found, wanted, "{what}");
 }
 
-/// The same, of what can't be printed.
+/// What was found is what was wanted, for values that can't be printed.
 fn assert_equal<T: PartialEq + Drop>(rt: &impl Abort, found: T, wanted: T, what: &str) {
     assert!(rt; found == wanted, "{what}");
 }

@@ -4,7 +4,7 @@ use Rattle.mc_classes.specs.Classes.{Classes, arena_pages_of}
 use Rattle.mc_pages.specs.ClassState.{ClassState}
 use Rattle.mc_pages.specs.SlabState.{SlabState}
 
--- there are as many classes and pages, and as many chunks on a page of each class
+-- the slab memory has as many classes and pages as the table, and as many chunks on a page of each class
 pub record IsSized (slabs : SlabState) (table : Classes) : Type 0 where
   pub classes : length slabs.classes ≡ length table.sizes
   pub pages : length slabs.owners ≡ arena_pages_of table

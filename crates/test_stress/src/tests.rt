@@ -1,3 +1,3 @@
-//! One test for each.
+//! The tests, one for each of what the two libraries have.
 mod races;
 mod threads;

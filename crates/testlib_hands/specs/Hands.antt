@@ -14,11 +14,11 @@ IsReadyHandOf arena hand = IsHandOf arena hand × IsReady (view hand)
 abbrev pub HoldsNothing : View → Type 0
 HoldsNothing view = view.row.holdings ≡ []
 
--- so that another may take it over
+-- the hand is one of the arena's, may make any call, and holds no chunk, so that another may take it over
 abbrev pub IsIdleHandOf : Arena → Hand → Type 0
 IsIdleHandOf arena hand = IsReadyHandOf arena hand × HoldsNothing (view hand)
 
--- all are such hands of the arena
+-- all these hands are hands of the arena that another may take over
 abbrev pub AreHandsOf : Arena → List Hand → Type 0
 AreHandsOf arena [] = ⊤
 AreHandsOf arena (hand ∷ hands) = IsIdleHandOf arena hand × AreHandsOf arena hands

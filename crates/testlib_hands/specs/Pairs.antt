@@ -4,10 +4,10 @@ use Rattle.testlib_hands.specs.declared.hands.Pair.{Pair}
 use Rattle.testlib_hands.specs.declared.hands.Two.{Two}
 use Rattle.testlib_hands.specs.Hands.{IsIdleHandOf, IsReadyHandOf}
 
--- both are hands of the arena that may make any call
+-- the two hands are hands of the arena that may make any call
 abbrev pub AreReady : Two → Type 0
 AreReady two = IsReadyHandOf two.arena two.hand × IsReadyHandOf two.arena two.other
 
--- both are hands of this arena that another may take over
+-- the two hands are hands of this arena that another may take over
 abbrev pub AreIdle : Arena → Pair → Type 0
 AreIdle arena pair = IsIdleHandOf arena pair.reader × IsIdleHandOf arena pair.writer

@@ -13,7 +13,7 @@ pub struct Pages {
 }
 
 impl Pages {
-    /// One more page, of this owner.
+    /// These pages and one more, of this owner.
     fn with(self, owner: Owner) -> Pages {
         let mut pages = self;
         let count = match owner {
@@ -50,7 +50,7 @@ pub struct Sums {
     pub out: u64,
 }
 
-/// No chunks.
+/// The sums of no chunks.
 pub const NO_SUMS: Sums = Sums {
     free: 0,
     dead: 0,
@@ -73,7 +73,7 @@ impl Sums {
         Some(sums)
     }
 
-    /// These and others.
+    /// These sums and others.
     pub fn and(self, more: Sums) -> Sums {
         Sums {
             free: self.free.saturating_add(more.free),

@@ -1,4 +1,4 @@
-//! Keys that are looked up by either call.
+//! The two calls that look a key up, so that a test can try both.
 ghost use Rattle.std.specs.Prelude.{◌≡◌, true, IfSome};
 ghost use Rattle.mc_core.specs.State.{has_chunk};
 ghost use Rattle.mc_words.specs.hand.Arenas.{setup_of, view};
@@ -18,7 +18,7 @@ pub enum Getter {
     TryGet,
 }
 
-/// Both ways.
+/// Both ways of looking a key up.
 pub const GETTERS: [Getter; 2] = [Getter::Get, Getter::TryGet];
 
 /// A reference to the key's item, by the call that doesn't wait. None where there is none, or it was refused.

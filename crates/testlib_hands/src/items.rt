@@ -15,7 +15,7 @@ use mc_words::{Arena, Hand};
 use std::alloc::Global;
 use std::sync::Wait;
 
-/// Items of so many words, from the first on, for the keys from the first on, before the second. True if each was stored.
+/// Stores items of n words, from the first on, for the keys from the first on, before the second. True if each was stored.
 pub fn store_all<R: Wait>(
     rt: &R,
     alloc: Global,

@@ -1,4 +1,4 @@
-//! Items whose words tell their key and their stamp, so that a word of another item would be seen.
+//! Items whose words show their key and their stamp, so that a word of another item would be seen.
 ghost use Rattle.mc_words.specs.hand.Arenas.{view};
 ghost use Rattle.mc_items.specs.ItemRefs.{IsItemRef};
 ghost use Rattle.mc_items.specs.Keeping.{HoldsLess, HoldsTheSame};
@@ -12,10 +12,10 @@ use mc_words::{Arena, Hand};
 use std::alloc::Global;
 use std::sync::Wait;
 
-/// As many keys as such items may have, from 0 on.
+/// How many keys items of the tests have at most, from 0 on.
 const KEYS: u64 = 64;
 
-/// As many words as one of them may have.
+/// How many words an item of the tests has at most.
 const WORDS: u64 = 64;
 
 /// The first word of the item that is stored under the key with this stamp. No other item has one of its words.
@@ -26,17 +26,17 @@ fn first_word(key: Key, stamp: Stamp) -> u64 {
         .wrapping_mul(WORDS)
 }
 
-/// The words of the item that is stored under the key with this stamp, so many.
+/// The n words of the item that is stored under the key with this stamp.
 pub fn own_words(alloc: Global, key: Key, stamp: Stamp, len: u64) -> Result<Vec<u64>, Refused> {
     words_from(alloc, first_word(key, stamp), len)
 }
 
-/// Whether these are the words of the item that was stored under the key with this stamp, so many.
+/// Whether these are the n words of the item that was stored under the key with this stamp.
 pub fn are_own(words: &[u64], key: Key, stamp: Stamp, len: u64) -> bool {
     are_from(words, first_word(key, stamp), len)
 }
 
-/// Stores such an item of so many words under the key. False where that is refused.
+/// Stores an item of n such words under the key. False where that is refused.
 pub fn store_own<R: Wait>(
     rt: &R,
     alloc: Global,
@@ -54,7 +54,7 @@ pub fn store_own<R: Wait>(
     Ok(set(rt, arena, hand, key, &words).is_ok())
 }
 
-/// Whether the item is such an item of the key, and has so many words. False, too, where memory ran out.
+/// Whether the item is such an item of the key, and has n words. False, too, where memory ran out.
 pub fn is_own(alloc: Global, arena: &Arena, hand: &mut Hand, item: &Ref, key: Key, len: u64) -> bool
     requires arena { IsReadyHandOf arena.now hand.old }
     requires item { IsItemRef (view hand.old) item.now }
@@ -68,7 +68,7 @@ pub fn is_own(alloc: Global, arena: &Arena, hand: &mut Hand, item: &Ref, key: Ke
     }
 }
 
-/// The same of an item that is given up.
+/// Whether the item is such an item of the key, and has n words. The item is given up.
 #[tactic(auto, using(crate::proofs::Kept::less_later))]
 pub fn release_own(
     alloc: Global,

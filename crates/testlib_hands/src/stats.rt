@@ -8,7 +8,7 @@ use mc_words::{Arena, Hand};
 use std::alloc::Global;
 use std::sync::Wait;
 
-/// What a survey told.
+/// The numbers that a survey read.
 #[derive(Drop)]
 pub struct Stats {
     classes: Vec<Numbers>,

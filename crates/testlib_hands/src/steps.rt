@@ -51,7 +51,7 @@ pub fn play_all<R: Wait, S: Step>(
     Ok(())
 }
 
-/// The same, in a new arena of this configuration.
+/// Whether each call gives what it is to give, one after another, in a new arena of this configuration.
 pub fn run<R: Wait, S: Step>(
     rt: &R,
     alloc: Global,

@@ -9,7 +9,7 @@ use std::alloc::Global;
 use std::sync::Wait;
 use std::thread::{Threads, join};
 
-/// A hand that worked, and what it tells.
+/// A hand that worked, and what it returns.
 #[derive(Drop)]
 pub struct Worked<T> {
     pub hand: Hand,
@@ -18,19 +18,19 @@ pub struct Worked<T> {
 
 /// What a thread does with hands of its own.
 pub trait Job: Send + Drop {
-    /// What it tells.
+    /// What the job returns.
     type Told: Send + Drop;
 
-    // Holds where its hands are idle ones of the arena.
+    // Holds where the job's hands are idle ones of the arena.
     ghost is_ready: { Arena → Self → Type 0 };
 
-    /// Does it. One hand is left of its own.
+    /// Does the job. One hand of the job's is left.
     fn work<R: Wait>(self, rt: &R, alloc: Global, arena: &Arena) -> Worked<Self::Told>
         requires { is_ready arena.now self }
         ensures { IsIdleHandOf arena.now result.hand };
 }
 
-/// One hand of two that worked, and what both tell.
+/// One hand of two that worked, and what both return.
 fn both<T, U>(arena: &Arena, first: Worked<T>, second: Worked<U>) -> Worked<(T, U)>
     requires first { IsIdleHandOf arena.now first.hand }
     requires second { IsIdleHandOf arena.now second.hand }
@@ -47,7 +47,7 @@ fn both<T, U>(arena: &Arena, first: Worked<T>, second: Worked<U>) -> Worked<(T, 
     }
 }
 
-/// Two jobs at once. One hand is left, and what they tell.
+/// Two jobs at once. One hand is left, and what they return.
 fn work_two<R: Threads + Wait + Sync, A: Job, B: Job>(
     rt: &R,
     alloc: Global,
@@ -66,7 +66,7 @@ fn work_two<R: Threads + Wait + Sync, A: Job, B: Job>(
     both(arena, first, second)
 }
 
-/// Three jobs at once. One hand is left, and what they tell.
+/// Three jobs at once. One hand is left, and what they return.
 pub fn work_three<R: Threads + Wait + Sync, A: Job, B: Job, C: Job>(
     rt: &R,
     alloc: Global,
@@ -88,7 +88,7 @@ pub fn work_three<R: Threads + Wait + Sync, A: Job, B: Job, C: Job>(
     both(arena, first, others)
 }
 
-/// Four jobs at once. One hand is left, and what they tell.
+/// Four jobs at once. One hand is left, and what they return.
 pub fn work_four<R: Threads + Wait + Sync, A: Job, B: Job, C: Job, D: Job>(
     rt: &R,
     alloc: Global,

@@ -1,7 +1,7 @@
-//! What turns of the mover told, all together.
+//! What turns of the mover counted, all together.
 use mc_mover::{Counts, Turn};
 
-/// What turns told, all together.
+/// What turns counted, all together.
 #[derive(Clone, Copy)]
 pub struct Turns {
     /// Pages that came to their destination.
@@ -14,7 +14,7 @@ pub struct Turns {
     pub held_up: u64,
 }
 
-/// What is told before the first turn.
+/// The counts before the first turn.
 pub const NO_TURNS: Turns = Turns {
     moved: 0,
     rescued: 0,
@@ -31,7 +31,7 @@ impl Turns {
         self.held_up = self.held_up.saturating_add(held_up);
     }
 
-    /// Adds what a turn told, and says whether it ended with no page on the move.
+    /// Adds what a turn counted, and returns whether it ended with no page on the move.
     pub fn note(&mut self, turn: Turn) -> bool {
         match turn {
             Turn::Idle => true,

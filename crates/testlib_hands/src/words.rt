@@ -2,7 +2,7 @@
 use mc_memory::{Refused, push};
 use std::alloc::Global;
 
-/// So many words from the first on.
+/// The n words from the first on.
 pub fn words_from(alloc: Global, first: u64, len: u64) -> Result<Vec<u64>, Refused> {
     let mut words = Vec::new(alloc);
     for place in 0..len {
@@ -11,7 +11,7 @@ pub fn words_from(alloc: Global, first: u64, len: u64) -> Result<Vec<u64>, Refus
     Ok(words)
 }
 
-/// Whether these are so many words from the first on.
+/// Whether these are n words from the first on.
 pub fn are_from(words: &[u64], first: u64, len: u64) -> bool {
     for place in 0..words.len() {
         if words[place] != first.wrapping_add(place as u64) {

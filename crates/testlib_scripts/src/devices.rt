@@ -1,4 +1,4 @@
-//! A reader and a writer in memory, which fail where they are told to.
+//! A reader and a writer in memory, which fail where a test has them fail.
 ghost use Rattle.std.specs.Prelude.{◌≡◌, ◌≤◌, [], false, length};
 
 use mc_classes::{Failures, Fault, Sink};
@@ -72,11 +72,11 @@ impl<L: Ledger> Source for MemorySource<'_, L> {
     }
 }
 
-/// Keeps what is written, and fails where memory runs out or `good` writes were made. Tells whether a write was tried
-/// after one that failed.
+/// Keeps what is written, and fails where memory runs out or `good` writes were made. Records whether a write was tried after one
+/// that failed.
 #[derive(Drop)]
 pub struct MemorySink<L: Ledger> {
-    /// What was written.
+    /// The bytes that were written.
     pub bytes: Vec<u8>,
     /// How many writes are made before every write fails.
     pub good: u64,

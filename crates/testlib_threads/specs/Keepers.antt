@@ -10,7 +10,7 @@ use Rattle.mc_items.specs.declared.refs.Ref.{Ref}
 use Rattle.mc_items.specs.ItemRefs.{AreKept}
 use Rattle.testlib_hands.specs.Hands.{IsReadyHandOf}
 
--- the hand may make any call, and keeps these references
+-- the hand may make any call, and keeps these references and no others
 abbrev pub IsKeeperOf : Arena → Hand → List Ref → Type 0
 IsKeeperOf arena hand kept = IsReadyHandOf arena hand × AreKept (view hand) kept
 
@@ -18,6 +18,6 @@ IsKeeperOf arena hand kept = IsReadyHandOf arena hand × AreKept (view hand) kep
 abbrev pub IsNear : Arena → Hint → Type 0
 IsNear arena hint = has_chunk (setup_of arena).table (hint_chunk hint) ≡ true
 
--- and so each of these that is there, beside which stand the stamps of their items
+-- each of these hints that is there is of one of the arena's chunks; beside each is the stamp of its item
 abbrev pub AreNear : Arena → List (Option (Hint × ℕ)) → Type 0
 AreNear arena hints = All (λ hint. IfSome hint (λ note. IsNear arena note.0)) hints

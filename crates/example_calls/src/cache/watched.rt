@@ -1,11 +1,11 @@
-//! A tender that tells what the classes have.
+//! A tender that returns what the classes have.
 ghost use Rattle.mc_cache.specs.Tending.{IsTenderOf};
 
 use mc_cache::{Cache, CacheStats, Tender};
 use mc_memory::Refused;
 use std::sync::Wait;
 
-/// Has sets that evict ask for pages, too, does a window, and tells what all classes have then.
+/// Has sets that evict ask for pages, too, does a window, and returns what all classes have then.
 pub fn tend_and_tell<R: Wait>(
     rt: &R,
     cache: &Cache,

@@ -21,16 +21,16 @@ use Rattle.mc_items.specs.Keeping.{holding_by}
 use Rattle.mc_cache.specs.shard.Hands.{WereSaid, sayings_of}
 use Rattle.mc_cache.specs.shard.Reading.{RefersTo}
 
--- the item of this hash was got by a hint, with no lock; and it was the current item of the hash at the one exchange by which it was got
+-- the hand got the item of this hash by a hint, with no lock. It was the hash's current item at the exchange by which the hand got it
 abbrev pub GetsHinted : ℕ → Option Ref → Hand → Hand → Type 0
 GetsHinted hash None before got = ⊥
 GetsHinted hash (Some item) before got = (hint : Hint) × GetsCurrent hint item (view before) (view got) × (item_key item ≡ hash)
 
--- what is under the hash was got: by the lock of its stripe, or by a hint
+-- the hand got what is under the hash: by the lock of its stripe, or by a hint
 abbrev pub GetsUnder : Setup → ℕ → Option Ref → Hand → Hand → Type 0
 GetsUnder setup hash item before got = Gets setup hash item before got ⊎ GetsHinted hash item before got
 
--- a hint led to nothing: to no item that is there still, or others came between, or to an item of another hash, which was released
+-- a hint led to nothing: its item is gone, other hands changed its header meanwhile, or the item is of another hash and was released
 abbrev pub FollowsInVain : Hint → ℕ → View → View → Type 0
 FollowsInVain hint hash view now =
     FindsGone view (hint_chunk hint) (hint_issue hint) now
@@ -42,7 +42,7 @@ pub record TriesHint (hash : ℕ) (before tried : Hand) : Type 0 where
   pub number : number_of tried ≡ number_of before
   pub did : (view tried ≡ view before) ⊎ ((hint : Hint) × FollowsInVain hint hash (view before) (view tried))
 
--- the hand got the item under the hash, perhaps once it had tried a hint in vain, and these are its words, which somebody said; or there was
+-- the hand got the item under the hash, perhaps after a hint led to nothing, and these are its words, which some hand stored; or there was
 -- none
 pub record FindsWords (setup : Setup) (hash : ℕ) (before : Hand) (words : Option (List ℕ)) : Type 0 where
   pub tried : Hand
@@ -63,42 +63,42 @@ pub record FindsFull (setup : Setup) (hash : ℕ) (before now : Hand) : Type 0 w
   pub tries : TriesHint hash before tried
   pub full : FindsNoRoomFor setup hash tried now
 
--- the hand got this item under the hash, whose words somebody said, and holds nothing else
+-- the hand got this item under the hash, whose words some hand stored, and holds nothing else
 pub record FindsItem (arena : Arena) (hash : ℕ) (item : Ref) (before got : Hand) : Type 0 where
   pub finds : FindsWords (setup_of arena) hash before (Some (item_words (view got) item))
   pub is_item : finds.item ≡ Some item
   pub refers : RefersTo arena item got
   pub alone : (view got).row.holdings ≡ holding_by (view got) item ∷ []
 
--- it is of this key and this value
+-- the item under the hash is of this key and this value
 abbrev pub FindsValue : Setup → ℕ → List ℕ → List ℕ → Hand → Type 0
 FindsValue setup hash key value before = FindsWords setup hash before (Some (packed key value))
 
--- these words are the packing of the key and a value, which stands behind the bytes that were there
+-- the words are the packing of the key and a value, which was added behind the old bytes
 abbrev pub PutsValue : List ℕ → List ℕ → List ℕ → List ℕ → Type 0
 PutsValue key words old new = (value : List ℕ) × (words ≡ packed key value) × (new ≡ old ++ value)
 
--- the item under the hash is of this key and a value, which stands behind the bytes that were there
+-- the item under the hash is of this key and a value, which was added behind the old bytes
 abbrev pub GivesValue : Setup → ℕ → List ℕ → Hand → List ℕ → List ℕ → Type 0
 GivesValue setup hash key before old new = (value : List ℕ) × FindsValue setup hash key value before × (new ≡ old ++ value)
 
--- it is of this key, with some value
+-- the item under the hash is of this key, with some value
 abbrev pub FindsKey : Setup → ℕ → List ℕ → Hand → Type 0
 FindsKey setup hash key before = (value : List ℕ) × FindsValue setup hash key value before
 
--- there is no item under the hash, or it is of another key
+-- no item is under the hash, or one of another key
 pub record FindsOther (setup : Setup) (hash : ℕ) (key : List ℕ) (before : Hand) : Type 0 where
   pub words : Option (List ℕ)
   pub finds : FindsWords setup hash before words
   pub other : IfSome words (λ words. ¬ IsPackingOf key words)
 
--- the item under the hash was of this key; and then it was deleted, if it was still there
+-- the item under the hash was of this key; then the hash was deleted, if its item was still there
 pub record DeletesKey (setup : Setup) (hash : ℕ) (key : List ℕ) (there : Bool) (before now : Hand) : Type 0 where
   pub finds : FindsKey setup hash key before
   pub between : Hand
   pub deletes : ActsOn setup hash (λ number stripe. Deletes number stripe hash there) between now
 
--- by the hand of this number the chunk of the item went to the back of its hand-out order, under the lock of the slabs, and was released
+-- by the hand of this number the item's chunk went to the back of its hand-out order, under the slabs lock, and was released
 pub record BumpsItem (number : ℕ) (item : Ref) (now : Hand) : Type 0 where
   pub read : Hand
   pub bumped : View
@@ -112,19 +112,20 @@ pub record TouchesValue (setup : Setup) (hash : ℕ) (key value : List ℕ) (bef
   pub is_item : finds.item ≡ Some item
   pub bumps : BumpsItem (number_of before) item now
 
--- it is of this key, with some value, and became the newest of its class
+-- the item under the hash is of this key, with some value, and became the newest of its class
 abbrev pub TouchesKey : Setup → ℕ → List ℕ → Hand → Hand → Type 0
 TouchesKey setup hash key before now = (value : List ℕ) × TouchesValue setup hash key value before now
 
--- the item under the hash is of this key and a value, which stands behind the bytes that were there, and it became the newest of its class
+-- the item under the hash is of this key and a value, which was added behind the old bytes; the item became the newest of its class
 abbrev pub GivesTouched : Setup → ℕ → List ℕ → Hand → Hand → List ℕ → List ℕ → Type 0
 GivesTouched setup hash key before now old new = (value : List ℕ) × TouchesValue setup hash key value before now × (new ≡ old ++ value)
 
--- so it is, and it became the newest of its class if that was asked
+-- the item under the hash is of this key and a value, which was added behind the old bytes; the item became the newest of its class, if
+-- that was asked
 abbrev pub GivesTouchedIf : Bool → Setup → ℕ → List ℕ → Hand → Hand → List ℕ → List ℕ → Type 0
 GivesTouchedIf true setup hash key before now old new = GivesTouched setup hash key before now old new
 GivesTouchedIf false setup hash key before now old new = GivesValue setup hash key before old new
 
--- there was no item of this key, or it was gone when it was to be deleted
+-- no item under the hash was of this key, or it was gone when the hand came to delete it
 abbrev pub DeletesNone : Setup → ℕ → List ℕ → Hand → Hand → Type 0
 DeletesNone setup hash key before now = FindsOther setup hash key before ⊎ DeletesKey setup hash key false before now

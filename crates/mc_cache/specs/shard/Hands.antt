@@ -1,4 +1,4 @@
--- Hands between two calls, and what hands of the arena said.
+-- Hands between two calls, and what hands of the arena stored.
 use Rattle.std.specs.Prelude.{◌≡◌, ℕ, List, []}
 use Rattle.mc_core.specs.Past.{Saying}
 use Rattle.mc_words.specs.declared.arena.Arena.{Arena}
@@ -15,11 +15,11 @@ pub record IsIdleHandOf (arena : Arena) (hand : Hand) : Type 0 where
   pub ready : IsReady (view hand)
   pub none : (view hand).row.holdings ≡ []
 
--- what the hand said so far
+-- the words that the hand stored so far, with their stamps
 abbrev pub sayings_of : Hand → List Saying
 sayings_of hand = (view hand).row.knows.said
 
--- in a lawful moment of such an arena, to a hand that had said this much, these words were said with the stamp
+-- a hand that had stored this much saw, in a lawful moment of such an arena, that these words were stored with the stamp
 pub record WereSaid (setup : Setup) (own : List Saying) (stamp : ℕ) (words : List ℕ) : Type 0 where
   pub seen : View
   pub setup_is : seen.setup ≡ setup

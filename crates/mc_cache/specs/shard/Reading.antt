@@ -1,4 +1,4 @@
--- Words of an item that a hand reads where they stand.
+-- Words of an item that a hand reads in place.
 use Rattle.std.specs.Prelude.{◌≡◌}
 use Rattle.mc_words.specs.declared.arena.Arena.{Arena}
 use Rattle.mc_words.specs.declared.hand.Hand.{Hand}
@@ -20,7 +20,7 @@ pub record RefersTo (arena : Arena) (item : Ref) (hand : Hand) : Type 0 where
 abbrev pub LeavesSlabs : View → View → Type 0
 LeavesSlabs before now = now.row.knows.hold.count ≡ before.row.knows.hold.count
 
--- it read words of the item, or none, and did nothing else
+-- the hand read words of the item, or none, and did nothing else
 pub record OnlyReads (arena : Arena) (item : Ref) (before now : Hand) : Type 0 where
   pub hand : RefersTo arena item now
   pub number : number_of now ≡ number_of before

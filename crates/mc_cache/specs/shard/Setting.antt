@@ -5,6 +5,6 @@ use Rattle.mc_items.specs.Setting.{RefusesSet}
 use Rattle.mc_items.specs.declared.setting.SetError.{SetError}
 use Rattle.mc_items.specs.declared.setting.SetError.TheVariants.{NoMemory}
 
--- its words were refused; or there was no memory for these words, and nothing was done
+-- the set of these words was refused; or there was no memory for them, and nothing was done
 abbrev pub RefusesBytes : ℕ → ℕ → List ℕ → SetError → View → View → Type 0
 RefusesBytes number hash words error view now = RefusesSet number hash words error view now ⊎ ((error ≡ NoMemory tt) × (now ≡ view))

@@ -1,4 +1,4 @@
-//! Keys that are deleted.
+//! The delete of a key.
 ghost use Rattle.std.specs.Prelude.{◌≡◌, Ok, OnErr, false, true};
 ghost use Rattle.mc_words.specs.declared.hand.Hand.{Hand};
 ghost use Rattle.mc_words.specs.hand.Arenas.{setup_of, view};
@@ -14,8 +14,8 @@ use mc_memory::Refused;
 use mc_words::{Arena, Hand};
 use std::sync::Wait;
 
-/// Deletes the key, and says whether it had an item. An item of another key under the hash stays; but where one is stored there between
-/// the look and the delete, it is deleted, as an eviction would take it. (memcached's `process_delete_command`)
+/// Deletes the key, and returns whether it had an item. An item of another key under the hash stays; but where one is stored
+/// there between the look and the delete, it is deleted, as an eviction would take it. (memcached's `process_delete_command`)
 pub fn delete<R: Wait>(
     rt: &R,
     arena: &Arena,

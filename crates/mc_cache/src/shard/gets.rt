@@ -19,9 +19,9 @@ use mc_memory::Refused;
 use mc_words::{Arena, Hand};
 use std::sync::Wait;
 
-/// Puts the key's value behind the bytes that are there, and says whether the key has one. It waits for the lock of the hash's stripe.
-/// An item of another key under the hash is none. Beside an entry in the stripe's history it takes memory for these bytes alone; where
-/// that is refused, they stay. (memcached's `process_get_command`)
+/// Puts the key's value behind the bytes that are there, and returns whether the key has one. It waits for the lock of the hash's
+/// stripe. An item of another key under the hash is none. Beside an entry in the stripe's history it takes memory for these bytes
+/// alone; where that is refused, they stay. (memcached's `process_get_command`)
 ///
 /// Where that is asked, the item becomes the one of its class that is evicted last, before the reference is given up. Then it waits for the
 /// lock of the slabs, too. (memcached's `process_touch_command` with a value, `gat`)
@@ -50,8 +50,8 @@ pub fn get<R: Wait>(
     give_and_touch(rt, arena, hand, item, at.key, into, touches)
 }
 
-/// Makes the key's item the one of its class that is evicted last, and says whether it has one. An item of another key under the hash
-/// stays as it is. It is a get, whose reference is given up. (memcached's `process_touch_command`)
+/// Makes the key's item the one of its class that is evicted last, and returns whether it has one. An item of another key under
+/// the hash stays as it is. It is a get, whose reference is given up. (memcached's `process_touch_command`)
 pub fn touch<R: Wait>(
     rt: &R,
     arena: &Arena,

@@ -1,6 +1,6 @@
-//! What an item of bytes is found by.
+//! A key with its hash, by which its item is found.
 
-/// A key, and the hash under which its item stands.
+/// A key, and the hash under which its item is stored.
 #[derive(Clone, Copy)]
 pub struct Label<'a> {
     pub hash: u64,

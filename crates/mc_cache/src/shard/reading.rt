@@ -1,4 +1,4 @@
-//! The words of an item, read where they stand.
+//! The words of an item, read in place.
 ghost use Rattle.std.specs.Prelude.{◌+◌, ◌≡◌, ◌≢◌, ◌≤◌, ◌<◌, IfSome, None, Ok, drop, false, length, slice_index, true};
 ghost use Rattle.mc_packing.specs.Packing.{AreWords, FillsFrom, IsPackingOf, LooksPacked, bytes_of, key_words, words_for, words_of};
 ghost use Rattle.mc_words.specs.hand.Arenas.{view};
@@ -13,7 +13,7 @@ use mc_packing::{
 };
 use mc_words::{Arena, Hand};
 
-/// Whether the item is of this key. It reads all words of such an item, and of another no more than tell that it is one.
+/// Whether the item is of this key. It reads all words of such an item, and of another no more than show that it is one.
 pub(crate) fn is_of(arena: &Arena, hand: &mut Hand, item: &Ref, key: &[u8]) -> bool
     requires { RefersTo arena.now item.now hand.old }
     ensures reads { OnlyReads arena.now item.now hand.old hand.new }
@@ -29,8 +29,8 @@ pub(crate) fn is_of(arena: &Arena, hand: &mut Hand, item: &Ref, key: &[u8]) -> b
     }
 }
 
-/// Puts the item's value behind the bytes that are there, and says whether the item is of this key. Where memory is refused, the bytes
-/// stay.
+/// Puts the item's value behind the bytes that are there, and returns whether the item is of this key. Where memory is refused,
+/// the bytes stay.
 pub(crate) fn push_value(
     arena: &Arena,
     hand: &mut Hand,
@@ -91,7 +91,7 @@ fn value_len(arena: &Arena, hand: &mut Hand, item: &Ref, key: &[u8]) -> Option<u
     Some(count)
 }
 
-/// Whether so many bytes fill the item's words from this place on.
+/// Whether n bytes fill the item's words from this place on.
 fn is_filled_from(arena: &Arena, hand: &mut Hand, item: &Ref, place: u64, count: u64) -> bool
     requires item { RefersTo arena.now item.now hand.old }
     requires some { 1 ≤ place }

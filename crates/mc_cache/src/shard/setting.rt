@@ -1,4 +1,4 @@
-//! Items of bytes that are set.
+//! The set of an item of bytes.
 ghost use Rattle.std.specs.Prelude.{◌≡◌, IfErr, IfOk, OnErr};
 ghost use Rattle.mc_packing.specs.Packing.{packed};
 ghost use Rattle.mc_words.specs.hand.Arenas.{view};
@@ -16,9 +16,10 @@ use mc_stripe::Stamp;
 use mc_words::{Arena, Hand};
 use std::sync::Wait;
 
-/// Stores an item of this key and this value under its hash, in place of what was there, and says its stamp. It is packed into `words`,
-/// which takes memory only where it has too little; what stood there is gone. A packing of `n` words goes to the lowest class with
-/// chunks of `24 + 8 n` bytes. It waits for the locks of the slabs and of the hash's stripe. (memcached's `process_update_command`)
+/// Stores an item of this key and this value under its hash, in place of what was there, and returns its stamp. The item is
+/// packed into `words`, which takes memory only where it has too little; what was in it is gone. A packing of `n` words goes to
+/// the lowest class with chunks of `24 + 8 n` bytes. It waits for the locks of the slabs and of the hash's stripe. (memcached's
+/// `process_update_command`)
 pub fn set<R: Wait>(
     rt: &R,
     arena: &Arena,

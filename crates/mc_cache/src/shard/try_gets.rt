@@ -1,4 +1,4 @@
-//! What is found under a hash.
+//! Looks at the item under a hash: `try_get`, `contains`, and whether it is of the key.
 ghost use Rattle.std.specs.Prelude.{◌≡◌, [], ◌∷◌, ◌⊎◌, Err, Ok, OnErr, false, true};
 ghost use Rattle.mc_packing.specs.Packing.{IsPackingOf};
 ghost use Rattle.mc_words.specs.hand.Arenas.{setup_of, view};

@@ -35,7 +35,7 @@ impl Head {
         }
     }
 
-    /// One holder less.
+    /// The header with one holder less.
     fn let_go(self) -> Head
         ensures { result ≡ let_go self }
     {

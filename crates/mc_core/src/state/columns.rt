@@ -1,4 +1,4 @@
-//! The columns, read and written.
+//! The columns of the state: headers, words, hands and holdings, read and written.
 ghost use Rattle.std.specs.Prelude.{◌≡◌, ◌^◌, ◌<◌, [], length, slice_index, IfOk, OnOk};
 ghost use Rattle.std.specs.List.{position};
 ghost use Rattle.std.specs.Option.{option_map};
@@ -15,7 +15,7 @@ use crate::series::Series;
 use mc_memory::Refused;
 use mc_pages::ChunkId;
 
-/// The word of a lock says that the hand of this number has it.
+/// The word of a lock records that the hand of this number has the lock.
 pub(super) fn is_held_by(word: u64, number: Option<u8>) -> bool
     ensures { result ≡ is_held_by word number }
 {
@@ -25,7 +25,7 @@ pub(super) fn is_held_by(word: u64, number: Option<u8>) -> bool
     }
 }
 
-/// Where the first holding of the chunk stands.
+/// The place of the first holding of the chunk.
 fn place_of(holdings: &[Holding], chunk: ChunkId) -> Option<usize>
     ensures { result ≡ position (is_of chunk) holdings.now }
 {

@@ -90,7 +90,7 @@ impl State {
         Ok(!self.has_page_for(chunk.page) && self.none_half_cut())
     }
 
-    /// Whether there is a reason to take the item away.
+    /// Whether an item may be taken away for a reason.
     fn has_reason(&self, hand: u64, chunk: ChunkId) -> Result<bool, Refused>
         requires { hand < length self.now.ids }
         ensures { IfOk result (λ has. has ≡ has_reason self.now.table self.now.heads self.now.slabs (looks_at self.now hand) (holdings_at self.now hand) chunk) }

@@ -41,7 +41,7 @@ impl Head {
         }
     }
 
-    /// One holder more.
+    /// The header with one holder more.
     fn referred(self) -> Head
         requires { can_count self ≡ true }
         ensures { result ≡ referred self }

@@ -1,4 +1,4 @@
-//! The free list and the hand-out order of a class, copied, and what stands in them.
+//! The free list and the hand-out order of a class, copied, and what is in them.
 ghost use Rattle.std.specs.Prelude.{◌≡◌, IfOk};
 ghost use Rattle.mc_pages.specs.SlabState.{IsClass, class_at};
 ghost use Rattle.mc_core.specs.Silent.{is_among, has_page, is_handed_out, is_listed, has_listed};
@@ -33,14 +33,14 @@ pub fn order_of(alloc: Global, slabs: &Slabs, class: ClassId) -> Result<Vec<Chun
     Ok(chunks)
 }
 
-/// Whether the chunk stands among these.
+/// Whether the chunk is among these.
 fn is_among(chunks: &[ChunkId], chunk: ChunkId) -> bool
     ensures { result ≡ is_among chunks.now chunk }
 {
     chunks.iter().any(|other| *other == chunk)
 }
 
-/// Whether some chunk of the page stands among these.
+/// Whether some chunk of the page is among these.
 fn has_page(chunks: &[ChunkId], page: PageId) -> bool
     ensures { result ≡ has_page chunks.now page }
 {

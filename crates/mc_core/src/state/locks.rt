@@ -18,7 +18,7 @@ impl State {
         self.note_if_held(hand, Look::Saw(chunk, head))
     }
 
-    /// Whether there is such a stripe.
+    /// Whether the arena has the stripe.
     pub(super) fn has_stripes(&self, stripe: u64) -> bool
         ensures { result ≡ has_stripes self.now stripe }
     {
@@ -50,7 +50,7 @@ impl State {
         self.forget(hand);
     }
 
-    /// Whether there is such a stripe and its lock is free.
+    /// Whether the arena has the stripe, and its lock is free.
     pub(super) fn can_take_stripe(&self, stripe: u64) -> bool
         ensures { result ≡ can_take_stripe self.now stripe }
     {

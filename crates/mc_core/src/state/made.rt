@@ -55,7 +55,7 @@ impl State {
     }
 }
 
-/// Headers of all chunks, none of which is cut, so many words, and the pages that they stand on.
+/// Headers of all chunks, none of which is cut, n words, and the pages of the chunks.
 fn new_chunks(
     alloc: Global,
     table: &ClassTable,
@@ -72,7 +72,7 @@ fn new_chunks(
     Ok((heads, words, slabs))
 }
 
-/// So many locks of stripes, which are free, and the stripes behind them.
+/// The locks of n stripes, all free, and the stripes behind them.
 fn new_stripes(alloc: Global, count: u64) -> Result<(Vec<u64>, Vec<Stripe>), Refused>
     ensures locks { IfOk result (λ new. new.0.items ≡ replicate count 0) }
     ensures stripes { IfOk result (λ new. new.1.items ≡ replicate count new_stripe) }
@@ -82,7 +82,7 @@ fn new_stripes(alloc: Global, count: u64) -> Result<(Vec<u64>, Vec<Stripe>), Ref
     Ok((locks, stripes))
 }
 
-/// So many hands, what they hold, and what they saw.
+/// The rows of n hands: who they are, what they hold, and what they saw.
 fn new_hands(
     alloc: Global,
     count: u64,
@@ -98,7 +98,7 @@ fn new_hands(
     Ok((ids, holdings, looks))
 }
 
-/// So many zeros.
+/// A vector of n zeros.
 fn zeros(alloc: Global, count: u64) -> Result<Vec<u64>, Refused>
     ensures { IfOk result (λ words. words.items ≡ replicate count 0) }
 {
@@ -124,7 +124,7 @@ fn slabs_of(alloc: Global, table: &ClassTable) -> Result<Slabs, Refused>
     Slabs::new(alloc, table)
 }
 
-/// So many stripes, without items.
+/// A vector of n stripes, without items.
 #[tactic(auto, using(crate::proofs::Lists::replicate_more))]
 fn stripes_of(alloc: Global, count: u64) -> Result<Vec<Stripe>, Refused>
     ensures { IfOk result (λ stripes. stripes.items ≡ replicate count new_stripe) }
@@ -136,7 +136,7 @@ fn stripes_of(alloc: Global, count: u64) -> Result<Vec<Stripe>, Refused>
     Ok(stripes)
 }
 
-/// So many hands, numbered from 0.
+/// The numbers of n hands, counted from 0.
 #[tactic(auto, using(crate::proofs::Lists::map_range_more))]
 fn ids_of(alloc: Global, count: u64) -> Result<Vec<Ids>, Refused>
     requires { count ≤ 64 }
@@ -150,7 +150,7 @@ fn ids_of(alloc: Global, count: u64) -> Result<Vec<Ids>, Refused>
     Ok(ids)
 }
 
-/// So many empty rows.
+/// A vector of n empty rows.
 #[tactic(auto, using(crate::proofs::Lists::replicate_more))]
 fn rows_of<T: Drop>(alloc: Global, count: u64) -> Result<Vec<Series<T>>, Refused>
     ensures { IfOk result (λ rows. rows.items ≡ replicate count []) }

@@ -1,4 +1,4 @@
-//! Where the words of the arena stand.
+//! The places of the arena's words.
 ghost use Rattle.std.specs.Prelude.{◌≡◌, ◌+◌, ◌*◌, ◌^◌, ◌<◌, ◌≤◌, length, slice_index_or, MatchOption};
 ghost use Rattle.mc_pages.specs.SlabState.{class_of_page};
 ghost use Rattle.mc_core.specs.State.{most_of, is_class, room_in, has_chunk, head_place, room_at, word_place};
@@ -23,7 +23,7 @@ impl State {
         self.table.per_page(1)
     }
 
-    /// Whether there is such a class.
+    /// Whether the table has the class.
     pub(super) fn is_class(&self, class: ClassId) -> bool
         ensures { result ≡ is_class self.now.table class }
     {
@@ -37,7 +37,7 @@ impl State {
         chunk.page < self.table.arena_pages() && chunk.index < self.most()
     }
 
-    /// Where the header of a chunk stands, if it has one.
+    /// The place of a chunk's header, if it has one.
     pub(super) fn head_place(&self, chunk: ChunkId) -> Option<usize>
         ensures { MatchOption result (length self.now.heads ≤ head_place self.now.table chunk) (λ place. (place ≡ head_place self.now.table chunk) × (place < length self.now.heads)) }
     {
@@ -81,7 +81,7 @@ impl State {
         self.room_in(self.class_of_page(chunk.page))
     }
 
-    /// Where a word of a chunk stands, if there is one.
+    /// The place of a chunk's word, if there is one.
     pub(super) fn word_place(&self, chunk: ChunkId, place: u64) -> Option<usize>
         ensures { MatchOption result (length self.now.words ≤ word_place self.now chunk place) (λ found. (found ≡ word_place self.now chunk place) × (found < length self.now.words)) }
     {

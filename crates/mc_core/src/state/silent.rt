@@ -165,7 +165,7 @@ impl State {
         Ok(!self.is_listed(moving.src, chunk)?)
     }
 
-    /// How many chunks of the page were cut, on a page with so many.
+    /// How many chunks of the page were cut, where a page has `per_page` chunks.
     fn cut_count(&self, page: u64, per_page: u64) -> u64
         ensures { result ≡ cut_count self.now.slabs.uncut page per_page }
     {
@@ -269,7 +269,7 @@ impl State {
         }
     }
 
-    /// Tells of a key that isn't there: it was looked up, or it was to be deleted.
+    /// Records a call on a key that isn't there: it was looked up, or was to be deleted.
     fn tell_none(&mut self, hand: u64, key: u64, deletes: bool)
         requires { can_tell_none (stripe_at self.old (stripe_of self.old key)) key ≡ true }
         ensures { self.new ≡ with_stripe self.old (stripe_of self.old key) (used_up (told_none deletes (stripe_at self.old (stripe_of self.old key)).state (writer_of self.old hand) key)) }
@@ -308,7 +308,7 @@ impl State {
         self.change_stripe(stripe, how)
     }
 
-    /// The hand tells of a key that isn't there, in a stripe that it has.
+    /// The hand records a call on a key that isn't there, in a stripe that it has.
     fn change_history(&mut self, hand: u64, key: u64, deletes: bool) -> bool
         ensures { IsDone (allows_change self.old hand (call_of deletes key)) (after_change self.old hand (call_of deletes key)) self.new result }
     {

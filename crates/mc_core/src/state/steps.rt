@@ -1,4 +1,4 @@
-//! One event after another.
+//! Events, played one after another: whether a step is allowed, and what it does.
 ghost use Rattle.std.specs.Prelude.{◌≡◌, ◌<◌, true, length, IfOk, OnOk};
 ghost use Rattle.mc_core.specs.Done.{IsDone};
 ghost use Rattle.mc_core.specs.Run.{allows_step, after_step, is_allowed, after};

@@ -54,8 +54,9 @@ impl Keeper {
     }
 
     /// Ends a window, which is as long as the caller likes: the dead of all classes are put back, and the automover learns each
-    /// class's evictions, pages and free chunks. In mode 1 a page begins to move as it decides then, if it does, and what became
-    /// of that is told. (slabs.c's automover of 1.4, which judges three windows; to the pool after 1.6's page mover.)
+    /// class's evictions, pages and free chunks. In mode 1 a page begins to move as the automover decides then, if it does, and
+    /// the answer reports what became of that. (slabs.c's automover of 1.4, which judges three windows; to the pool after 1.6's
+    /// page mover.)
     ///
     /// Where memory runs out, what was done before stays: the dead that were put back, and then the window.
     pub fn window(&mut self) -> Result<Option<Acted>, Refused>
@@ -88,7 +89,7 @@ impl Keeper {
         }
     }
 
-    /// Begins to move a page as it was decided, and tells what became of that.
+    /// Begins to move a page as it was decided, and returns what became of that.
     fn act(&mut self, decision: Decision) -> Result<Option<Acted>, Refused>
         ensures answer { IfOk result (λ answer. answer ≡ acted_answer self.old (Some decision)) }
         ensures after { OnOk result (self.new ≡ (acted self.old (Some decision)).machine) }

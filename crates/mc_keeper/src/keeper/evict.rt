@@ -14,7 +14,7 @@ use mc_pages::ChunkId;
 const TRIES: u64 = 5;
 
 impl Keeper {
-    /// Sees to it that the class has a free chunk, where there is a way to one. Says whether an item was evicted for it.
+    /// Gets the class a free chunk, where there is a way to one. Returns whether an item was evicted for it.
     #[tactic(auto, using(mc_serial_spec::proofs::Stocks::class_stays))]
     pub(super) fn supply(&mut self, class: ClassId) -> Result<bool, Refused>
         requires { IsClass self.old.slabs class }
@@ -29,8 +29,8 @@ impl Keeper {
         Ok(self.relieve(class))
     }
 
-    /// Evicts the first item of the class's oldest that nobody holds, if there is one among those that are looked at,
-    /// and says whether there was.
+    /// Evicts the first of the class's oldest items that nobody holds, of those that are looked at, and returns whether there was
+    /// one.
     fn relieve(&mut self, class: ClassId) -> bool
         requires { IsClass self.old.slabs class }
         ensures evicted { result ≡ is_some (victim self.old class) }

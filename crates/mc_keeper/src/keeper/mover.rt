@@ -23,9 +23,9 @@ use mc_serial_spec::{Counts, Ending};
 const MAX_TURNS: u64 = 1_000_000;
 
 impl Keeper {
-    /// One turn of the mover: looks at up to `bulk` chunks of the page on the move, and at the page's end begins anew or ends the move.
-    /// Tells how it ended and how many chunks it cleared, of how many it rescued and evicted the item, and how many somebody holds.
-    /// (slabs.c's `slab_rebalance_move` and `slab_rebalance_finish`; that a rescue keeps an item's age is own.)
+    /// One turn of the mover: looks at up to `bulk` chunks of the page on the move, and at the page's end begins anew or ends the
+    /// move. Returns how it ended and how many chunks it cleared, of how many it rescued and evicted the item, and how many
+    /// somebody holds. (slabs.c's `slab_rebalance_move` and `slab_rebalance_finish`; that a rescue keeps an item's age is own.)
     ///
     /// A keeper does 1,000,000 turns and no more: then it answers `Turns`, and all is as before (own). Where memory runs out, the turn is
     /// begun, and each chunk up to one was looked at, the dead of whose class were put back.
@@ -45,8 +45,8 @@ impl Keeper {
         }
     }
 
-    /// Does so many turns, or fewer where one finds no move or ends one. Tells what they did in all, and how the last one ended; none of
-    /// 0 turns, which end idle. Where the keeper has no turns left for one of them, those before stay done.
+    /// Does n turns, or fewer where one finds no move or ends one. Returns what they did in all, and how the last one ended; none
+    /// of 0 turns, which end idle. Where the keeper has no turns left for one of them, those before stay done.
     pub fn turns(&mut self, count: u64) -> Result<(Ending, Counts), Stop>
         requires { count ≤ 1000000 }
         ensures done { IfOk result (λ done. after_turns self.old count ≡ Some (record { machine = self.new; counts = done.1; ending = done.0 })) }
@@ -67,7 +67,7 @@ impl Keeper {
         Ok((ending, counts))
     }
 
-    /// One turn, which goes on counting.
+    /// One turn, which goes on counting from these counts.
     fn turn_on(&mut self, counts: &mut Counts) -> Result<Ending, Refused>
         requires turns { self.old.turns < 1000000 }
         requires counts { AreAtMost (256 * 999999) counts.old }
@@ -93,8 +93,8 @@ impl Keeper {
         Ok(())
     }
 
-    /// Looks at the chunk at the move's position, and goes on from there. Says whether there was one: nothing happens where
-    /// no page moves or all of it was looked at.
+    /// Looks at the chunk at the move's position, and goes on from there. Returns whether there was one: nothing happens where no
+    /// page moves or all of it was looked at.
     fn step(&mut self, counts: &mut Counts) -> Result<bool, Refused>
         requires { AreAtMost 256000000 counts.old }
         ensures looked { OnOk result (with_chunk (record { machine = self.old; counts = counts.old }) self.old.slabs.moving ≡ record { machine = self.new; counts = counts.new }) }

@@ -55,7 +55,7 @@ pub(super) struct DeadNotes {
 }
 
 impl DeadNotes {
-    /// No chunk of so many classes is noted.
+    /// No chunk of n classes is noted.
     pub(super) fn new(alloc: Global, classes: u64) -> Result<DeadNotes, Refused> {
         let none = DeadList {
             chunks: [ChunkId { page: 0, index: 0 }; ROOM],
@@ -66,7 +66,7 @@ impl DeadNotes {
         })
     }
 
-    /// Notes of no class.
+    /// Notes that have room for no class.
     pub(super) fn none(alloc: Global) -> DeadNotes {
         DeadNotes {
             by_class: Vec::new(alloc),
@@ -119,7 +119,7 @@ pub(super) struct DeadHints {
 }
 
 impl DeadHints {
-    /// No chunk of so many classes has died yet.
+    /// No chunk of n classes has died yet.
     pub(super) fn new(alloc: Global, classes: u64) -> Result<DeadHints, Refused> {
         let last = LastDead::new(alloc, classes)?;
         let noted = DeadNotes::new(alloc, classes)?;

@@ -11,8 +11,7 @@ use mc_memory::Refused;
 use mc_pages::{Grow, Slabs};
 
 impl Keeper {
-    /// Sees to it that the class has a free chunk, where there is a way: its dead are put back, and else it
-    /// gets a page.
+    /// Gets the class a free chunk, where there is a way: its dead are put back, and where there is none it gets a page.
     #[tactic(auto, using(mc_serial_spec::proofs::Stocks::class_stays))]
     pub(super) fn stock(&mut self, class: ClassId) -> Result<(), Refused>
         requires { IsClass self.old.slabs class }

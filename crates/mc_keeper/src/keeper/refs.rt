@@ -22,7 +22,7 @@ pub struct TooManyRefs;
 /// Why a worker doesn't hold an item.
 #[derive(Debug, PartialEq, Eq, Drop)]
 pub enum HoldError {
-    /// It has as many holds as it may have, 255.
+    /// The worker has as many holds as it may have, 255.
     TooManyRefs,
     /// Memory ran out.
     NoMemory(Refused),
@@ -46,8 +46,9 @@ impl Keeper {
         }
     }
 
-    /// The worker holds the key's item, and is told whether the key has one. What is held stays as it is until it is dropped,
-    /// whatever is done to its key, and no set and no move takes its chunk. (items.c's `item_get`, which counts a reference)
+    /// The worker holds the key's item, and the call returns whether the key has one. What is held stays as it is until it is
+    /// dropped, whatever is done to its key, and no set and no move takes its chunk. (items.c's `item_get`, which counts a
+    /// reference)
     ///
     /// Where it is refused, all is as before; memory can run out only where there is an item.
     pub fn hold(&mut self, worker: u64, key: u64) -> Result<bool, HoldError>
@@ -68,8 +69,9 @@ impl Keeper {
         }
     }
 
-    /// The words of the item that the worker's last hold of the key is of, lent: of that of its holds of items of this key which it
-    /// took last, be it the item that the key leads to now or not. None where it holds none. It takes no memory. (own)
+    /// The words of the item that the worker's last hold of the key is of, lent. The last hold is the one that it took last of
+    /// its holds of items of this key; the key may lead to another item by now. None where it holds none. It takes no memory.
+    /// (own)
     pub fn held_words(&self, worker: u64, key: u64) -> Option<&[u64]>
         requires { worker < 64 }
         ensures words { option_copied result ≡ held_words self.now worker key }
@@ -78,9 +80,10 @@ impl Keeper {
         self.words_at(chunk)
     }
 
-    /// The worker gives back its last hold of the key, that of its holds of items of this key which it took last, and is lent the words of
-    /// the item that it was of. None where it holds none, and then all is as before. A sweep puts the item's chunk back once
-    /// nobody holds it and no key leads to it. It takes no memory. (items.c's `do_item_remove`; the sweep is own.)
+    /// The worker gives back its last hold of the key, and is lent the words of the item that it held. The last hold is the one
+    /// that it took last of its holds of items of this key. None where it holds none, and then all is as before. A sweep puts the
+    /// item's chunk back once nobody holds it and no key leads to it. It takes no memory. (items.c's `do_item_remove`; the sweep
+    /// is own.)
     pub fn drop(&mut self, worker: u64, key: u64) -> Option<&[u64]>
         requires { worker < 64 }
         ensures* after { sem 𝓛 (EndsAs self.entry (dropped self.old worker key (last_hold self.old worker key)).machine) }
@@ -92,8 +95,8 @@ impl Keeper {
         self.words_at(chunk)
     }
 
-    /// The key's item becomes the youngest of its class, which is evicted last. Says whether the key has one. It takes no memory.
-    /// (items.c's `do_item_update`, without its 60 seconds.) The worker takes no part.
+    /// The key's item becomes the youngest of its class, which is evicted last. Returns whether the key has one. It takes no
+    /// memory. (items.c's `do_item_update`, without its 60 seconds.) The worker takes no part.
     pub fn touch(&mut self, _worker: u64, key: u64) -> bool
         ensures had { result ≡ is_some (linked_chunk self.old.items key) }
         ensures after { self.new ≡ (made_youngest self.old key (linked_chunk self.old.items key)).machine }
@@ -107,8 +110,8 @@ impl Keeper {
         }
     }
 
-    /// The worker gives back its hold of a chunk, which stands at this place among its holds. Whether a key leads to the
-    /// chunk's item is told.
+    /// The worker gives back its hold of a chunk, which is at this place among its holds. `is_linked` is whether a key leads to
+    /// the chunk's item.
     pub(super) fn give_back(&mut self, worker: u64, chunk: ChunkId, place: usize, is_linked: bool)
         requires worker { worker < 64 }
         requires first { position (λ c. is_chunk c chunk) (held_by self.old.holds worker) ≡ Some place }
@@ -132,7 +135,7 @@ impl Keeper {
         }
     }
 
-    /// The chunk of the worker's hold of an item of the key that it took last, and where that stands among the worker's holds.
+    /// The chunk of the worker's hold of an item of the key that it took last, and the place of that among the worker's holds.
     pub(super) fn last_hold(&self, worker: u64, key: u64) -> Option<(ChunkId, usize)>
         requires { worker < 64 }
         ensures hold { option_map (λ hold. hold.0) result ≡ last_hold self.now worker key }
@@ -144,7 +147,8 @@ impl Keeper {
         }
     }
 
-    /// Where the worker's hold of an item of the key that it took last stands among its holds: the one taken last stands at 0.
+    /// The place, among the worker's holds, of its hold of an item of the key that it took last: of all holds the one taken last
+    /// is at 0.
     fn place_held(&self, worker: u64, key: u64) -> Option<usize>
         requires { worker < 64 }
         ensures place { result ≡ position (has_key self.now.items key) (held_by self.now.holds worker) }
@@ -167,7 +171,7 @@ impl Keeper {
     }
 }
 
-/// The chunk behind which so many stand.
+/// The chunk that has n others behind it.
 fn hold_at(chunks: &[ChunkId], behind: usize) -> ChunkId
     requires { behind < length chunks.now }
     ensures chunk { (d : ChunkId) → result ≡ slice_index_or (reverse chunks.now) behind d }

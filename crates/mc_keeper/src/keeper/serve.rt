@@ -35,7 +35,7 @@ const KEY_LINE: usize = 64;
 /// Why a command wasn't done.
 #[derive(Debug, PartialEq, Eq, Drop)]
 pub enum Stop {
-    /// It asks for more turns of the mover than a run has.
+    /// The command asks for more turns of the mover than a run has.
     Turns,
     /// Memory ran out.
     NoMemory(Refused),
@@ -52,8 +52,8 @@ impl From<Refused> for Stop {
 impl Keeper {
     /// Does a command, and adds the bytes of its reply to `text`.
     ///
-    /// Where it stops, `text` is as before, and what stands is one of the stages that the command comes through: what it
-    /// did before the step that was refused stays, and nothing of that step.
+    /// Where it stops, `text` is as before, and the keeper is at one of the stages that the command comes through: what it did
+    /// before the step that was refused stays, and nothing of that step.
     pub fn serve(&mut self, command: Command, text: &mut Vec<u8>) -> Result<(), Stop>
         requires { IsValid command }
         ensures served { OnOk result (IsServed self.old command text.old.items text.new.items self.new) }
@@ -101,7 +101,7 @@ impl Keeper {
         }
     }
 
-    /// Stores so many words that count up from `base`, and answers whether there was room for them.
+    /// Stores n words that count up from `base`, and answers whether there was room for them.
     fn serve_set(
         &mut self,
         key: u64,
@@ -120,7 +120,7 @@ impl Keeper {
         push_key_line(text, name_of_stored(stored), key)
     }
 
-    /// Tells the words of the key's item.
+    /// Writes the words of the key's item.
     fn serve_get(&self, worker: u64, key: u64, text: &mut Vec<u8>) -> Result<(), Refused>
         requires { worker < 64 }
         ensures reply { OnOk result (text.new.items ≡ text.old.items ++ (looked_up self.now worker key).reply) }
@@ -133,7 +133,7 @@ impl Keeper {
         }
     }
 
-    /// The worker holds the key's item, once there is room to say so.
+    /// The worker holds the key's item, once there is room for the reply.
     fn serve_hold(&mut self, worker: u64, key: u64, text: &mut Vec<u8>) -> Result<(), Refused>
         requires { worker < 64 }
         ensures reply { OnOk result (text.new.items ≡ text.old.items ++ (kept self.old worker key).reply) }
@@ -152,7 +152,7 @@ impl Keeper {
         Ok(())
     }
 
-    /// Tells the words of the item that the worker's last hold of the key is of, and the worker gives it back.
+    /// Writes the words of the item that the worker's last hold of the key is of, and the worker gives it back.
     fn serve_drop(&mut self, worker: u64, key: u64, text: &mut Vec<u8>) -> Result<(), Refused>
         requires { worker < 64 }
         ensures reply { OnOk result (text.new.items ≡ text.old.items ++ (dropped self.old worker key (last_hold self.old worker key)).reply) }
@@ -184,7 +184,7 @@ impl Keeper {
         push_key_line(text, if had { b"DELETED" } else { b"NOT_FOUND" }, key)
     }
 
-    /// The key's item becomes the youngest of its class, once there is room to say so.
+    /// The key's item becomes the youngest of its class, once there is room for the reply.
     fn serve_touch(&mut self, worker: u64, key: u64, text: &mut Vec<u8>) -> Result<(), Refused>
         ensures reply { OnOk result (text.new.items ≡ text.old.items ++ (made_youngest self.old key (linked_chunk self.old.items key)).reply) }
         ensures after { OnOk result (self.new ≡ (made_youngest self.old key (linked_chunk self.old.items key)).machine) }
@@ -224,7 +224,7 @@ impl Keeper {
         push_answer(text, b"OK")
     }
 
-    /// Ends a window, and tells what became of the automover's decision.
+    /// Ends a window, and writes what became of the automover's decision.
     fn serve_window(&mut self, text: &mut Vec<u8>) -> Result<(), Refused>
         ensures reply { OnOk result (text.new.items ≡ text.old.items ++ (acted (with_window (all_swept self.old)) (decision (with_window (all_swept self.old)))).reply) }
         ensures after { OnOk result (self.new ≡ (acted (with_window (all_swept self.old)) (decision (with_window (all_swept self.old)))).machine) }

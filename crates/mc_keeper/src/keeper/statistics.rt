@@ -1,4 +1,4 @@
-//! What the statistics tell, as numbers.
+//! The numbers that the statistics print.
 ghost use Rattle.std.specs.Prelude.{◌≡◌, length, IfOk};
 ghost use Rattle.mc_pages.specs.ClassState.{numbers_of};
 ghost use Rattle.mc_pages.specs.SlabState.{IsClass, class_at, totals_of};
@@ -22,7 +22,7 @@ pub(super) struct ClassCounts {
 
 impl Keeper {
     /// The size classes: chunk sizes and bytes of a page, chunks a page, and how many classes there are, which are numbered from
-    /// 1. With `numbers` that is all that `stats slabs` tells of a class: it has `pages * per_page` chunks, of which those that
+    /// 1. With `numbers` that is all that `stats slabs` prints of a class: it has `pages * per_page` chunks, of which those that
     /// aren't free are used.
     pub fn table(&self) -> &ClassTable
         ensures table { result.now ≡ self.now.table }

@@ -1,4 +1,4 @@
-//! How items come and go.
+//! Sets and deletes: how items come and go.
 ghost use Rattle.std.specs.Prelude.{◌≡◌, ◌≤◌, ◌^◌, Option, None, Some, length, IfOk, OnErr, OnOk, Contains};
 ghost use Rattle.std.specs.Option.{is_some};
 ghost use Rattle.mc_classes.specs.Classes.{class_of};
@@ -23,20 +23,20 @@ use mc_serial_parts::{NewWords, count_unheld};
 /// Whether an item was stored.
 #[derive(Clone, Copy, Debug, PartialEq, Eq)]
 pub enum Stored {
-    /// It was: its key leads to it, and to no other item.
+    /// The item was stored: its key leads to it, and to no other item.
     Yes,
-    /// It is larger than a chunk of the last class. All is as before.
+    /// The item is larger than a chunk of the last class. All is as before.
     TooLarge,
-    /// Its class has neither a free chunk nor a dead one, no page is left, and somebody holds each of the class's oldest five. No item
-    /// came or went.
+    /// The item's class has neither a free chunk nor a dead one, no page is left, and somebody holds each of the class's oldest
+    /// five. No item came or went.
     NoRoom,
 }
 
 impl Keeper {
-    /// Stores an item of these words, 8 bytes each, under the key, in the place of the key's old one, which whoever holds it holds
-    /// still. With key, stamp and length it takes 24 + 8 n bytes, and goes into a chunk of the lowest class that has so many: a
-    /// free one, else a dead one, else one of a new page, else that of the first of the oldest five that nobody holds, whose item
-    /// is evicted. In mode 2 of the automover an eviction asks for a page. (items.c's `do_item_alloc_pull` and
+    /// Stores an item of these words, 8 bytes each, under the key, in place of the key's old item; whoever holds that holds it
+    /// still. With key, stamp and length the item takes 24 + 8 n bytes, and goes into a chunk of the lowest class with as many
+    /// bytes. The chunk is a free one, else a dead one, else one of a new page. Else the first of the oldest five items that
+    /// nobody holds is evicted. In mode 2 of the automover an eviction asks for a page. (items.c's `do_item_alloc_pull` and
     /// `do_item_replace`, slabs.c's `slabs automove 2`; that the dead wait for a sweep is own.) The worker takes no part.
     ///
     /// The words are copied once, into the room of the chunk's last item where that suffices, and not at all where they are
@@ -50,7 +50,7 @@ impl Keeper {
         self.set_words(key, NewWords::Copied(words))
     }
 
-    /// Stores an item of these words under the key, and says whether it did.
+    /// Stores an item of these words under the key, and returns whether it did.
     pub(super) fn set_words(&mut self, key: u64, words: NewWords) -> Result<Stored, Refused>
         requires { length (words_in words) ≤ 2 ^ 60 }
         ensures answer { IfOk result (λ answer. answer ≡ stored_answer self.old (class_of self.old.table (item_bytes (length (words_in words.entry))))) }
@@ -66,9 +66,9 @@ impl Keeper {
         }
     }
 
-    /// Stores an item of these words in a chunk of the class, in the place of the key's old one,
-    /// and says whether there was a chunk for it. Where there is none, the old item stays, unless it was the one evicted. In
-    /// mode 2 of the automover an eviction asks for a page (after memcached's `slabs automove 2`).
+    /// Stores an item of these words in a chunk of the class, in place of the key's old item, and returns whether there was a
+    /// chunk. Where there is none, the old item stays, unless it was the one evicted. In mode 2 of the automover an eviction asks
+    /// for a page (after memcached's `slabs automove 2`).
     #[tactic(auto, using(mc_serial_spec::proofs::Stocks::store_steps))]
     fn store(&mut self, class: ClassId, key: u64, words: NewWords) -> Result<bool, Refused>
         requires { IsClass self.old.slabs class }
@@ -90,8 +90,8 @@ impl Keeper {
         }
     }
 
-    /// Deletes the key's item, and says whether it had one. The key leads nowhere then. Whoever holds the item holds it still, and a
-    /// sweep puts its chunk back once nobody does. It takes no memory. (items.c's `do_item_unlink`; the sweep is own.) The
+    /// Deletes the key's item, and returns whether it had one. The key leads nowhere then. Whoever holds the item holds it still,
+    /// and a sweep puts its chunk back once nobody does. It takes no memory. (items.c's `do_item_unlink`; the sweep is own.) The
     /// worker takes no part.
     pub fn delete(&mut self, _worker: u64, key: u64) -> bool
         ensures was { result ≡ is_some (linked_chunk self.old.items key) }

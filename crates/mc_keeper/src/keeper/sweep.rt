@@ -68,7 +68,7 @@ impl Keeper {
         ensures swept { self.new ≡ swept self.old class }
     {
         for place in 0..chunks.len() {
-            // that the keeper is consistent is known where one of its fields is looked at
+            // a look at one of the keeper's fields makes it known that the keeper is consistent
             let _ = &self.slabs;
             self.reclaim(chunks[place]);
         }

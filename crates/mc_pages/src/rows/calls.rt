@@ -57,7 +57,7 @@ impl Rows {
         self.put_last(ListName::HandedOut(class), chunk);
     }
 
-    /// Gives a free chunk the place of a handed-out one, which stands directly behind it then.
+    /// Gives a free chunk the place of a handed-out one, which is directly behind it then.
     #[inline(always)]
     pub(crate) fn replace(&mut self, class: usize, new: ChunkId, old: ChunkId)
         requires linked { AreLinked self.old }

@@ -1,6 +1,6 @@
 //! The rows in memory, and the one call that writes a field of theirs.
 //!
-//! Nothing stands below this module, so that no other reaches what is private here: lists and calls write by `put`.
+//! No module is below this one, so that no other reaches what is private here: lists and calls write by `put`.
 ghost use Rattle.std.specs.Prelude.{◌≡◌, ℕ, ◌+◌, ◌*◌, ◌<◌, ◌≤◌, IfOk, length};
 ghost use Rattle.mc_pages.specs.Rows.{RowsState, IsChange, IsField, IsRow, IsList, field_of, with_change, row_at, row_place, length_of, lengthened, shortened, fresh_rows};
 ghost use Rattle.mc_pages.specs.RowsInside.{rows_of, HasSpace};
@@ -13,8 +13,8 @@ use mc_memory::{Refused, filled};
 use std::alloc::Global;
 use std::marker::Model;
 
-/// The chunks beside a chunk in its list. A list has a row of its own, where `next` is its head, `previous` its tail, and
-/// the mark says nothing.
+/// The chunks beside a chunk in its list. A list has a row of its own, where `next` is its head, `previous` its tail, and the
+/// mark means nothing.
 #[derive(Clone, Copy)]
 pub(crate) struct Row {
     next: Link,
@@ -45,7 +45,7 @@ impl Model for Rows {
 }
 
 impl Rows {
-    /// Empty lists for so many classes, and rows for so many pages.
+    /// Empty lists for n classes, and rows for n pages.
     pub(crate) fn new(
         alloc: Global,
         most: u64,
@@ -72,7 +72,7 @@ impl Rows {
         })
     }
 
-    /// What the field holds.
+    /// The chunk to which the field leads, or none.
     #[inline(always)]
     pub(super) fn get(&self, field: Field) -> Option<ChunkId>
         requires { IsField self.now field }
@@ -162,7 +162,7 @@ impl Rows {
         }
     }
 
-    /// Where the chunk's row stands.
+    /// The place of the chunk's row.
     pub(crate) fn place(&self, chunk: ChunkId) -> usize
         requires { IsRow self.now chunk }
         ensures { result ≡ row_place self.now.most chunk }

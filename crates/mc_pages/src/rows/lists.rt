@@ -92,7 +92,7 @@ impl Rows {
         self.link(list, before, chunk, Some(old));
     }
 
-    /// Puts a chunk between two neighbours. None stands for the list's end.
+    /// Puts a chunk between two neighbours. None is the list's end.
     #[inline(always)]
     fn link(
         &mut self,
@@ -114,7 +114,7 @@ impl Rows {
         self.lengthen(list);
     }
 
-    /// Makes two chunks of a list neighbours. None stands for the list's end.
+    /// Makes two chunks of a list neighbours. None is the list's end.
     #[inline(always)]
     fn join(&mut self, list: ListName, before: Option<ChunkId>, behind: Option<ChunkId>)
         requires before { IsField self.old (forth list before) }
@@ -126,7 +126,7 @@ impl Rows {
     }
 }
 
-/// Where a list goes on behind a chunk; behind no chunk its head stands.
+/// The field that leads from a chunk to the next one of its list; for no chunk the list's head.
 fn forth(list: ListName, link: Option<ChunkId>) -> Field
     ensures { result ≡ forth list link }
 {
@@ -136,7 +136,7 @@ fn forth(list: ListName, link: Option<ChunkId>) -> Field
     }
 }
 
-/// Where a list goes back to before a chunk; before no chunk its tail stands.
+/// The field that leads from a chunk to the one before it in its list; for no chunk the list's tail.
 fn back(list: ListName, link: Option<ChunkId>) -> Field
     ensures { result ≡ back list link }
 {

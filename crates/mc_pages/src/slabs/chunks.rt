@@ -1,6 +1,6 @@
 //! The chunks of the classes: handed out, given back, touched, replaced, cleared and cut.
 //!
-//! Each of these six writes eight fields of the rows at most, wherever in its list the chunk stands (own). Of `pop`, `touch` and
+//! Each of these six writes eight fields of the rows at most, wherever in its list the chunk is (own). Of `pop`, `touch` and
 //! `replace`, each writes one age beside them, which `writes` doesn't count.
 ghost use Rattle.std.specs.Prelude.{◌≡◌, ◌+◌, ◌<◌, ◌≤◌, slice_get, nat_lt, Contains, None, Some, true};
 ghost use Rattle.std.specs.Option.{option_map};
@@ -56,7 +56,7 @@ impl Slabs {
         self.ages.renew(youngest);
     }
 
-    /// Gives a free chunk the place of a handed-out one in the hand-out order. The old one stands directly behind it. (own)
+    /// Gives a free chunk the place of a handed-out one in the hand-out order. The old one is directly behind it then. (own)
     pub fn replace(&mut self, new: ChunkId, old: ChunkId)
         requires free { Contains (class_of_chunk self.old.state old).free new }
         requires handed_out { Contains (class_of_chunk self.old.state old).order old }
@@ -172,9 +172,10 @@ impl Slabs {
         rows.next(ListName::HandedOut(self.class_place(chunk.page)), chunk)
     }
 
-    /// Whether a handed-out chunk is known to be older than another of its class: then it stands before that one in the hand-out order.
-    /// False says nothing: the other one is older, or their ages are equal, as those of a chunk and of the one that replaced it
-    /// are. A caller that gets false both ways has to walk. This compares two numbers and walks along no list. (own)
+    /// Whether a handed-out chunk is known to be older than another of its class: then it comes before that one in the hand-out
+    /// order. False proves nothing: the other one is older, or their ages are equal, as those of a chunk and of the one that
+    /// replaced it are. A caller that gets false both ways has to walk. The call compares two numbers and walks along no list.
+    /// (own)
     pub fn is_older(&self, chunk: ChunkId, than: ChunkId) -> bool
         requires chunk { Contains (class_of_chunk self.now.state chunk).order chunk }
         requires than { Contains (class_of_chunk self.now.state chunk).order than }

@@ -178,7 +178,7 @@ impl Slabs {
         place < self.classes.len() && self.classes[place].page_count() > 1
     }
 
-    /// How many classes there are.
+    /// How many classes the memory has.
     fn class_count(&self) -> u64
         ensures count { result ≡ length self.now.state.classes }
         ensures below { result < 2 ^ 63 }

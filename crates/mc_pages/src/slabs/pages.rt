@@ -32,11 +32,11 @@ impl From<Refused> for Grow {
 }
 
 impl Slabs {
-    /// Gives the class a page, and says which: the one that came last into the pool, or else the lowest one that was
-    /// never granted. That is within the limit, and beyond it where the class has no page, so each class can have one.
-    /// Its chunks are to be cut next. It also makes all room that those chunks will need, and leaves the room of a move
-    /// that runs. `NoMemory` comes only where there is a page, and what is refused changes nothing. (slabs.c's
-    /// `do_slabs_newslab`, which gives a class without pages its first beyond the limit, too)
+    /// Gives the class a page, and returns it: the one that came last into the pool, or else the lowest one that was never
+    /// granted. Such a page is within the limit, or beyond it where the class has no page, so each class can have one. The page's
+    /// chunks are to be cut next. The call also makes all room that those chunks will need, and leaves the room of a move that
+    /// runs. `NoMemory` comes only where there is a page, and what is refused changes nothing. (slabs.c's `do_slabs_newslab`,
+    /// which gives a class without pages its first beyond the limit, too)
     pub fn grow(&mut self, class: ClassId) -> Result<PageId, Grow>
         requires class { IsClass self.old.state class }
         requires whole { self.old.state.uncut ≡ None }

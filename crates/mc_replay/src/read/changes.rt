@@ -13,7 +13,7 @@ use mc_script::line::words;
 use mc_script::number::number;
 use std::alloc::{AllocError, Global};
 
-/// All changes of a text, in which they stand between commas.
+/// All changes of a text, which commas separate.
 #[tactic(auto, unfolding(crate::specs::Changes::changes_of))]
 pub(super) fn changes(alloc: Global, text: &[u8]) -> Result<Series<Change>, Refusal>
     ensures ok { IfOk result (λ changes. changes_of text.now ≡ Some changes) }
@@ -38,7 +38,7 @@ fn changes_in(alloc: Global, parts: &[&[u8]]) -> Result<Series<Change>, Refusal>
     Ok(changes)
 }
 
-/// What stands between the commas of a text.
+/// The parts of a text between its commas.
 fn parts(alloc: Global, text: &[u8]) -> Result<Vec<&[u8]>, AllocError>
     ensures { IfOk result (λ parts. map (λ part. part.now) parts.items ≡ slice_split (λ byte. byte == 44) text.now) }
 {

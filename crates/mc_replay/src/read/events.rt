@@ -27,7 +27,7 @@ pub(super) fn event(alloc: Global, line: &[u8]) -> Result<Event, Refusal>
     }
 }
 
-/// Where the first colon stands.
+/// The place of the first colon.
 fn colon_in(line: &[u8]) -> Option<usize>
     ensures { result ≡ position (λ byte. byte == 58) line.now }
 {

@@ -10,7 +10,7 @@ use std::alloc::Global;
 /// How many bytes are asked for at a time.
 const PIECE: usize = 65_536;
 
-/// Reads all bytes, up to where the reader says that there are no more. Any error of the reader ends the reading.
+/// Reads all bytes, up to where the reader reports that there are no more. Any error of the reader ends the reading.
 pub fn read_all<R: Source>(alloc: Global, reader: &mut R) -> Result<Vec<u8>, RunFault>
     ensures given { IfOk result (λ bytes. R.given reader.new ≡ R.given reader.old ++ bytes.items) }
     ensures ended { IfOk result (λ bytes. R.HasEnded reader.new) }
@@ -26,14 +26,14 @@ pub fn read_all<R: Source>(alloc: Global, reader: &mut R) -> Result<Vec<u8>, Run
     Err(RunFault::Read)
 }
 
-/// So many bytes to read into.
+/// A vector of n bytes to read into.
 fn room_for(alloc: Global, count: usize) -> Result<Vec<u8>, Refused>
     ensures { IfOk result (λ room. vec_len room ≡ count) }
 {
     filled(alloc, 0u8, count)
 }
 
-/// Reads once into `piece`, adds what was read to `bytes` and says how many that were. None is the end.
+/// Reads once into `piece`, adds what was read to `bytes` and returns how many bytes that were. None is the end.
 fn read_piece<R: Source>(
     reader: &mut R,
     piece: &mut [u8],

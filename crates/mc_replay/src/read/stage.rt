@@ -17,7 +17,7 @@ use std::alloc::{AllocError, Global};
 pub enum Stage<'a> {
     /// No list is begun.
     Outside,
-    /// This first line of a list was read.
+    /// The first line of a list was read: this one.
     Named(&'a [u8]),
     /// The configuration was read too.
     Configured(&'a [u8], Accepted),

@@ -1,4 +1,4 @@
-//! Words of a line.
+//! The words of a line.
 ghost use Rattle.std.specs.Prelude.{◌≡◌};
 ghost use Rattle.std.specs.Str.{bytes_eq};
 

@@ -1,4 +1,4 @@
-//! The headers that aren't 0.
+//! The lines of the headers that aren't 0.
 ghost use Rattle.std.specs.Prelude.{◌≡◌, ◌++◌, OnOk, string_bytes};
 ghost use Rattle.mc_replay.specs.Written.{heads_text, page_text, word_text};
 
@@ -19,7 +19,7 @@ pub(super) fn heads(text: &mut String, state: &State) -> Result<(), AllocError>
     Ok(())
 }
 
-/// The headers of a page with so many.
+/// The headers of a page with n chunks.
 fn page_heads(text: &mut String, state: &State, page: u64, count: u64) -> Result<(), AllocError>
     ensures { OnOk result (string_bytes text.new ≡ string_bytes text.old ++ page_text state.now count page) }
 {

@@ -1,4 +1,4 @@
-//! What stands behind the slabs lock.
+//! The text of what is behind the slabs lock.
 ghost use Rattle.std.specs.Prelude.{◌≡◌, ◌++◌, OnOk, flat_map, length, string_bytes};
 ghost use Rattle.mc_classes.specs.Classes.{arena_pages_of};
 ghost use Rattle.mc_pages.specs.SlabState.{IsClass, class_at, totals_of};
@@ -45,7 +45,7 @@ fn moves(text: &mut String, slabs: &Slabs) -> Result<(), AllocError>
     totals(text, slabs.totals(), slabs.automove())
 }
 
-/// Who owns each page.
+/// Adds the owner of each page.
 fn owners(text: &mut String, table: &ClassTable, slabs: &Slabs) -> Result<(), AllocError>
     requires { IsOfTable table.now slabs.now.state }
     ensures { OnOk result (string_bytes text.new ≡ string_bytes text.old ++ owners_text (arena_pages_of table.now) slabs.now.state) }
@@ -56,7 +56,7 @@ fn owners(text: &mut String, table: &ClassTable, slabs: &Slabs) -> Result<(), Al
     Ok(())
 }
 
-/// Who owns the page.
+/// Adds the owner of the page.
 fn owner(text: &mut String, page: PageId, owner: Owner) -> Result<(), AllocError>
     ensures { OnOk result (string_bytes text.new ≡ string_bytes text.old ++ owner_line page owner) }
 {

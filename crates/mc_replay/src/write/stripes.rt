@@ -1,4 +1,4 @@
-//! What stands behind the lock of a stripe.
+//! The text of what is behind the lock of a stripe.
 ghost use Rattle.std.specs.Prelude.{◌≡◌, ◌++◌, [], flat_map, map, IfOk, OnOk, string_bytes};
 ghost use Rattle.mc_stripe.specs.Entries.{by_key};
 ghost use Rattle.mc_stripe.specs.StripeState.{tail_of};

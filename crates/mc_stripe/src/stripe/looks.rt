@@ -1,4 +1,4 @@
-//! What a stripe tells of itself.
+//! What a stripe shows of itself.
 ghost use Rattle.std.specs.Prelude.{◌≡◌, ◌^◌, ◌-◌, min, IfSome, is_some};
 ghost use Rattle.mc_stripe.specs.Entries.{HasEachKeyOnce, by_key};
 ghost use Rattle.mc_stripe.specs.StripeState.{base_of, can_store, key_aside, place_of, tail_of, trimmed_of};

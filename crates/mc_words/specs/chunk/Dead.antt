@@ -7,12 +7,12 @@ use Rattle.mc_core.specs.declared.look.Look.{Look}
 use Rattle.mc_core.specs.Looks.{is_found_alive}
 use Rattle.mc_core.specs.State.{has_chunk}
 
--- the dead chunks that were noted, and whether there are more
+-- dead chunks that were noted, and whether there are more
 pub record NotedChunks : Type 0 where
   pub chunks : List ChunkId
   pub are_more : Bool
 
--- one more was noted, behind the others, or there are more than are noted
+-- one more chunk was noted, behind the others, or it is recorded that there are more
 abbrev pub Notes : ChunkId → NotedChunks → NotedChunks → Type 0
 Notes chunk dead now = (now ≡ record dead { chunks = dead.chunks ++ chunk ∷ [] }) ⊎ (now ≡ record dead { are_more = true })
 

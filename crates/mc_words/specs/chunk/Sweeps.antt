@@ -41,14 +41,14 @@ abbrev pub LooksAlong : ℕ → ℕ → ℕ → View → View → Type 0
 LooksAlong page from until view now =
     (looked : List ChunkId) × SeesHeaders looked view now × ((index : ℕ) → from ≤ index → index < until → is_among looked (record { page = page; index = index }) ≡ true)
 
--- the chunks stand in the order in this sequence, with or without others between
+-- the order has these chunks in this sequence, with or without others between
 abbrev pub follows : List ChunkId → List ChunkId → Bool
 follows order [] = true
 follows [] (chunk ∷ chunks) = false
 follows (other ∷ order) (chunk ∷ chunks) = if is_chunk other chunk then follows order chunks else follows order (chunk ∷ chunks)
 
--- chunks were looked at, and then some of the hand-out order, oldest first, were each put back or seen alive: each of the order that was looked
--- at and is handed out still was seen alive last, so that all the others that were looked at were put back
+-- chunks were looked at, and then some of the hand-out order, oldest first, were each put back or seen alive. Those that were looked at and
+-- are handed out still were seen alive last, so all others were put back
 pub record Recovers (order : List ChunkId) (view : View) (slabs : SlabState) (now : View) (left : SlabState) : Type 0 where
   pub looked : List ChunkId
   pub seen : View
@@ -58,8 +58,8 @@ pub record Recovers (order : List ChunkId) (view : View) (slabs : SlabState) (no
   pub each : SweepsEach again seen slabs now left
   pub alive : (chunk : ChunkId) → Contains looked chunk → Contains order chunk → Contains (class_of_chunk left chunk).order chunk → is_found_alive now.row.looks chunk ≡ true
 
--- each chunk of the hand-out order was looked at, and then some of them, oldest first, were each put back or seen alive, so that each of the
--- order that is handed out still was seen alive last
+-- each chunk of the hand-out order was looked at, and then some of them, oldest first, were each put back or seen alive. Each of the order
+-- that is handed out still was seen alive last
 pub record Sweeps (order : List ChunkId) (view : View) (slabs : SlabState) (now : View) (left : SlabState) : Type 0 where
   pub recovers : Recovers order view slabs now left
   pub whole : list_all (is_among recovers.looked) order ≡ true

@@ -1,4 +1,4 @@
--- What clauses say of an arena and of a hand.
+-- What clauses see of an arena and of a hand.
 use Rattle.std.specs.Prelude.{◌≡◌}
 use Rattle.atomic_table.specs.Seated.{TableId}
 use Rattle.mc_words.specs.declared.arena.Arena.{Arena}
@@ -14,7 +14,7 @@ view hand = hand.seat.me.0
 abbrev pub setup_of : Arena → Setup
 setup_of arena = arena.table.shared.key
 
--- what knows this view at this table is of the arena, and the view is of a lawful moment
+-- what has this view at this table is of the arena, and the view is of a lawful moment
 pub record IsOfArena (arena : Arena) (table : TableId) (view : View) : Type 0 where
   pub same_table : table ≡ arena.table.shared.table_id
   pub setup : view.setup ≡ setup_of arena

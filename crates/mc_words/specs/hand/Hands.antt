@@ -8,7 +8,7 @@ use Rattle.mc_words.specs.hand.View.{Setup, new_view}
 use Rattle.mc_words.specs.hand.Arenas.{IsHandOf, setup_of, view}
 use Rattle.mc_words.specs.hand.Ready.{IsReady}
 
--- the setup is of an arena with this configuration, its classes, so many hands, and this issue number at first
+-- the setup is of an arena with this configuration, its classes, n hands, and this issue number at first
 pub record IsMadeWith (config : Config) (hands start : ℕ) (setup : Setup) : Type 0 where
   pub config_is : setup.config ≡ config
   pub table : IsTableOf config setup.table
@@ -21,7 +21,7 @@ pub record IsNewHand (arena : Arena) (number : ℕ) (hand : Hand) : Type 0 where
   pub new : view hand ≡ new_view (setup_of arena) number 0
   pub ready : IsReady (view hand)
 
--- these are new hands of the arena, numbered on from here
+-- the list has new hands of the arena, numbered on from this number
 abbrev pub AreHandsFrom : Arena → ℕ → List Hand → Type 0
 AreHandsFrom arena number [] = ⊤
 AreHandsFrom arena number (hand ∷ hands) = IsNewHand arena number hand × AreHandsFrom arena (1 + number) hands

@@ -42,11 +42,11 @@ HasSlabs hand held = (view hand).slabs ≡ Some (slabs_lent held)
 abbrev pub HasStripe : Hand → StripeHeld → Type 0
 HasStripe hand held = slice_index_or (view hand).stripes (stripe_number held) None ≡ Some (stripe_lent held)
 
--- this stripe's value as the hand last took it; none where it never did
+-- the value of this stripe as the hand last took it; none where the hand never took it
 abbrev pub last_taken : View → ℕ → Option ReadyStripe
 last_taken view stripe = (last_of stripe view.row.knows.hold.stripes).found
 
--- this stripe's value as the hand last gave it back; none where it never did
+-- the value of this stripe as the hand last gave it back; none where the hand never did
 abbrev pub last_given : View → ℕ → Option ReadyStripe
 last_given view stripe = (last_of stripe view.row.knows.hold.stripes).left
 

@@ -4,7 +4,7 @@ use Rattle.mc_words.specs.declared.arena.Arena.{Arena}
 use Rattle.mc_words.specs.declared.hand.Hand.{Hand}
 use Rattle.mc_words.specs.hand.Arenas.{IsHandOf, setup_of, view}
 
--- the hand sits at the arena's table, and was told of what it was made of: what is left of `IsHandOf` without a moment
+-- the hand uses the arena's table, and knows what it was made of: what is left of `IsHandOf` without a moment
 pub record IsSeatedAt (arena : Arena) (hand : Hand) : Type 0 where
   pub same_table : hand.seat.table_id ≡ arena.table.shared.table_id
   pub setup : (view hand).setup ≡ setup_of arena

@@ -7,12 +7,12 @@ use Rattle.mc_core.specs.Holdings.{is_fresh}
 use Rattle.mc_core.specs.Items.{most_stamps}
 use Rattle.mc_words.specs.rule.Told.{Sits}
 
--- how many of these are fresh
+-- how many of the holdings are fresh
 abbrev pub fresh_count : List Holding → ℕ
 fresh_count [] = 0
 fresh_count (holding ∷ holdings) = truth (is_fresh holding) + fresh_count holdings
 
--- a hand's tallies are right: how many stamps it gave out, and how many chunks it fills
+-- the two numbers are the hand's: how many stamps it gave out, and how many chunks it fills
 abbrev pub IsTallied : Sits → ℕ → ℕ → Type 0
 IsTallied me stamps fresh = (stamps ≡ me.0.row.ids.stamps) × (fresh ≡ fresh_count me.0.row.holdings)
 

@@ -26,7 +26,7 @@ pub data OwnEvent : Type 0 where
   made : List Change → Step → OwnEvent
   joined : OwnEvent
 
--- these changes and this step as an event of the hand's own; of a join neither is kept
+-- the changes and the step as an event of the hand's own; for a join neither is kept
 abbrev pub own_event : List Change → Step → OwnEvent
 own_event before (Join kept spent) = joined
 own_event before step = made before step
@@ -36,18 +36,17 @@ abbrev pub events_of : ℕ → List Event → List OwnEvent
 events_of hand [] = []
 events_of hand (event ∷ run) = if event.hand == hand then own_event event.before event.step ∷ events_of hand run else events_of hand run
 
--- of one hand: the arena's setup, how many hands it may still make, the events that it made, its row, and the values behind the locks that
--- it has
+-- a hand's view: the arena's setup, how many hands it may still make, the events that it made, its row, and the values behind its locks
 pub record View : Type 0 where
   pub setup : Setup
   pub spare : ℕ
-  -- the first first
+  -- the events that the hand made, the first first
   pub events : List OwnEvent
   pub row : Row
   pub slabs : Option SlabState
-  -- stripe 0 first
+  -- the value of each stripe whose lock the hand has, stripe 0 first
   pub stripes : List (Option ReadyStripe)
-  -- the rows of the two hands that it was made of, and the events that each had made, until it is told of that
+  -- the rows of the two hands that a join made this one of, and the events of each, until the hand learns of the join
   pub made_of : Option (Row × Row × List OwnEvent × List OwnEvent)
 
 -- of each stripe its value, where the hand has its lock
@@ -66,7 +65,7 @@ view_at setup spare events moment hand = record {
   made_of = None;
 }
 
--- what a new hand of this number knows: it saw and said nothing, and of so many stripes no call
+-- what a new hand of this number knows: it saw and stored nothing, and knows no call of the n stripes
 abbrev pub new_knowledge : ℕ → ℕ → Knowledge
 new_knowledge stripes number = record {
   saw = [];
@@ -77,7 +76,7 @@ new_knowledge stripes number = record {
   known = [];
 }
 
--- the view of a hand of this number that did nothing yet, and may make so many others
+-- the view of a hand of this number that did nothing yet, and may make n other hands
 abbrev pub new_view : Setup → ℕ → ℕ → View
 new_view setup number spare = record {
   setup = setup;
@@ -106,10 +105,10 @@ spent_view = record { setup = no_setup; spare = 0; events = []; row = record { i
 abbrev pub both_views : View → View → View
 both_views kept spent = record kept { events = kept.events ++ joined ∷ []; row = record kept.row { knows = both_know kept.row.knows spent.row.knows } }
 
--- the view of a hand that took another one over, and isn't told of that yet
+-- the view of a hand that took another one over, and hasn't learned of that yet
 abbrev pub just_made : View → View → View
 just_made kept spent = record (both_views kept spent) { made_of = Some (kept.row, spent.row, kept.events, spent.events) }
 
--- the view of a hand that is told how it was made
+-- the view of a hand after it learned how it was made
 abbrev pub settled : View → View
 settled view = record view { made_of = None }

@@ -129,7 +129,7 @@ chunk_released chunk view = with_event [] (step.Release chunk) (chunk_dropped ch
 abbrev pub chunk_discarded : ChunkId → View → View
 chunk_discarded chunk view = with_event [] (step.Discard chunk) (chunk_dropped chunk view)
 
--- the holding of a chunk for an item of the hand's own, with room for so many words, which nobody has filled yet
+-- the holding of a chunk for an item of the hand's own, with room for n words, of which none is filled yet
 abbrev pub fresh_holding : ChunkId → ℕ → ℕ → Holding
 fresh_holding chunk issue room = record { chunk = chunk; issue = issue; kind = Fresh Item (replicate room None) }
 
@@ -139,7 +139,7 @@ chunk_popped slabs class chunk head view =
     with_event [] (step.Pop class) (looked (Popped chunk (handed_out head)) (with_slabs (after_pop slabs class)
     (with_holdings (view.row.holdings ++ fresh_holding chunk (head.issue + 1) (room_in view.setup.table class) ∷ []) view)))
 
--- the holding of a chunk for a copy of the item in another one, with room for so many words, which nobody has filled yet
+-- the holding of a chunk for a copy of the item in another one, with room for n words, of which none is filled yet
 abbrev pub copy_holding : ChunkId → ChunkId → ℕ → ℕ → Holding
 copy_holding old chunk issue room = record { chunk = chunk; issue = issue; kind = Fresh (Copy old) (replicate room None) }
 
@@ -161,18 +161,18 @@ chunk_cleared slabs chunk head view = with_event [] (step.Clear chunk) (looked (
 abbrev pub chunk_cut : SlabState → ChunkId → Head → View → View
 chunk_cut slabs chunk head view = with_event [] (step.Cut chunk.page chunk.index) (looked (Cut chunk (with_tag_free head)) (with_slabs (after_cut slabs chunk) view))
 
--- pages and lists were changed, which was told by a look at the word of their lock
+-- the view after the hand changed pages and lists, and recorded the change by a look at the word of their lock
 abbrev pub slabs_changed : SlabState → Change → ℕ → View → View
 slabs_changed slabs change word view = slabs_told (change ∷ []) word (looked (Changed change) (with_slabs (slabs_after slabs change) view))
 
--- a stripe changed, which was told by a look at the word of its lock
+-- the view after a stripe changed, and the hand recorded the change by a look at the word of the stripe's lock
 abbrev pub stripe_changed : StripeChange → ℕ → ReadyStripe → ℕ → View → View
 stripe_changed how stripe value word view = stripe_told (change.OfStripe stripe how ∷ []) stripe word (record view { stripes = slice_set view.stripes stripe (Some (stripe_after how value)) })
 
--- room for a call that stores no entry was made in a stripe, which was told by a look at the word of its lock
+-- the view after the hand made room in a stripe for a call that stores no entry. The hand recorded the change by a look at the lock's word
 abbrev pub call_reserved : ℕ → ReadyStripe → ℕ → View → View
 call_reserved stripe value word view = stripe_changed ReserveCall stripe value word view
 
--- room for a call and an entry was made in a stripe, which was told by a look at the word of its lock
+-- the view after the hand made room in a stripe for a call and an entry. The hand recorded the change by a look at the lock's word
 abbrev pub stripe_reserved : ℕ → ReadyStripe → ℕ → View → View
 stripe_reserved stripe value word view = stripe_changed Reserve stripe value word view

@@ -22,7 +22,7 @@ pub record RefersAgain (view : View) (chunk : ChunkId) (issue room : ℕ) (now :
   -- the item that the hand finds in the chunk
   pub item : List ℕ
   pub held : held_item now chunk ≡ item
-  -- has as many words as it says
+  -- the item has as many words as its length counts
   pub whole : length item ≡ length_of item
   pub happens : Happens view [] (step.Again chunk issue) now
   pub is : now ≡ with_event [] (step.Again chunk issue) (item_referred (reference_to chunk issue item) room view)
@@ -34,7 +34,7 @@ pub record GetsAgain (view : View) (chunk : ChunkId) (issue room : ℕ) (now : V
   pub looks : Happens view [] (step.Head chunk) (head_seen chunk head view)
   pub refers : RefersAgain (head_seen chunk head view) chunk issue room now
 
--- the hand saw the item there by a first header of its chunk, and then another header, and this is so of the two
+-- the hand saw the item there by a first header of its chunk, and then another header; the property holds of the two
 pub record FindsOther (view : View) (chunk : ChunkId) (issue : ℕ) (IsOther : Head → Head → Type 0) (now : View) : Type 0 where
   pub head : Head
   pub there : is_there issue head ≡ true

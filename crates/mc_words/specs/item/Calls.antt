@@ -38,12 +38,13 @@ key_evicted number stripe value key view =
 abbrev pub item_condemned : ℕ → ℕ → ReadyStripe → ℕ → ChunkId → Head → View → View
 item_condemned number stripe value key chunk head view = with_event [] (step.Condemn chunk) (looked (Condemned chunk (condemned head)) (key_evicted number stripe value key view))
 
--- the hand got this reference, to an item in a chunk with room for so many words
+-- the view after the hand got this reference, to an item in a chunk with room for n words
 abbrev pub item_referred : Holding → ℕ → View → View
 item_referred holding room view =
     with_knowledge (record view.row.knows { known = view.row.knows.known ++ known_by room holding ∷ [] }) (with_holdings (view.row.holdings ++ holding ∷ []) view)
 
--- the hand of this number looked a key up that leads nowhere, which was told by a look at the word of the stripe's lock
+-- the view after the hand of this number looked up a key that leads nowhere. The hand recorded the call by a look at the word of the
+-- stripe's lock
 abbrev pub key_missed : ℕ → ℕ → ReadyStripe → ℕ → View → View
 key_missed number stripe value key view = stripe_told (change.GotNone key ∷ []) stripe (number + 1) (key_got number stripe value key view)
 
@@ -52,7 +53,8 @@ abbrev pub key_deleted : ℕ → ℕ → ReadyStripe → ℕ → Bool → View �
 key_deleted number stripe value key there view =
     record (called number stripe (Delete number key there) view) { stripes = slice_set view.stripes stripe (Some (used_up (after_unlink value.state number key))) }
 
--- the hand of this number deleted a key that leads nowhere, which was told by a look at the word of the stripe's lock
+-- the view after the hand of this number deleted a key that leads nowhere. The hand recorded the call by a look at the word of the stripe's
+-- lock
 abbrev pub key_not_deleted : ℕ → ℕ → ReadyStripe → ℕ → View → View
 key_not_deleted number stripe value key view = stripe_told (change.DeletedNone key ∷ []) stripe (number + 1) (key_deleted number stripe value key false view)
 

@@ -5,13 +5,13 @@ use Rattle.mc_core.specs.declared.holding.Holding.{Holding}
 use Rattle.mc_core.specs.Holdings.{holding_of, is_fresh, words_of}
 use Rattle.mc_words.specs.hand.View.{View}
 
--- the first of these holdings that is of this chunk is fresh, and has so many words
+-- the first of these holdings that is of this chunk is fresh, and has n words
 pub record IsFreshIn (holdings : List Holding) (chunk : ChunkId) (room : ℕ) : Type 0 where
   pub holding : Holding
   pub found : holding_of chunk holdings ≡ Some holding
   pub fresh : is_fresh holding ≡ true
   pub room_is : length (words_of holding) ≡ room
 
--- the hand fills this chunk, which has so many words
+-- the hand fills this chunk, which has n words
 abbrev pub IsFreshOf : View → ChunkId → ℕ → Type 0
 IsFreshOf view chunk room = IsFreshIn view.row.holdings chunk room

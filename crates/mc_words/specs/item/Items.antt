@@ -14,15 +14,15 @@ use Rattle.mc_words.specs.hand.View.{View}
 abbrev pub item_with : ℕ → ℕ → List ℕ → List ℕ
 item_with key stamp words = key ∷ stamp ∷ length words ∷ words
 
--- the words of the item in this chunk: key, stamp, length, and as many as that says; none where the hand doesn't hold the chunk
+-- the words of the item in this chunk: key, stamp, length, and as many as the length counts; none where the hand doesn't hold the chunk
 abbrev pub held_item : View → ChunkId → List ℕ
 held_item view chunk = option_map_or item_of (holding_of chunk view.row.holdings) []
 
--- a word of a chunk, as the hand read it under this hold of the slabs lock; none where it didn't
+-- a word of a chunk, as the hand read it under this hold of the slabs lock; none where the hand didn't read it
 abbrev pub word_read : View → ChunkId → ℕ → Option ℕ
 word_read view chunk place = fold (last_read chunk place) None view.row.looks
 
--- the words of the chunk that the hand holds, as far as they are known; none where it doesn't
+-- the words of the chunk that the hand holds, as far as they are known; none where the hand doesn't hold the chunk
 abbrev pub words_in : View → ChunkId → Words
 words_in view chunk = option_map_or words_of (holding_of chunk view.row.holdings) []
 
@@ -30,7 +30,7 @@ words_in view chunk = option_map_or words_of (holding_of chunk view.row.holdings
 abbrev pub issue_in : View → ChunkId → ℕ
 issue_in view chunk = option_map_or (λ (holding : Holding). holding.issue) (holding_of chunk view.row.holdings) 0
 
--- some hand knows an item of this chunk, whose words it said itself or some other did, and this is its word at the place, if it has so many
+-- some hand knows an item of this chunk, whose words some hand stored; this is the item's word at the place, if it has one
 pub record IsWordOfItem (moment : Moment) (chunk : ChunkId) (place word : ℕ) : Type 0 where
   pub hand : ℕ
   pub item : Known

@@ -20,14 +20,15 @@ use Rattle.mc_words.specs.item.References.{reference_to}
 abbrev pub own_item : ChunkId → ℕ → Words → Holding
 own_item chunk issue words = record { chunk = chunk; issue = issue; kind = Fresh Item words }
 
--- the hand filled the chunk with a whole item of its own: key, stamp, length, and as many words as that says
+-- the hand filled the chunk with a whole item of its own: key, stamp, length, and as many words as the length counts
 pub record IsItemFilled (view : View) (chunk : ChunkId) (issue : ℕ) (words : Words) (key stamp : ℕ) : Type 0 where
   pub found : holding_of chunk view.row.holdings ≡ Some (own_item chunk issue words)
   pub complete : is_complete words ≡ true
   pub same_key : key_in words ≡ key
   pub same_stamp : stamp_in words ≡ stamp
 
--- the hand of this number linked the item: it refers to it, said its words with its stamp, and told the key's stripe
+-- the view after the hand of this number linked the item: the hand refers to the item, stored its words with its stamp, and recorded the
+-- set in the key's stripe
 abbrev pub item_linked : ℕ → ℕ → ReadyStripe → ℕ → ℕ → ChunkId → ℕ → Words → ℕ → View → View
 item_linked number stripe value key stamp chunk issue words room view = record view {
   events = view.events ++ made [] (Link chunk) ∷ [];
@@ -59,7 +60,8 @@ pub record IsCopyFilled (view : View) (stripe : StripeState) (chunk : ChunkId) (
   pub same_stamp : stamp_in words ≡ stamp
   pub aside : is_entry_aside stripe key old stamp ≡ true
 
--- the hand of this number linked the copy: it refers to it, and told the key's stripe; it gave out no stamp and said nothing
+-- the view after the hand of this number linked the copy: the hand refers to it, recorded the rescue in the key's stripe, and gave out and
+-- stored no stamp
 abbrev pub copy_linked : ℕ → ℕ → ReadyStripe → ℕ → ChunkId → ℕ → Words → ℕ → View → View
 copy_linked number stripe value key chunk issue words room view = record view {
   events = view.events ++ made [] (Link chunk) ∷ [];

@@ -21,18 +21,19 @@ original_condemned stripe value key chunk item head view =
     with_event [] (step.Condemn chunk)
     (looked (Condemned chunk (condemned head)) (key_lifted stripe value key (with_holdings (change_each (is_copy_of chunk) (as_rescue chunk item) view.row.holdings) view)))
 
--- the hand saw that the chunk is linked and held by nobody, and took its item away, of which it has a copy; the key led to it, and its entry is aside then
+-- the hand saw that the chunk is linked and held by nobody, has a copy of its item, and took the item away. The key led to the chunk, and
+-- its entry is aside then
 pub record CondemnsOriginal (stripe : ℕ) (chunk : ChunkId) (value : ReadyStripe) (view : View) (left : ReadyStripe) (now : View) : Type 0 where
   pub key : ℕ
   pub is_key : key_read view chunk ≡ Some key
   pub stamp : ℕ
   pub led : place_of value.state key ≡ Some (chunk, stamp)
-  -- the item has as many words as it says, and is the one that the stripe knew
+  -- the item has as many words as its length counts, and is the one to which the stripe led
   pub item : List ℕ
   pub whole : length item ≡ length_of item
   pub key_is : key_of item ≡ key
   pub stamp_is : stamp_of item ≡ stamp
-  -- each word of the item that the hand read under this hold of the slabs lock is so
+  -- each word of the item that the hand read under this hold of the slabs lock is the item's word at that place
   pub read_is : (place word : ℕ) → word_read view chunk place ≡ Some word → place < length item → slice_index item place ≡ word
   pub head : Head
   pub unheld : is_linked_unheld head ≡ true

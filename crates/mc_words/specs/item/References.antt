@@ -16,14 +16,15 @@ use Rattle.mc_words.specs.hand.Views.{with_event}
 abbrev pub reference_to : ChunkId → ℕ → List ℕ → Holding
 reference_to chunk issue item = record { chunk = chunk; issue = issue; kind = Reference item }
 
--- the hand of this number looked the key up, whose stripe had this value and leads it to this chunk, and got a reference to its item
+-- the hand of this number looked the key up, and got a reference to its item. The key's stripe had this value, which leads the key to this
+-- chunk
 pub record GetsItem (view : View) (number stripe : ℕ) (value : ReadyStripe) (key : ℕ) (chunk : ChunkId) (issue room : ℕ) (now : View) : Type 0 where
   pub stamp : ℕ
   pub leads : place_of value.state key ≡ Some (chunk, stamp)
   -- the item that the hand finds in the chunk
   pub item : List ℕ
   pub held : held_item now chunk ≡ item
-  -- has as many words as it says, and is the one that the stripe knows
+  -- the item has as many words as its length counts, and is the one to which the stripe leads
   pub whole : length item ≡ length_of item
   pub key_is : key_of item ≡ key
   pub stamp_is : stamp_of item ≡ stamp

@@ -7,14 +7,14 @@ use Rattle.mc_core.specs.Holdings.{holding_of, is_fresh}
 use Rattle.mc_core.specs.Past.{Known, known_by}
 use Rattle.mc_words.specs.hand.View.{View}
 
--- the first of these holdings that is of this chunk is a reference, and is known to have room for so many words
+-- the first of these holdings that is of this chunk is a reference, and is known to have room for n words
 pub record IsRefIn (holdings : List Holding) (known : List Known) (chunk : ChunkId) (room : ℕ) : Type 0 where
   pub holding : Holding
   pub found : holding_of chunk holdings ≡ Some holding
   pub linked : is_fresh holding ≡ false
   pub knows : Contains known (known_by room holding)
 
--- the hand has a reference to this chunk, with room for so many words
+-- the hand has a reference to this chunk, which has room for n words
 abbrev pub IsRefOf : View → ChunkId → ℕ → Type 0
 IsRefOf view chunk room = IsRefIn view.row.holdings view.row.knows.known chunk room
 
@@ -22,12 +22,12 @@ IsRefOf view chunk room = IsRefIn view.row.holdings view.row.knows.known chunk r
 abbrev pub IsIssueOf : View → ChunkId → ℕ → Type 0
 IsIssueOf view chunk issue = option_map (λ holding. holding.issue) (holding_of chunk view.row.holdings) ≡ Some issue
 
--- each chunk that the hand refers to it refers to still: it finds the same holding of it
+-- the hand still refers to each chunk that it referred to, by the same holding
 pub record KeepsRefs (view now : View) : Type 0 where
   pub refers : (chunk : ChunkId) (room : ℕ) → IsRefOf view chunk room → IsRefOf now chunk room
   pub same : (chunk : ChunkId) (room : ℕ) → IsRefOf view chunk room → holding_of chunk now.row.holdings ≡ holding_of chunk view.row.holdings
 
--- each chunk that the hand refers to, and still holds, it refers to still, whatever it gave up: it finds the same holding of it
+-- the hand still refers to each chunk that it referred to and still holds, by the same holding, whatever it gave up
 pub record KeepsHeld (view now : View) : Type 0 where
   pub refers : (chunk : ChunkId) (room : ℕ) → IsRefOf view chunk room → is_some (holding_of chunk now.row.holdings) ≡ true → IsRefOf now chunk room
   pub same : (chunk : ChunkId) (room : ℕ) → IsRefOf view chunk room → is_some (holding_of chunk now.row.holdings) ≡ true →

@@ -27,7 +27,7 @@ key_read view chunk = word_read view chunk 0
 abbrev pub stripe_read : View → ChunkId → Option ℕ
 stripe_read view chunk = option_map (λ key. key % view.setup.config.stripes) (key_read view chunk)
 
--- why an item may be taken away, as the hand knows: it goes to another chunk; its page moves, and no other chunk is to be had for it;
+-- why an item may be taken away, as the hand knows: the item goes to another chunk; its page moves, and no other chunk can take the item;
 -- or room is needed
 abbrev pub knows_reason : SlabState → List Look → List Holding → ChunkId → Bool
 knows_reason slabs looks holdings chunk =

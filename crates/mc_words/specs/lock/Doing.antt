@@ -13,18 +13,19 @@ use Rattle.mc_words.specs.lock.Wait.{WaitsForSlabs, WaitsForStripe}
 abbrev pub Doing : Type 1
 Doing = ReadyStripe → View → ReadyStripe → View → Type 0
 
--- under the stripe's lock, whose value was this: room was made so, this was done, and the lock was given back
+-- under the stripe's lock, with this value behind it: room was made by this change, this was done, and the lock was given back
 pub record IsDoneBehind (room : StripeChange) (number stripe : ℕ) (value : ReadyStripe) (Does : Doing) (view now : View) : Type 0 where
   pub left : ReadyStripe
   pub last : View
   pub does : Does (stripe_after room value) (stripe_changed room stripe value (number + 1) view) left last
   pub given : now ≡ stripe_given stripe left last
 
--- the room was for a call that stores no entry
+-- under the stripe's lock, with this value behind it: room was made for a call that stores no entry, this was done, and the lock was given
+-- back
 abbrev pub IsDone : ℕ → ℕ → ReadyStripe → Doing → View → View → Type 0
 IsDone number stripe value Does view now = IsDoneBehind ReserveCall number stripe value Does view now
 
--- the room was for a call and an entry
+-- under the stripe's lock, with this value behind it: room was made for a call and an entry, this was done, and the lock was given back
 abbrev pub IsStored : ℕ → ℕ → ReadyStripe → Doing → View → View → Type 0
 IsStored number stripe value Does view now = IsDoneBehind Reserve number stripe value Does view now
 

@@ -11,32 +11,32 @@ use Rattle.mc_core.specs.Past.{Own}
 use Rattle.mc_core.specs.InOrder.{IsOfTable}
 use Rattle.mc_words.specs.hand.View.{View}
 
--- these pages and lists are the hand's, are whole, and agree with what it holds
+-- the pages and lists are the hand's, are whole, and agree with what the hand holds
 pub record IsLent (view : View) (slabs : SlabState) : Type 0 where
   pub mine : view.slabs ≡ Some slabs
-  -- they are of the arena's classes and limit, and every page and every chunk is accounted for
+  -- the pages and lists are of the arena's classes and limit, and every page and every chunk is accounted for
   pub accounted : IsOfTable view.setup.table slabs
   -- no page is half cut
   pub whole : slabs.uncut ≡ None
-  -- each chunk that the hand holds stands once in the hand-out order of its class
+  -- each chunk that the hand holds is once in the hand-out order of its class
   pub kept : All (λ holding. times holding.chunk (class_of_chunk slabs holding.chunk).order ≡ 1) view.row.holdings
 
 -- a stripe is the hand's, is whole, and has keys of its own alone
 pub record IsLentStripe (view : View) (number : ℕ) (stripe : ReadyStripe) : Type 0 where
   pub mine : slice_index_or view.stripes number None ≡ Some stripe
-  -- its history is legal, and makes its index
+  -- the stripe's history is legal, and makes the stripe's index
   pub legal : IsLegal stripe.state
   -- no entry is aside
   pub whole : stripe.state.aside ≡ None
   -- each key that leads somewhere is one of the stripe's
   pub keys : (key : ℕ) (place : ChunkId × ℕ) → place_of stripe.state key ≡ Some place → key % view.setup.config.stripes ≡ number
-  -- of each number of the hand its entries are the hand's own calls
+  -- for each number of the hand, the hand's own calls are the history's calls of that number
   pub own : All (λ (own : Own). slice_index_or own.calls number [] ≡ filter (λ call. hand_of call == own.number) stripe.state.history) view.row.knows.mine
 
 -- the history that was found begins with all that the hand had seen of it
 abbrev pub BeginsWithSeen : View → ℕ → ReadyStripe → Type 0
 BeginsWithSeen view number stripe = (seen : List Call) → slice_get view.row.knows.seen number ≡ Some seen → IsBeginning seen stripe.state.history
 
--- the stripe of this number that the hand has; a new one where it hasn't its lock
+-- the stripe of this number that the hand has; a new one where the hand hasn't the stripe's lock
 abbrev pub lent_stripe : View → ℕ → ReadyStripe
 lent_stripe view number = unwrap_or (slice_index_or view.stripes number None) new_stripe

@@ -20,7 +20,7 @@ slots_in (Stripe stripe) = slot_at (suc stripe) ∷ []
 slots_in (SlabsLast stripe) = slot_at zero ∷ slot_at (suc stripe) ∷ []
 slots_in (StripeLast stripe) = slot_at (suc stripe) ∷ slot_at zero ∷ []
 
--- the lock of the slabs is one of these
+-- the slabs lock is one of these locks
 abbrev pub has_slabs_in : Locks → Bool
 has_slabs_in Neither = false
 has_slabs_in Slabs = true
@@ -28,7 +28,7 @@ has_slabs_in (Stripe stripe) = false
 has_slabs_in (SlabsLast stripe) = true
 has_slabs_in (StripeLast stripe) = true
 
--- the lock of this stripe is one of these
+-- the lock of this stripe is one of these locks
 abbrev pub has_stripe_in : Locks → ℕ → Bool
 has_stripe_in Neither other = false
 has_stripe_in Slabs other = false
@@ -36,7 +36,7 @@ has_stripe_in (Stripe stripe) other = stripe == other
 has_stripe_in (SlabsLast stripe) other = stripe == other
 has_stripe_in (StripeLast stripe) other = stripe == other
 
--- the stripe among these locks, if there is one, is one of so many
+-- the stripe among these locks, if there is one, has a number below n
 abbrev pub is_within : ℕ → Locks → Bool
 is_within stripes Neither = true
 is_within stripes Slabs = true
@@ -44,7 +44,7 @@ is_within stripes (Stripe stripe) = nat_lt stripe stripes
 is_within stripes (SlabsLast stripe) = nat_lt stripe stripes
 is_within stripes (StripeLast stripe) = nat_lt stripe stripes
 
--- these are locks of the arena, and the view has the values behind them and no other
+-- the locks are of the arena, and the view has the values behind them and no other
 abbrev pub HasLocks : View → Locks → Type 0
 HasLocks view locks =
     (is_some view.slabs ≡ has_slabs_in locks) × (map is_some view.stripes ≡ map (has_stripe_in locks) (range_with_len 0 view.setup.config.stripes))
@@ -55,7 +55,7 @@ abbrev pub IsNoted : Sits → ℕ → ℕ → Locks → Type 0
 IsNoted me number chunks locks =
     (me.0.row.ids.number ≡ Some number) × (number < 64) × (chunks ≡ length me.0.row.holdings) × (slots_out me.1 ≡ slots_in locks) × HasLocks me.0 locks
 
--- these locks and that of the slabs, which was taken last, unless it was there
+-- the locks after the slabs lock was taken, as the last one, unless it was among them
 abbrev pub with_slabs : Locks → Locks
 with_slabs Neither = Slabs
 with_slabs Slabs = Slabs
@@ -63,7 +63,7 @@ with_slabs (Stripe stripe) = SlabsLast stripe
 with_slabs (SlabsLast stripe) = SlabsLast stripe
 with_slabs (StripeLast stripe) = StripeLast stripe
 
--- these locks without that of the slabs
+-- the locks without the slabs lock
 abbrev pub without_slabs : Locks → Locks
 without_slabs Neither = Neither
 without_slabs Slabs = Neither
@@ -71,7 +71,7 @@ without_slabs (Stripe stripe) = Stripe stripe
 without_slabs (SlabsLast stripe) = Stripe stripe
 without_slabs (StripeLast stripe) = Stripe stripe
 
--- these locks and that of this stripe, which was taken last, unless a stripe's was there
+-- the locks after this stripe's lock was taken, as the last one, unless a stripe's was among them
 abbrev pub with_stripe : ℕ → Locks → Locks
 with_stripe stripe Neither = Stripe stripe
 with_stripe stripe Slabs = StripeLast stripe
@@ -79,7 +79,7 @@ with_stripe stripe (Stripe other) = Stripe other
 with_stripe stripe (SlabsLast other) = SlabsLast other
 with_stripe stripe (StripeLast other) = StripeLast other
 
--- these locks without the stripe's
+-- the locks without the stripe's lock
 abbrev pub without_stripe : Locks → Locks
 without_stripe Neither = Neither
 without_stripe Slabs = Slabs
@@ -87,7 +87,7 @@ without_stripe (Stripe stripe) = Neither
 without_stripe (SlabsLast stripe) = Slabs
 without_stripe (StripeLast stripe) = Slabs
 
--- no stripe's lock is among these
+-- no stripe's lock is among these locks
 abbrev pub has_no_stripe : Locks → Bool
 has_no_stripe Neither = true
 has_no_stripe Slabs = true
@@ -95,7 +95,7 @@ has_no_stripe (Stripe stripe) = false
 has_no_stripe (SlabsLast stripe) = false
 has_no_stripe (StripeLast stripe) = false
 
--- no lock is among these
+-- these are no locks
 abbrev pub is_neither : Locks → Bool
 is_neither Neither = true
 is_neither Slabs = false
@@ -103,7 +103,7 @@ is_neither (Stripe stripe) = false
 is_neither (SlabsLast stripe) = false
 is_neither (StripeLast stripe) = false
 
--- there are two locks, of which that of this number was taken first; the slabs' is number 0
+-- there are two locks, of which the one of this number was taken first; the slabs lock is number 0
 abbrev pub is_behind : Locks → ℕ → Bool
 is_behind (SlabsLast stripe) zero = false
 is_behind (SlabsLast stripe) (suc number) = true
@@ -111,12 +111,12 @@ is_behind (StripeLast stripe) zero = true
 is_behind (StripeLast stripe) (suc number) = false
 is_behind other number = false
 
--- two locks in the other order; one, or none, as it is
+-- two locks in the other order; one lock, or none, unchanged
 abbrev pub turned_locks : Locks → Locks
 turned_locks (SlabsLast stripe) = StripeLast stripe
 turned_locks (StripeLast stripe) = SlabsLast stripe
 turned_locks other = other
 
--- the lock of this number, which is one of them, as the one that was taken last
+-- these locks with the one of this number, which is among them, as the last taken
 abbrev pub with_last : ℕ → Locks → Locks
 with_last number locks = if is_behind locks number then turned_locks locks else locks

@@ -3,11 +3,11 @@ use Rattle.std.specs.Prelude.{ℕ, zero, suc, ◌+◌, ◌-◌, ◌*◌}
 use Rattle.mc_words.specs.declared.lock.locks.Lock.{Lock}
 use Rattle.mc_words.specs.declared.lock.locks.Lock.TheVariants.{SlabsLock, StripeLock}
 
--- the value behind a lock stands so many slots of 16 bytes from the next: 128 bytes, so that no two are in one line of a cache
+-- the slots of 16 bytes from the value behind one lock to the next: 128 bytes, so that no two are in one line of a cache
 abbrev pub slots_apart : ℕ
 slots_apart = 8
 
--- how many slots stand between those of two locks; they are empty
+-- how many slots are between those of two locks; they are empty
 abbrev pub slots_between : ℕ
 slots_between = slots_apart - 1
 
@@ -24,6 +24,6 @@ slot_at lock = slots_apart * lock
 abbrev pub slot_of : Lock → ℕ
 slot_of lock = slot_at (number_of lock)
 
--- how many slots there are, for so many stripes
+-- how many slots there are for n stripes
 abbrev pub slot_count : ℕ → ℕ
 slot_count stripes = slots_apart * (1 + stripes)

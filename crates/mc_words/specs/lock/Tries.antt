@@ -40,7 +40,7 @@ sight_of (StripeLock stripe) word = past.stripe_word stripe word
 abbrev pub IsLockOf : Setup → Lock → Type 0
 IsLockOf setup lock = number_of lock ≤ setup.config.stripes
 
--- the hand has the value behind the lock, and it is this one
+-- the hand has this value behind the lock
 abbrev pub HasValue : View → Lock → Slot → Type 0
 HasValue view SlabsLock (OfSlabs slabs) = view.slabs ≡ Some slabs
 HasValue view SlabsLock (OfStripe stripe) = ⊥
@@ -59,12 +59,13 @@ can_give Empty = false
 abbrev pub HasStripes : View → (ℕ → Bool) → Type 0
 HasStripes view has = map is_some view.stripes ≡ map has (range_with_len 0 view.setup.config.stripes)
 
--- the hand has the lock, which it hadn't, and otherwise what it had; of a stripe's lock this is said where it had no other stripe's
+-- the hand got the lock, which it hadn't, and has otherwise what it had; for a stripe's lock this holds where the hand had no other
+-- stripe's
 abbrev pub Gains : Lock → View → View → Type 0
 Gains SlabsLock view now = (is_some view.slabs ≡ false) × (is_some now.slabs ≡ true) × (map is_some now.stripes ≡ map is_some view.stripes)
 Gains (StripeLock stripe) view now = (is_some now.slabs ≡ is_some view.slabs) × (HasStripes view (λ other. false) → HasStripes now (λ other. stripe == other))
 
--- the hand hasn't the lock any more, and otherwise what it had; of a stripe's lock this is said where it had no other stripe's
+-- the hand hasn't the lock any more, and has otherwise what it had; for a stripe's lock this holds where the hand had no other stripe's
 abbrev pub Loses : Lock → View → View → Type 0
 Loses SlabsLock view now = (is_some now.slabs ≡ false) × (map is_some now.stripes ≡ map is_some view.stripes)
 Loses (StripeLock stripe) view now = (is_some now.slabs ≡ is_some view.slabs) × (HasStripes view (λ other. stripe == other) → HasStripes now (λ other. false))
@@ -83,7 +84,7 @@ pub record TakesValue (lock : Lock) (me now : Sits) : Type 0 where
   pub lawful : LawfulView now.0
   pub happens : Happens me.0 [] (take_of lock) now.0
 
--- a try of the lock: where its word was 0 the hand took it, and otherwise it saw the word
+-- a try of the lock: where the lock's word was 0 the hand took the lock, and otherwise it saw the word
 abbrev pub Takes : Lock → At → Sits → ℕ → Sits → Type 0
 Takes lock at me found now = (found ≡ 0 → TakesValue lock me now) × (found ≢ 0 → StaysOut me now × HappensAt at.word found me.0 [] (miss_of lock) now.0)
 

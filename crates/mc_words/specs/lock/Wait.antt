@@ -8,12 +8,12 @@ use Rattle.mc_words.specs.rule.Happens.{Happens}
 use Rattle.mc_words.specs.lock.Lent.{BeginsWithSeen}
 use Rattle.mc_words.specs.hand.Views.{slabs_missed, slabs_taken, stripe_missed, stripe_taken}
 
--- where a read found the word 0, the next look is that of a try, which missed: its word isn't 0
+-- where a read found the word 0, the next look is that of a try that missed, which found a word other than 0
 abbrev pub IsTriedNext : ℕ → List ℕ → Type 0
 IsTriedNext word [] = ⊤
 IsTriedNext word (next ∷ words) = word ≡ 0 → next ≢ 0
 
--- these words were seen at the lock of the slabs, one after another: by tries that missed it, and by reads, which go on until one finds 0
+-- the hand saw these words at the slabs lock, one after another: by tries that missed it, and by reads, which go on until one finds 0
 abbrev pub MissesSlabs : List ℕ → View → View → Type 0
 MissesSlabs [] view now = now ≡ view
 MissesSlabs (word ∷ words) view now = IsTriedNext word words × Happens view [] step.MissSlabs (slabs_missed word view) × MissesSlabs words (slabs_missed word view) now
@@ -26,7 +26,7 @@ pub record WaitsForSlabs (view : View) (slabs : SlabState) (now : View) : Type 0
   pub taken : Happens before [] step.TakeSlabs now
   pub is : now ≡ slabs_taken slabs before
 
--- these words were seen at the lock of a stripe, one after another: by tries that missed it, and by reads, which go on until one finds 0
+-- the hand saw these words at a stripe's lock, one after another: by tries that missed it, and by reads, which go on until one finds 0
 abbrev pub MissesStripe : ℕ → List ℕ → View → View → Type 0
 MissesStripe stripe [] view now = now ≡ view
 MissesStripe stripe (word ∷ words) view now =

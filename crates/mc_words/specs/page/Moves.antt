@@ -12,7 +12,7 @@ use Rattle.mc_words.specs.lock.Doing.{SlabsDoing}
 use Rattle.mc_words.specs.rule.Happens.{Happens}
 use Rattle.mc_words.specs.hand.Views.{slabs_changed}
 
--- the hand of this number changed pages and lists so, once, which was told by a look at the word of their lock
+-- the hand of this number made this change of pages and lists, and recorded it by a look at the word of their lock
 abbrev pub ChangesOnce : ℕ → Change → View → SlabState → View → Type 0
 ChangesOnce number change view slabs now = Happens view (change ∷ []) step.MissSlabs now × (now ≡ slabs_changed slabs change (number + 1) view)
 

@@ -21,7 +21,7 @@ pub record PopsFirst (view : View) (slabs : SlabState) (class : ℕ) (chunk : Ch
   pub happens : Happens (head_seen chunk head view) [] (step.Pop class) now
   pub is : now ≡ chunk_popped slabs class chunk head (head_seen chunk head view)
 
--- the hand saw the header of the chunk that was asked for, of which this is so: it isn't one that was wanted
+-- the hand saw the header of the chunk that was asked for, and the property holds of the header, so the chunk isn't wanted
 pub record SeesOther (view : View) (asked : Option ChunkId) (IsOther : Head → Type 0) (now : View) : Type 0 where
   pub chunk : ChunkId
   pub is_asked : asked ≡ Some chunk

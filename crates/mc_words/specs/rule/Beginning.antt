@@ -24,6 +24,6 @@ first_view setup = new_view setup 0 (setup.hands - 1)
 abbrev pub one_made : View → View
 one_made view = record view { spare = view.spare - 1 }
 
--- the hand that is made: it did nothing yet, may make no other, and its number is how many hands there were
+-- the view of the hand that is made next: it did nothing yet, may make no other, and its number is how many hands there were
 abbrev pub next_view : View → View
 next_view view = new_view view.setup (view.setup.hands - view.spare) 0

@@ -23,15 +23,15 @@ pub record Left : Type 0 where
   pub setup : Setup
   pub heads : List ℕ
   pub slabs : Option SlabState
-  -- stripe 0 first
+  -- the value of each stripe whose lock no hand has, stripe 0 first
   pub stripes : List (Option ReadyStripe)
 
 -- the value behind a lock with this word, where the word is 0; otherwise it isn't at home
 abbrev pub at_home : {X : Type 0} → ℕ → X → Option X
 at_home word value = if word == 0 then Some value else None
 
--- at the close, this hand's view is of a lawful moment that the arena's events lead to. It is the moment that the table means, whose views are
--- those of all hands; the promise holds of that table; and these headers and values are left of it
+-- a hand closes the arena. Its view is of a lawful moment, to which the arena's events lead and which the table means, with the views of
+-- all hands. The promise holds of that table, and these headers and values are left of it
 pub record Closes (view : View) (left : Left) : Type 0 where
   pub was : LawfulView view
   pub table : Words
@@ -63,7 +63,7 @@ slabs_left words slots = if slice_index words (lock_word zero) == 0 then slabs_i
 abbrev pub stripe_left : List ℕ → List Slot → ℕ → Option ReadyStripe
 stripe_left words slots stripe = if slice_index words (lock_word (suc stripe)) == 0 then stripe_in (slice_index_or slots (slot_at (suc stripe)) Empty) else None
 
--- what is left, as words and slots have it
+-- what is left of an arena, by these words and slots
 abbrev pub left_of : Setup → List ℕ → List Slot → Left
 left_of setup words slots = record {
   setup = setup;
@@ -72,7 +72,7 @@ left_of setup words slots = record {
   stripes = map (stripe_left words slots) (range_with_len 0 setup.config.stripes);
 }
 
--- there are as many words and slots as the setup says, and pages and lists, where they are left, are accounted for
+-- there are as many words and slots as the setup asks for, and pages and lists, where they are left, are accounted for
 pub record IsLeftOf (setup : Setup) (words : List ℕ) (slots : List Slot) : Type 0 where
   pub wide : length words ≡ word_count setup
   pub small : word_count setup < 2 ^ 63

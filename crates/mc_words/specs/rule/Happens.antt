@@ -21,7 +21,7 @@ pub record LawfulView (view : View) : Type 0 where
   pub hands : length moment.state.ids ≡ view.setup.hands
   pub stripes : length moment.state.stripes ≡ view.setup.config.stripes
   pub there : is_hand moment.state hand ≡ true
-  -- it comes after these events, from the arena's beginning on, of which the view has those that the hand made
+  -- the events that lead to the moment from the arena's beginning, of which the view has those that the hand made
   pub run : List Event
   pub reached : LeadsTo view.setup run moment
   pub is : view ≡ view_at view.setup view.spare (events_of hand run) moment hand
@@ -34,14 +34,14 @@ pub record LawfulView (view : View) : Type 0 where
 abbrev pub event_of : ℕ → List Change → Step → Event
 event_of hand before step = record { hand = hand; before = before; step = step }
 
--- these changes and this step were one event of the core by this hand, in a lawful moment in which it was allowed: the hand knew
--- the one view before it, and the other after it
+-- the changes and the step were one event of the model by this hand, allowed in a lawful moment: the hand's view was the one before it, and
+-- is the other after it
 pub record Happens (view : View) (before : List Change) (step : Step) (now : View) : Type 0 where
   pub was : LawfulView view
   pub allowed : is_allowed was.moment.state (event_of was.hand before step) ≡ true
   pub is : now ≡ view_at view.setup view.spare (view.events ++ own_event before step ∷ []) (moment_after was.moment (event_of was.hand before step)) was.hand
 
--- the changes and the step were one event of the core by this hand, and before it the word at this place was this
+-- the changes and the step were one event of the model by this hand, and before it the word at this place was this
 abbrev pub HappensAt : ℕ → ℕ → View → List Change → Step → View → Type 0
 HappensAt place word view before step now = (happens : Happens view before step now) × (slice_index happens.was.words place ≡ word)
 
@@ -54,19 +54,19 @@ is_quiet (GiveStripe stripe) = false
 is_quiet (Join kept spent) = false
 is_quiet other = true
 
--- wherever a hand knows this view the core allows the step, by which the word at this place becomes so
+-- wherever a hand knows this view, the model allows the step, which changes the word at this place by this function
 abbrev pub MayWrite : View → Step → ℕ → (ℕ → ℕ) → Type 0
 MayWrite view step place written =
     (was : LawfulView view) → slice_index was.words place < 2 ^ 64 →
     (allows_step was.moment.state was.hand step ≡ true) × WordsOf view.setup was.cuts (slice_set was.words place (written (slice_index was.words place))) (after_step was.moment.state was.hand step)
 
--- wherever a hand knows this view, and the word at this place is as expected, the core allows the step, by which the word becomes this one
+-- where a hand knows this view, and the word at this place is as expected, the model allows the step, which writes this word
 abbrev pub MayExchange : View → Step → ℕ → ℕ → ℕ → Type 0
 MayExchange view step place expected word =
     (was : LawfulView view) → slice_index was.words place < 2 ^ 64 → slice_index was.words place ≡ expected →
     (allows_step was.moment.state was.hand step ≡ true) × WordsOf view.setup was.cuts (slice_set was.words place word) (after_step was.moment.state was.hand step)
 
--- wherever a hand knows this view the core allows this change and then the step, and the word at this place becomes so
+-- wherever a hand knows this view, the model allows this change and then the step, which changes the word at this place by this function
 pub record MayTell (view : View) (change : Change) (step : Step) (place : ℕ) (written : ℕ → ℕ) : Type 0 where
   pub allowed : (was : LawfulView view) → allows_change was.moment.state was.hand change ≡ true
   pub step_allowed : (was : LawfulView view) → allows_step (after_change was.moment.state was.hand change) was.hand step ≡ true

@@ -12,8 +12,8 @@ use Rattle.mc_words.specs.rule.Meaning.{Words, Ruled}
 use Rattle.mc_words.specs.rule.Happens.{LawfulView, event_of}
 use Rattle.mc_words.specs.rule.Told.{Sits, At}
 
--- a hand took over another one, whose row and events these were: one event of the core, in a lawful moment in which it was allowed; the hand knew
--- the one view before it, and the other after it
+-- a hand took over another one, which had this row and these events: one event of the model, allowed in a lawful moment. The hand knew the
+-- one view before it, and the other after it
 pub record Joins (view : View) (row : Row) (events : List OwnEvent) (now : View) : Type 0 where
   pub was : LawfulView view
   pub spent : ℕ
@@ -22,8 +22,8 @@ pub record Joins (view : View) (row : Row) (events : List OwnEvent) (now : View)
   pub allowed : is_allowed was.moment.state (event_of was.hand [] (Join was.hand spent)) ≡ true
   pub is : now ≡ view_at view.setup view.spare (view.events ++ joined ∷ []) (moment_after was.moment (event_of was.hand [] (Join was.hand spent))) was.hand
 
--- what a hand said and knows agrees: words are said with a stamp once, one chunk with one issue has one item, and an item's words are
--- those that were said with its stamp
+-- what a hand stored and knows agrees: one stamp has one item's words, one chunk with one issue has one item, and a known item's words are
+-- those stored with its stamp
 pub record Agrees (knows : Knowledge) : Type 0 where
   pub said : (a b : Saying) → Contains knows.said a → Contains knows.said b → a.stamp ≡ b.stamp → a.words ≡ b.words
   pub known : (a b : Known) → Contains knows.known a → Contains knows.known b → a.chunk ≡ b.chunk → a.issue ≡ b.issue → a.words ≡ b.words
@@ -33,7 +33,7 @@ pub record Agrees (knows : Knowledge) : Type 0 where
 abbrev pub IsMade : View → Type 0
 IsMade view = (kept spent : Row) (own others : List OwnEvent) → view.made_of ≡ Some (kept, spent, own, others) → Joins (record view { events = own; row = kept; made_of = None }) spent others (settled view)
 
--- the table, where each hand is told of what it was made of
+-- the table, where each hand learned what it was made of
 abbrev pub all_settled : Words → Words
 all_settled t = record t { views = map settled t.views }
 
@@ -42,7 +42,7 @@ pub record Rule (setup : Setup) (t : Words) : Type 0 where
   pub ruled : Ruled setup (all_settled t)
   pub made : (hand : ℕ) (view : View) → get_elem? t.views hand ≡ some view → IsMade view
 
--- the step tells a hand how it was made
+-- the step shows a hand how it was made
 pub record TellsMade (step : At) (me : Sits) (found : ℕ) (now : Sits) : Type 0 where
   pub is : now ≡ (settled me.0, me.1)
   pub lawful : LawfulView now.0

@@ -1,4 +1,4 @@
--- Where each word of the table stands.
+-- The place of each word of the table.
 use Rattle.std.specs.Prelude.{ℕ, ◌+◌, ◌-◌, ◌*◌, List, [], ◌∷◌, ◌++◌, replicate}
 use Rattle.mc_classes.specs.declared.config.Config.{Config}
 use Rattle.mc_classes.specs.Classes.{arena_pages_of}
@@ -6,38 +6,38 @@ use Rattle.mc_pages.specs.declared.ids.ChunkId.{ChunkId}
 use Rattle.mc_core.specs.State.{most_of, page_words, head_place}
 use Rattle.mc_words.specs.hand.View.{Setup}
 
--- a lock's word stands so many words of 8 bytes from the next, and from what is written before and behind: 128 bytes, so that no two are in one
+-- the words of 8 bytes from one lock's word to the next, and to what is written before and behind: 128 bytes, so that no two are in one
 -- line of a cache
 abbrev pub words_apart : ℕ
 words_apart = 16
 
--- how many words stand between those of two locks
+-- how many words are between those of two locks
 abbrev pub words_between : ℕ
 words_between = words_apart - 1
 
--- each of these, with the other so many times behind it
+-- each element of the list, with n copies of the other behind it
 abbrev pub spread : {A : Type 0} → ℕ → A → List A → List A
 spread between other [] = []
 spread between other (x ∷ xs) = x ∷ (replicate between other ++ spread between other xs)
 
--- where the word of the lock of this number stands. The lock of the slabs is number 0, and that of stripe i number i + 1; before them stands word
--- 0, which makes and joins hands
+-- the place of the word of the lock of this number. The slabs lock is number 0, and the lock of stripe i is number i + 1. Before them is
+-- word 0, which makes and joins hands
 abbrev pub lock_word : ℕ → ℕ
 lock_word lock = words_apart * (1 + lock)
 
--- where the word of the slabs lock stands
+-- the place of the slabs lock's word
 abbrev pub slabs_word : ℕ
 slabs_word = lock_word 0
 
--- where the words of pages begin, behind those of the locks; each page has one
+-- the place where the words of pages begin, behind those of the locks; each page has one
 abbrev pub pages_from : Setup → ℕ
 pages_from setup = words_apart * (2 + setup.config.stripes)
 
--- where the word of a page stands, which is the class that has the page; 0 where none has
+-- the place of a page's word, which is the class that has the page, or 0 where none has
 abbrev pub page_word : Setup → ℕ → ℕ
 page_word setup page = pages_from setup + page
 
--- where the headers begin, behind the words of pages
+-- the place where the headers begin, behind the words of pages
 abbrev pub heads_from : Setup → ℕ
 heads_from setup = pages_from setup + arena_pages_of setup.table
 
@@ -45,11 +45,11 @@ heads_from setup = pages_from setup + arena_pages_of setup.table
 abbrev pub head_count : Setup → ℕ
 head_count setup = arena_pages_of setup.table * most_of setup.table
 
--- where the header of a chunk stands
+-- the place of a chunk's header
 abbrev pub head_word : Setup → ChunkId → ℕ
 head_word setup chunk = heads_from setup + head_place setup.table chunk
 
--- where the data words begin, behind the headers
+-- the place where the data words begin, behind the headers
 abbrev pub data_from : Setup → ℕ
 data_from setup = heads_from setup + head_count setup
 
@@ -57,11 +57,11 @@ data_from setup = heads_from setup + head_count setup
 abbrev pub data_count : Setup → ℕ
 data_count setup = arena_pages_of setup.table * page_words setup.table
 
--- where a data word stands, of a chunk with room for so many words
+-- the place of a data word, of a chunk with room for n words
 abbrev pub data_word : Setup → ℕ → ChunkId → ℕ → ℕ
 data_word setup room chunk place = data_from setup + (chunk.page * page_words setup.table + chunk.index * room + place)
 
--- where the configuration begins, which stands last and never changes
+-- the place where the configuration begins, which is last and never changes
 abbrev pub config_from : Setup → ℕ
 config_from setup = data_from setup + data_count setup
 

@@ -25,7 +25,7 @@ Words = table.State Slot View
 -- the words are these columns, and the configuration of the setup
 pub record AreWords (setup : Setup) (cuts words : List ℕ) (lock : ℕ) (stripe_locks : List ℕ) (headers : List Head) (stored : List ℕ) : Type 0 where
   pub wide : length words ≡ word_count setup
-  -- the word of the hands, into which nothing is written, and those of the locks: each is followed by words that are 0 always
+  -- the words of the hands and of the locks: each is followed by words that are 0 always. Nothing is written into the word of the hands
   pub locks : take (pages_from setup) words ≡ spread words_between 0 (0 ∷ lock ∷ stripe_locks)
   pub pages : take (arena_pages_of setup.table) (drop (pages_from setup) words) ≡ cuts
   pub heads : map decode (take (head_count setup) (drop (heads_from setup) words)) ≡ headers
@@ -53,12 +53,12 @@ AreHome setup words homes state = (lock : ℕ) → lock ≤ setup.config.stripes
 abbrev pub beginning_of : Setup → Moment
 beginning_of setup = first_moment setup.table setup.config.stripes setup.hands setup.start
 
--- the moment comes after these events, each of which was allowed, from the beginning on
+-- the moment comes after these events, from the beginning on, each of which was allowed
 pub record LeadsTo (setup : Setup) (run : List Event) (moment : Moment) : Type 0 where
   pub is_run : IsRun (beginning_of setup) run
   pub end : moment_at_end (beginning_of setup) run ≡ moment
 
--- the view is what the moment has of the hand, with the events that it made of the run; a hand that is gone has one constant
+-- the view is what the moment has of the hand, with the events of the run that the hand made; all hands that are gone have the same view
 pub record IsViewOf (setup : Setup) (run : List Event) (moment : Moment) (hand : ℕ) (view : View) : Type 0 where
   pub there : is_hand moment.state hand ≡ true → view ≡ view_at setup view.spare (events_of hand run) moment hand
   pub gone : is_hand moment.state hand ≡ false → view ≡ spent_view
@@ -86,7 +86,7 @@ pub record Means (setup : Setup) (cuts : List ℕ) (run : List Event) (t : Words
 pub record Ruled (setup : Setup) (t : Words) : Type 0 where
   pub moment : Moment
   pub run : List Event
-  -- what the words of the pages say
+  -- the words of the pages: for each the class that has it
   pub cuts : List ℕ
   pub means : Means setup cuts run t moment
   pub lawful : IsLawful moment

@@ -1,10 +1,10 @@
--- Where the groups of words begin, as numbers.
+-- The places where the groups of words begin, as numbers.
 use Rattle.std.specs.Prelude.{◌≡◌}
 use Rattle.mc_words.specs.declared.arena.beginning.Places.{Places}
 use Rattle.mc_words.specs.hand.View.{Setup}
 use Rattle.mc_words.specs.rule.Layout.{pages_from, heads_from, data_from, config_from}
 
--- these are the places of the first word of pages, headers, data words and configuration
+-- the places are those of the first word of pages, headers, data words and configuration
 pub record ArePlaces (setup : Setup) (places : Places) : Type 0 where
   pub pages : places.pages ≡ pages_from setup
   pub heads : places.heads ≡ heads_from setup

@@ -7,12 +7,12 @@ use Rattle.mc_core.specs.Chunks.{most_issue}
 use Rattle.mc_words.specs.declared.arena.refusal.NewError.{NewError}
 use Rattle.mc_words.specs.declared.arena.refusal.NewError.TheVariants as refused
 
--- why no arena is made: the refusal of its configuration, which comes before all others, or one of those
+-- why no arena is made: the configuration's refusal, which comes first, or another
 abbrev pub or_refused : Option ConfigError → Option NewError → Option NewError
 or_refused (Some error) others = Some (refused.Config error)
 or_refused None others = others
 
--- the first test that these fail: the configuration, the number of hands, the first issue number
+-- the first test that the arguments fail: of the configuration, the number of hands, or the first issue number
 abbrev pub arena_refusal : Config → ℕ → ℕ → Option NewError
 arena_refusal config hands start =
     or_refused (classes.refusal_of config)

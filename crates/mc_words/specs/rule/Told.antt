@@ -1,4 +1,4 @@
--- What a step on the table tells the hand that makes it.
+-- What a step on the table shows the hand that makes it.
 use Rattle.std.specs.Prelude.{◌≡◌, ◌≢◌, ℕ, [], ◌∷◌}
 use Rattle.atomic_table.specs.Table as table
 use Rattle.mc_core.specs.declared.event.Change.{Change}
@@ -11,7 +11,7 @@ use Rattle.mc_words.specs.rule.Happens.{LawfulView, Happens, HappensAt, IsSameHa
 abbrev pub Sits : Type 0
 Sits = table.Me Slot View
 
--- a step on the table: which word it is on, its two operands, and the value that it announces, if it does
+-- a step on the table: the word that it is on, its two operands, and the value that it announces, if it announces one
 abbrev pub At : Type 0
 At = table.Step Slot
 
@@ -19,7 +19,7 @@ At = table.Step Slot
 abbrev pub StaysOut : Sits → Sits → Type 0
 StaysOut me now = (now.1 ≡ me.1) × IsSameHand me.0 now.0 × LawfulView now.0
 
--- the step on the table was this event, and found its word to be this
+-- the step on the table was this event, and found this word
 abbrev pub TellsFound : Step → At → Sits → ℕ → Sits → Type 0
 TellsFound step at me found now = StaysOut me now × HappensAt at.word found me.0 [] step now.0
 
@@ -27,7 +27,7 @@ TellsFound step at me found now = StaysOut me now × HappensAt at.word found me.
 abbrev pub TellsEvent : Step → At → Sits → ℕ → Sits → Type 0
 TellsEvent step at me written now = StaysOut me now × Happens me.0 [] step now.0
 
--- the step on the table was the one event where it found its word as expected, and else the other, which looks at it
+-- the step on the table was the first event where it found its word as expected, and else the second, which looks at the word
 abbrev pub TellsExchange : Step → Step → At → Sits → ℕ → Sits → Type 0
 TellsExchange step look at me found now =
     StaysOut me now × (found ≡ at.first → HappensAt at.word found me.0 [] step now.0) × (found ≢ at.first → HappensAt at.word found me.0 [] look now.0)

@@ -1,4 +1,4 @@
-//! The beginning of an arena.
+//! The first words and slots of an arena's table, and its first hand.
 ghost use Rattle.std.specs.Prelude.{◌≡◌, ◌+◌, ◌*◌, ◌^◌, ◌<◌, ◌≤◌, ◌∷◌, ◌++◌, replicate, IfOk, OnOk};
 ghost use Rattle.mc_classes.specs.Classes.{IsSound};
 ghost use Rattle.mc_core.specs.Chunks.{most_issue};

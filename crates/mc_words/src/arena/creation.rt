@@ -46,7 +46,7 @@ impl Arena {
         Arena::from_issue(alloc, config, hands, 0)
     }
 
-    /// The same, where each chunk begins with this issue number, at most 2^46 - 1, and not with 0 (own).
+    /// An arena as `new` makes it, but each chunk begins with this issue number, at most 2^46 - 1, and not with 0 (own).
     pub fn from_issue(
         alloc: Global,
         config: &Config,
@@ -87,7 +87,7 @@ impl Arena {
         Ok(all)
     }
 
-    // One hand more, which the first one makes.
+    // A hand more, which the first one makes.
     fn make(&self, first: &mut Hand, number: u64) -> Hand
         requires arena { IsHandOf self.now first.old }
         requires first { view first.old ≡ new_view (setup_of self.now) 0 ((setup_of self.now).hands - number) }

@@ -1,4 +1,4 @@
-//! The end of an arena.
+//! The end of an arena: `close`, and what is left.
 ghost use Rattle.std.specs.Prelude.{◌≡◌, ◌<◌, None, true, length, slice_index, slice_index_or, IfSome};
 ghost use Rattle.std.specs.Option.{option_map};
 ghost use Rattle.std.specs.Slots.{IsFull, slots_items, slots_len};
@@ -48,8 +48,8 @@ impl Model for Final {
 }
 
 impl Arena {
-    /// Ends the arena: no hand can step any more. It takes no memory. The promise holds of the last moment, as `closes` says in its `headline`: of
-    /// each page, granted byte, chunk and reference. (own)
+    /// Ends the arena: no hand can step any more. It takes no memory. The promise holds of the last moment, as `closes` states in
+    /// its `headline`: of each page, granted byte, chunk and reference. (own)
     pub fn close(self, hand: Hand) -> Final
         requires arena { IsHandOf self hand }
         ensures closes { Closes (view hand) result }
@@ -72,14 +72,14 @@ impl Arena {
 }
 
 impl Final {
-    /// What the arena was configured with.
+    /// The configuration of the arena.
     pub fn config(&self) -> &Config
         ensures config { result.now ≡ self.now.setup.config }
     {
         self.plan.config()
     }
 
-    /// Its size classes.
+    /// The size classes of the arena.
     pub fn classes(&self) -> &ClassTable
         ensures classes { result.now ≡ self.now.setup.table }
     {

@@ -1,4 +1,4 @@
-//! What an arena is made with.
+//! What an arena is made with: its configuration, its classes, the number of hands and the first issue number.
 ghost use Rattle.std.specs.Prelude.{◌≡◌, ◌≤◌};
 ghost use Rattle.mc_core.specs.Chunks.{most_issue};
 
@@ -41,7 +41,7 @@ impl Plan {
         }
     }
 
-    /// How many hands there are.
+    /// How many hands the arena has.
     pub(crate) fn hands(&self) -> u64
         ensures hands { result ≡ self.now.hands }
         ensures few { (1 ≤ result) × (result ≤ 64) }
@@ -57,7 +57,7 @@ impl Plan {
         self.start
     }
 
-    /// What the arena was configured with.
+    /// The configuration of the arena.
     pub(crate) fn config(&self) -> &Config
         ensures config { result.now ≡ self.now.config }
         ensures stripes { (1 ≤ self.now.config.stripes) × (self.now.config.stripes ≤ 64) }

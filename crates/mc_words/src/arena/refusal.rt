@@ -1,4 +1,4 @@
-//! Why there is no arena.
+//! Why no arena is made.
 ghost use Rattle.std.specs.Prelude.{◌≡◌};
 ghost use Rattle.mc_words.specs.rule.Refused.{refusal_number};
 
@@ -6,13 +6,13 @@ use mc_classes::ConfigError;
 use mc_memory::Refused;
 use thiserror::Error;
 
-/// Why there is no arena. The tests are made in this order, before anything is allocated (own).
+/// Why no arena is made. The tests are made in this order, before anything is allocated (own).
 #[derive(Debug, PartialEq, Eq, Drop, Error)]
 pub enum NewError {
     /// The configuration is refused.
     #[error("{0}")]
     Config(ConfigError),
-    /// There are no hands, or more than 64.
+    /// The hands are none, or more than 64.
     #[error("the number of hands must be from 1 to 64")]
     Hands,
     /// The first issue number is above the greatest, 2^46 - 1.

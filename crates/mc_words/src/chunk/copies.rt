@@ -19,9 +19,9 @@ use mc_core::Step;
 use mc_pages::ChunkId;
 
 impl Arena {
-    /// Hands out the first chunk of the class's free list that is off the moving page and whose issue number isn't used up, for a
-    /// copy of the item in this chunk of the page. It takes this chunk's place in the hand-out order, and this one stands directly
-    /// behind it. None where there is no such chunk. (slabs.c's `slab_rebalance_alloc`)
+    /// Hands out a chunk for a copy of the item in the old chunk of the moving page. It is the first of the class's free list
+    /// that is off that page and whose issue number isn't used up. The new chunk takes the old one's place in the hand-out order,
+    /// and the old one is directly behind it. None where there is no such chunk. (slabs.c's `slab_rebalance_alloc`)
     pub fn pop_off(&self, hand: &mut Hand, held: &mut SlabsHeld, old: ChunkId) -> Option<Fresh>
         requires arena { IsHandOf self.now hand.old }
         requires held { (view hand.old).slabs ≡ Some held.old.shared }

@@ -28,7 +28,7 @@ impl Arena {
         self.head_at(hand, word, chunk)
     }
 
-    /// The same, of a chunk whose header stands in this word.
+    /// The header of a chunk, as it is now, from this word of the table. Under the slabs lock the look counts.
     #[inline(always)]
     pub(crate) fn head_at(&self, hand: &mut Hand, word: usize, chunk: ChunkId) -> u64
         requires arena { IsHandOf self.now hand.old }

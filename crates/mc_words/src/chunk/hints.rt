@@ -12,7 +12,7 @@ use std::sync::atomic::Ordering::SeqCst;
 /// How many words the bits of a page's chunks take, of which there are at most 256.
 pub(crate) const WORDS_A_PAGE: u64 = 4;
 
-/// How many words there are, for 127 pages.
+/// How many words the hints have, for 127 pages.
 const WORDS: usize = 508;
 
 /// How many bits a word has.
@@ -29,7 +29,7 @@ pub struct Hints {
 }
 
 impl Hints {
-    /// None yet.
+    /// Hints that name no chunk.
     pub(crate) fn new(alloc: Global) -> Result<Hints, Refused> {
         let mut chunks = with_capacity(alloc, WORDS)?;
         for _ in 0..WORDS {
@@ -94,7 +94,7 @@ impl Hints {
     }
 }
 
-// Where the word of a page's bits stands.
+// The place of the word with a page's bits.
 fn place(page: PageId, word: u64) -> usize {
     page.saturating_mul(WORDS_A_PAGE).saturating_add(word) as usize
 }

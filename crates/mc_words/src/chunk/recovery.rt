@@ -17,9 +17,9 @@ use mc_classes::{ClassId, PageId};
 use mc_pages::ChunkId;
 
 impl Arena {
-    /// Looks at those chunks of the class of which hints say that they may be dead, and puts back those that are, the oldest first. A
-    /// chunk that died is hinted at by the call that left it dead; but one that dies meanwhile may be missed. Where there is no hint at
-    /// all it does nothing. (own, as slabs.c frees a chunk when its last reference goes)
+    /// Looks at those chunks of the class that hints name as perhaps dead, and puts back the dead ones, the oldest first. The
+    /// call that leaves a chunk dead gives a hint of it; but one that dies meanwhile may be missed. Where there is no hint at
+    /// all, nothing is done. (own, as slabs.c frees a chunk when its last reference goes)
     pub fn recover(&self, hand: &mut Hand, held: &mut SlabsHeld, class: ClassId)
         requires arena { IsHandOf self.now hand.old }
         requires class { is_class (setup_of self.now).table class ≡ true }
@@ -72,7 +72,7 @@ impl Arena {
         }
     }
 
-    // Follows the hints on a page, which has so many chunks.
+    // Follows the hints on a page, which has `count` chunks.
     fn look_at_page(
         &self,
         hand: &mut Hand,
@@ -103,7 +103,7 @@ impl Arena {
         }
     }
 
-    // Looks at those of 64 chunks of a page, from the first on, of which a bit is set. The page has so many chunks.
+    // Looks at those of 64 chunks of a page, from the first on, of which a bit is set. The page has `count` chunks.
     fn look_at_each(
         &self,
         hand: &mut Hand,

@@ -17,10 +17,10 @@ use mc_classes::ClassId;
 use mc_pages::ChunkId;
 
 impl Arena {
-    /// Looks at each chunk that the class handed out, and puts back the dead ones, the oldest first. Afterwards none of the class is
-    /// dead, as far as the hand saw, so that an item of it may be evicted where the class lacks room. It looks along the pages, where
-    /// the headers stand side by side, and walks along the hand-out order only where more than sixteen chunks are dead, or two of the
-    /// same age. (own, as slabs.c frees a chunk when its last reference goes)
+    /// Looks at each chunk that the class handed out, and puts back the dead ones, the oldest first. Afterwards none of the class
+    /// is dead, as far as the hand saw, and where the class lacks room an item may be evicted. The call looks along the pages,
+    /// where the headers are side by side. It walks along the hand-out order only where more than sixteen chunks are dead, or two
+    /// of the same age. (own, as slabs.c frees a chunk when its last reference goes)
     pub fn sweep(&self, hand: &mut Hand, held: &mut SlabsHeld, class: ClassId)
         requires arena { IsHandOf self.now hand.old }
         requires class { is_class (setup_of self.now).table class ≡ true }

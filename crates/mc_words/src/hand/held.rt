@@ -30,7 +30,7 @@ impl SlabsHeld {
 /// A stripe's index and history, while a hand has its lock. Where it is dropped, the lock stays held for good.
 #[derive(Drop)]
 pub struct StripeHeld {
-    /// Which stripe it is.
+    /// The number of the stripe.
     pub(crate) number: u64,
     pub(crate) stripe: BoxedStripe,
 }
@@ -51,7 +51,7 @@ pub struct Held;
 /// A chunk that was handed out to a hand, which fills it. It has to be spent.
 pub struct Fresh {
     pub(crate) chunk: ChunkId,
-    /// How many words it has.
+    /// How many words the chunk has.
     pub(crate) room: u64,
     /// The words that were written first and second: an item's key and stamp.
     pub(crate) key: u64,
@@ -59,14 +59,14 @@ pub struct Fresh {
 }
 
 impl Fresh {
-    /// Which chunk it is.
+    /// The chunk that the hand fills.
     pub fn chunk(&self) -> ChunkId
         ensures chunk { result ≡ self.now.chunk }
     {
         self.chunk
     }
 
-    /// How many words it has.
+    /// How many words the chunk has.
     pub fn room(&self) -> u64
         ensures room { result ≡ self.now.room }
     {

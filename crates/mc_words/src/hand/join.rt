@@ -12,8 +12,8 @@ use crate::lock::locks::Locks;
 use crate::rule::{BothHands, HandSeat, ToldOfBoth};
 
 impl Arena {
-    /// One hand of two, neither of which has a lock or holds a chunk. The first one's number stays; what the other one said
-    /// and knows is the first one's.
+    /// One hand of two, neither of which has a lock or holds a chunk. The first one's number stays; what the other one stored and
+    /// knows is the first one's.
     pub fn join_hands(&self, hand: Hand, other: Hand) -> Hand
         requires arena { IsHandOf self.now hand }
         requires other { IsHandOf self.now other }
@@ -44,7 +44,7 @@ impl Arena {
         }
     }
 
-    // Both seats become one, which is told so by a second look.
+    // Both seats become one, which learns of that by a second look.
     fn unite(&self, seat: &mut HandSeat, spent: HandSeat)
         requires seat { IsOfArena self.now seat.old.table_id seat.old.me.0 }
         requires spent { IsOfArena self.now spent.table_id spent.me.0 }

@@ -9,8 +9,9 @@ use crate::hand::Hand;
 use crate::rule::ShownWord;
 
 impl Arena {
-    /// The hand, which sits at this arena's table, is one of the arena's again: what it knows is of a lawful moment. One load of the word of
-    /// the hands, which is no event, and changes nothing. For a hand that lay in a struct whose own facts say no more than that. (own)
+    /// The hand, which sits at this arena's table, is one of the arena's again: what it knows is of a lawful moment. One load of
+    /// the word of the hands, which is no event, and changes nothing. For a hand that was in a struct whose own facts state no
+    /// more than that. (own)
     pub fn recall(&self, hand: &mut Hand)
         requires seated { IsSeatedAt self.now hand.old }
         ensures arena { IsHandOf self.now hand.new }

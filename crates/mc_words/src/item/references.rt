@@ -21,8 +21,9 @@ use mc_pages::ChunkId;
 use mc_stripe::Key;
 
 impl Arena {
-    /// Looks a key up once, whose stripe the hand has, and gets a reference to its item. None where the key has no item. Either is
-    /// told to the stripe, which has room for a call. A hand that holds 256 chunks is refused. (memcached's `do_item_get`)
+    /// Looks a key up once, whose stripe the hand has, and gets a reference to its item. None where the key has no item. The
+    /// stripe records the get either way, and has room for it. A hand that holds 256 chunks is refused. (memcached's
+    /// `do_item_get`)
     pub fn refer(
         &self,
         hand: &mut Hand,
@@ -52,7 +53,7 @@ impl Arena {
         Ok(self.refer_within(hand, held, key))
     }
 
-    /// The same for a hand that holds fewer than 256 chunks.
+    /// The same as `refer`, for a hand that holds fewer than 256 chunks.
     #[inline(always)]
     pub fn refer_within(&self, hand: &mut Hand, held: &mut StripeHeld, key: Key) -> Option<Ref>
         requires arena { IsHandOf self.now hand.old }

@@ -9,12 +9,12 @@ pub struct Ref {
     pub(crate) chunk: ChunkId,
     /// The issue number with which its chunk was handed out.
     pub(crate) issue: u64,
-    /// How many words its chunk has.
+    /// How many words the reference's chunk has.
     pub(crate) room: u64,
 }
 
 impl Ref {
-    /// Which chunk it is.
+    /// The chunk of the reference's item.
     pub fn chunk(&self) -> ChunkId
         ensures chunk { result ≡ self.now.chunk }
     {
@@ -41,8 +41,8 @@ pub struct Hint {
 }
 
 impl Hint {
-    /// A hint of the item that this chunk had, or may have had, with this issue number. Any number may stand there: whoever follows the
-    /// hint looks at the chunk's header.
+    /// A hint of the item that this chunk had, or may have had, with this issue number. The numbers may be any: whoever follows
+    /// the hint looks at the chunk's header.
     pub fn new(chunk: ChunkId, issue: u64) -> Hint
         ensures chunk { result.chunk ≡ chunk }
         ensures issue { result.issue ≡ issue }

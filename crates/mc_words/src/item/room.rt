@@ -1,4 +1,4 @@
-//! How many words the chunk of a reference has.
+//! The number of words in the chunk of a reference.
 ghost use Rattle.std.specs.Prelude.{◌≡◌, ℕ, ◌<◌};
 ghost use Rattle.mc_words.specs.hand.Arenas.{IsHandOf, IsOfArena, view};
 ghost use Rattle.mc_words.specs.item.Refs.{IsRefOf};
@@ -21,7 +21,7 @@ impl Arena {
         self.table.shared.load::<ShownWord>(seat, word)
     }
 
-    // How many words the chunk has, as the word of its page says.
+    // How many words the chunk has, by the word of its page.
     pub(crate) fn room(&self, hand: &mut Hand, chunk: ChunkId) -> u64
         requires arena { IsHandOf self.now hand.old }
         requires reference { (room : ℕ) × IsRefOf (view hand.old) chunk room }

@@ -1,4 +1,4 @@
-//! Words of items that are read.
+//! Reads of an item's words.
 ghost use Rattle.std.specs.Prelude.{◌≡◌, ◌+◌, ◌<◌, ◌≤◌, [], true, length, slice_index, Some, IfSome};
 ghost use Rattle.mc_pages.specs.SlabState.{class_of_page};
 ghost use Rattle.mc_core.specs.Holdings.{key_of, stamp_of};
@@ -19,7 +19,7 @@ use crate::item::refs::Ref;
 use mc_core::Step;
 use mc_pages::ChunkId;
 
-/// What an item says of itself before its words.
+/// The fields of an item before its words.
 #[derive(Clone, Copy)]
 pub struct ItemFields {
     pub key: u64,
@@ -67,7 +67,7 @@ impl Arena {
         ItemFields { key, stamp, len }
     }
 
-    // A word of the item, which stands at this place of the table.
+    // The word of the item at this place of the table.
     #[inline(always)]
     fn word_at(&self, hand: &mut Hand, reference: &Ref, place: u64, at: usize) -> u64
         requires arena { IsHandOf self.now hand.old }

@@ -1,4 +1,4 @@
-//! Changes of pages and lists, and of stripes, that write no header. Each is told at once.
+//! Changes of pages and lists, and of stripes, that write no header. Each is recorded at once.
 ghost use Rattle.std.specs.Prelude.{◌≡◌, ℕ, ◌+◌, ◌%◌, ◌<◌, ◌≤◌, ◌↔◌, Bool, if◌then◌else◌, [], ◌∷◌, true, false, slice_index_or, None, Some, Err, IfOk, OnOk, OnErr};
 ghost use Rattle.mc_classes.specs.Classes.{arena_pages_of};
 ghost use Rattle.mc_pages.specs.Changes.{HasNoPageFor, after_evicted, after_grow, after_touch, after_trim, next_page};
@@ -120,7 +120,7 @@ impl Arena {
         Ok(page)
     }
 
-    // Tells the stripe of a key that leads nowhere that it was looked up, or deleted.
+    // Records in the stripe of a key that leads nowhere that the key was looked up, or deleted.
     pub(crate) fn tell_none(&self, hand: &mut Hand, held: &StripeHeld, key: Key, change: Change)
         ghost deletes: { Bool }
         requires is { change ≡ call_of deletes key }

@@ -11,7 +11,7 @@ pub struct Contention {
 }
 
 impl Contention {
-    /// None has.
+    /// No hand has waited yet.
     pub(crate) fn new() -> Contention {
         Contention {
             has_waited: CachePadded::new(AtomicBool::new(false)),

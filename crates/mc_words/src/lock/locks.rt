@@ -1,4 +1,4 @@
-//! Which locks there are, where each stands, and which a hand has.
+//! The locks of an arena: the place of each, and those that a hand has.
 ghost use Rattle.std.specs.Prelude.{◌≡◌, ◌<◌, ◌^◌};
 ghost use Rattle.mc_words.specs.rule.Layout.{lock_word};
 ghost use Rattle.mc_words.specs.lock.Out.{is_behind, is_neither, turned_locks, with_slabs, with_stripe, without_slabs, without_stripe};
@@ -6,11 +6,11 @@ ghost use Rattle.mc_words.specs.lock.Slots.{number_of, slot_of};
 
 use crate::lock::slot::Slot;
 
-/// How many words the words of locks stand apart, from one another and from what lies around them: 128 bytes, so that no two share
-/// a line of a cache, nor one of the pairs of lines that are fetched together. (own)
+/// The distance in words between the words of locks, and to what is around them: 128 bytes, so that no two share a line of a
+/// cache, nor one of the pairs of lines that are fetched together. (own)
 pub(crate) const WORDS_APART: usize = 16;
 
-/// How many slots the values behind locks stand apart: 128 bytes, too. (own)
+/// The distance in slots between the values behind locks: 128 bytes, too. (own)
 pub(crate) const SLOTS_APART: usize = 8;
 
 /// The slots from one of them to the next, which are empty.
@@ -31,7 +31,7 @@ pub enum Lock {
 }
 
 impl Lock {
-    /// Its number.
+    /// The number of the lock.
     pub(crate) fn number(self) -> usize
         requires few { number_of self < 2 ^ 59 }
         ensures number { result ≡ number_of self }
@@ -42,7 +42,7 @@ impl Lock {
         }
     }
 
-    /// Its word.
+    /// The word of the lock.
     pub(crate) fn word(self) -> usize
         requires few { number_of self < 2 ^ 59 }
         ensures word { result ≡ lock_word (number_of self) }
@@ -65,14 +65,14 @@ pub enum Locks {
     Neither,
     Slabs,
     Stripe(u64),
-    /// Both, of which the lock of the slabs was taken last.
+    /// The slabs lock and this stripe's, of which the slabs lock was taken last.
     SlabsLast(u64),
-    /// Both, of which the stripe's was taken last.
+    /// The slabs lock and this stripe's, of which the stripe's was taken last.
     StripeLast(u64),
 }
 
 impl Locks {
-    /// With the lock of the slabs, too.
+    /// These locks with the slabs lock, taken last unless it is among them.
     pub(crate) fn with_slabs(self) -> Locks
         ensures locks { result ≡ with_slabs self }
     {
@@ -83,7 +83,7 @@ impl Locks {
         }
     }
 
-    /// Without it.
+    /// These locks without the slabs lock.
     pub(crate) fn without_slabs(self) -> Locks
         ensures locks { result ≡ without_slabs self }
     {
@@ -95,7 +95,7 @@ impl Locks {
         }
     }
 
-    /// The lock of this stripe is had, too. Most hands have no other, and are told by one test.
+    /// The hand has the lock of this stripe, too. Most hands have no other lock, and one test finds these.
     #[inline(always)]
     pub(crate) fn add_stripe(&mut self, stripe: u64)
         ensures locks { self.new ≡ with_stripe stripe self.old }
@@ -106,7 +106,8 @@ impl Locks {
         }
     }
 
-    // The same beside others. It isn't inlined, so that the compiler doesn't make one test of all cases.
+    // Adds the stripe's lock where the hand has others. It isn't inlined, so that the compiler doesn't make one test of all
+    // cases.
     #[inline(never)]
     fn add_beside(&mut self, stripe: u64)
         ensures locks { self.new ≡ with_stripe stripe self.old }
@@ -118,7 +119,7 @@ impl Locks {
         };
     }
 
-    /// Without the stripe's lock.
+    /// These locks without the stripe's lock.
     pub(crate) fn without_stripe(self) -> Locks
         ensures locks { result ≡ without_stripe self }
     {
@@ -128,7 +129,7 @@ impl Locks {
         }
     }
 
-    /// Whether there is none.
+    /// Whether the hand has no lock.
     pub(crate) fn is_neither(self) -> bool
         ensures neither { result ≡ is_neither self }
     {

@@ -1,4 +1,4 @@
-//! What lies in the slots of the table.
+//! The slots of the table: each has pages and lists, a stripe, or nothing.
 use crate::lock::boxed_stripe::BoxedStripe;
 use mc_pages::SharedSlabs;
 

@@ -1,4 +1,5 @@
-//! Stripes that make room for a call, or whose calls are trimmed or forgotten. No call is told by it, and each change is told at once.
+//! Stripes that make room for a call, or whose calls are trimmed or forgotten. No call is recorded by that, and each change is
+//! recorded at once.
 ghost use Rattle.std.specs.Prelude.{◌≡◌, ◌≤◌, ◌+◌, ◌^◌, ◌<◌, [], ◌∷◌, true, length, is_some, slice_index_or, None, Some, Err, IsOk, OnOk, OnErr};
 ghost use Rattle.mc_stripe.specs.StripeState.{can_store};
 ghost use Rattle.mc_stripe.specs.Changes.{after_reserve, after_reserve_call};
@@ -98,7 +99,7 @@ impl Arena {
         self.tell_change(hand, held.number, StripeChange::Forget);
     }
 
-    // Tells that a stripe which the hand has changed so.
+    // Records that a stripe which the hand has got this change.
     fn tell_change(&self, hand: &mut Hand, stripe: u64, how: StripeChange)
         requires arena { IsHandOf self.now hand.old }
         requires held { slice_index_or (view hand.old).stripes stripe None ≡ Some (lent_stripe (view hand.old) stripe) }

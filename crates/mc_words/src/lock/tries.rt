@@ -1,4 +1,4 @@
-//! The lock of the slabs, and those of stripes.
+//! The locks of the slabs and of stripes: one try that takes a lock, and the call that gives it back.
 ghost use Rattle.std.specs.Prelude.{◌≡◌, ◌≢◌, ℕ, ◌<◌, [], true, slice_index_or, None, Some, IfOk, OnErr};
 ghost use Rattle.mc_core.specs.declared.event.Step.TheVariants as step;
 ghost use Rattle.mc_core.specs.Silent.{none_half_cut};

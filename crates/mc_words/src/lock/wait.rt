@@ -1,5 +1,5 @@
-//! Locks that a hand waits for, which has no lock yet. Nothing says that they ever come. A try exchanges the lock's word, and so takes
-//! its line of the cache from the hand that has it; after a miss the word is only read, until it is 0. (own)
+//! Locks that a hand waits for, which has no lock yet. No clause states that the lock ever comes. A try exchanges the lock's
+//! word, and so takes its line of the cache from the hand that has it; after a miss the word is only read, until it is 0. (own)
 ghost use Rattle.std.specs.Prelude.{◌≡◌, ◌<◌, true, []};
 ghost use Rattle.mc_core.specs.declared.event.Step.TheVariants as step;
 ghost use Rattle.mc_words.specs.hand.Arenas.{IsHandOf, setup_of, view};
@@ -30,7 +30,7 @@ impl Arena {
         self.look(&mut hand.seat, SLABS_WORD, Step::MissSlabs)
     }
 
-    // The same of a stripe's lock.
+    // The word of a stripe's lock, as it is now. Whatever it is, the model's event is that of a miss.
     fn stripe_word(&self, hand: &mut Hand, stripe: u64) -> u64
         requires arena { IsHandOf self.now hand.old }
         requires near { stripe < (setup_of self.now).config.stripes }
@@ -87,7 +87,7 @@ impl Arena {
         }
     }
 
-    // The same behind a try that missed it: the word is read first.
+    // Takes the lock of a stripe behind a try that missed it: the word is read first.
     #[inline(never)]
     fn wait_for_stripe<R: Wait>(&self, rt: &R, hand: &mut Hand, stripe: u64) -> StripeHeld
         requires arena { IsHandOf self.now hand.old }
@@ -113,9 +113,10 @@ impl Arena {
         unreachable!()
     }
 
-    /// Where a hand has waited for the lock of the slabs since the last rest, this lets other threads run, so many times. To be called by
-    /// who takes that lock again and again and has it long, as a mover does: on what comes at once after it gave the lock, nobody else gets
-    /// in. It changes nothing that is proved, and no lock is to be held meanwhile. It waits, and so it takes the runtime. (own)
+    /// Where a hand has waited for the lock of the slabs since the last rest, this lets other threads run, n times. To be called
+    /// by who takes that lock again and again and has it long, as a mover does: for a call that comes at once after the lock was
+    /// given, nobody else gets in. It changes nothing that is proved, and no lock is to be held meanwhile. It waits, and so it
+    /// takes the runtime. (own)
     pub fn rest<R: Wait>(&self, _rt: &R, times: u64) {
         if self.contention.take() {
             let backoff = Backoff::new();

@@ -1,4 +1,4 @@
-//! Pages that are cut whole.
+//! The cut of a whole page.
 ghost use Rattle.std.specs.Prelude.{◌≡◌, ◌≤◌, fold, None, Some};
 ghost use Rattle.mc_pages.specs.Accounted.{first_chunks};
 ghost use Rattle.mc_pages.specs.Changes.{after_cut};

@@ -1,4 +1,4 @@
-//! Looks along the pages of a class, on which the headers of chunks stand side by side.
+//! Looks along the pages of a class, on which the headers of chunks are side by side.
 ghost use Rattle.std.specs.List.{list_all};
 ghost use Rattle.std.specs.Prelude.{◌≡◌, ℕ, ◌+◌, ◌<◌, ◌≤◌, Contains, List, [], Some, true};
 ghost use Rattle.mc_classes.specs.Classes.{arena_pages_of};
@@ -49,8 +49,8 @@ impl Arena {
         }
     }
 
-    // Looks at so many chunks of a page, from its first on. Four at a time, and once more at each of four where one may be dead: so a header
-    // costs little more than its load.
+    // Looks at n chunks of a page, from its first on. It looks at four at a time, and once more at each of four where one may be
+    // dead: so a header costs little more than its load.
     fn look_along(
         &self,
         hand: &mut Hand,
@@ -91,8 +91,8 @@ impl Arena {
         self.look_from(hand, held, heads, first, per_page % 4, dead);
     }
 
-    // Looks at four chunks of a page, from one on. Says whether each is linked or free, which the lowest bit of its tag tells: then none is dead.
-    // There is one test for all four, and no branch between the loads.
+    // Looks at four chunks of a page, from one on. Returns whether each is linked or free, which the lowest bit of its tag shows:
+    // then none is dead. There is one test for all four, and no branch between the loads.
     #[inline(always)]
     fn are_linked_or_free(
         &self,
@@ -123,7 +123,7 @@ impl Arena {
         common / TAG_UNIT % 2 == 1
     }
 
-    // Looks at so many chunks of a page, from one on, and notes the dead ones. The header of the page's first chunk stands in the word
+    // Looks at n chunks of a page, from one on, and notes the dead ones. The header of the page's first chunk is the word
     // `heads`.
     #[inline(never)]
     fn look_from(
@@ -157,7 +157,7 @@ impl Arena {
         }
     }
 
-    // Looks at a chunk, whose header stands in this word, and notes it where it is dead.
+    // Looks at a chunk, whose header is this word, and notes it where it is dead.
     #[inline(always)]
     pub(crate) fn judge(
         &self,

@@ -1,4 +1,4 @@
-//! Pages that move from class to class. Each change of a move is told at once.
+//! Pages that move from class to class. Each change of a move is recorded at once.
 ghost use Rattle.std.specs.Prelude.{◌≡◌, ◌+◌, [], ◌∷◌, true, None, Some, IfOk, OnOk, OnErr};
 ghost use Rattle.mc_pages.specs.declared.ids.Moving.{Moving};
 ghost use Rattle.mc_pages.specs.Answer.{MayAnswer, answer_of};

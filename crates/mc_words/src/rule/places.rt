@@ -1,4 +1,4 @@
-//! Where words of the table stand.
+//! The places of the table's words.
 ghost use Rattle.std.specs.Prelude.{◌≡◌, ◌+◌, ◌<◌, ◌≤◌, ℕ, true};
 ghost use Rattle.mc_classes.specs.Classes.{arena_pages_of};
 ghost use Rattle.mc_core.specs.State.{has_chunk, most_of};
@@ -30,7 +30,7 @@ impl Arena {
         self.first_head + chunk.page as usize * self.most + chunk.index as usize
     }
 
-    /// The word of the header of a page's first chunk. Those of its other chunks stand behind it, in their order.
+    /// The word of the header of a page's first chunk. Those of its other chunks are behind it, in their order.
     #[inline(always)]
     pub(crate) fn heads_of_page(&self, page: PageId) -> usize
         requires near { page < arena_pages_of (setup_of self.now).table }
@@ -40,7 +40,7 @@ impl Arena {
         self.first_head + page as usize * self.most
     }
 
-    /// A data word, of a chunk with room for so many.
+    /// A data word of a chunk with room for n words.
     #[inline(always)]
     pub(crate) fn data_word(&self, room: u64, chunk: ChunkId, place: u64) -> usize
         requires near { data_word (setup_of self.now) room chunk place < config_from (setup_of self.now) }

@@ -126,7 +126,7 @@ impl Arena {
             .compare_exchange::<Brand>(seat, word, expected, new)
     }
 
-    // The event is a change of a value behind a lock that the hand has, which is told by a look at this word.
+    // The event is a change of a value behind a lock that the hand has. A look at this word records it.
     #[inline(always)]
     pub(crate) fn tell(&self, seat: &mut HandSeat, word: usize, change: Change, step: Step)
         ghost told: { Change × Step }
@@ -143,7 +143,7 @@ impl Arena {
         self.table.shared.load::<Brand>(seat, word);
     }
 
-    // The same, where the change gives a page to a class, which is stored in the page's word.
+    // The event gives a page to a class, which is stored in the page's word. A look at this word records it.
     #[inline(always)]
     pub(crate) fn tell_page(
         &self,

@@ -1,4 +1,4 @@
-//! Items, by calls on hands.
+//! Tests of items, by calls on hands.
 mod calls;
 mod eviction;
 mod gets;

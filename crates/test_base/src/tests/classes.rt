@@ -70,7 +70,7 @@ const SIZES: [SizesRow<'static>; 4] = [
     ),
 ];
 
-/// A page has so many chunks of each class.
+/// A page has this many chunks of each class.
 fn assert_chunks(rt: &impl Abort, table: &ClassTable, chunks: &[u64], name: &str) {
     for (place, count) in chunks.iter().enumerate() {
         assert!(rt; (place as u64) < table.count());
@@ -122,7 +122,7 @@ fn sixty_three_classes(rt: HostRuntime) -> Result<(), Fail> {
     Ok(())
 }
 
-/// By the table of the configuration, an item of so many bytes goes to this class.
+/// By the table of the configuration, an item of n bytes goes to this class.
 fn assert_class_for(
     rt: &impl Abort,
     alloc: Global,
@@ -153,7 +153,7 @@ const OF_FOUR: [(u64, Option<ClassId>); 10] = [
     (u64::MAX, None),
 ];
 
-/// The same of sixty-three.
+/// Where items of these bytes go in a table of sixty-three classes.
 const OF_SIXTY_THREE: [(u64, Option<ClassId>); 4] = [
     (504, Some(1)),
     (505, Some(63)),
@@ -208,7 +208,7 @@ fn assert_printed(
     assert_built(rt, alloc, &config, sizes, &name)
 }
 
-/// So has each table of the family; with an -f of 1.001 it has 62 classes of one size, and the 63rd.
+/// Each table of the family has the sizes that were printed; with an -f of 1.001 it has 62 classes of one size, and the 63rd.
 fn assert_family(rt: &impl Abort, alloc: Global, family: &Family) -> Result<(), Fail> {
     if let Some(size) = family.alike {
         let mut sizes = [size; 63];
@@ -391,7 +391,7 @@ const REFUSED: [(&str, Config, u64); 34] = [
         },
         8,
     ),
-    // of several tests that fail, the first is told
+    // of several tests that fail, the first is returned
     ("all zero", ALL_ZERO, 1),
     (
         "all zero but page 1024",
@@ -571,7 +571,7 @@ fn assert_least(rt: &impl Abort, alloc: Global) -> Result<(), Fail> {
     Ok(())
 }
 
-/// So are the greatest.
+/// The greatest numbers are accepted.
 fn assert_greatest(rt: &impl Abort, alloc: Global) -> Result<(), Fail> {
     let table = ClassTable::build(alloc, &GREATEST)?;
     let pages = (table.pages(), table.arena_pages());

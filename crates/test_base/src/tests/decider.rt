@@ -157,7 +157,7 @@ const REFUSED: [RefusedRow<'static>; 8] = [
     (&[0, 0, 0, 9], &SHORT, &NONE, Feed::Length),
     (&[0, 0, 0, 9], &PAGES, &SHORT, Feed::Length),
     (&[0, 0, 0, 9], &LONG, &LONG, Feed::Length),
-    // the length is told first
+    // the length is refused first
     (&[0, 0, 0, 5], &PAGES, &LONG, Feed::Length),
 ];
 
@@ -201,7 +201,7 @@ fn table_at_last(rt: &impl Abort, alloc: Global) -> Result<ClassTable, ConfigErr
     }
 }
 
-/// So is their decider.
+/// A decider of four classes, built at the second try where memory was refused at the first.
 fn decider_at_last(rt: &impl Abort, alloc: Global) -> Result<Decider, Fail> {
     let table = table_at_last(rt, alloc)?;
     match Decider::new(alloc, &table) {

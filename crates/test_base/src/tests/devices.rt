@@ -1,4 +1,4 @@
-//! Devices that meet the contracts: two that tell their bytes, and two that fail.
+//! Devices that meet the contracts: two whose bytes are known, and two that fail.
 ghost use Rattle.std.specs.Prelude.{◌≡◌, ◌<◌, ◌≤◌, length};
 
 use super::{assert_equal, assert_same};

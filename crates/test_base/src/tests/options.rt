@@ -96,7 +96,7 @@ const EACH_OPTION: [OptionRow<'static>; 7] = [
     ),
 ];
 
-/// This is configured by the words.
+/// The words configure this.
 fn assert_config(
     rt: &(impl Abort + AllocGlobal),
     words: &[&str],
@@ -108,7 +108,7 @@ fn assert_config(
     Ok(())
 }
 
-/// Both forms of a row are read so.
+/// Both forms of a row configure the same.
 fn assert_both_forms(rt: &(impl Abort + AllocGlobal), row: &OptionRow) -> Result<(), Fail> {
     let (name, value, joined, config) = row;
     assert_config(rt, &["mcslab", name, value], config, joined)?;
@@ -277,7 +277,7 @@ fn text_of(rt: &impl AllocGlobal, words: &[&str]) -> Result<String, Fail> {
     }
 }
 
-/// What the text of the help tells of the flag.
+/// Parts of the help's text about the flag.
 const HELP: [&str; 3] = [
     "[OPTIONS]",
     "  --threads  ",

@@ -84,7 +84,7 @@ fn assert_commands(rt: &(impl Abort + AllocGlobal), rows: &[(&str, Command)]) ->
     Ok(())
 }
 
-/// A script has so many commands.
+/// A script has n commands.
 fn assert_count(rt: &(impl Abort + AllocGlobal), script: &[u8], count: usize) -> Result<(), Fail> {
     let commands = read(rt.alloc(), script)?;
     assert_same(rt, commands.len(), count, "commands");

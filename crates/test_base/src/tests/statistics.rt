@@ -171,7 +171,7 @@ const GENERAL: [(Numbers, &str); 3] = [
     ),
 ];
 
-/// Where a write failed, none followed, and what was written begins the text. Says whether all went well.
+/// Where a write failed, none followed, and what was written begins the text. Returns whether all went well.
 fn assert_attempt(rt: &impl Abort, attempt: &Attempt, fails_at: u64, text: &str) -> bool {
     let written = attempt.bytes.as_slice();
     if attempt.went_well {
@@ -210,7 +210,7 @@ fn slabs_until_a_failure(rt: HostRuntime) -> Result<(), Fail> {
     Ok(())
 }
 
-/// So may the general text.
+/// The general text may fail at each of its writes.
 fn assert_general(
     rt: &impl Abort,
     alloc: Global,

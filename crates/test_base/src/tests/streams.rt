@@ -54,7 +54,7 @@ fn reads_through_a_signal(rt: HostRuntime) {
     reads::<Brand>(&rt, Blank::new(1));
 }
 
-/// Takes 1,000 bytes at most a write, and as many as there is `room` for. Tells its calls.
+/// Takes 1,000 bytes at most a write, and as many as there is `room` for. Records its calls.
 #[derive(Drop)]
 struct Narrow<'a> {
     room: usize,
@@ -102,7 +102,7 @@ fn first_of(bytes: &[u8], count: usize) -> &[u8] {
     &bytes[..cmp::min(count, bytes.len())]
 }
 
-/// Writes the row's pieces to its writer and finishes. Says whether each went well, how many bytes were taken and after how
+/// Writes the row's pieces to its writer and finishes. Returns whether each went well, how many bytes were taken and after how
 /// many calls.
 fn written<L: Ledger>(alloc: Global, blank: Blank, row: &WrittenRow<'_>) -> Result<Written, Fail>
     requires name { blank.name ≡ L.name }

@@ -28,7 +28,7 @@ fn assert_wastes(rt: &impl Abort, table: &ClassTable, wanted: &[(u64, u64)]) {
     }
 }
 
-/// So has the table that is built of the configuration.
+/// The table that is built of the configuration has these classes, each with its size and the most that an item leaves of it.
 fn assert_classes(
     rt: &impl Abort,
     alloc: Global,

@@ -9,7 +9,7 @@ use std::alloc::Global;
 use std::sync::Wait;
 use std::test::Fail;
 
-/// How many hashes there are.
+/// How many hashes the keys have.
 const HASHES: u64 = 3;
 
 /// How many calls are made.

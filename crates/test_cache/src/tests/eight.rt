@@ -14,7 +14,7 @@ use std::sync::atomic::{AtomicU64, Ordering};
 use std::test::Fail;
 use std::thread::{Threads, join, map_vec};
 
-/// How many calls each thread makes, unless the environment's `CALLS_A_THREAD` says otherwise.
+/// How many calls each thread makes, unless the environment's `CALLS_A_THREAD` sets another number.
 const CALLS: u64 = 1250;
 
 /// How many calls each thread is to make.

@@ -41,7 +41,7 @@ pub fn next_worker(cache: &Cache, workers: &mut Vec<Worker>) -> Option<Worker>
     }
 }
 
-/// A configuration of so many shards and workers.
+/// A configuration of this many shards and workers.
 pub fn config_of(shards: u64, workers: u64) -> CacheConfig
     ensures { result.workers ≡ workers }
 {
@@ -52,7 +52,7 @@ pub fn config_of(shards: u64, workers: u64) -> CacheConfig
     }
 }
 
-/// A cache of so many shards that has one worker.
+/// A cache of n shards that has one worker.
 pub fn with_one_worker<R: Wait>(
     rt: &R,
     alloc: Global,
@@ -68,7 +68,7 @@ pub fn with_one_worker<R: Wait>(
     }
 }
 
-/// How a cache of so many shards and workers is refused.
+/// How a cache of this many shards and workers is refused.
 fn refusal_of<R: Wait + AllocGlobal>(rt: &R, config: &CacheConfig) -> Option<NewError> {
     Cache::new(rt, rt.alloc(), config, HASH_KEY).err()
 }

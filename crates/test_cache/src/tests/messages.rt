@@ -1,4 +1,4 @@
-//! What is refused, in words.
+//! The texts of refusals.
 use mc_cache::{CallError, NewError, SetError, TryGetError};
 use mc_classes::ConfigError;
 use std::alloc::Global;
@@ -7,7 +7,7 @@ use std::process::Abort;
 use std::test::Fail;
 use testlib_values::too_much;
 
-/// What every call says of a key that is too short or too long.
+/// What every call reports of a key that is too short or too long.
 const KEY_LENGTH: &str = "a key must have from 1 to 250 bytes; nothing was done";
 
 /// The refusal has this text.

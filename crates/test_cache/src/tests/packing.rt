@@ -11,7 +11,7 @@ fn packed(alloc: Global, key: &[u8], value: &[u8]) -> Result<Vec<u64>, Fail> {
     Ok(words)
 }
 
-/// So many bytes, none of them the one before it.
+/// A vector of n bytes, none of them the one before it.
 fn bytes(alloc: Global, count: usize) -> Result<Vec<u8>, Fail> {
     let mut bytes = Vec::with_capacity(alloc, count)?;
     for place in 0..count {
@@ -20,7 +20,7 @@ fn bytes(alloc: Global, count: usize) -> Result<Vec<u8>, Fail> {
     Ok(bytes)
 }
 
-/// The words are a packing of the key, and the value stands behind what stood there.
+/// The words are a packing of the key, and the value is behind what was there.
 fn assert_unpacks(
     rt: &impl Abort,
     alloc: Global,
@@ -90,7 +90,7 @@ fn other_keys_are_not_found(rt: HostRuntime) -> Result<(), Fail> {
     Ok(())
 }
 
-/// Words that nobody packed are of no key: one is wanting, one is too many, or a byte stands where the packing has zeros.
+/// Words that nobody packed are of no key: one is missing, one is extra, or a byte is where the packing has zeros.
 #[test]
 fn other_words_are_no_packing(rt: HostRuntime) -> Result<(), Fail> {
     let refused = [

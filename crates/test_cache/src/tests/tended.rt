@@ -16,7 +16,7 @@ pub const SHORT: [u8; 40] = [7; 40];
 /// A value that goes to a greater class.
 const LONG: [u8; 400] = [9; 400];
 
-/// Stores the value under so many keys.
+/// Stores the value under n keys.
 pub fn set_many<R: Wait>(rt: &R, cache: &Cache, worker: &mut Worker, keys: u64, value: &[u8])
     requires { BelongsTo cache.now worker.old }
     ensures { BelongsTo cache.now worker.new }
@@ -92,7 +92,7 @@ fn pages_go_where_they_are_wanted(rt: HostRuntime) -> Result<(), Fail> {
     assert_pages_move(&rt, rt.alloc(), &cache, &mut worker, &mut tender)
 }
 
-/// What the words of a cache take is as the configuration tells.
+/// A cache takes as many words as the configuration gives.
 #[test]
 fn bytes_are_told(rt: HostRuntime) -> Result<(), Fail> {
     let bytes = Cache::bytes(&config_of(3, 2)).ok();

@@ -1,12 +1,12 @@
-//! Keys by their numbers, values that tell their key and their version, and calls on them that are drawn.
+//! Keys by their numbers, values that show their key and their version, and calls on them that are drawn.
 use rand_core::Rng;
 use rand_pcg::Pcg32;
 use std::alloc::{AllocError, Global};
 
-/// How many keys there are.
+/// How many keys the trials use.
 pub const KEYS: u64 = 40;
 
-/// So many bytes, each by the number and by its place.
+/// Fills n bytes, each by the number and by its place.
 fn fill(bytes: &mut Vec<u8>, number: u64, len: u64) -> Result<(), AllocError> {
     bytes.clear();
     for place in 0..len {
@@ -15,7 +15,7 @@ fn fill(bytes: &mut Vec<u8>, number: u64, len: u64) -> Result<(), AllocError> {
     Ok(())
 }
 
-/// The key of this number: 1 to 250 bytes, of which the first tells the number.
+/// The key of this number: 1 to 250 bytes, of which the first shows the number.
 pub fn key_of(alloc: Global, number: u64) -> Result<Vec<u8>, AllocError> {
     let mut key = Vec::new(alloc);
     fill(&mut key, number, 1 + number.wrapping_mul(83) % 250)?;

@@ -9,7 +9,7 @@ use std::sync::Wait;
 use std::test::Fail;
 use testlib_hands::{FOUR_CLASSES, Two, play_all, play_two, run};
 
-/// The same classes; a turn looks at one chunk.
+/// The configuration `FOUR_CLASSES`, but a turn looks at one chunk.
 const ONE_A_TURN: Config = Config {
     bulk: 1,
     ..FOUR_CLASSES

@@ -75,7 +75,7 @@ fn assert_held(rt: &impl Abort, arena: &Arena, hand: &mut Hand, holder: &mut Han
     assert_equal(rt, refused, Some(Err(TryTurn::Held)), what);
 }
 
-/// What a turn counts that evicted so many items, and found so many locked.
+/// The counts of a turn that evicted this many items, and found this many locked.
 fn evicted(count: u64, locked: u64) -> Counts {
     Counts {
         cleared: count,

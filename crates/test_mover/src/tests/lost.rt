@@ -48,7 +48,7 @@ fn is_stripe_left(left: &Final, stripe: u64) -> bool {
     stripe < left.config().stripes && left.stripe(stripe).is_some()
 }
 
-/// The same of each of the four stripes.
+/// Whether the index and history of each of the four stripes are there.
 fn stripes_left(left: &Final) -> [bool; 4] {
     [
         is_stripe_left(left, 0),

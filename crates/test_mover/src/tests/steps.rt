@@ -1,4 +1,4 @@
-//! A call with what it is to give.
+//! A call of a hand with what it is to give.
 ghost use Rattle.testlib_hands.specs.Hands.{IsReadyHandOf};
 ghost use Rattle.mc_items.specs.ItemRefs.{IsItemRef};
 ghost use Rattle.mc_words.specs.hand.Arenas.{view};
@@ -19,13 +19,13 @@ use testlib_hands::{
 /// A call, and what it is to give.
 #[derive(Drop)]
 pub enum Step {
-    /// Items of so many words, from the first key's number on, for the keys from the first on, before the second. Each is stored.
+    /// Items of n words, from the first key's number on, for the keys from the first on, before the second. Each is stored.
     Sets(Key, Key, u64),
     /// The key's item is deleted, which is there.
     Deletes(Key),
     /// The key's item is touched, if it is there.
     Touches(Key, bool),
-    /// The key's item has so many words, from a first one on.
+    /// The key's item has n words, from a first one on.
     Reads(Key, u64, u64),
     /// A get that waits for nobody is refused so, or not at all. A reference that it gives counts for good.
     TryGets(Key, Option<TryGetError>),
@@ -35,7 +35,7 @@ pub enum Step {
     Reassigns(Option<ClassId>, ClassId, Result<(), Reassign>),
     /// A turn finds that no page moves.
     Idles,
-    /// A turn goes on: so many chunks were cleared, rescued, evicted, busy, locked.
+    /// A turn goes on, with this many chunks cleared, rescued, evicted, busy and locked.
     Goes(u64, u64, u64, u64, u64),
     /// A turn finishes the move, with the same counts.
     Finishes(u64, u64, u64, u64, u64),
@@ -43,17 +43,17 @@ pub enum Step {
     Trims,
     /// Each stripe forgets its calls.
     Forgets,
-    /// The automover's mode is set, and told by a survey.
+    /// The automover's mode is set, and a survey has it.
     Modes(u64),
-    /// So many pages are granted, and in the pool, and one moves or none does.
+    /// This many pages are granted, and in the pool, and one moves or none does.
     Pages(u64, u64, bool),
-    /// So many moves ended, items were rescued, and evicted, and chunks held up a move.
+    /// This many moves ended, items were rescued, and evicted, and chunks held up a move.
     Moved(u64, u64, u64, u64),
-    /// The class has so many pages, used chunks and free ones.
+    /// The class has this many pages, used chunks and free ones.
     Has(ClassId, u64, u64, u64),
 }
 
-/// What a turn counts.
+/// The counts of a turn.
 fn counts(cleared: u64, rescued: u64, evicted: u64, busy: u64, locked: u64) -> Counts {
     Counts {
         cleared,
@@ -64,7 +64,7 @@ fn counts(cleared: u64, rescued: u64, evicted: u64, busy: u64, locked: u64) -> C
     }
 }
 
-/// Whether the key has an item of so many words, from the first on.
+/// Whether the key has an item of n words, from the first on.
 fn reads<R: Wait>(
     rt: &R,
     alloc: Global,
@@ -82,7 +82,7 @@ fn reads<R: Wait>(
     }
 }
 
-/// Whether the item that is held has so many words, from the first on. It is released.
+/// Whether the item that is held has n words, from the first on. It is released.
 pub fn reads_held(
     alloc: Global,
     arena: &Arena,
@@ -100,7 +100,7 @@ pub fn reads_held(
     Ok(are_from(&found?, first, len))
 }
 
-/// Whether the mode is set, and a survey tells it.
+/// Whether the mode is set, and a survey has it.
 fn has_mode<R: Wait>(rt: &R, alloc: Global, arena: &Arena, hand: &mut Hand, mode: u64) -> bool
     requires arena { IsReadyHandOf arena.now hand.old }
     ensures arena { IsReadyHandOf arena.now hand.new }
@@ -114,7 +114,7 @@ fn has_mode<R: Wait>(rt: &R, alloc: Global, arena: &Arena, hand: &mut Hand, mode
     }
 }
 
-/// Whether so many pages are granted, and in the pool, and one moves or none does.
+/// Whether this many pages are granted, and in the pool, and one moves or none does.
 fn has_pages<R: Wait>(
     rt: &R,
     alloc: Global,
@@ -131,7 +131,7 @@ fn has_pages<R: Wait>(
     }
 }
 
-/// Whether so many moves ended, items were rescued, and evicted, and chunks held up a move.
+/// Whether this many moves ended, items were rescued, and evicted, and chunks held up a move.
 fn has_moved<R: Wait>(
     rt: &R,
     alloc: Global,

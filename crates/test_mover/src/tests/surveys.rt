@@ -1,4 +1,4 @@
-//! Surveys.
+//! Surveys: which put dead chunks back where that is asked for, and the mode that they read.
 ghost use Rattle.testlib_hands.specs.Pairs.{AreReady};
 
 use super::assert_same;

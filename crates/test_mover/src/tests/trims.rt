@@ -1,5 +1,5 @@
-//! Stripes and a ledger that are trimmed between calls, and stripes that forget their calls: the answers are the same, and what is told
-//! isn't kept.
+//! Stripes and a ledger that are trimmed between calls, and stripes that forget their calls: the answers are the same, and
+//! nothing before a trim is recorded.
 ghost use Rattle.testlib_hands.specs.Hands.{IsReadyHandOf};
 
 use super::assert_same;
@@ -37,7 +37,7 @@ fn counts_of(left: &Final) -> (usize, u64) {
     (recorded, trimmed)
 }
 
-/// How many entries the ledger has, and how many it had before a trim; and whether each page has the owner that the base tells.
+/// How many entries the ledger has, and how many it had before a trim; and whether each page has the owner that the base records.
 fn entries_of(left: &Final) -> Option<(usize, u64, bool)> {
     let slabs = left.slabs()?;
     let mut same = true;
@@ -57,10 +57,10 @@ fn count_based(left: &Final) -> Option<usize> {
     Some(keys)
 }
 
-/// How many calls are recorded and how many aren't, the keys of the bases, and what the entries tell.
+/// How many calls are recorded and how many aren't, the keys of the bases, and what the entries record.
 type Told = ((usize, u64), Option<usize>, Option<(usize, u64, bool)>);
 
-/// What the arena tells that these calls leave.
+/// What the arena records that these calls leave.
 fn told_behind<R: Wait>(rt: &R, alloc: Global, steps: &[Step]) -> Result<Told, Fail> {
     let left = close_behind(rt, alloc, steps)?;
     Ok((counts_of(&left), count_based(&left), entries_of(&left)))
@@ -217,8 +217,8 @@ fn has_same_pages(left: &Final, other: &Final) -> bool {
     same
 }
 
-/// What a run with trims is to tell, by one of the same calls without: as many calls and entries, of which none is recorded, and a stamp
-/// for each key.
+/// What a run with trims is to record, by one of the same calls without: as many calls and entries, of which none is recorded,
+/// and a stamp for each key.
 fn told_without_trims(left: &Final) -> Told {
     let (calls, _) = counts_of(left);
     let entries = entries_of(left).map(|(entries, _, _)| (0, entries as u64, true));

@@ -24,9 +24,9 @@ enum Step {
     Grows(ClassId, PageId),
     /// No page is left for the class.
     IsFull(ClassId),
-    /// So many chunks of the page are cut, and no more.
+    /// This many chunks of the page are cut, and no more.
     Cuts(PageId, u64),
-    /// The class gets the page, and so many chunks of it are cut, and no more.
+    /// The class gets the page, and this many chunks of it are cut, and no more.
     Gets(ClassId, PageId, u64),
     /// The class hands out this chunk: its page and its place there.
     Pops(ClassId, PageId, u64),
@@ -34,9 +34,9 @@ enum Step {
     IsEmpty(ClassId),
     /// The chunk at this place of the hand-out order, which is this one, comes back.
     Backs(ClassId, u64, PageId, u64),
-    /// At this place of the free list stands this chunk.
+    /// The free list has this chunk at this place.
     HasFree(ClassId, u64, Option<(PageId, u64)>),
-    /// At this place of the hand-out order stands this chunk.
+    /// The hand-out order has this chunk at this place.
     HasOrder(ClassId, u64, Option<(PageId, u64)>),
     /// The chunk at this place of the hand-out order becomes the youngest: it is this one.
     Touches(ClassId, u64, PageId, u64),
@@ -46,7 +46,7 @@ enum Step {
     IsOlder(ClassId, u64, u64, bool),
     /// The page has this owner.
     Owns(PageId, Owner),
-    /// The class has so many pages and so many free chunks.
+    /// The class has this many pages and this many free chunks.
     Counts(ClassId, u64, u64),
 }
 
@@ -87,13 +87,13 @@ fn assert_cuts(rt: &impl Abort, all: &mut Driven, page: PageId, count: u64) {
     assert_equal(rt, found, (None, None), "cut");
 }
 
-/// The class gets the page, and so many chunks of it are cut, and no more.
+/// The class gets the page, and this many chunks of it are cut, and no more.
 fn assert_gets(rt: &impl Abort, all: &mut Driven, class: ClassId, page: PageId, count: u64) {
     assert_equal(rt, all.grow(class), Some(Ok(page)), "grow");
     assert_cuts(rt, all, page, count);
 }
 
-/// At this place of the list stands this chunk.
+/// The list has this chunk at this place.
 fn assert_stands(
     rt: &impl Abort,
     all: &Driven,
@@ -157,7 +157,7 @@ fn assert_steps(rt: &impl Abort, all: &mut Driven, steps: &[Step]) {
     }
 }
 
-/// From the beginning on each call gives what it is to give, and so many pages are granted as the ledger has entries then.
+/// From the beginning on each call gives what it is to give, and as many pages are granted as the ledger has entries then.
 fn assert_worked(
     rt: &impl Abort,
     alloc: Global,
@@ -302,12 +302,12 @@ fn a_class_without_pages_gets_its_first_beyond_the_limit(rt: HostRuntime) -> Res
     assert_worked(&rt, rt.alloc(), &FIRST_PAGES, &ledger)
 }
 
-/// What was found is what stands at this place of the list, or nothing behind it.
+/// What was found is what the list has at this place, or nothing behind its end.
 fn assert_at(rt: &impl Abort, found: Option<ChunkId>, list: &[ChunkId], place: usize, what: &str) {
     assert_equal(rt, found, list.get(place).copied(), what);
 }
 
-/// Both have the same list.
+/// Both memories have the same list.
 fn assert_same_list(
     rt: &impl Abort,
     all: &Driven,
@@ -322,7 +322,7 @@ fn assert_same_list(
     }
 }
 
-/// Both have the same numbers and lists.
+/// Both memories have the same numbers and lists.
 fn assert_same_class(rt: &impl Abort, all: &Driven, own: &PlainClass, class: ClassId) {
     let want = Numbers {
         pages: own.pages.len() as u64,
@@ -351,7 +351,7 @@ fn assert_same_walk(
     }
 }
 
-/// A chunk is told to be older than others only where they stand behind it.
+/// A chunk is reported older than others only where they are behind it.
 fn assert_older(rt: &impl Abort, all: &Driven, own: &PlainClass, class: ClassId, at: usize) {
     for than in 0..own.order.len() {
         let older = all.is_older(class, at as u64, than as u64);
@@ -359,7 +359,7 @@ fn assert_older(rt: &impl Abort, all: &Driven, own: &PlainClass, class: ClassId,
     }
 }
 
-/// Walks along both lists find the same, and each chunk is told to be older only than those behind it.
+/// Walks along both lists find the same, and each chunk is reported older only than those behind it.
 fn assert_same_walks(rt: &impl Abort, all: &Driven, own: &PlainClass, class: ClassId) {
     assert_same_walk(rt, all, own, class, ChunkList::Free);
     assert_same_walk(rt, all, own, class, ChunkList::HandedOut);
@@ -368,7 +368,7 @@ fn assert_same_walks(rt: &impl Abort, all: &Driven, own: &PlainClass, class: Cla
     }
 }
 
-/// Each chunk of the class's page is told to be free where it stands in the class's free list.
+/// Each chunk of the class's page is reported free where it is in the class's free list.
 fn assert_page_marks(rt: &impl Abort, all: &Driven, own: &PlainClass, page: PageId) {
     for index in 0..own.per_page {
         let chunk = ChunkId { page, index };
@@ -377,7 +377,7 @@ fn assert_page_marks(rt: &impl Abort, all: &Driven, own: &PlainClass, page: Page
     }
 }
 
-/// Each page has the same owner, and where that is a class, its chunks are told to be free alike.
+/// Each page has the same owner in both memories, and where that is a class, its chunks are reported free alike.
 fn assert_same_pages(rt: &impl Abort, all: &Driven, plain: &Plain) {
     for (page, owner) in plain.owners.iter().enumerate() {
         assert_equal(rt, all.owner(page as u64), Some(*owner), "owner");
@@ -388,7 +388,7 @@ fn assert_same_pages(rt: &impl Abort, all: &Driven, plain: &Plain) {
     }
 }
 
-/// Both have the same lists, owners, entries and numbers.
+/// Both memories have the same lists, owners, entries and numbers.
 fn assert_same_slabs(rt: &impl Abort, all: &Driven, plain: &Plain) {
     for (place, own) in plain.classes.iter().enumerate() {
         assert_same_class(rt, all, own, place as u64 + 1);
@@ -470,7 +470,7 @@ fn assert_same_replace(
     Ok(())
 }
 
-/// Both hand out a chunk of the class.
+/// Both memories hand out a chunk of the class.
 fn assert_same_pop(rt: &impl Abort, trial: &mut Trial, class: ClassId) -> Result<(), Fail> {
     let want = trial.plain.pop(class)?;
     assert_equal(rt, trial.all.pop(class), want, "pop");
@@ -600,7 +600,7 @@ fn totals_of(rt: &impl Abort, trial: &mut Trial, compared: Compared) -> Result<T
     Ok(trial.all.totals())
 }
 
-/// The same from the beginning on, where the limit is so many bytes. This number leads to the calls.
+/// The totals that drawn calls leave from the beginning on, where the limit is this many bytes. This number leads to the calls.
 fn totals_behind(
     rt: &impl Abort,
     alloc: Global,

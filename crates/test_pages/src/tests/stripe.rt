@@ -37,7 +37,7 @@ fn another_is_aside(aside: Option<Key>, key: Key) -> bool
     }
 }
 
-/// Makes the call where its conditions hold, and says whether they did.
+/// Makes the call where its conditions hold, and returns whether they did.
 fn made(stripe: &mut Stripe, call: Try) -> bool {
     let aside = stripe.aside();
     match call {
@@ -126,7 +126,7 @@ const ROWS: [Row; 18] = [
         None,
         Some(Call::Get(2, 1, Some(7))),
     ),
-    // Another item under the key: the old entry is lifted, and the new one's Set stands for both.
+    // Another item under the key: the old entry is lifted, and the new one's Set counts for both.
     (Lift(1), None, Some(1), Some(Call::Get(2, 1, Some(7)))),
     (
         Link(1, 1, ChunkId { page: 0, index: 5 }, 8),
@@ -205,7 +205,7 @@ fn any_call(random: &mut Pcg32, number: u64) -> Try {
     }
 }
 
-/// Both have the same items, the same item aside, the same room, and histories that end alike.
+/// Both stripes have the same items, the same item aside, the same room, and histories that end alike.
 fn assert_same_lists(rt: &impl Abort, stripe: &Stripe, plain: &Plain) {
     for key in 0..24 {
         let key = key * 64 + 3;
@@ -256,7 +256,7 @@ fn of_the_aside(call: Try, aside: Option<Key>) -> Try {
     }
 }
 
-/// Both make the call, or don't. True if an item was rescued.
+/// Both stripes make the call, or don't. True if an item was rescued.
 fn make_both(rt: &impl Abort, both: &mut Both, call: Try) -> Result<bool, Fail> {
     let is_made = made(&mut both.stripe, call);
     assert_same(rt, is_made, both.plain.made(call)?, "made");
@@ -322,7 +322,7 @@ fn store(rt: &impl Abort, stripe: &mut Stripe, number: u64) -> Result<(), NoMemo
     Ok(())
 }
 
-/// It is found, and then evicted.
+/// The item of this key is found, and then evicted.
 fn find_and_evict(rt: &impl Abort, stripe: &mut Stripe, number: u64) -> Result<(), NoMemory> {
     let key = number.wrapping_mul(64);
     let wanted = Some((numbered(number), number));

@@ -13,24 +13,25 @@ use std::sync::Wait;
 /// A call of a hand.
 #[derive(Clone, Copy)]
 pub enum Call {
-    /// An item of so many words.
+    /// An item of n words.
     Set(Key, usize),
-    /// The same, which evicts and begins a move, in mode 2. Where memory for the move is refused, it is stored, and no page moves.
+    /// A set of n words that evicts and begins a move, in mode 2. Where memory for the move is refused, the item is stored, and
+    /// no page moves.
     SetAndMove(Key, usize),
     /// The reference is given up at once.
     Get(Key),
-    /// The same, which waits for nobody.
+    /// A get that waits for nobody. The reference is given up at once.
     TryGet(Key),
     Delete(Key),
     Touch(Key),
     /// A move from a class or any to a class or the pool.
     Reassign(Option<ClassId>, ClassId),
     Turn,
-    /// The same, which takes no memory: it isn't made again where it is refused.
+    /// A turn of the mover that takes no memory: it isn't made again where it is refused.
     TurnWithoutMemory,
     /// A turn that waits for nobody.
     TryTurn,
-    /// With a sweep, or without.
+    /// A survey, with a sweep or without.
     Survey(bool),
     /// The history of each stripe is trimmed.
     Trim,
@@ -41,25 +42,25 @@ pub enum Call {
 /// What a turn counts: chunks that it cleared, items that it rescued and evicted, chunks that were held, and those whose stripe was.
 pub type Numbers = [u64; 5];
 
-/// What it gives.
+/// What a call gives.
 #[derive(Clone, Copy, PartialEq, Eq)]
 pub enum Answer {
     NoMemory,
     /// What was asked for is done.
     Done,
-    /// Whether there is such an item.
+    /// Whether the key has an item.
     There(bool),
     /// A turn that found that no page moves.
     Idle,
     /// A turn behind which the page moves still, and what it counts.
     Went(Numbers),
-    /// One that ended the move.
+    /// A turn that ended the move.
     Finished(Numbers),
     /// Whether a page moves; and the moves that ended, the items that moves rescued and evicted, and the chunks that held one up.
     Surveyed(bool, [u64; 4]),
     /// A page moves already.
     Busy,
-    /// It was refused otherwise.
+    /// The move was refused otherwise.
     Refused,
 }
 
@@ -72,14 +73,14 @@ pub const ONE_EVICTED: Answer = Answer::Finished([1, 0, 1, 0, 0]);
 /// Two are evicted.
 pub const TWO_EVICTED: Answer = Answer::Finished([2, 0, 2, 0, 0]);
 
-/// One is rescued, and one evicted.
+/// A turn that rescued one item and evicted one.
 pub const ONE_RESCUED: Answer = Answer::Finished([2, 1, 1, 0, 0]);
 
 /// Four are rescued, and one is evicted.
 pub const FOUR_RESCUED: Answer = Answer::Finished([5, 4, 1, 0, 0]);
 
 impl Call {
-    /// What it is called by.
+    /// The name of the call.
     pub fn name(self) -> &'static str {
         match self {
             Call::Set(..) | Call::SetAndMove(..) => "set",
@@ -96,7 +97,7 @@ impl Call {
         }
     }
 
-    /// Whether it is to go through whatever is refused.
+    /// Whether the call is to go through whatever is refused.
     pub fn takes_no_memory(self) -> bool {
         match self {
             Call::TurnWithoutMemory => true,
@@ -147,7 +148,7 @@ fn answer_of_mover<R: Wait>(rt: &R, arena: &Arena, hand: &mut Hand, call: Call) 
     }
 }
 
-/// Whether there was such an item, if memory didn't run out.
+/// Whether the key had an item, if memory didn't run out.
 fn there(found: Option<bool>) -> Answer {
     match found {
         Some(found) => Answer::There(found),

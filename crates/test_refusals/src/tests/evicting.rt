@@ -10,7 +10,7 @@ use std::test::Fail;
 /// A get of the item that is evicted next fills the history of its stripe up.
 const GETS: Step = (Call::Get(1), Answer::There(true));
 
-/// These calls before both classes are filled, then gets, and those behind.
+/// Makes these calls before both classes are filled, then the gets, and then the calls behind.
 fn evict<R: Abort + Wait + Print>(
     rt: &R,
     alloc: Global,
@@ -34,13 +34,13 @@ fn the_eviction_is_refused_its_call(rt: HostRuntime) -> Result<(), Fail> {
     evict(&rt, rt.alloc(), &[], &[GETS, GETS], &SET_EVICTS)
 }
 
-/// One leaves room for that call alone.
+/// One get leaves room for the eviction's call alone.
 #[test]
 fn the_set_is_refused_its_own_behind_the_eviction(rt: HostRuntime) -> Result<(), Fail> {
     evict(&rt, rt.alloc(), &[], &[GETS], &SET_EVICTS)
 }
 
-/// The same, where the eviction begins a move.
+/// One get leaves room for the eviction's call alone, and the eviction begins a move.
 #[test]
 fn the_set_is_refused_its_own_behind_the_move(rt: HostRuntime) -> Result<(), Fail> {
     evict(&rt, rt.alloc(), &MODE_TWO, &[GETS], &BEGINS_A_MOVE)

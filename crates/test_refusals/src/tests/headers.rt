@@ -15,19 +15,19 @@ const UNHELD: u64 = 196_609;
 #[derive(Clone, Copy, PartialEq, Eq)]
 pub enum Change {
     Same,
-    /// It was dead, and is free.
+    /// The chunk was dead, and is free.
     PutBack,
-    /// It was out, and is free.
+    /// The chunk was out, and is free.
     Cut,
-    /// It was handed out and given up, so that it is dead.
+    /// The chunk was handed out and given up, so that it is dead.
     Died,
-    /// The same, once its item was taken away.
+    /// The chunk's item was taken away, and the chunk was given up, so that it is dead.
     TakenAndDied,
-    /// It was handed out, and its item linked.
+    /// The chunk was handed out, and its item linked.
     Copied,
-    /// It was free or dead, and is out.
+    /// The chunk was free or dead, and is out.
     Cleared,
-    /// Its item was taken away, and it is out.
+    /// The chunk's item was taken away, and the chunk is out.
     TakenAndCleared,
     /// What no refused call does.
     Other,
@@ -72,7 +72,7 @@ pub fn is_free(head: u64) -> bool {
     head % ISSUE == FREE
 }
 
-/// Whether it is that of a chunk that was handed out: dead, or held, or linked.
+/// Whether this is the header's word of a chunk that was handed out: dead, or held, or linked.
 pub fn is_handed_out(head: u64) -> bool {
     head % ISSUE >= DEAD
 }

@@ -47,7 +47,7 @@ pub fn hold<R: Wait + Print>(rt: &R, all: &mut Three, key: Key) -> Option<Ref>
     }
 }
 
-// The same, once a get was refused.
+// A reference of the reader's to the key's item by one more get, once a get was refused.
 fn hold_again<R: Wait + Print>(rt: &R, all: &mut Three, key: Key) -> Option<Ref>
     requires ready { AreReadyOf all.old.arena all.old.hand all.old.reader all.old.looker.hand }
     ensures ready { AreReadyOf all.new.arena all.new.hand all.new.reader all.new.looker.hand }
@@ -69,7 +69,7 @@ fn left_nothing(arena: &Arena, looker: &mut Looker, reader: &Hand) -> bool
     seen && looker.before.as_slice() == looker.after.as_slice()
 }
 
-/// Whether the item has words from 0 on, so many, and a refusal left nothing behind.
+/// Whether the item has n words from 0 on, and a refusal left nothing behind.
 pub fn has_words<R: Print>(rt: &R, all: &mut Three, item: &Ref, len: usize) -> bool
     requires ready { AreReadyOf all.old.arena all.old.hand all.old.reader all.old.looker.hand }
     requires item { IsItemRef (view all.old.reader) item.now }
@@ -91,7 +91,7 @@ pub fn has_words<R: Print>(rt: &R, all: &mut Three, item: &Ref, len: usize) -> b
     are_words(all, item, len) == Some(true)
 }
 
-// Whether the item has words from 0 on, so many. None where reading them is refused.
+// Whether the item has n words from 0 on. None where reading them is refused.
 fn are_words(all: &mut Three, item: &Ref, len: usize) -> Option<bool>
     requires ready { AreReadyOf all.old.arena all.old.hand all.old.reader all.old.looker.hand }
     requires item { IsItemRef (view all.old.reader) item.now }

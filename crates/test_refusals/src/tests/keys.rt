@@ -1,4 +1,4 @@
-//! Calls on keys.
+//! Calls on keys that are refused memory.
 use super::calls::{Answer, Call};
 use super::steps::{Step, run};
 use std::test::Fail;

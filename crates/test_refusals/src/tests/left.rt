@@ -28,7 +28,7 @@ pub fn is_left(call: Call, before: &[u64], after: &[u64]) -> bool {
     }
 }
 
-/// The class of an item of so many words.
+/// The class of an item of n words.
 fn class_of(len: usize) -> u64 {
     match len {
         0..=3 => 1,
@@ -49,7 +49,8 @@ fn died(before: &[u64], after: &[u64]) -> u64 {
     changes(before, after, Change::Died).wrapping_add(taken)
 }
 
-// Hand and mode are as before, so are all other classes, a header isn't, and the lists are what the headers say, in the order that they had.
+// Hand and mode are as before, so are all other classes, a header isn't, and the lists are what the headers give, in the order
+// that they had.
 fn is_kept(class: u64, before: &[u64], after: &[u64]) -> bool {
     for other in 1..=CLASSES {
         if !are_listed(after, other) {
@@ -111,7 +112,7 @@ fn is_set_move(before: &[u64], after: &[u64], begun: u64, taken: u64) -> bool {
     counters && is_first && at(before, MODE) == 2 && taken == 1
 }
 
-// So many items were evicted, each with its entry.
+// This many items were evicted, each with its entry.
 fn is_taken(before: &[u64], after: &[u64], taken: u64) -> bool {
     let counted = rise_of_classes(before, after, EVICTIONS_OF);
     let told = calls_told(before, after, (EVICT, EVICT));

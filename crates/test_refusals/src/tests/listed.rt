@@ -1,4 +1,4 @@
-//! The lists of classes, beside the headers of what stands in them.
+//! The lists of classes, beside the headers of the chunks in them.
 use super::headers::{is_free, is_handed_out};
 use super::snapshot::{
     CLASS_BLOCK, CLASSES, FREE_OF, GRANTED, HEADS, LISTED, LISTS_OF, are_same, at, in_class,
@@ -15,7 +15,7 @@ pub fn is_same_class(before: &[u64], after: &[u64], class: u64) -> bool {
     are_same(before, after, in_class(class, 0), CLASS_BLOCK)
 }
 
-// What stands at this place of a list, counted from 0: a chunk's number, or 0.
+// The list's entry at this place, counted from 0: a chunk's number, or 0.
 fn listed(seen: &[u64], class: u64, list: usize, place: u64) -> u64 {
     let first = in_class(class, LISTS_OF).wrapping_add(list);
     at(seen, first.wrapping_add(place.wrapping_mul(2) as usize))
@@ -42,7 +42,7 @@ pub fn are_listed(seen: &[u64], class: u64) -> bool {
     length(seen, class, FREE) == at(seen, in_class(class, FREE_OF))
 }
 
-/// Whether what stands in the class's lists with the header that it had stands there in the order that it had.
+/// Whether the chunks of the class's lists that kept their headers are in the order that they had.
 pub fn is_in_order(before: &[u64], after: &[u64], class: u64) -> bool {
     keeps_order(before, after, class, FREE) && keeps_order(before, after, class, ORDER)
 }
@@ -62,7 +62,7 @@ fn keeps_order(before: &[u64], after: &[u64], class: u64, list: usize) -> bool {
     true
 }
 
-// Where a chunk stands in a list, counted from 1. 0 where it doesn't.
+// The place of a chunk in a list, counted from 1. 0 where it isn't there.
 fn place_of(seen: &[u64], class: u64, list: usize, chunk: u64) -> u64 {
     for place in 0..LISTED {
         if listed(seen, class, list, place) == chunk {
@@ -72,7 +72,7 @@ fn place_of(seen: &[u64], class: u64, list: usize, chunk: u64) -> u64 {
     0
 }
 
-/// Whether there are as many free chunks and as many that were handed out as stand in all lists.
+/// Whether there are as many free chunks and as many that were handed out as all lists have.
 pub fn are_all_listed(seen: &[u64]) -> bool {
     let mut lengths = (0u64, 0u64);
     for class in 1..=CLASSES {

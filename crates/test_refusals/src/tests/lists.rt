@@ -1,4 +1,4 @@
-//! What is seen behind the lock of the slabs.
+//! The numbers of a snapshot that are behind the slabs lock.
 ghost use Rattle.std.specs.Prelude.{◌≡◌, Some};
 ghost use Rattle.mc_pages.specs.SlabState.{IsClass};
 ghost use Rattle.mc_core.specs.State.{is_class};

@@ -17,7 +17,7 @@ pub struct Looker {
     pub words: Vec<u64>,
 }
 
-/// Room for so many numbers. Where it is refused once, it is asked for again.
+/// Room for n numbers. Where it is refused once, it is asked for again.
 pub fn room(alloc: Global, count: usize) -> Result<Vec<u64>, AllocError> {
     match Vec::with_capacity(alloc, count) {
         Ok(room) => Ok(room),
@@ -71,7 +71,7 @@ pub fn look_before(arena: &Arena, looker: &mut Looker, acting: &Hand) -> bool
     see(arena, &mut looker.hand, acting, &mut looker.before)
 }
 
-/// Takes one after the call.
+/// Takes a snapshot after the call.
 pub fn look_after(arena: &Arena, looker: &mut Looker, acting: &Hand) -> bool
     requires looker { IsReadyHandOf arena.now looker.old.hand }
     ensures looker { IsReadyHandOf arena.now looker.new.hand }

@@ -1,4 +1,4 @@
-//! Arenas and states that are made.
+//! Arenas and states of the model whose making is refused memory.
 use super::assert_same;
 use super::calls::{Answer, Call};
 use super::marks::{tell_call, tell_done, tell_refused};

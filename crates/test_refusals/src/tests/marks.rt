@@ -10,7 +10,7 @@ pub fn tell_done<R: Print>(rt: &R, call: &str) {
     tell(rt, "done ", call);
 }
 
-/// A request of the call was refused, and it said so.
+/// A request of the call was refused, and the call reported it.
 pub fn tell_refused<R: Print>(rt: &R, call: &str) {
     tell(rt, "refused ", call);
 }

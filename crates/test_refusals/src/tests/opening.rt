@@ -33,7 +33,7 @@ fn new_arena(
     }
 }
 
-/// The same. Where that is refused memory once, it is asked for again.
+/// An arena of this configuration and its hands. Where that is refused memory once, it is asked for again.
 fn new_again<R: Print>(
     rt: &R,
     alloc: Global,
@@ -94,7 +94,7 @@ pub fn opened<R: Print>(rt: &R, alloc: Global, config: &Config) -> Result<Three,
     opened_from(rt, alloc, config, None)
 }
 
-/// The same, whose chunks begin with this issue number, if one is named.
+/// A new arena, whose chunks begin with this issue number, if one is named, and its three hands.
 pub fn opened_from<R: Print>(
     rt: &R,
     alloc: Global,

@@ -20,7 +20,7 @@ use testlib_values::FOUR_CLASSES;
 enum Step {
     /// The class gets a page, and its chunks are cut.
     Grows(ClassId),
-    /// None is left.
+    /// No page is left for the class.
     IsFull(ClassId),
     /// A page begins to move to a class or to the pool, from a class or any; it comes from this one.
     Begins(Option<ClassId>, ClassId, ClassId),
@@ -81,7 +81,7 @@ impl Pages<'_> {
         self.slabs.begin_move(src, dst)
     }
 
-    /// Adds all that they have.
+    /// Adds all numbers that the pages have.
     fn see(&self, seen: &mut Vec<u64>) {
         seen.clear();
         see_whole(&self.slabs, seen);
@@ -194,7 +194,7 @@ fn play_pages<R: Abort + Print>(
     }
 }
 
-/// The same of new pages, once to a class, once to the pool, and once by another source.
+/// Plays moves of new pages: once to a class, once to the pool, and once by another source.
 fn play_ways<R: Abort + Print>(
     rt: &R,
     alloc: Global,

@@ -1,4 +1,4 @@
-//! A row fails where a refused call left what it may not.
+//! A planted fault: a refused call that left what it may not makes its row fail.
 ghost use Rattle.std.specs.Prelude.{◌≡◌, true, IfSome};
 ghost use Rattle.mc_core.specs.State.{has_chunk};
 ghost use Rattle.mc_words.specs.hand.Arenas.{setup_of};
@@ -47,7 +47,7 @@ fn hint_again<R: Wait>(rt: &R, arena: &Arena, hand: &mut Hand, key: Key) -> Opti
     }
 }
 
-/// A call that says that memory was refused it, and left a header changed: the chunk is held for good.
+/// A call that reports that memory was refused to it, and left a header changed: the chunk is held for good.
 fn refused_but_held(arena: &Arena, reader: &mut Hand, hint: Hint) -> Answer
     requires arena { IsReadyHandOf arena.now reader.old }
     requires near { has_chunk (setup_of arena.now).table (hint_chunk hint) ≡ true }
@@ -88,7 +88,7 @@ const ITEMS: [Step; 2] = [
     (Call::Set(2, 61), Answer::Done),
 ];
 
-/// This is so, and another snapshot lets so many of the calls' rows go on.
+/// `is_so` is true, and another snapshot lets `wanted` of the calls' rows go on.
 fn assert_right(
     rt: &impl Abort,
     arena: &Arena,
@@ -106,7 +106,7 @@ fn assert_right(
     assert_same(rt, (is_so, again, right), (true, true, wanted), what);
 }
 
-/// Snapshots before and behind nothing, and before and behind a call that changes a header and says that it was refused.
+/// Snapshots before and behind nothing, and before and behind a call that changes a header and reports that it was refused.
 fn look_around_a_fault<R: Abort + Wait + Print>(rt: &R, all: &mut Three) -> Result<(), Fail>
     requires ready { AreReadyOf all.old.arena all.old.hand all.old.reader all.old.looker.hand }
 {

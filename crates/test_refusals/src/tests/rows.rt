@@ -13,7 +13,7 @@ use std::sync::Wait;
 use std::test::Fail;
 use testlib_values::FOUR_CLASSES;
 
-/// Eight items of so many words are stored. Of 61, or 22, they are four pages of class 4.
+/// Eight items of n words are stored. Of 61, or 22, they are four pages of class 4.
 pub fn eight(words: usize) -> [Step; 8] {
     let set = |key| (Call::Set(key, words), Answer::Done);
     [
@@ -31,7 +31,7 @@ pub fn eight(words: usize) -> [Step; 8] {
 /// Mode 2 of the automover is set.
 pub const MODE_TWO: [Step; 1] = [(Call::ModeTwo, Answer::Done)];
 
-/// These lists of calls, in a new arena of four classes.
+/// Plays these lists of calls, in a new arena of four classes.
 pub fn run_each<R: Abort + Wait + Print>(
     rt: &R,
     alloc: Global,
@@ -40,7 +40,7 @@ pub fn run_each<R: Abort + Wait + Print>(
     run_each_in(rt, alloc, &FOUR_CLASSES, lists)
 }
 
-/// The same, in a new arena of this configuration.
+/// Plays these lists of calls, in a new arena of this configuration.
 pub fn run_each_in<R: Abort + Wait + Print>(
     rt: &R,
     alloc: Global,
@@ -115,7 +115,7 @@ const WHILE_HELD: [Step; 4] = [
     (Call::Reassign(Some(4), 2), Answer::Busy),
 ];
 
-/// And nobody holds it any more.
+/// Two turns once nobody holds the page's item any more: the first evicts the item, and the second is idle.
 const WHEN_RELEASED: [Step; 2] = [(Call::Turn, ONE_EVICTED), (Call::Turn, Answer::Idle)];
 
 /// A page moves whose item the reader holds, reads and releases.

@@ -19,9 +19,9 @@ pub const ENTRIES: usize = 16;
 
 pub const CALLS: usize = 16;
 
-/// First stand how many chunks the hand that acts holds, and its next stamp; then all headers, page by page.
+/// A snapshot begins with how many chunks the hand that acts holds, and its next stamp; then come all headers, page by page.
 pub const HEADS: usize = 2;
-/// Then totals, mode, move and ledger.
+/// Behind the headers come totals, mode, move and ledger.
 pub const GRANTED: usize = 86;
 
 pub const POOL: usize = 87;
@@ -45,7 +45,8 @@ pub const POSITION: usize = 96;
 pub const HELD_UP: usize = 97;
 
 pub const LEDGER: usize = 98;
-/// Then a block of numbers for each class: how many pages it has, how many free chunks and how many evictions, and its lists.
+/// Behind the ledger comes a block of numbers for each class: how many pages it has, how many free chunks and how many evictions,
+/// and its lists.
 const CLASS_BLOCKS: usize = 115;
 
 pub const CLASS_BLOCK: usize = 131;
@@ -57,8 +58,8 @@ pub const FREE_OF: usize = 1;
 pub const EVICTIONS_OF: usize = 2;
 
 pub const LISTS_OF: usize = 3;
-/// Then one for each stripe: chunk and stamp of each of its keys, its history, whether it has room for a call and an entry aside, how
-/// many calls aren't recorded, and how many keys these left.
+/// Behind the classes comes a block for each stripe: chunk and stamp of each of its keys, its history, whether it has room for a
+/// call and an entry aside, how many calls aren't recorded, and how many keys these left.
 pub const STRIPE_BLOCKS: usize = 639;
 
 pub const STRIPE_BLOCK: usize = 63;
@@ -90,7 +91,7 @@ pub fn in_class(class: u64, place: usize) -> usize {
     CLASS_BLOCKS.wrapping_add(blocks).wrapping_add(place)
 }
 
-/// The same of a stripe's.
+/// The place of a stripe's number, by its place in its block.
 pub fn in_stripe(stripe: u64, place: usize) -> usize {
     let blocks = (stripe as usize).wrapping_mul(STRIPE_BLOCK);
     STRIPE_BLOCKS.wrapping_add(blocks).wrapping_add(place)
@@ -107,7 +108,7 @@ pub fn of_head(page: u64, index: u64) -> usize {
     HEADS.wrapping_add(chunks as usize)
 }
 
-/// Whether the numbers from one place on are the same, so many.
+/// Whether n numbers from one place on are the same.
 pub fn are_same(before: &[u64], after: &[u64], from: usize, count: usize) -> bool {
     let end = from.wrapping_add(count);
     before.get(from..end) == after.get(from..end)

@@ -133,7 +133,7 @@ pub fn play_all<R: Abort + Wait + Print>(rt: &R, all: &mut Three, steps: &[Step]
     true
 }
 
-/// The same of several lists, up to the first that a refusal ends.
+/// Plays several lists of calls, up to the first that a refusal ends.
 pub fn play_each<R: Abort + Wait + Print>(rt: &R, all: &mut Three, lists: &[&[Step]])
     requires ready { AreReadyOf all.old.arena all.old.hand all.old.reader all.old.looker.hand }
 {

@@ -1,4 +1,4 @@
-//! What is seen behind the locks of stripes.
+//! The numbers of a snapshot that are behind the locks of stripes.
 ghost use Rattle.testlib_hands.specs.Hands.{IsReadyHandOf};
 
 use super::snapshot::{CALLS, KEYS, STRIPES, chunk_number, note, note_call};
@@ -49,7 +49,7 @@ fn see_keys(stripe: &Stripe, number: u64, seen: &mut Vec<u64>) {
     }
 }
 
-// Its history, whether it has room for one more call, whether an entry is aside, and what isn't recorded.
+// Adds the stripe's history, whether it has room for one more call, whether an entry is aside, and what isn't recorded.
 fn see_history(stripe: &Stripe, seen: &mut Vec<u64>) {
     let history = stripe.history();
     note(seen, history.len() as u64);

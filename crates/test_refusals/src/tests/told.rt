@@ -3,12 +3,12 @@ use super::snapshot::{
     CALLS, ENTRIES, HISTORY, KEYS, LEDGER, READY, STRIPES, are_same, at, in_stripe, of_key, rise,
 };
 
-/// A call of the first hand that took an item away, and one that took it to another chunk, as they stand in a history.
+/// A call of the first hand that took an item away, and one that took it to another chunk, as a history has them.
 pub const EVICT: u64 = 4;
 
 pub const RESCUE: u64 = 5;
 
-/// How many entries the ledger was told. None where one before them isn't as it was.
+/// How many entries the ledger gained. None where one before them isn't as it was.
 pub fn entries_told(before: &[u64], after: &[u64]) -> Option<u64> {
     let known = at(before, LEDGER);
     for entry in 0..ENTRIES {
@@ -20,7 +20,7 @@ pub fn entries_told(before: &[u64], after: &[u64]) -> Option<u64> {
     Some(rise(before, after, LEDGER))
 }
 
-/// How many calls the histories were told. None where one is of another kind than these two, or one before them isn't as it was.
+/// How many calls the histories gained. None where one is of another kind than these two, or one before them isn't as it was.
 pub fn calls_told(before: &[u64], after: &[u64], kinds: (u64, u64)) -> Option<u64> {
     let mut sum = 0u64;
     for stripe in 0..STRIPES {
@@ -54,9 +54,9 @@ fn are_told(before: &[u64], after: &[u64], stripe: u64, kinds: (u64, u64)) -> bo
 #[derive(Clone, Copy, PartialEq, Eq)]
 pub enum Lead {
     Same,
-    /// It leads nowhere any more.
+    /// The key leads nowhere any more.
     Lost,
-    /// It leads to another chunk, and its item has its stamp still.
+    /// The key leads to another chunk, and its item has its stamp still.
     Moved,
     /// What no refused call does.
     Other,

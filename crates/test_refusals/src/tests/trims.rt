@@ -56,8 +56,8 @@ fn begin_and_trim(dst: ClassId) -> [Step; 2] {
     [(Call::Reassign(Some(4), dst), Answer::Done), TRIMS]
 }
 
-/// The turn that ends the move takes no memory behind the trim: the calls that it tells have room, and so has the move's end. Without the
-/// trim the same turn is refused.
+/// The turn that ends the move takes no memory behind the trim: the calls that it records have room, and so has the move's end.
+/// Without the trim the same turn is refused.
 const ENDS: [Step; 2] = [(Call::TurnWithoutMemory, ONE_RESCUED), TRIMS];
 
 /// A page moves to this class, or to the pool for 0, and the move ends by that turn.
@@ -80,7 +80,7 @@ fn a_move_to_the_pool_ends_without_memory_behind_a_trim(rt: HostRuntime) -> Resu
     end_without_memory(&rt, rt.alloc(), 0)
 }
 
-/// The same classes; a turn looks at one chunk.
+/// The configuration `FOUR_CLASSES`, but a turn looks at one chunk.
 const ONE_A_TURN: Config = Config {
     bulk: 1,
     ..FOUR_CLASSES

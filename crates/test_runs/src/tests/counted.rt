@@ -43,7 +43,7 @@ impl Counting {
     }
 }
 
-/// Counts one more, and says how many they are.
+/// Counts one more, and returns how many they are.
 fn count(passes: &AtomicU64) -> u64 {
     let before = passes.load(Ordering::SeqCst);
     let now = before.wrapping_add(1);
@@ -87,7 +87,7 @@ const SCRIPT: &[u8] = b"1 set 1 3 7\nturn 1\n1 get 1\n2 set 2 3 50\n2 get 2\naut
 /// How often worker 1 asks for its three lines.
 const ASKED: u64 = 6;
 
-/// Its replies by the time that it asks for the first to the sixth time, and behind the last line.
+/// The replies to worker 1 by the time that it asks for the first to the sixth time, and behind the last line.
 const REPLIES: [&[u8]; 7] = [
     b"",
     b"STORED 1\r\n",

@@ -170,7 +170,7 @@ fn a_worker_has_255_holds(rt: HostRuntime) -> Result<(), Fail> {
     )
 }
 
-/// Whether the square is right, and is told again.
+/// Whether the square is right, and comes out the same again.
 fn is_kept(cache: &mut Keeper, key: u64) -> Result<bool, Refused> {
     if key >= 100 {
         return Ok(false);
@@ -180,7 +180,7 @@ fn is_kept(cache: &mut Keeper, key: u64) -> Result<bool, Refused> {
     Ok(first == key * key && again == first)
 }
 
-/// A square is found again, it is all that is stored, and a cache that stands still ticks.
+/// A square is found again, it is all that is stored, and an unused cache ticks.
 fn keeps_and_ticks(cache: &mut Keeper) -> Result<bool, Refused> {
     let kept = is_kept(cache, 12)?;
     let stands = is_so(cache, &Step::Has(1, 1, 20))?;

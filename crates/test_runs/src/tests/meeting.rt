@@ -20,8 +20,8 @@ STAT active_slabs 1\r\nSTAT total_malloced 1024\r\nEND\r\n\
 STAT slab_global_page_pool 0\r\nSTAT slab_reassign_running 0\r\nSTAT slabs_moved 0\r\n\
 STAT slab_reassign_rescues 0\r\nSTAT slab_reassign_evictions_nomem 0\r\nSTAT slab_reassign_busy_items 0\r\nEND\r\n";
 
-/// Keeps worker 2 before its line until worker 1's hold was answered, and worker 1 before its drop until worker 2's set was answered,
-/// each by at most so many bare looks, and then stops the run.
+/// Keeps worker 2 before its line until worker 1's hold was answered, and worker 1 before its drop until worker 2's set was
+/// answered. Each waits for at most n bare looks, and then the run is stopped.
 #[derive(Drop)]
 pub struct Meeting {
     first: AtomicU64,
@@ -39,7 +39,7 @@ impl Meeting {
     }
 }
 
-/// Notes that so many lines were answered.
+/// Notes that n lines were answered.
 pub fn note(answered: &AtomicU64, nth: u64) -> Pass {
     answered.store(nth, Ordering::SeqCst);
     Pass::Go

@@ -23,7 +23,7 @@ struct MendedSink<L: Ledger> {
     failures: Failures<L>,
 }
 
-/// The whole of so many bytes, or half of them.
+/// The whole of n bytes, or half of them.
 fn part_of(count: usize, whole: bool) -> usize
     ensures { result ≤ count }
 {
@@ -59,7 +59,7 @@ struct Written {
 /// Two workers and a mover.
 const SCRIPT: &[u8] = b"1 set 1 3 7\n2 set 2 3 9\nreassign 1 2\n2 get 2\n";
 
-/// Runs the script, by threads or on one, where the write behind so many fails.
+/// Runs the script, by threads or on one, where the write behind n others fails.
 fn run<R: Threads + Wait + Sync>(rt: &R, alloc: Global, threads: bool, good: u64) -> Written {
     run_counting::<R, Brand, Brand>(rt, alloc, threads, good, Blank::new(1), Blank::new(1))
 }

@@ -23,7 +23,7 @@ const REFUSED: [&[u8]; 14] = [
     b"turn 1000001\n",
     b"automove 3\n",
     b"reassign -2 1\n",
-    // Words have one space between them, a CR stands before an LF alone, and not at the script's end.
+    // Words have one space between them, a CR is before an LF alone, and not at the script's end.
     b"1\tget 1\n",
     b"1 get\r 1\n",
     b"stats\r",

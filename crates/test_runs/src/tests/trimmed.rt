@@ -17,14 +17,14 @@ use testlib_values::FOUR_CLASSES;
 const SCRIPT: &[u8] =
     b"1 set 1 3 7\n1 set 2 22 50\n1 set 3 22 50\n1 set 4 22 50\nreassign 4 1\nturn 9\n";
 
-/// What the mover is answered.
+/// The replies to the mover in `SCRIPT`.
 const TEXT: &[u8] = b"OK\r\nTURN FINISHED 2 1 1 0 0\r\n";
 
-/// The same, and a window ends.
+/// The script `SCRIPT`, and a window at its end.
 const WITH_WINDOW: &[u8] =
     b"1 set 1 3 7\n1 set 2 22 50\n1 set 3 22 50\n1 set 4 22 50\nreassign 4 1\nturn 9\nwindow\n";
 
-/// What the mover is answered then.
+/// The replies to the mover in `WITH_WINDOW`.
 const WINDOW_TEXT: &[u8] = b"OK\r\nTURN FINISHED 2 1 1 0 0\r\nWINDOW none\r\n";
 
 /// Does the lines of worker 1 by the second hand, and then those of the mover by the first. Gives what the mover was answered.

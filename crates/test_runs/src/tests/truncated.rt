@@ -15,7 +15,7 @@ STAT active_slabs 1\r\nSTAT total_malloced 1024\r\nEND\r\n\
 STAT slab_global_page_pool 0\r\nSTAT slab_reassign_running 0\r\nSTAT slabs_moved 0\r\n\
 STAT slab_reassign_rescues 0\r\nSTAT slab_reassign_evictions_nomem 0\r\nSTAT slab_reassign_busy_items 0\r\nEND\r\n";
 
-/// The replies to the first so many lines.
+/// The replies to the first n lines.
 const REPLIES: [&[u8]; 5] = [
     b"",
     b"STORED 1\r\n",
@@ -24,8 +24,8 @@ const REPLIES: [&[u8]; 5] = [
     b"STORED 1\r\nHELD 1\r\nDROPPED 1 3 7 8 9\r\nSTORED 1\r\n",
 ];
 
-/// How many lines are whole of so many bytes: none, or up to the end of one, with the LF behind it or without. The last is whole without
-/// its last digit, too. None where the last line is no command.
+/// How many lines are whole in n bytes: none, or up to the end of one, with the LF behind it or without. The last is whole
+/// without its last digit, too. None where the last line is no command.
 fn whole_lines(length: usize) -> Option<usize> {
     match length {
         0 => Some(0),
@@ -37,7 +37,7 @@ fn whole_lines(length: usize) -> Option<usize> {
     }
 }
 
-/// The number of the line that so many bytes end in.
+/// The number of the line in which the first n bytes end.
 fn last_line(script: &[u8]) -> u64 {
     let mut line = 1u64;
     for byte in script.iter() {
@@ -48,7 +48,7 @@ fn last_line(script: &[u8]) -> u64 {
     line
 }
 
-/// The run ended well, and wrote the replies to so many lines, and the statistics behind them.
+/// The run ended well, and wrote the replies to n lines, and the statistics behind them.
 fn has_replies(played: &Played, lines: usize) -> bool {
     let Some(replies) = REPLIES.get(lines) else {
         return false;

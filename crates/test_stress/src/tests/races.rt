@@ -1,4 +1,4 @@
-//! The races of `testlib_threads`.
+//! The tests of what `testlib_threads` has.
 use std::test::Fail;
 
 #[test]

@@ -56,7 +56,7 @@ fn push_pair(
     replies.extend_from_slice(reply.as_bytes())
 }
 
-/// Three pages of small items of which so many are deleted, and the replies.
+/// Three pages of small items of which n are deleted, and the replies.
 fn three_pages(alloc: Global, deleted: u64) -> Result<(Vec<u8>, Vec<u8>), AllocError> {
     let mut script = Vec::new(alloc);
     let mut replies = Vec::new(alloc);
@@ -116,7 +116,7 @@ fn a_page_to_spare_goes_to_the_pool(rt: HostRuntime) -> Result<(), Fail> {
     Ok(())
 }
 
-/// What the options say of the mode is what the line `automove` says.
+/// The options set the mode that the line `automove` sets.
 #[test]
 fn a_run_is_started_in_a_mode(rt: HostRuntime) -> Result<(), Fail> {
     let (name, script, replies, _) = &IN_MODE_2;

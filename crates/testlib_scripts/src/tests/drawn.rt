@@ -116,7 +116,7 @@ fn pick<'a>(random: &mut Pcg32, words: &[&'a str]) -> &'a str {
     }
 }
 
-/// What a set says, mostly of this many words.
+/// A line of a set, mostly of this many words.
 fn set_line(alloc: Global, random: &mut Pcg32, often: &str) -> Result<String, AllocError> {
     let key = draw(random, 40);
     let words = if draw(random, 8) == 0 {
@@ -128,7 +128,7 @@ fn set_line(alloc: Global, random: &mut Pcg32, often: &str) -> Result<String, Al
     format!(in alloc; "set {key} {words} {base}")
 }
 
-/// What a line says that asks for one of so many keys.
+/// A line that asks for one of n keys.
 fn key_line(
     alloc: Global,
     random: &mut Pcg32,
@@ -140,7 +140,7 @@ fn key_line(
     format!(in alloc; "{asks} {key}")
 }
 
-/// A line of one of so many workers.
+/// A line of one of n workers.
 fn worker_line(
     alloc: Global,
     random: &mut Pcg32,

@@ -1,4 +1,4 @@
-//! Worked lists of events: what each answers, and the headers that stand then.
+//! Worked lists of events: what each answers, and the headers that are there then.
 ghost use Rattle.std.specs.Prelude.{◌≡◌, ◌<◌, ◌≤◌};
 
 use super::assert_same;
@@ -36,7 +36,7 @@ fn does_after(alloc: Global, change: Change, step: Step) -> Result<Event, Refuse
     Ok(event)
 }
 
-/// Hand 0 takes the slabs lock, and class 1 gets page 0, of which so many chunks are cut.
+/// Hand 0 takes the slabs lock, and class 1 gets page 0, of which n chunks are cut.
 fn cut(alloc: Global, chunks: u64) -> Result<Vec<Event>, Refused> {
     let mut events = Vec::new(alloc);
     push(&mut events, does(alloc, 0, Step::TakeSlabs))?;
@@ -60,7 +60,7 @@ fn go_on(alloc: Global, events: &mut Vec<Event>, steps: &[Step]) -> Result<(), R
     Ok(())
 }
 
-/// The same of so many chunks, and the lock is given.
+/// Hand 0 takes the slabs lock, class 1 gets page 0, n chunks of it are cut, and the lock is given.
 fn cut_and_given(alloc: Global, chunks: u64) -> Result<Vec<Event>, Refused> {
     let mut events = cut(alloc, chunks)?;
     push(&mut events, does(alloc, 0, Step::GiveSlabs))?;

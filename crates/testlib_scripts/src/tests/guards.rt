@@ -224,7 +224,7 @@ fn push(told: &mut Told, line: &str, reply: &str) -> Result<(), AllocError> {
     Ok(())
 }
 
-/// Adds sets of so many words under these keys.
+/// Adds sets of n words under these keys.
 fn push_sets(
     alloc: Global,
     told: &mut Told,

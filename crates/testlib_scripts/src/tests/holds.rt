@@ -42,7 +42,7 @@ const ROWS: [Row<'static>; 6] = [
     ),
 ];
 
-/// Lines of a worker that holds as much as it may, their replies, and how often these stand one after another.
+/// Lines of a worker that holds as much as it may, their replies, and how often these come one after another.
 const MOST_HELD: [(&str, &str, u64); 4] = [
     ("1 set 1 3 7\n1 set 2 1 5\n", "STORED 1\r\nSTORED 2\r\n", 1),
     ("1 hold 1\n", "HELD 1\r\n", 254),

@@ -50,7 +50,7 @@ fn commands_of(alloc: Global, script: &[u8]) -> Result<Vec<Command>, Fail>
     }
 }
 
-/// Plays a script on hands, and says how it ends.
+/// Plays a script on hands, and returns how it ends.
 fn play_on_hands<R: Wait>(
     rt: &R,
     alloc: Global,
@@ -81,7 +81,7 @@ fn play_commands<R: Wait>(
     played
 }
 
-/// The same on hands of this arena.
+/// Plays commands on hands of this arena.
 fn play_on_arena<R: Wait>(
     rt: &R,
     alloc: Global,
@@ -177,7 +177,7 @@ fn play_lines<R: Wait>(
     Ok(())
 }
 
-/// The texts are the same; else the first line that differs is told.
+/// The texts are the same; else the first line that differs is printed.
 fn assert_same_lines(rt: &impl Abort, found: &[u8], wanted: &[u8], name: &str) {
     if found == wanted {
         return;
@@ -195,7 +195,7 @@ fn assert_same_lines(rt: &impl Abort, found: &[u8], wanted: &[u8], name: &str) {
     );
 }
 
-/// The line behind so many.
+/// The line behind n others.
 fn line_at(text: &[u8], before: usize) -> &str {
     let line = text.split(|byte| *byte == b'\n').nth(before);
     match str::from_utf8(line.unwrap_or(b"")) {

@@ -1,4 +1,4 @@
-//! Runs whose streams hold.
+//! Runs whose streams don't fail.
 use super::{Row, WHOLE, assert_played, assert_same, play, plays_rows};
 use mc_classes::Config;
 use mc_driver::RunFault;

@@ -11,7 +11,7 @@ use mc_words::{Arena, Hand};
 use std::alloc::Global;
 use std::sync::Wait;
 
-/// Stores an item whose words tell its key and stamp. False where that is refused.
+/// Stores an item whose words show its key and stamp. False where that is refused.
 pub fn set_key<R: Wait>(rt: &R, alloc: Global, arena: &Arena, hand: &mut Hand, key: Key) -> bool
     requires arena { IsReadyHandOf arena.now hand.old }
     ensures arena { IsReadyHandOf arena.now hand.new }

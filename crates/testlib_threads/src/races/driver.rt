@@ -8,19 +8,19 @@ use std::alloc::Global;
 use std::sync::Wait;
 use testlib_hands::{Job, NO_TURNS, Turns, Worked};
 
-/// How many rounds there are.
+/// How many rounds a mover makes.
 const ROUNDS: u64 = 60_000;
 
-/// What a mover's rounds told.
+/// What a mover's rounds counted.
 #[derive(Clone, Copy)]
 pub struct Tally {
-    /// What its turns told.
+    /// What the mover's turns counted.
     pub turns: Turns,
     /// How often a survey didn't add up, or there was no memory.
     pub wrong: u64,
 }
 
-/// What is told before the first round.
+/// The counts before the first round.
 const NOTHING: Tally = Tally {
     turns: NO_TURNS,
     wrong: 0,
@@ -35,7 +35,7 @@ impl Tally {
     }
 }
 
-/// A mover's hand, and what its rounds told.
+/// A mover's hand, and what its rounds counted.
 #[derive(Drop)]
 struct Mover {
     hand: Hand,
@@ -146,7 +146,7 @@ impl Job for Driver {
 
     ghost is_ready = { λ arena job. IsIdleHandOf arena job.1 };
 
-    /// Its rounds: what they told.
+    /// The mover's rounds: what they counted.
     fn work<R: Wait>(self, rt: &R, alloc: Global, arena: &Arena) -> Worked<Tally> {
         let Driver(thread, hand) = self;
         let mut mover = Mover {

@@ -1,4 +1,4 @@
-//! What is left of an arena that several hands used, against what they told of their calls.
+//! What is left of an arena that several hands used, against what they counted of their calls.
 ghost use Rattle.testlib_hands.specs.Hands.{IsIdleHandOf};
 
 use crate::races::driver::Tally;
@@ -75,7 +75,7 @@ fn check_pages(alloc: Global, left: &Final, found: &Survey) -> Result<(), Fail> 
     )
 }
 
-/// The calls of a worker are those that it told, with stamps from 1 on. How many items its sets evicted.
+/// The calls of a worker are those that it counted, with stamps from 1 on. Returns how many items its sets evicted.
 fn check_worker(alloc: Global, left: &Final, hand: HandId, told: Told) -> Result<u64, Fail> {
     check(told.wrong == 0, "each item has its own words")?;
     let Some(calls) = calls_of(left, hand) else {
@@ -123,7 +123,7 @@ fn check_moves(found: &Survey, low: Turns, high: Turns) -> Result<(), Fail> {
     check(totals.busy <= held_up, "busy at most as told")
 }
 
-/// The closed arena is as the survey tells and the hands told, and each call that they told is in a history.
+/// The closed arena agrees with the survey and with what the hands counted, and each call that they counted is in a history.
 fn check_final(
     alloc: Global,
     left: &Final,
@@ -145,7 +145,7 @@ fn check_final(
     check(are_legal(alloc, left)?, "each history leads to its index")
 }
 
-/// What the hands left is as it is to be, and each call that they told is in a history.
+/// What the hands left is as it is to be, and each call that they counted is in a history.
 pub fn check_left<R: Wait>(
     rt: &R,
     alloc: Global,

@@ -179,7 +179,7 @@ fn store_each<R: Wait>(rt: &R, alloc: Global, arena: &Arena, hand: &mut Hand)
 /// A mover, and two readers.
 type Jobs = (Mover, (Reader, Reader));
 
-/// Those with the eight hands of the lowest numbers that are left, once items were stored.
+/// The jobs of a mover and two readers, with the eight hands of the lowest numbers that are left, once items were stored.
 fn jobs_of<R: Wait>(
     rt: &R,
     alloc: Global,
@@ -219,7 +219,7 @@ fn holders_on(left: &Final, page: u64, count: u64) -> Option<u64> {
     Some(sum)
 }
 
-/// The same of all pages.
+/// How many hold the first chunks of all pages, each counted as often as it holds one.
 fn all_holders(left: &Final) -> Option<u64> {
     let mut sum = 0u64;
     for page in 0..left.classes().arena_pages() {
@@ -239,7 +239,7 @@ fn is_stripe_left(alloc: Global, left: &Final, number: u64, lost: bool) -> Resul
     }
 }
 
-/// What is left tells which values are out, and counts the references that were lost.
+/// What is left shows which values are out, and counts the references that were lost.
 fn check_left(
     alloc: Global,
     left: &Final,

@@ -1,4 +1,4 @@
-//! What the histories and the ledger of a closed arena say, played from their beginning.
+//! The histories and the ledger of a closed arena, played from their beginning.
 use crate::races::words::KEYS;
 use mc_pages::{Entry, Owner};
 use mc_stripe::{Call, HandId, Key, Stamp, Stripe};
@@ -25,7 +25,7 @@ fn put(stamps: &mut [Option<Stamp>], key: Key, stamp: Option<Stamp>) -> bool {
     true
 }
 
-/// Plays a call. False where its reply isn't right: so a get tells the stamp of a set before it.
+/// Plays a call. False where its reply isn't right: a get has to have the stamp of a set before it.
 fn play(stamps: &mut [Option<Stamp>], call: Call) -> bool {
     match call {
         Call::Set(_, key, stamp) => put(stamps, key, Some(stamp)),
@@ -64,7 +64,7 @@ pub fn is_stripe_legal(alloc: Global, stripe: &Stripe) -> Result<bool, AllocErro
     Ok(are_indexed(stripe, &stamps))
 }
 
-/// Whether that is so of each stripe, none of which a hand has.
+/// Whether the replies of each stripe's history are right and lead to its index, and no hand has a stripe.
 pub fn are_legal(alloc: Global, left: &Final) -> Result<bool, AllocError> {
     for number in 0..left.config().stripes {
         let Some(stripe) = left.stripe(number) else {
@@ -160,7 +160,7 @@ fn note_stamps(noted: &mut [bool], stripe: &Stripe, hand: HandId) -> bool {
     true
 }
 
-/// Whether the stamps of a hand that set so many items are those from 1 on, each once.
+/// Whether the stamps of a hand that set n items are those from 1 on, each once.
 pub fn are_first_stamps(
     alloc: Global,
     left: &Final,
@@ -198,7 +198,7 @@ fn leaves(owners: &[Owner], page: u64) -> u64 {
     }
 }
 
-/// Plays an entry of the ledger. False where the page had another owner than it tells.
+/// Plays an entry of the ledger. False where the page had another owner than the entry records.
 fn hand_over(owners: &mut [Owner], entry: Entry) -> bool {
     match entry {
         Entry::Granted(page, class, _) => change(

@@ -36,7 +36,7 @@ fn two_pairs(arena: &Arena, hands: &mut Vec<Hand>) -> Result<(Pair, Pair), Fail>
     Ok((low, high))
 }
 
-/// What a worker keeps reads as it was stored, beside two movers; and what is left is what all of them told.
+/// What a worker keeps reads as it was stored, beside two movers; and what is left agrees with what all of them counted.
 pub fn what_is_kept_is_read_beside_two_movers<R: Threads + Wait + Sync>(
     rt: &R,
     alloc: Global,

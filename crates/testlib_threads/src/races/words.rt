@@ -1,11 +1,12 @@
-//! Words of items: each tells the key and the stamp under which its item was stored, so that a word of another item would be seen.
+//! Words of items: each shows the key and the stamp under which its item was stored, so that a word of another item would be
+//! seen.
 use mc_memory::Refused;
 use mc_stripe::{Key, Stamp};
 use std::alloc::Global;
 use testlib_hands::{are_own, own_words};
 pub use testlib_values::draw;
 
-/// How many keys there are.
+/// How many keys the racers use.
 pub const KEYS: u64 = 16;
 
 /// How many words the key's item has: the most that its class has room for. A fourth of the keys goes to each class.

@@ -29,7 +29,7 @@ fn most_kept(thread: u64, round: u64) -> u64 {
     }
 }
 
-/// What a worker's rounds told.
+/// What a worker's rounds counted.
 #[derive(Clone, Copy)]
 pub struct Told {
     /// The calls that were done.
@@ -38,7 +38,7 @@ pub struct Told {
     pub wrong: u64,
 }
 
-/// What is told before the first round.
+/// The counts before the first round.
 pub const NOTHING: Told = Told {
     calls: NO_CALLS,
     wrong: 0,
@@ -84,7 +84,7 @@ fn hint_of(_arena: &Arena, hints: &Hints, key: Key) -> Option<(Hint, Stamp)>
     }
 }
 
-/// This is the hint of a key from now on.
+/// Makes this the hint of a key from now on.
 fn note_hint(_arena: &Arena, hints: &mut Hints, key: Key, note: (Hint, Stamp))
     requires near { AreNear _arena.now hints.old.items }
     requires note { IsNear _arena.now note.0 }
@@ -96,7 +96,7 @@ fn note_hint(_arena: &Arena, hints: &mut Hints, key: Key, note: (Hint, Stamp))
     }
 }
 
-/// A hand with the references that it keeps, hints of the keys' items, and what its rounds told.
+/// A hand with the references that it keeps, hints of the keys' items, and what its rounds counted.
 #[derive(Drop)]
 pub struct Keeper {
     pub hand: Hand,
@@ -165,7 +165,7 @@ pub fn read_one(alloc: Global, arena: &Arena, keeper: &mut Keeper, place: usize)
     keeper.told.note(matches!(own, Ok(true)));
 }
 
-/// A place among so many, or 0 where there is none.
+/// A place among n, or 0 where there is none.
 pub fn place_in(count: usize, drawn: u64) -> usize {
     if count == 0 {
         0
@@ -222,7 +222,7 @@ fn act<R: Wait>(rt: &R, alloc: Global, arena: &Arena, keeper: &mut Keeper, drawn
     }
 }
 
-/// Gives a reference back where there are more than so many.
+/// Gives a reference back where there are more than n.
 pub fn make_room(arena: &Arena, keeper: &mut Keeper, most: u64, drawn: u64)
     requires keeper { IsKeeperOf arena.now keeper.old.hand keeper.old.kept.items × AreNear arena.now keeper.old.hints.items }
     ensures keeper { IsKeeperOf arena.now keeper.new.hand keeper.new.kept.items × AreNear arena.now keeper.new.hints.items }
@@ -262,7 +262,7 @@ impl Job for Worker {
 
     ghost is_ready = { λ arena job. IsIdleHandOf arena job.1 };
 
-    /// Its rounds: what they told.
+    /// The worker's rounds: what they counted.
     fn work<R: Wait>(self, rt: &R, alloc: Global, arena: &Arena) -> Worked<Told> {
         let Worker(thread, hand) = self;
         let mut told = NOTHING;

@@ -8,7 +8,7 @@ use std::sync::Wait;
 use testlib_hands::{Job, NO_TURNS, Turns, Worked, turn_by};
 use testlib_values::draw;
 
-/// How many turns there are.
+/// How many turns the mover makes.
 const TURNS: u64 = 6000;
 
 /// The most turns that a page needs which nobody holds up.
@@ -51,7 +51,7 @@ impl Job for Mover {
 
     ghost is_ready = { λ arena job. IsIdleHandOf arena job.0 };
 
-    /// Its turns: what they told.
+    /// The mover's turns: what they counted.
     fn work<R: Wait>(self, rt: &R, _alloc: Global, arena: &Arena) -> Worked<Turns> {
         let Mover(mut hand) = self;
         let mut tally = NO_TURNS;

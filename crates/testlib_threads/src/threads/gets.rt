@@ -27,7 +27,7 @@ impl Job for Searcher {
 
     ghost is_ready = { λ arena job. IsIdleHandOf arena job.0 };
 
-    /// Its gets: whether one found something.
+    /// The searcher's gets: whether one found something.
     fn work<R: Wait>(self, rt: &R, _alloc: Global, arena: &Arena) -> Worked<bool> {
         let Searcher(mut hand) = self;
         let mut found = false;

@@ -1,5 +1,5 @@
-//! Four threads set, get, read, give up and delete items over forty keys of one class of two pages. Each word of an item tells its
-//! key and stamp, so a word of another item would be seen.
+//! Four threads set, get, read, give up and delete items over forty keys of one class of two pages. Each word of an item shows
+//! its key and stamp, so a word of another item would be seen.
 ghost use Rattle.std.specs.Prelude.{IfOk};
 ghost use Rattle.testlib_hands.specs.Hands.{AreHandsOf};
 ghost use Rattle.testlib_hands.specs.Pairs.{AreIdle};
@@ -31,7 +31,7 @@ const CHUNKS: u64 = 10;
 /// How many words each item has: the most that the class has room for.
 const LEN: u64 = 9;
 
-/// How many keys there are.
+/// How many keys the threads use.
 const KEYS: u64 = 40;
 
 /// How often each thread acts.
@@ -86,7 +86,7 @@ impl Job for Actor {
 
     ghost is_ready = { λ arena job. AreIdle arena job.1 };
 
-    /// Its rounds: how many were wrong. Each thread draws others.
+    /// The actor's rounds: how many were wrong. Each thread draws others.
     fn work<R: Wait>(self, rt: &R, alloc: Global, arena: &Arena) -> Worked<u64> {
         let Actor(thread, mut pair) = self;
         let mut wrong = 0;
@@ -118,7 +118,7 @@ fn four_actors(arena: &Arena, hands: &mut Vec<Hand>) -> Result<(Actors, Actors),
     Ok(((first, second), (third, fourth)))
 }
 
-/// How many chunks of the class are free as its list says, and whether both pages within the limit are the class's.
+/// How many chunks of the class are free by its list, and whether both pages within the limit are the class's.
 fn listed(left: &Final) -> Option<(u64, bool)> {
     let mut are_owned = left.classes().pages() == 2;
     for page in 0..left.classes().pages() {
@@ -129,7 +129,7 @@ fn listed(left: &Final) -> Option<(u64, bool)> {
     Some((left.slabs()?.numbers(1).free, are_owned))
 }
 
-/// Each chunk of the closed arena is free, dead or an item's, and its lists and stripes tell the same.
+/// Each chunk of the closed arena is free, dead or an item's, and its lists and stripes agree.
 fn check_left(left: &Final) -> Result<(), Fail> {
     let Some(sums) = class_sums(left, 1) else {
         return Err(Fail::new("nobody holds a chunk"));

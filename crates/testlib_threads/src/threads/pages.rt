@@ -22,7 +22,7 @@ const EIGHT_PAGES: Config = Config {
     ..FOUR_CLASSES
 };
 
-/// What the threads tell: the mover's turns, and of each worker how many rounds showed words of other items.
+/// What the threads return: the mover's turns, and of each worker how many rounds showed words of other items.
 type Told = ((Turns, u64), (u64, u64));
 
 /// All threads' work in this mode, once items were stored.
@@ -97,7 +97,7 @@ fn check_chunks(left: &Final, stats: &Stats) -> Result<(), Fail> {
     check(keys == Some(all.linked), "each item has its key")
 }
 
-/// The statistics of moves are what the turns told. What held up a pass is counted at its end.
+/// The statistics of moves are what the turns counted. What held up a pass is counted at its end.
 fn check_tally(stats: &Stats, tally: Turns, ends: bool) -> Result<(), Fail> {
     let totals = stats.totals;
     let found = (totals.moved, totals.rescues, totals.evictions_nomem);
@@ -109,7 +109,7 @@ fn check_tally(stats: &Stats, tally: Turns, ends: bool) -> Result<(), Fail> {
     check(is_all, "all that held up a pass was counted at its end")
 }
 
-/// The closed arena is as the survey and the turns tell.
+/// The closed arena agrees with the survey and the turns.
 fn check_final(
     left: &Final,
     surveyed: Option<Stats>,
@@ -167,7 +167,7 @@ pub fn readers_keep_their_words_beside_a_mover<R: Threads + Wait + Sync>(
     account(rt, alloc, 0, false)
 }
 
-/// The same with evictions in place of rescues, and with turns at the end until no page moves.
+/// Readers read what they stored, while pages move by evictions in place of rescues; turns at the end go on until no page moves.
 pub fn the_last_move_ends_once_nobody_holds_an_item<R: Threads + Wait + Sync>(
     rt: &R,
     alloc: Global,

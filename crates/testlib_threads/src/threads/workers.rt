@@ -1,5 +1,5 @@
-//! Workers of the stress: each holds items with one hand, while it stores, reads and deletes others with a second. Each word of an
-//! item tells its key and stamp, so a word of another item would be seen.
+//! Workers of the stress: each holds items with one hand, while it stores, reads and deletes others with a second. Each word of
+//! an item shows its key and stamp, so a word of another item would be seen.
 ghost use Rattle.std.specs.Prelude.{◌≡◌, true};
 ghost use Rattle.mc_core.specs.State.{has_chunk};
 ghost use Rattle.mc_words.specs.hand.Arenas.{setup_of};
@@ -18,7 +18,7 @@ use testlib_hands::{
 };
 use testlib_values::draw;
 
-/// How many keys there are.
+/// How many keys the workers use.
 pub const KEYS: u64 = 64;
 
 /// How many items a worker holds, one after another.
@@ -152,7 +152,7 @@ impl Job for Worker {
 
     ghost is_ready = { λ arena job. AreIdle arena job.1 };
 
-    /// Its rounds: how many were wrong.
+    /// The worker's rounds: how many were wrong.
     fn work<R: Wait>(self, rt: &R, alloc: Global, arena: &Arena) -> Worked<u64> {
         let Worker(thread, mut pair) = self;
         let mut wrong = 0u64;

@@ -9,7 +9,7 @@ use std::alloc::Global;
 use std::sync::Wait;
 use testlib_hands::{Getter, get_by, is_there, words_from};
 
-/// The refusal of a set of so many words from 0 on, if there is one.
+/// The refusal of a set of n words from 0 on, if there is one.
 pub fn refusal_of_set<R: Wait>(
     rt: &R,
     alloc: Global,
@@ -38,7 +38,7 @@ pub fn hold_all<R: Wait>(rt: &R, arena: &Arena, hand: &mut Hand, keys: (Key, Key
     true
 }
 
-/// So many references to the key's item, which count for good. True if all were had.
+/// Holds n references to the key's item, which count for good. True if all were had.
 pub fn hold_often<R: Wait>(rt: &R, arena: &Arena, hand: &mut Hand, key: Key, times: u64) -> bool
     requires arena { IsReadyHandOf arena.now hand.old }
     ensures arena { IsReadyHandOf arena.now hand.new }

@@ -1,4 +1,4 @@
-//! Both orders in which a hand has an item again while another one takes it away, and what the next turns find then.
+//! The two orders in which a hand has an item again while another one takes it away, and what the next turns find then.
 ghost use Rattle.std.specs.Prelude.{◌≡◌, IfSome, true};
 ghost use Rattle.mc_words.specs.hand.Arenas.{IsHandOf, view};
 ghost use Rattle.mc_words.specs.hand.Observers.{HasSlabs};
@@ -109,7 +109,7 @@ fn has_own<R: Wait>(rt: &R, alloc: Global, arena: &Arena, hand: &mut Hand, key: 
     }
 }
 
-/// Items of the greatest class for the first so many of its keys. False where one isn't stored.
+/// Items of the greatest class for its first n keys. False where one isn't stored.
 fn store<R: Wait>(rt: &R, alloc: Global, arena: &Arena, hand: &mut Hand, count: u64) -> bool
     requires hand { IsReadyHandOf arena.now hand.old }
     ensures hand { IsReadyHandOf arena.now hand.new }
@@ -123,7 +123,7 @@ fn store<R: Wait>(rt: &R, alloc: Global, arena: &Arena, hand: &mut Hand, count: 
     true
 }
 
-/// What a turn counts: so many cleared, rescued, evicted and busy ones.
+/// The counts of a turn: this many cleared, rescued, evicted and busy chunks.
 fn counts(cleared: u64, rescued: u64, evicted: u64, busy: u64) -> Counts {
     Counts {
         cleared,
@@ -145,7 +145,7 @@ fn turns<R: Wait>(rt: &R, arena: &Arena, hand: &mut Hand, wanted: Turn) -> bool
     }
 }
 
-/// So many items are stored, and the first page begins to move.
+/// Stores n items, and the first page begins to move.
 fn begin_move<R: Wait>(
     rt: &R,
     alloc: Global,
@@ -161,7 +161,7 @@ fn begin_move<R: Wait>(
     check(begins, "the page begins to move")
 }
 
-/// The first item is had again before it is taken away, among so many: it stays, and the next turn finds it busy.
+/// The first of n items is had again before it is taken away: it stays, and the next turn finds it busy.
 fn race_again_first<R: Abort + Wait>(
     rt: &R,
     alloc: Global,
@@ -198,7 +198,7 @@ fn race_again_first<R: Abort + Wait>(
     )
 }
 
-/// The same in a new arena.
+/// The first of n items is had again before it is taken away, in a new arena.
 fn again_first<R: Abort + Wait>(
     rt: &R,
     alloc: Global,

@@ -1,5 +1,5 @@
-//! A race step by step, on one thread: the mover's hand looks at an item, another hand has it again by a hint, and then the mover takes
-//! it away, or doesn't. In each order one of the two is told so.
+//! A race step by step, on one thread: the mover's hand looks at an item, another hand has it again by a hint, and then the mover
+//! takes it away, or doesn't. In each order one of the two is refused.
 ghost use Rattle.std.specs.Prelude.{◌≡◌, ◌≤◌, ℕ, IfSome, Some, false, length, true};
 ghost use Rattle.mc_stripe.specs.StripeState.{place_of};
 ghost use Rattle.mc_pages.specs.Pages.{is_on_the_move};
@@ -23,9 +23,9 @@ use std::process::Abort;
 /// What became of an item that is to be taken away.
 #[derive(Clone, Copy, PartialEq, Eq)]
 pub enum Fate {
-    /// It was evicted: its key leads nowhere.
+    /// The item was evicted: its key leads nowhere.
     Evicted,
-    /// Somebody holds it: its key leads to it as before.
+    /// Somebody holds the item: its key leads to it as before.
     Stays,
 }
 

@@ -1,4 +1,4 @@
-//! A call with what it is to give.
+//! A call on items with what it is to give.
 ghost use Rattle.testlib_hands.specs.Hands.{IsReadyHandOf};
 
 use super::calls::{are_there, hold_all, hold_often, refusal_of_set};
@@ -13,9 +13,9 @@ use testlib_hands::{Getter, Played, delete_key, header, store_all, touch_key};
 /// A call, and what it is to give.
 #[derive(Drop)]
 pub enum Step {
-    /// Items for the keys from the first on, before the second, each of so many words from a first one on. Each is stored.
+    /// Items for the keys from the first on, before the second, each of n words from a first one on. Each is stored.
     Sets(Key, Key, u64, u64),
-    /// An item of so many words is refused.
+    /// An item of n words is refused.
     Refuses(Key, u64, SetError),
     /// The key's item is deleted, which is there.
     Deletes(Key),
@@ -25,7 +25,7 @@ pub enum Step {
     Finds(Getter, Key, Key, bool),
     /// References to the items of the keys from the first on, before the second, which count for good.
     Holds(Key, Key),
-    /// So many references to the key's item, which count for good.
+    /// Holds n references to the key's item, which count for good.
     HoldsOften(Key, u64),
     /// The chunk's header.
     Head(ChunkId, u64),

@@ -16,7 +16,7 @@ pub fn has_chunk(arena: &Arena, chunk: ChunkId) -> bool
     chunk.page < classes.arena_pages() && chunk.index < classes.per_page(1)
 }
 
-/// Whether it has such a class.
+/// Whether the arena has the class.
 pub fn is_class(arena: &Arena, class: ClassId) -> bool
     ensures { result ≡ is_class (setup_of arena.now).table class }
 {
@@ -223,7 +223,7 @@ pub fn head(left: &Final, chunk: ChunkId) -> Option<u64> {
     }
 }
 
-/// How many chunks its class 1 has in its free list. None where a hand has pages and lists.
+/// How many chunks the free list of class 1 has. None where a hand has pages and lists.
 pub fn listed_free(left: &Final) -> Option<u64> {
     Some(left.slabs()?.numbers(1).free)
 }

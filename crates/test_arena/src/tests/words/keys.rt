@@ -31,7 +31,7 @@ fn stripe_of(arena: &Arena, hand: &mut Hand, key: Key) -> Option<StripeHeld>
     }
 }
 
-/// Whether the key has an item. None where that can't be told.
+/// Whether the key has an item. None where that can't be known.
 #[tactic(auto, using(crate::proofs::Kept::not_aside))]
 fn look_up(arena: &Arena, hand: &mut Hand, key: Key) -> Option<bool>
     requires arena { IsHandOf arena.now hand.old }
@@ -47,7 +47,7 @@ fn look_up(arena: &Arena, hand: &mut Hand, key: Key) -> Option<bool>
     Some(found.is_some())
 }
 
-/// Whether the key had an item, which is unlinked. None where that can't be told.
+/// Whether the key had an item, which is unlinked. None where that can't be known.
 #[tactic(auto, using(crate::proofs::Kept::not_aside))]
 fn delete(arena: &Arena, hand: &mut Hand, key: Key) -> Option<bool>
     requires arena { IsHandOf arena.now hand.old }
@@ -64,7 +64,7 @@ fn delete(arena: &Arena, hand: &mut Hand, key: Key) -> Option<bool>
     Some(was_there)
 }
 
-/// A call of the stripe's history. None where it hasn't so many, or a hand has the stripe.
+/// A call of the stripe's history. None where the history is shorter, or a hand has the stripe.
 fn call(left: &Final, stripe: u64, place: usize) -> Option<Call> {
     if stripe >= left.config().stripes {
         return None;

@@ -1,4 +1,4 @@
-//! Locks: one hand has each, and the others are told so; what is lost with a hand stays held.
+//! Locks: one hand has each, and the others are refused; what is lost with a hand stays held.
 ghost use Rattle.mc_words.specs.hand.Arenas.{IsHandOf};
 
 use super::calls::{give, has_lent_stripe, head, is_stripe_left, lose_stripe, owner};

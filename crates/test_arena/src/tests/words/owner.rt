@@ -91,7 +91,7 @@ fn headers_tell_issue_tag_and_count(rt: HostRuntime) -> Result<(), Fail> {
     played
 }
 
-/// A class of one page, with so many free chunks and one eviction.
+/// A class of one page, with n free chunks and one eviction.
 fn one_page(free: u64) -> Numbers {
     Numbers {
         pages: 1,

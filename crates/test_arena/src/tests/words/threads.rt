@@ -80,7 +80,7 @@ fn bring_back<R: Wait>(rt: &R, arena: &Arena, hand: &mut Hand, chunk: ChunkId) -
     give(arena, hand, held) && came_back
 }
 
-/// A hand that went so many rounds.
+/// A hand that went n rounds.
 #[derive(Drop)]
 struct Worked {
     hand: Hand,
@@ -157,7 +157,7 @@ fn join_all(arena: &Arena, all: Vec<Worked>) -> Option<Worked>
     Some(joined)
 }
 
-/// What is left of the 21 chunks of page 0: how many are free, as header and free list say, and how often they went out in all.
+/// What is left of the 21 chunks of page 0: how many are free, by header and free list, and how often they went out in all.
 fn count_free(left: &Final) -> Option<(u64, u64)> {
     let listed = listed_free(left)?;
     let mut rounds = 0u64;

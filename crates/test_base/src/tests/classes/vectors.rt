@@ -9,9 +9,9 @@ pub(super) struct Family {
     /// memcached's other options.
     pub options: &'static str,
     pub page: u64,
-    /// 48 bytes and its -n.
+    /// 48 bytes and memcached's -n.
     pub first: u64,
-    /// Its slab_chunk_max.
+    /// memcached's slab_chunk_max.
     pub max: u64,
     pub printed: &'static [Printed<'static>],
     /// The size of 62 classes with an -f of 1.001, where that was printed too. It gives no size a byte more, so the 63rd class is

@@ -71,7 +71,7 @@ impl Driven {
         }
     }
 
-    /// None where there is no such class, or a page isn't cut yet.
+    /// Gives the class a page. None where the class doesn't exist, or a page isn't cut yet.
     #[tactic(auto, using(crate::proofs::Sized::sized_grow))]
     pub(super) fn grow(&mut self, class: ClassId) -> Option<Result<PageId, Grow>> {
         if !self.is_class(class) || self.slabs.next_uncut().is_some() {
@@ -183,7 +183,7 @@ impl Driven {
         holds_up(found) || self.is_listed(moving.src, chunk_at(moving)) == Some(false)
     }
 
-    /// Whether the chunk stands in a list of the class. None where the lists are longer than the walk.
+    /// Whether the chunk is in a list of the class. None where the lists are longer than the walk.
     fn is_listed(&self, class: ClassId, chunk: ChunkId) -> Option<bool>
         requires { IsClass self.now.slabs.state class }
         ensures listed { result ≡ Some true → 1 ≤ places_in self.now.slabs.state class chunk }

@@ -1,4 +1,5 @@
-//! Pages that move, by worked calls. A few calls stand in a function of their own, since each names all that came of those before it.
+//! Pages that move, by worked calls. A few calls are in a function of their own, since each names all that came of those before
+//! it.
 use super::driven::Driven;
 use super::{
     assert_cuts, assert_equal, assert_finishes, assert_gets, assert_grows, assert_same, chunk,
@@ -24,19 +25,19 @@ const REFUSED: [(Option<u64>, u64, Reassign); 11] = [
     (Some(1), 0, Reassign::NoSpare),
 ];
 
-/// The same where class 1 has one page.
+/// From which class to which no page begins to move where class 1 has one page, and why.
 const REFUSED_BY_ONE: [(Option<u64>, u64, Reassign); 2] = [
     (Some(1), 2, Reassign::NoSpare),
     (None, 2, Reassign::BadClass),
 ];
 
-/// And where it has two.
+/// From which class to which no page begins to move where class 1 has two pages, and why.
 const REFUSED_BY_TWO: [(Option<u64>, u64, Reassign); 2] = [
     (Some(1), 5, Reassign::BadClass),
     (None, 1, Reassign::BadClass),
 ];
 
-/// And where one of them moves.
+/// From which class to which no page begins to move where one of class 1's two pages moves, and why.
 const REFUSED_BY_A_MOVE: [(Option<u64>, u64, Reassign); 4] = [
     (Some(1), 1, Reassign::Busy),
     (Some(9), 1, Reassign::Busy),
@@ -61,7 +62,7 @@ fn assert_too_few(rt: &impl Abort, all: &mut Driven) {
     assert_refused(rt, all, &REFUSED_BY_TWO);
 }
 
-/// Then one begins to move, and no other.
+/// One page begins to move, and no other.
 fn assert_only_move(rt: &impl Abort, all: &mut Driven) {
     assert_equal(rt, all.moving(), None, "moving");
     assert_equal(rt, all.begin(None, 2), Ok(()), "begin");
@@ -93,7 +94,7 @@ fn assert_pooled(rt: &impl Abort, all: &mut Driven) {
     assert_same(rt, all.totals().pool, 2, "pool");
 }
 
-/// They leave the pool, and a page beyond the limit comes to a class.
+/// Two pages leave the pool, and a page beyond the limit comes to a class.
 fn assert_taken(rt: &impl Abort, all: &mut Driven) {
     // The page that came last is the first to leave.
     assert_gets(rt, all, 3, 1, 5);
@@ -109,7 +110,7 @@ fn assert_taken(rt: &impl Abort, all: &mut Driven) {
     assert_equal(rt, all.totals(), totals, "totals");
 }
 
-/// What the ledger then has.
+/// The entries of the ledger after these calls.
 const LEDGER: [Entry; 11] = [
     Entry::Granted(0, 4, false),
     Entry::Granted(1, 4, false),
@@ -127,7 +128,7 @@ const LEDGER: [Entry; 11] = [
 /// Who then has each page, and which class got it beyond the limit.
 const BASE: [(u64, Option<u64>); 5] = [(2, None), (3, None), (4, None), (4, None), (1, Some(1))];
 
-/// What was told is trimmed: of each page is kept what it left.
+/// The entries are trimmed: of each page the base keeps what they left.
 fn assert_trimmed(rt: &impl Abort, all: &mut Driven) {
     assert_equal(rt, all.ledger(), LEDGER.as_slice(), "ledger");
     all.trim();
@@ -161,7 +162,7 @@ const FOUND_FIRST: [Found; 5] = [
     Found::Rescued,
 ];
 
-/// What it finds in the second, where it would clear each chunk.
+/// What the mover finds in the second pass, where it would clear each chunk.
 const FOUND_THEN: [Found; 5] = [
     Found::Already,
     Found::Cleared,

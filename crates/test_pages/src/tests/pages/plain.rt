@@ -1,4 +1,4 @@
-//! The same by plain lists, the head of each free list first. A page is cut as soon as a class gets it.
+//! The same pages by plain lists, the head of each free list first. A page is cut as soon as a class gets it.
 use super::driven::ChunkList;
 use mc_classes::{ClassId, ClassTable, PageId};
 use mc_pages::{BasePage, ChunkId, Entry, Found, Moving, Owner, Reassign, Totals};
@@ -191,7 +191,7 @@ impl Plain {
         }
     }
 
-    /// What was told so far isn't kept. Of each page its owner is, and which class got it beyond the limit.
+    /// The entries so far aren't kept. Of each page its owner is, and which class got it beyond the limit.
     pub(super) fn trim(&mut self) {
         note_base(&mut self.base, &self.owners, &self.graces);
         self.trimmed = self.trimmed.wrapping_add(self.ledger.len() as u64);

@@ -71,7 +71,7 @@ fn hand_out(shared: &mut SharedSlabs, class: ClassId) -> Option<ChunkId>
     shared.slabs_mut().pop(class)
 }
 
-/// Both give the class a page, cut it, and hand out three of its chunks.
+/// Both memories give the class a page, cut it, and hand out three of its chunks.
 fn assert_class_calls(rt: &impl Abort, boxed: &mut Boxed, all: &mut Driven, class: ClassId) {
     assert_equal(rt, boxed.grow(class), all.grow(class), "grow");
     for _ in 0..6 {
@@ -82,7 +82,7 @@ fn assert_class_calls(rt: &impl Abort, boxed: &mut Boxed, all: &mut Driven, clas
     }
 }
 
-/// Both tell the same.
+/// Both memories return the same numbers.
 fn assert_same_told(rt: &impl Abort, slabs: &Slabs, all: &Driven) {
     assert_equal(rt, slabs.totals(), all.totals(), "totals");
     assert_equal(rt, slabs.ledger(), all.ledger(), "ledger");

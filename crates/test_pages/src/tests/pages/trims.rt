@@ -23,7 +23,7 @@ fn assert_begins(rt: &impl Abort, all: &mut Driven) {
     assert_equal(rt, kept, (3, Some(MOVING)), "trimmed");
 }
 
-/// Its move ends behind them.
+/// The move of the page ends behind the two trims.
 fn assert_ends(rt: &impl Abort, all: &mut Driven) {
     assert_finishes(rt, all);
     assert_equal(rt, all.ledger(), [Entry::Ended(0, 1)].as_slice(), "ledger");

@@ -1,4 +1,4 @@
-//! The same by a plain list of items, each of which is looked for from the front.
+//! The same stripe by a plain list of items, each of which is looked for from the front.
 use super::Try;
 use mc_pages::ChunkId;
 use mc_stripe::{Call, HandId, Key, Stamp};
@@ -67,7 +67,7 @@ impl Plain {
         Ok(true)
     }
 
-    /// Makes the call where its conditions hold, and says whether they did.
+    /// Makes the call where its conditions hold, and returns whether they did.
     pub(super) fn made(&mut self, call: Try) -> Result<bool, AllocError> {
         match call {
             Try::Lift(key) => {

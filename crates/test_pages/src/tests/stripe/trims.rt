@@ -69,7 +69,7 @@ fn trim_calls(rt: &impl Abort, stripe: &mut Stripe) -> Result<(), NoMemory> {
     Ok(())
 }
 
-/// What comes then is recorded behind it, and the base stays, up to the next trim.
+/// A call behind a trim is recorded behind it, and the base stays, up to the next trim.
 fn call_behind_a_trim(rt: &impl Abort, stripe: &mut Stripe) -> Result<(), NoMemory> {
     make_all(rt, stripe, &[Rescue(3, 1, chunk(7)), Unlink(2, 3)])?;
     assert_equal(
@@ -100,7 +100,7 @@ fn what_calls_left_is_kept(rt: HostRuntime) -> Result<(), Fail> {
     Ok(kept?)
 }
 
-/// The stripe keeps nothing of so many calls, and no base.
+/// The stripe keeps nothing of n calls, and no base.
 fn assert_forgotten(rt: &impl Abort, stripe: &Stripe, trimmed: u64) {
     let found = (stripe.history().len(), base_len(stripe), stripe.trimmed());
     assert_same(rt, found, (0, None, trimmed), "history, base and trimmed");

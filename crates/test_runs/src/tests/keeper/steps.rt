@@ -3,7 +3,7 @@ use mc_keeper::{
     Counts, Decision, Ending, HoldError, Keeper, Numbers, Reassign, Refused, Stored, TooManyRefs,
 };
 
-/// A call, and what it is to give. An item of so many words has each word like the number of its words.
+/// A call, and what it is to give. An item of n words has n as each word.
 #[derive(Drop)]
 pub(super) enum Step {
     /// The key and how many words.
@@ -16,23 +16,23 @@ pub(super) enum Step {
     Deletes(u64, bool),
     Touches(u64, bool),
     Reassigns(Option<u64>, u64, Result<(), Reassign>),
-    /// The automover's mode is set, and told.
+    /// The automover's mode is set, and a survey has it.
     Modes(u64),
     /// A page begins to move from a class to another, or none does.
     Windows(Option<(u64, u64)>),
-    /// A turn ends so and tells these numbers: cleared, evicted, busy.
+    /// A turn ends so and counts these numbers: cleared, evicted, busy.
     Turns(Ending, u64, u64, u64),
     /// The dead are put back.
     Sweeps,
     /// Whether a page is on the move.
     Moves(bool),
-    /// The class of items of so many words has these pages and free chunks.
+    /// The class of items of n words has these pages and free chunks.
     Has(u64, u64, u64),
-    /// So many moves ended, evicted items, and were held up.
+    /// This many moves ended, evicted items, and were held up.
     Moved(u64, u64, u64),
 }
 
-/// So many words were lent, each of them that number.
+/// Whether n words were lent, each of them n.
 fn is_lent(found: Option<&[u64]>, wanted: Option<usize>) -> bool {
     match (found, wanted) {
         (Some(words), Some(count)) => {
