@@ -1,4 +1,4 @@
-//! Which item is evicted: the oldest of five that nobody holds.
+//! Which item is evicted: the oldest candidate that nobody holds.
 use super::MOST_WORDS;
 use super::steps::Step;
 use mc_calls::{FOUR_CLASSES, GETTERS, Getter, drop_two, opened_two, play_all, run};
@@ -57,7 +57,7 @@ fn held_items_are_passed_over(rt: HostRuntime) -> Result<(), Fail> {
 }
 
 #[test]
-fn five_are_tried(rt: HostRuntime) -> Result<(), Fail> {
+fn held_candidates_leave_no_room(rt: HostRuntime) -> Result<(), Fail> {
     let behind = [
         Step::Refuses(9, MOST_WORDS, SetError::NoRoom),
         Step::Finds(Getter::Get, 1, 9, true),
