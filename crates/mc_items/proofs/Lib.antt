@@ -15,7 +15,7 @@ pub mod FreesEvicted
 pub mod Popped
 pub mod Passes
 pub mod Freed
-pub mod FirstFive
+pub mod Candidates
 pub mod Made
 pub mod Sets
 pub mod Rows

@@ -6,6 +6,7 @@ use Rattle.std.proofs.lemmas.List.Elements.{Contains-append_cases, Contains-appe
 use Rattle.mc_pages.specs.declared.ids.ChunkId.{ChunkId}
 use Rattle.mc_pages.specs.Changes.{after_back, after_cut, after_pop, next_page}
 use Rattle.mc_pages.specs.ClassState.{first_free, is_chunk, put_back}
+use Rattle.mc_pages.specs.Eviction.{eviction_candidates}
 use Rattle.mc_pages.specs.SlabState.{SlabState, IsClass, class_at, class_of_chunk, class_of_page}
 use Rattle.mc_pages.proofs.Chunks.{same_from_is_chunk}
 use Rattle.mc_pages.proofs.OneClass.{IsClass-with_class}
@@ -23,7 +24,7 @@ use Rattle.mc_words.specs.page.Owner.{PopsFirst, SeesOther}
 use Rattle.mc_words.specs.chunk.Sweeps.{Recovers, SeesHeader, SeesHeaders, Sweeps, SweepsEach, follows, with_seen}
 use Rattle.mc_words.proofs.Pages.LookedOver.{sees_both, sees_headers_alone}
 use Rattle.mc_words.proofs.Chunks.SweepViews.{class_here, sees_alone, stands_out}
-use Rattle.mc_items.specs.Evicting.{FreesOne, TellsEvict, first_five}
+use Rattle.mc_items.specs.Evicting.{FreesOne, TellsEvict}
 use Rattle.mc_pages.specs.declared.moves.Reassign.{Reassign}
 use Rattle.mc_words.specs.page.Moves.{Reassigns}
 use Rattle.mc_items.specs.declared.evicting.Supply.{Supply}
@@ -131,8 +132,8 @@ cuts_keep (chunk ∷ chunks) view slabs now left (next, cut, rest) = cuts_keep c
 grows_keep : (number class : ℕ) (view : View) (slabs : SlabState) (now : View) (left : SlabState) → Grows number class view slabs now left → own_of now ≡ own_of view
 grows_keep number class view slabs now left grows = cuts_keep _ grows.grown _ now left grows.cuts ∙ ap own_of grows.is_grown
 
--- where no page was left, one of the oldest five chunks did
-pub made_by : (number class : ℕ) (supply : Supply) (view : View) (slabs : SlabState) (now : View) (left : SlabState) → next_page slabs class ≡ None → FreesOne number class (first_five slabs class) supply view slabs now left → MakesFree number class supply view slabs now left
+-- where no page was left, one of the candidates for an eviction did
+pub made_by : (number class : ℕ) (supply : Supply) (view : View) (slabs : SlabState) (now : View) (left : SlabState) → next_page slabs class ≡ None → FreesOne number class (eviction_candidates slabs class) supply view slabs now left → MakesFree number class supply view slabs now left
 made_by number class Page view slabs now left none frees = absurd frees.frees
 made_by number class Dead view slabs now left none frees = (none, frees)
 made_by number class Evicted view slabs now left none frees = (none, frees)
@@ -263,7 +264,7 @@ none_tells number class WornOut view slabs now left (inr made) =
 none_tells number class (NoMemory _) view slabs now left lacks =
     evicts_none number view now (by lacks.lacks.0 ∙ sweeps_keep _ view slabs lacks.swept lacks.between lacks.finds.sweeps)
   where
-    by : ((is_some (next_page lacks.between class) ≡ true) × (now ≡ lacks.swept)) ⊎ ((next_page lacks.between class ≡ None) × Rattle.mc_items.specs.Evicting.LacksEntry number (first_five lacks.between class) lacks.swept now) → own_of now ≡ own_of lacks.swept
+    by : ((is_some (next_page lacks.between class) ≡ true) × (now ≡ lacks.swept)) ⊎ ((next_page lacks.between class ≡ None) × Rattle.mc_items.specs.Evicting.LacksEntry number (eviction_candidates lacks.between class) lacks.swept now) → own_of now ≡ own_of lacks.swept
     by (inl (page, same)) = ap own_of same
     by (inr (page, entry)) = entry_keeps number _ lacks.swept now entry
 

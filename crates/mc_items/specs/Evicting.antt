@@ -1,8 +1,9 @@
--- How an item is evicted: the oldest five chunks of a class are tried, one after another.
-use Rattle.std.specs.Prelude.{◌≡◌, ◌⊎◌, ℕ, false, List, [], ◌∷◌, ◌++◌, take, Some}
+-- How an item is evicted: the oldest chunks of a class are tried, one after another.
+use Rattle.std.specs.Prelude.{◌≡◌, ◌⊎◌, ℕ, false, List, [], ◌∷◌, ◌++◌, Some}
 use Rattle.mc_pages.specs.declared.ids.ChunkId.{ChunkId}
 use Rattle.mc_pages.specs.Changes.{after_back}
-use Rattle.mc_pages.specs.SlabState.{SlabState, class_at}
+use Rattle.mc_pages.specs.Eviction.{eviction_candidates}
+use Rattle.mc_pages.specs.SlabState.{SlabState}
 use Rattle.mc_core.specs.Head.{is_dead}
 use Rattle.mc_stripe.specs.declared.history.Call.TheVariants as call
 use Rattle.mc_words.specs.item.Removal.{Condemns}
@@ -13,10 +14,6 @@ use Rattle.mc_items.specs.declared.evicting.Supply.{Supply}
 use Rattle.mc_items.specs.declared.evicting.Supply.TheVariants.{Page, Dead, Evicted}
 use Rattle.mc_items.specs.Calls.{TellsCall, TellsNoCall}
 use Rattle.mc_items.specs.Supplying.{FreesEvicted, LacksCall, PassesItem, ReachesItem}
-
--- the oldest five that the class handed out
-abbrev pub first_five : SlabState → ℕ → List ChunkId
-first_five slabs class = take 5 (class_at slabs class).order
 
 -- the chunk was passed over: its item couldn't be taken away, and the chunk wasn't dead
 pub record PassesOne (number : ℕ) (chunk : ChunkId) (view now : View) : Type 0 where
@@ -57,17 +54,17 @@ pub record LacksEntry (number : ℕ) (chunks : List ChunkId) (view now : View) :
   pub passes : PassesEach number before view passed
   pub lacks : LacksCall chunk passed now
 
--- of the class's oldest five chunks the first that could be had was freed
-abbrev pub FreesOneOfFive : ℕ → ℕ → Supply → SlabsDoing
-FreesOneOfFive number class supply view slabs now left = FreesOne number class (first_five slabs class) supply view slabs now left
+-- the first of the class's candidates that could be had was freed, and those before it were passed
+abbrev pub FreesOneCandidate : ℕ → ℕ → Supply → SlabsDoing
+FreesOneCandidate number class supply view slabs now left = FreesOne number class (eviction_candidates slabs class) supply view slabs now left
 
--- the oldest five of the class, or all of fewer, were passed, and pages and lists are as they were
-abbrev pub PassesFive : ℕ → ℕ → SlabsDoing
-PassesFive number class view slabs now left = PassesEach number (first_five slabs class) view now × (left ≡ slabs)
+-- the candidates of the class were passed, and pages and lists are as they were
+abbrev pub PassesCandidates : ℕ → ℕ → SlabsDoing
+PassesCandidates number class view slabs now left = PassesEach number (eviction_candidates slabs class) view now × (left ≡ slabs)
 
--- of the oldest five one had no memory for the entry of its eviction, those before it were passed, and lists stay
-abbrev pub LacksEntryOfFive : ℕ → ℕ → SlabsDoing
-LacksEntryOfFive number class view slabs now left = LacksEntry number (first_five slabs class) view now × (left ≡ slabs)
+-- one of the class's candidates had no memory for the entry of its eviction, those before it were passed, and lists stay
+abbrev pub LacksEntryAtCandidate : ℕ → ℕ → SlabsDoing
+LacksEntryAtCandidate number class view slabs now left = LacksEntry number (eviction_candidates slabs class) view now × (left ≡ slabs)
 
 -- the hand's own calls got an eviction at most
 abbrev pub TellsEvict : ℕ → View → View → Type 0

@@ -5,6 +5,7 @@ use Rattle.mc_pages.specs.declared.ids.ChunkId.{ChunkId}
 use Rattle.mc_pages.specs.declared.moves.Reassign.{Reassign}
 use Rattle.mc_pages.specs.Changes.{HasNoPageFor, after_pop, next_page}
 use Rattle.mc_pages.specs.ClassState.{first_free}
+use Rattle.mc_pages.specs.Eviction.{eviction_candidates}
 use Rattle.mc_pages.specs.SlabState.{SlabState, class_at}
 use Rattle.mc_core.specs.Chunks.{most_issue}
 use Rattle.mc_core.specs.Looks.{is_found_alive}
@@ -12,18 +13,18 @@ use Rattle.mc_words.specs.lock.Doing.{SlabsDoing}
 use Rattle.mc_words.specs.page.Owner.{PopsFirst, SeesOther}
 use Rattle.mc_words.specs.page.Moves.{Reassigns}
 use Rattle.mc_words.specs.hand.View.{View}
-use Rattle.mc_items.specs.Evicting.{FreesOne, LacksEntry, PassesEach, first_five}
+use Rattle.mc_items.specs.Evicting.{FreesOne, LacksEntry, PassesEach}
 use Rattle.mc_items.specs.Supplying.{FindsNoFree, FindsWorn, Grows, SuppliesFree}
 use Rattle.mc_items.specs.declared.evicting.Supply.{Supply}
 use Rattle.mc_items.specs.declared.evicting.Supply.TheVariants.{Page, Dead, Evicted}
 use Rattle.mc_items.specs.declared.setting.SetError.{SetError}
 use Rattle.mc_items.specs.declared.setting.SetError.TheVariants.{TooLarge, NoRoom, WornOut, NoMemory}
 
--- a class without a free chunk came to one: by the next page; or where there is none left, by one of its oldest five chunks
+-- a class without a free chunk came to one: by the next page; or where there is none left, by one of its candidates for an eviction
 abbrev pub MakesFree : ℕ → ℕ → Supply → SlabsDoing
 MakesFree number class Page view slabs now left = Grows number class view slabs now left
-MakesFree number class Dead view slabs now left = (next_page slabs class ≡ None) × FreesOne number class (first_five slabs class) Dead view slabs now left
-MakesFree number class Evicted view slabs now left = (next_page slabs class ≡ None) × FreesOne number class (first_five slabs class) Evicted view slabs now left
+MakesFree number class Dead view slabs now left = (next_page slabs class ≡ None) × FreesOne number class (eviction_candidates slabs class) Dead view slabs now left
+MakesFree number class Evicted view slabs now left = (next_page slabs class ≡ None) × FreesOne number class (eviction_candidates slabs class) Evicted view slabs now left
 
 -- the class had no free chunk, a sweep freed none, and then the class came to one
 pub record ComesToFree (number class : ℕ) (supply : Supply) (view : View) (slabs : SlabState) (now : View) (left : SlabState) : Type 0 where
@@ -59,11 +60,11 @@ abbrev pub SuppliesChunk : ℕ → ℕ → ChunkId → SlabsDoing
 SuppliesChunk number class chunk view slabs now left =
     SuppliesFree class chunk view slabs now left ⊎ SuppliesMade number class chunk view slabs now left
 
--- no page was left for the class, and none of its oldest five chunks could be had; each chunk that it handed out was found alive, and
--- nothing was changed
+-- no page was left for the class, and none of its candidates for an eviction could be had; each chunk that it handed out was found
+-- alive, and nothing was changed
 pub record MakesNone (number class : ℕ) (view : View) (slabs : SlabState) (now : View) (left : SlabState) : Type 0 where
   pub full : HasNoPageFor slabs class
-  pub passes : PassesEach number (first_five slabs class) view now
+  pub passes : PassesEach number (eviction_candidates slabs class) view now
   pub alive : list_all (is_found_alive now.row.looks) (class_at slabs class).order ≡ true
   pub same : left ≡ slabs
 
@@ -88,7 +89,7 @@ FindsWornOut number class view slabs now left =
 -- there was no memory for the class's next page, or for the entry of an eviction, and pages and lists weren't changed
 abbrev pub LacksMore : ℕ → ℕ → SlabsDoing
 LacksMore number class view slabs now left =
-    (((is_some (next_page slabs class) ≡ true) × (now ≡ view)) ⊎ ((next_page slabs class ≡ None) × LacksEntry number (first_five slabs class) view now)) × (left ≡ slabs)
+    (((is_some (next_page slabs class) ≡ true) × (now ≡ view)) ⊎ ((next_page slabs class ≡ None) × LacksEntry number (eviction_candidates slabs class) view now)) × (left ≡ slabs)
 
 -- the class had no free chunk, a sweep freed none, and there was no memory to make one free
 pub record LacksMemory (number class : ℕ) (view : View) (slabs : SlabState) (now : View) (left : SlabState) : Type 0 where

@@ -18,12 +18,12 @@ ghost use Rattle.mc_words.specs.lock.Lent.{IsLentStripe};
 ghost use Rattle.mc_words.specs.hand.Observers.{HasSlabs, locks_of, number_of, slabs_lent, stripe_lent, stripe_number};
 ghost use Rattle.mc_words.specs.lock.Out.{without_stripe};
 ghost use Rattle.mc_items.specs.Calls.{IsFull};
-ghost use Rattle.mc_items.specs.Evicting.{FreesChunk, FreesOneOfFive, LacksEntryOfFive, PassesFive, PassesOne};
+ghost use Rattle.mc_items.specs.Evicting.{FreesChunk, FreesOneCandidate, LacksEntryAtCandidate, PassesCandidates, PassesOne};
 ghost use Rattle.mc_items.specs.OnKeys.{Acts, AreUnchanged, DoesOn, GivesBack};
 ghost use Rattle.mc_items.specs.Supplying.{FindsItemHeld, FreesEvicted, LacksCall, PassesItem, TakesAtOnce};
 
 use mc_classes::ClassId;
-use mc_pages::ChunkId;
+use mc_pages::{ChunkId, EVICTION_TRIES};
 use mc_stripe::NoMemory;
 use mc_words::{Arena, Hand, SlabsHeld, StripeHeld, header};
 
@@ -133,9 +133,6 @@ pub(crate) fn free_evicted(
     let _ = arena.put_back(hand, slabs, chunk);
 }
 
-// How many of the oldest chunks of a class are tried for an eviction.
-const TRIES: u64 = 5;
-
 /// How a class without a free chunk came to one.
 #[derive(Clone, Copy)]
 pub enum Supply {
@@ -184,8 +181,8 @@ fn free_one(
     }
 }
 
-// Frees the first chunk of the class's oldest five that is to be had, and returns how, if there was one. (after items.c's
-// `lru_pull_tail`, which tries five)
+// Frees the first of the class's oldest `EVICTION_TRIES` chunks that is to be had, and returns how, if there was one. (after
+// items.c's `lru_pull_tail`)
 pub(crate) fn evict_one(
     arena: &Arena,
     hand: &mut Hand,
@@ -204,15 +201,15 @@ pub(crate) fn evict_one(
     ensures arena { IsHandOf arena.now hand.new }
     ensures locks { locks_of hand.new ≡ locks_of hand.old }
     ensures slabs { HasSlabs hand.new slabs.new }
-    ensures frees { IfOk result (λ freed. IfSome freed (λ supply. Acts (FreesOneOfFive (number_of hand.old) class supply) hand.old slabs.old hand.new slabs.new)) }
+    ensures frees { IfOk result (λ freed. IfSome freed (λ supply. Acts (FreesOneCandidate (number_of hand.old) class supply) hand.old slabs.old hand.new slabs.new)) }
     ensures free { IfOk result (λ freed. IfSome freed (λ supply. is_some (first_free (class_at (slabs_lent slabs.new) class)) ≡ true)) }
-    ensures none { result ≡ Ok None → Acts (PassesFive (number_of hand.old) class) hand.old slabs.old hand.new slabs.new }
+    ensures none { result ≡ Ok None → Acts (PassesCandidates (number_of hand.old) class) hand.old slabs.old hand.new slabs.new }
     ensures alive { result ≡ Ok None → list_all (is_found_alive (view hand.new).row.looks) (class_at (slabs_lent slabs.old) class).order ≡ true }
     ensures whole { (slabs_lent slabs.new).uncut ≡ None }
-    ensures no_memory { OnErr result (Acts (LacksEntryOfFive (number_of hand.old) class) hand.old slabs.old hand.new slabs.new) }
+    ensures no_memory { OnErr result (Acts (LacksEntryAtCandidate (number_of hand.old) class) hand.old slabs.old hand.new slabs.new) }
 {
     let mut next = slabs.slabs().first_out(class);
-    for _ in 0..TRIES {
+    for _ in 0..EVICTION_TRIES {
         let Some(chunk) = next else {
             return Ok(None);
         };

@@ -145,8 +145,8 @@ fn ask_move(arena: &Arena, hand: &mut Hand, held: &mut SlabsHeld, class: ClassId
     }
 }
 
-// Hands out a chunk of the class: a free one; else a dead one; else one of the next page; else one whose item was evicted, the oldest of
-// five, after which a move to the class is asked for in mode 2. (slabs.c's `do_slabs_alloc`, and then items.c's `lru_pull_tail`)
+// Hands out a chunk of the class: a free one; else a dead one; else one of the next page; else one whose item was evicted, of the
+// oldest, after which a move to the class is asked for in mode 2. (slabs.c's `do_slabs_alloc`, and then items.c's `lru_pull_tail`)
 pub(crate) fn supply_chunk(
     arena: &Arena,
     hand: &mut Hand,

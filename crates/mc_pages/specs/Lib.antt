@@ -9,6 +9,7 @@ pub mod ClassRows
 pub mod Ages
 pub mod Room
 pub mod SlabState
+pub mod Eviction
 pub mod Base
 pub mod RecordedInside
 pub mod Changes

@@ -27,6 +27,7 @@
 
 mod ages;
 mod class;
+mod eviction;
 mod ids;
 mod laws;
 mod ledger;
@@ -39,6 +40,7 @@ mod shared;
 mod slabs;
 mod writes;
 
+pub use eviction::EVICTION_TRIES;
 pub use ids::{ChunkId, Moving};
 pub use laws::{
     ledger_goes_on, no_page_is_lost, one_before_another, unaccounted_memories, worked_bases,

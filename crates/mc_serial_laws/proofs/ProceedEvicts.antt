@@ -6,12 +6,13 @@ use Rattle.std.proofs.lemmas.List.{length-set}
 use Rattle.mc_pages.specs.declared.ids.ChunkId.{ChunkId}
 use Rattle.mc_pages.specs.SlabState.{SlabState, IsClass, class_at}
 use Rattle.mc_pages.specs.Changes.{after_back, after_evicted}
+use Rattle.mc_pages.specs.Eviction.{eviction_tries}
 use Rattle.mc_pages.specs.InOrder.{IsInOrder}
 use Rattle.mc_pages.proofs.Kept.{IsInOrder-after_evicted}
 use Rattle.mc_serial_spec.specs.Items.{is_linked, without_item}
 use Rattle.mc_serial_spec.specs.Holds.{is_held}
 use Rattle.mc_serial_spec.specs.Machine.{Machine, has_free, is_linked_unheld}
-use Rattle.mc_serial_spec.specs.Supply.{eviction_tries, relieved, victim, with_eviction}
+use Rattle.mc_serial_spec.specs.Supply.{relieved, victim, with_eviction}
 use Rattle.mc_serial_spec.proofs.KeptEvict.{kept_counted}
 use Rattle.mc_serial_spec.proofs.KeptMoverClear.{idle_here, kept_back}
 use Rattle.mc_pages.proofs.FirstFound.{found_holds}

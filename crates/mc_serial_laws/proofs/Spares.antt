@@ -8,6 +8,7 @@ use Rattle.mc_pages.specs.declared.ids.ChunkId.{ChunkId}
 use Rattle.mc_pages.specs.ClassState.{ClassState, evicted, first_free, is_chunk, put_back, times}
 use Rattle.mc_pages.specs.SlabState.{SlabState, IsClass, class_at, class_of_chunk, class_of_page}
 use Rattle.mc_pages.specs.Changes.{after_back, next_page}
+use Rattle.mc_pages.specs.Eviction.{eviction_tries}
 use Rattle.mc_pages.proofs.Chunks.{is_chunk-same, same_from_is_chunk, times-cons, times_from_Contains}
 use Rattle.mc_pages.proofs.FirstFound.{found_holds}
 use Rattle.mc_pages.proofs.ListedChunks.{page_of_listed}
@@ -18,7 +19,7 @@ use Rattle.mc_pages.specs.Accounted.{truth}
 use Rattle.mc_serial_spec.specs.Item.{Item}
 use Rattle.mc_serial_spec.specs.Items.{item_at, is_unlinked}
 use Rattle.mc_serial_spec.specs.Machine.{Machine, after_reclaim, all_swept, dead_chunks, extended, has_free, is_dead, is_linked_unheld, stocked, swept, with_new_page}
-use Rattle.mc_serial_spec.specs.Supply.{eviction_tries, supplied, supply, victim, with_eviction}
+use Rattle.mc_serial_spec.specs.Supply.{supplied, supply, victim, with_eviction}
 use Rattle.mc_serial_spec.proofs.Stocks.{IsClass-stocked, classes-sweeps, sweeps_more}
 use Rattle.mc_serial_spec.proofs.Sweeps.{item_at-without_item}
 use Rattle.mc_serial_laws.proofs.Lawful.{IsLawful, Proceeds, off}

@@ -81,7 +81,7 @@ abbrev pub HeldIsKept : Type 0
 HeldIsKept = replies (sets 1 8 61 0 ++ Hold 1 1 ∷ Hold 1 2 ∷ Hold 1 3 ∷ Hold 1 4 ∷ Set 1 9 61 0 ∷ Touch 1 5 ∷ [])
     ≡ codes "STORED 1\r\nSTORED 2\r\nSTORED 3\r\nSTORED 4\r\nSTORED 5\r\nSTORED 6\r\nSTORED 7\r\nSTORED 8\r\nHELD 1\r\nHELD 2\r\nHELD 3\r\nHELD 4\r\nSTORED 9\r\nNOT_FOUND 5\r\n"
 
--- where the five oldest are held there is no room
+-- where all candidates are held there is no room
 abbrev pub TooManyHeld : Type 0
 TooManyHeld = replies (sets 1 8 61 0 ++ Hold 1 1 ∷ Hold 1 2 ∷ Hold 1 3 ∷ Hold 1 4 ∷ Hold 1 5 ∷ Set 1 9 61 0 ∷ [])
     ≡ codes "STORED 1\r\nSTORED 2\r\nSTORED 3\r\nSTORED 4\r\nSTORED 5\r\nSTORED 6\r\nSTORED 7\r\nSTORED 8\r\nHELD 1\r\nHELD 2\r\nHELD 3\r\nHELD 4\r\nHELD 5\r\nNO_ROOM 9\r\n"
@@ -121,9 +121,9 @@ abbrev pub TouchedDeadIsLast : Type 0
 TouchedDeadIsLast = replies (sets 1 8 61 0 ++ Touch 1 1 ∷ Delete 1 1 ∷ Delete 1 8 ∷ Set 1 9 61 0 ∷ Reassign (Some 4) 1 ∷ Turn 1 ∷ [])
     ≡ codes "STORED 1\r\nSTORED 2\r\nSTORED 3\r\nSTORED 4\r\nSTORED 5\r\nSTORED 6\r\nSTORED 7\r\nSTORED 8\r\nTOUCHED 1\r\nDELETED 1\r\nDELETED 8\r\nSTORED 9\r\nOK\r\nTURN FINISHED 2 1 1 0 0\r\n"
 
--- an eviction looks at the five oldest chunks, and a held one whose item was deleted is among them
-abbrev pub UnlinkedIsOneOfTheFive : Type 0
-UnlinkedIsOneOfTheFive = replies (sets 1 8 61 0 ++ Hold 1 1 ∷ Hold 1 2 ∷ Hold 1 3 ∷ Hold 1 4 ∷ Hold 1 5 ∷ Delete 1 1 ∷ Set 1 9 61 0 ∷ Touch 1 6 ∷ [])
+-- a held chunk whose item was deleted is a candidate for an eviction too
+abbrev pub UnlinkedIsACandidate : Type 0
+UnlinkedIsACandidate = replies (sets 1 8 61 0 ++ Hold 1 1 ∷ Hold 1 2 ∷ Hold 1 3 ∷ Hold 1 4 ∷ Hold 1 5 ∷ Delete 1 1 ∷ Set 1 9 61 0 ∷ Touch 1 6 ∷ [])
     ≡ codes "STORED 1\r\nSTORED 2\r\nSTORED 3\r\nSTORED 4\r\nSTORED 5\r\nSTORED 6\r\nSTORED 7\r\nSTORED 8\r\nHELD 1\r\nHELD 2\r\nHELD 3\r\nHELD 4\r\nHELD 5\r\nDELETED 1\r\nNO_ROOM 9\r\nTOUCHED 6\r\n"
 
 -- an eviction may take an item of the page that moves

@@ -5,7 +5,7 @@ ghost use Rattle.mc_classes.specs.Classes.{Classes, IsSound};
 ghost use Rattle.mc_script.specs.Command.{IsValid};
 ghost use Rattle.mc_script.specs.declared.command.Command.{Command};
 ghost use Rattle.mc_serial_laws.specs.Replies.{IsWhole};
-ghost use Rattle.mc_serial_laws.specs.Rows.{AnswersOfReassign, BusyItem, DeadMakesRoom, EvictionAsksForAPage, EvictionRuleIsFirst, FirstPath, FullClassEvicts, FirstPageAlone, HeldIsKept, MoverEvictionsAreApart, MovingPageCountsForQuiet, OneChunkATurn, OwnOldItemCounts, PageThroughThePool, PageToAnotherClass, PageToSpare, PageToTheLeader, PopsBeforeItSweeps, RescueIntoDead, RescueLooksBehindTheHead, SeenFromAnswers, SetSweepsItsOwnClass, ShadowedHold, TooManyHeld, TouchedDeadIsLast, TouchedIsKept, TwoMovesByThePick, UnlinkedIsOneOfTheFive, VictimOnTheMovingPage, WordsFromAnswers};
+ghost use Rattle.mc_serial_laws.specs.Rows.{AnswersOfReassign, BusyItem, DeadMakesRoom, EvictionAsksForAPage, EvictionRuleIsFirst, FirstPath, FullClassEvicts, FirstPageAlone, HeldIsKept, MoverEvictionsAreApart, MovingPageCountsForQuiet, OneChunkATurn, OwnOldItemCounts, PageThroughThePool, PageToAnotherClass, PageToSpare, PageToTheLeader, PopsBeforeItSweeps, RescueIntoDead, RescueLooksBehindTheHead, SeenFromAnswers, SetSweepsItsOwnClass, ShadowedHold, TooManyHeld, TouchedDeadIsLast, TouchedIsKept, TwoMovesByThePick, UnlinkedIsACandidate, VictimOnTheMovingPage, WordsFromAnswers};
 ghost use Rattle.mc_serial_spec.specs.Machine.{Machine};
 ghost use Rattle.mc_serial_spec.specs.Lines.{Served, serve};
 ghost use Rattle.mc_serial_laws.specs.Accounts.{GrantedStays, IsAccountedAfter, StatisticsAddUp};
@@ -36,7 +36,7 @@ pub fn worked_examples()
     ensures page_to_the_leader { PageToTheLeader }
     ensures pops_before_it_sweeps { PopsBeforeItSweeps }
     ensures touched_dead_is_last { TouchedDeadIsLast }
-    ensures unlinked_is_one_of_the_five { UnlinkedIsOneOfTheFive }
+    ensures unlinked_is_a_candidate { UnlinkedIsACandidate }
     ensures victim_on_the_moving_page { VictimOnTheMovingPage }
     ensures rescue_looks_behind_the_head { RescueLooksBehindTheHead }
     ensures moving_page_counts_for_quiet { MovingPageCountsForQuiet }

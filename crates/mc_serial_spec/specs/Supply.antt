@@ -1,20 +1,17 @@
 -- How a set comes to a chunk: a free one, else a dead one, else one of a new page, else one whose item is evicted.
-use Rattle.std.specs.Prelude.{ℕ, ◌==◌, Bool, not, ◌&&◌, take, find, Option, Some, None, if◌then◌else◌}
+use Rattle.std.specs.Prelude.{ℕ, ◌==◌, Bool, not, ◌&&◌, find, Option, Some, None, if◌then◌else◌}
 use Rattle.std.specs.Option.{is_some}
 use Rattle.mc_pages.specs.declared.ids.ChunkId.{ChunkId}
 use Rattle.mc_pages.specs.ClassState.{first_free}
+use Rattle.mc_pages.specs.Eviction.{eviction_candidates}
 use Rattle.mc_pages.specs.SlabState.{class_at}
 use Rattle.mc_pages.specs.Changes.{after_evicted}
 use Rattle.mc_serial_spec.specs.Machine.{Machine, has_free, is_linked_unheld, after_reclaim, stocked}
 
--- how many of the oldest chunks are looked at for an item to evict
-abbrev pub eviction_tries : ℕ
-eviction_tries = 5
-
--- the chunk of the item that is evicted: the first of the oldest five that nobody holds. None of the five is dead, as
+-- the chunk of the item that is evicted: the first of the class's candidates that nobody holds. None of them is dead, as
 -- those were put back before
 abbrev pub victim : Machine → ℕ → Option ChunkId
-victim m class = find (is_linked_unheld m) (take eviction_tries (class_at m.slabs class).order)
+victim m class = find (is_linked_unheld m) (eviction_candidates m.slabs class)
 
 -- the item in this chunk, if there is one, is evicted, and the chunk put back
 abbrev pub with_eviction : Machine → ℕ → Option ChunkId → Machine

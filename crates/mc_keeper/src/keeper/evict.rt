@@ -8,10 +8,7 @@ ghost use Rattle.mc_serial_spec.specs.Supply.{evicts, victim, with_eviction, sup
 use super::Keeper;
 use mc_classes::ClassId;
 use mc_memory::Refused;
-use mc_pages::ChunkId;
-
-/// How many of the oldest chunks are looked at for an item to evict (own; five tries after memcached's items.c).
-const TRIES: u64 = 5;
+use mc_pages::{ChunkId, EVICTION_TRIES};
 
 impl Keeper {
     /// Gets the class a free chunk, where there is a way to one. Returns whether an item was evicted for it.
@@ -50,7 +47,7 @@ impl Keeper {
         requires { IsClass self.now.slabs class }
         ensures victim { result ≡ victim self.now class }
     {
-        for place in 0..TRIES {
+        for place in 0..EVICTION_TRIES {
             let chunk = self.slabs.order_at(class, place)?;
             if self.is_linked_unheld(chunk) {
                 return Some(chunk);

@@ -27,15 +27,15 @@ pub enum Stored {
     Yes,
     /// The item is larger than a chunk of the last class. All is as before.
     TooLarge,
-    /// The item's class has neither a free chunk nor a dead one, no page is left, and somebody holds each of the class's oldest
-    /// five. No item came or went.
+    /// The item's class has neither a free chunk nor a dead one, no page is left, and somebody holds each of the class's
+    /// candidates for an eviction. No item came or went.
     NoRoom,
 }
 
 impl Keeper {
     /// Stores an item of these words, 8 bytes each, under the key, in place of the key's old item; whoever holds that holds it
     /// still. With key, stamp and length the item takes 24 + 8 n bytes, and goes into a chunk of the lowest class with as many
-    /// bytes. The chunk is a free one, else a dead one, else one of a new page. Else the first of the oldest five items that
+    /// bytes. The chunk is a free one, else a dead one, else one of a new page. Else the first candidate for an eviction that
     /// nobody holds is evicted. In mode 2 of the automover an eviction asks for a page. (items.c's `do_item_alloc_pull` and
     /// `do_item_replace`, slabs.c's `slabs automove 2`; that the dead wait for a sweep is own.) The worker takes no part.
     ///

@@ -119,7 +119,7 @@ const ACTED_ON: [Step; 14] = [
     Step::Moved(1, 0, 0),
 ];
 
-/// The five oldest items are held, so there is no room for a ninth.
+/// All candidates for an eviction are held, so there is no room for a ninth item.
 const FULL: [Step; 7] = [
     Step::Sets(1, 62, Stored::TooLarge),
     Step::Holds(1, 1, Ok(true)),

@@ -17,7 +17,7 @@ const ROWS: [Row<'static>; 6] = [
         Ok(()),
     ),
     (
-        "where the five oldest are held there is no room",
+        "where all candidates are held there is no room",
         "1 set 1 61 0\n1 set 2 61 0\n1 set 3 61 0\n1 set 4 61 0\n1 set 5 61 0\n1 set 6 61 0\n1 set 7 61 0\n1 set 8 61 0\n1 hold 1\n1 hold 2\n1 hold 3\n1 hold 4\n1 hold 5\n1 set 9 61 0\n",
         "STORED 1\r\nSTORED 2\r\nSTORED 3\r\nSTORED 4\r\nSTORED 5\r\nSTORED 6\r\nSTORED 7\r\nSTORED 8\r\nHELD 1\r\nHELD 2\r\nHELD 3\r\nHELD 4\r\nHELD 5\r\nNO_ROOM 9\r\n",
         Ok(()),

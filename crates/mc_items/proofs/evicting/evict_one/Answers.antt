@@ -3,6 +3,7 @@ use Rattle.std.specs.Prelude.{Contains}
 use Rattle.std.proofs.lemmas.List.{length-append}
 use Rattle.mc_pages.specs.declared.ids.ChunkId.{ChunkId}
 use Rattle.mc_pages.specs.ClassState.{behind}
+use Rattle.mc_pages.specs.Eviction.{eviction_tries}
 use Rattle.mc_pages.specs.SlabState.{SlabState, class_at, class_of_chunk}
 use Rattle.mc_core.specs.declared.look.Look.TheVariants.{Saw}
 use Rattle.mc_core.specs.Holdings.{has_fresh}
@@ -16,7 +17,7 @@ use Rattle.mc_words.proofs.Locks.Unlocked.{no_stripe_from, no_stripes_there}
 use Rattle.std.specs.Prelude.{⊤}
 use Rattle.mc_items.specs.declared.evicting.Supply.{Supply}
 use Rattle.mc_items.specs.Evicting.{FreesChunk, PassesEach, PassesOne}
-use Rattle.mc_items.proofs.FirstFive.{five_of_all, five_passed, five_with, rest_begins}
+use Rattle.mc_items.proofs.Candidates.{candidates_are_all, candidates_passed, candidates_with, rest_begins}
 use Rattle.mc_items.proofs.Freed.{as_error, frees_uncut, on_error}
 use Rattle.mc_words.proofs.Hands.HandNumbers.{number_stays}
 use Rattle.mc_items.proofs.Passes.{OwnTuple, each_keeps, passed_alive, passes_on}
@@ -52,11 +53,11 @@ pub returns-in_default-clause-none : goal.returns-in_default-clause-none
 returns-in_default-clause-none c _ =
     let inv = c.loop.invariant in
     let walk = inv.walk.1 in
-    let few : c.loop.counter < 5 = c.loop-test.true in
-    let short : length inv.done < 5 = subst (λ n. n < 5) (sym inv.count) few in
+    let few : c.loop.counter < eviction_tries = c.loop-test.true in
+    let short : length inv.done < eviction_tries = subst (λ n. n < eviction_tries) (sym inv.count) few in
     let none = is_empty walk.rest (sym c.in_default.is ∙ walk.at) in
-    let five = five_of_all (class_at c.args.slabs.now.shared c.args.class).order inv.done (inv.split ∙ ap (λ (rest : List ChunkId). inv.done ++ rest) none) short in
-    (subst (λ (chunks : List ChunkId). PassesEach c.args.hand.now.number chunks c.args.hand.now.seat.me.0 c.loop.hand.seat.me.0) (sym five) inv.passes, inv.same)
+    let all = candidates_are_all eviction_tries (class_at c.args.slabs.now.shared c.args.class).order inv.done (inv.split ∙ ap (λ (rest : List ChunkId). inv.done ++ rest) none) short in
+    (subst (λ (chunks : List ChunkId). PassesEach c.args.hand.now.number chunks c.args.hand.now.seat.me.0 c.loop.hand.seat.me.0) (sym all) inv.passes, inv.same)
 
 pub next_out-next-requires : goal.next_out-next-requires
 next_out-next-requires c =
@@ -97,16 +98,16 @@ returns-in_err-supply-clause-no_memory c =
     let chunk = c.in-Some.chunk in
     let hand = c.args.hand.now in
     let slabs = c.args.slabs.now.shared in
-    let few : c.loop.counter < 5 = c.loop-test.true in
-    let short : length inv.done < 5 = subst (λ n. n < 5) (sym inv.count) few in
+    let few : c.loop.counter < eviction_tries = c.loop-test.true in
+    let short : length inv.done < eviction_tries = subst (λ n. n < eviction_tries) (sym inv.count) few in
     let (more, is) = rest_begins inv.walk.1.rest c.loop.next chunk inv.walk.1.at c.in-Some.is in
     let lacks = on_error c.free_one.result c.in_err-supply.field-0.0 c.in_err-supply.was c.free_one.ensures.no_memory in
     as_error c.from_residual.result (
       record {
         before = inv.done;
         chunk = chunk;
-        after = take (4 - length inv.done) more;
-        first = five_with (class_at slabs c.args.class).order inv.done chunk more (inv.split ∙ ap (λ (rest : List ChunkId). inv.done ++ rest) is) short;
+        after = take (eviction_tries - (length inv.done + 1)) more;
+        first = candidates_with eviction_tries (class_at slabs c.args.class).order inv.done chunk more (inv.split ∙ ap (λ (rest : List ChunkId). inv.done ++ rest) is) short;
         passed = c.loop.hand.seat.me.0;
         passes = inv.passes;
         lacks = lacks.0;
@@ -126,14 +127,14 @@ returns-in-Some-2-clause-frees c =
     let chunk = c.in-Some.chunk in
     let hand = c.args.hand.now in
     let slabs = c.args.slabs.now.shared in
-    let few : c.loop.counter < 5 = c.loop-test.true in
-    let short : length inv.done < 5 = subst (λ n. n < 5) (sym inv.count) few in
+    let few : c.loop.counter < eviction_tries = c.loop-test.true in
+    let short : length inv.done < eviction_tries = subst (λ n. n < eviction_tries) (sym inv.count) few in
     let (more, is) = rest_begins inv.walk.1.rest c.loop.next chunk inv.walk.1.at c.in-Some.is in
     let number = number_here hand c.loop.hand inv.done inv.passes in record {
       before = inv.done;
       chunk = chunk;
-      after = take (4 - length inv.done) more;
-      first = five_with (class_at slabs c.args.class).order inv.done chunk more (inv.split ∙ ap (λ (rest : List ChunkId). inv.done ++ rest) is) short;
+      after = take (eviction_tries - (length inv.done + 1)) more;
+      first = candidates_with eviction_tries (class_at slabs c.args.class).order inv.done chunk more (inv.split ∙ ap (λ (rest : List ChunkId). inv.done ++ rest) is) short;
       passed = c.loop.hand.seat.me.0;
       passes = inv.passes;
       frees = subst (λ (p : ℕ × SlabState). FreesChunk p.0 c.args.class chunk c.in-Some-2.supply c.loop.hand.seat.me.0 p.1 c.free_one.new.hand.seat.me.0 c.free_one.new.slabs.shared) (λ k. (number k, inv.same k)) (freed_here c);
@@ -179,5 +180,5 @@ loop-preserved c =
 pub returns-clause-none : goal.returns-clause-none
 returns-clause-none c _ =
     let inv = c.loop.invariant in
-    let five = five_passed (class_at c.args.slabs.now.shared c.args.class).order inv.done inv.walk.1.rest inv.split (let most = c.loop.auto.counter-end in let over = c.loop-test.false in let at = inv.count in omega arith) in
-    (subst (λ (chunks : List ChunkId). PassesEach c.args.hand.now.number chunks c.args.hand.now.seat.me.0 c.loop.hand.seat.me.0) (sym five) inv.passes, inv.same)
+    let all = candidates_passed eviction_tries (class_at c.args.slabs.now.shared c.args.class).order inv.done inv.walk.1.rest inv.split (let most = c.loop.auto.counter-end in let over = c.loop-test.false in let at = inv.count in omega arith) in
+    (subst (λ (chunks : List ChunkId). PassesEach c.args.hand.now.number chunks c.args.hand.now.seat.me.0 c.loop.hand.seat.me.0) (sym all) inv.passes, inv.same)

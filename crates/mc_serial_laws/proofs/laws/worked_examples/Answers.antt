@@ -82,9 +82,9 @@ pub returns-clause-touched_dead_is_last : goal.returns-clause-touched_dead_is_la
 unfolding digits
 returns-clause-touched_dead_is_last c = refl
 
-pub returns-clause-unlinked_is_one_of_the_five : goal.returns-clause-unlinked_is_one_of_the_five
+pub returns-clause-unlinked_is_a_candidate : goal.returns-clause-unlinked_is_a_candidate
 unfolding digits
-returns-clause-unlinked_is_one_of_the_five c = refl
+returns-clause-unlinked_is_a_candidate c = refl
 
 pub returns-clause-victim_on_the_moving_page : goal.returns-clause-victim_on_the_moving_page
 unfolding digits

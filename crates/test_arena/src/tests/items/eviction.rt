@@ -1,7 +1,8 @@
-//! Which item is evicted: the oldest of five that nobody holds.
+//! Which item is evicted: the oldest candidate that nobody holds.
 use super::MOST_WORDS;
 use super::steps::Step;
 use mc_items::SetError;
+use mc_pages::EVICTION_TRIES;
 use std::alloc::Global;
 use std::sync::Wait;
 use std::test::Fail;
@@ -12,6 +13,12 @@ const EIGHT: Step = Step::Sets(1, 9, 0, MOST_WORDS);
 
 /// A ninth item.
 const NINTH: Step = Step::Sets(9, 10, 0, MOST_WORDS);
+
+/// The key of the last item that an eviction looks at.
+const LAST_CANDIDATE: u64 = EVICTION_TRIES;
+
+/// The key of the oldest item that it doesn't look at.
+const YOUNGER: u64 = EVICTION_TRIES + 1;
 
 #[test]
 fn a_touched_item_is_not_the_oldest(rt: HostRuntime) -> Result<(), Fail> {
@@ -47,20 +54,20 @@ fn held_items_are_passed_over(rt: HostRuntime) -> Result<(), Fail> {
     for getter in GETTERS {
         let behind = [
             NINTH,
-            Step::Finds(getter, 1, 5, true),
-            Step::Finds(getter, 5, 6, false),
-            Step::Finds(getter, 6, 10, true),
+            Step::Finds(getter, 1, LAST_CANDIDATE, true),
+            Step::Finds(getter, LAST_CANDIDATE, YOUNGER, false),
+            Step::Finds(getter, YOUNGER, 10, true),
         ];
-        store_ninth(&rt, rt.alloc(), Step::Holds(1, 5), &behind)?;
+        store_ninth(&rt, rt.alloc(), Step::Holds(1, LAST_CANDIDATE), &behind)?;
     }
     Ok(())
 }
 
 #[test]
-fn five_are_tried(rt: HostRuntime) -> Result<(), Fail> {
+fn held_candidates_leave_no_room(rt: HostRuntime) -> Result<(), Fail> {
     let behind = [
         Step::Refuses(9, MOST_WORDS, SetError::NoRoom),
         Step::Finds(Getter::Get, 1, 9, true),
     ];
-    store_ninth(&rt, rt.alloc(), Step::Holds(1, 6), &behind)
+    store_ninth(&rt, rt.alloc(), Step::Holds(1, YOUNGER), &behind)
 }

@@ -1,7 +1,7 @@
 use Rattle.std.proofs.Common.{sym}
 use Rattle.mc_pages.specs.SlabState.{class_at}
 use Rattle.mc_serial_spec.specs.Machine.{is_linked_unheld}
-use Rattle.mc_serial_spec.specs.Supply.{eviction_tries}
+use Rattle.mc_pages.specs.Eviction.{eviction_tries}
 use Rattle.mc_pages.proofs.FirstFound.{found_holds}
 use Rattle.mc_keeper.proofs.keeper.Keeper.relieve.Goals as goal
 

@@ -2,7 +2,7 @@ use Rattle.std.proofs.Common.{◌≡◌, ℕ, Some, sym, ap, ◌∙◌, arith, t
 use Rattle.std.specs.Prelude.{slice_get, find}
 use Rattle.mc_pages.specs.SlabState.{class_at}
 use Rattle.mc_serial_spec.specs.Machine.{Machine, is_linked_unheld}
-use Rattle.mc_serial_spec.specs.Supply.{eviction_tries}
+use Rattle.mc_pages.specs.Eviction.{eviction_tries}
 use Rattle.mc_pages.proofs.FirstFound.{find_here}
 use Rattle.mc_keeper.proofs.keeper.Keeper.victim.Goals as goal
 
