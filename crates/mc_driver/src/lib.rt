@@ -21,7 +21,7 @@
 //! }
 //! ```
 //!
-//! A caller may rely on this: what `run_serial` writes is what the plain machine of `mc_machine` replies, and what `run_threads`
+//! A caller may rely on this: what `run_serial` writes is what the plain machine of `mc_serial_spec` replies, and what `run_threads`
 //! writes is what its workers' and mover's calls returned. The configuration is tested before anything is read. Reader and writer
 //! may be one's own: a [`Source`] and a `mc_classes::Sink`.
 #![tactic(auto)]

@@ -23,7 +23,7 @@
 //!
 //! A caller may rely on this: a reference holds its item, whose words stay as they are until the release, whoever stores,
 //! deletes, evicts or moves meanwhile ([`laws`]). A set may evict another key's item, so a get may find nothing. Pages are moved
-//! by `mc_mover`, and bytes packed by `mc_byte_items`. CALLING.md has the contracts.
+//! by `mc_mover`, and bytes packed by `mc_cache`. CALLING.md has the contracts.
 #![tactic(auto)]
 
 mod bumping;

@@ -1,4 +1,4 @@
-//! The keeper: what one thread stores, in `mc_parts` and `mc_pages`.
+//! The keeper: what one thread stores, in `mc_serial_parts` and `mc_pages`.
 ghost use Rattle.std.specs.Prelude.{◌≡◌, ◌≤◌, IfOk};
 ghost use Rattle.mc_classes.specs.Classes.{IsSound};
 ghost use Rattle.mc_serial_spec.specs.Machine.{fresh_machine};

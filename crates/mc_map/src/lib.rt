@@ -17,7 +17,7 @@
 //! }
 //! ```
 //!
-//! A caller may rely on this: after each command the keeper is the plain machine of `mc_machine`, and a map is made only where
+//! A caller may rely on this: after each command the keeper is the plain machine of `mc_serial_spec`, and a map is made only where
 //! the books agree with the keeper's numbers; else [`MapError::Books`] is returned. Texts and charts are `mc_picture`'s, and the
 //! program is `mcmap`.
 #![tactic(auto)]

@@ -24,7 +24,7 @@
 //! ```
 //!
 //! A caller may rely on this: `script_of` in `specs/` defines which bytes are a script. All numbers of a command are within their
-//! limits, and written commands are read as just those ([`written_is_read`]). What a command does is defined by `mc_machine`.
+//! limits, and written commands are read as just those ([`written_is_read`]). What a command does is defined by `mc_serial_spec`.
 #![tactic(auto)]
 
 mod command;

@@ -17,7 +17,7 @@
 //! ```
 //!
 //! A caller may rely on the definition alone: `mc_keeper` proves that its calls do as the machine does, `mc_driver` that a serial
-//! run writes its replies, and `mc_laws` what follows of it. The machine has no header, no index, no lock and no count of
+//! run writes its replies, and `mc_serial_laws` what follows of it. The machine has no header, no index, no lock and no count of
 //! holders.
 #![tactic(auto)]
 
