@@ -1,17 +1,13 @@
 //! The configuration of a slab memory and the table of its size classes, after memcached's slabs.c.
 //!
-//! [`ClassTable::build`] tests a [`Config`] and computes the sizes. A [`Sink`] is a writer of the crates above:
-//! its ghost members tell contracts the bytes and how often it failed, and [`Failures`] counts that at no cost.
+//! [`ClassTable::build`] tests a [`Config`] and computes the sizes. The writers of [`mc_io`] are passed on.
 #![tactic(auto)]
 
 mod config;
-mod device;
-mod failures;
 mod laws;
 mod table;
 
 pub use config::{Config, ConfigError};
-pub use device::{Fault, Sink};
-pub use failures::Failures;
 pub use laws::{one_table, sound_table};
+pub use mc_io::{Failures, Fault, Sink};
 pub use table::{ClassId, ClassTable, PageId};
