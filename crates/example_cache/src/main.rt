@@ -1,6 +1,7 @@
 //! A cache of bytes in a program: four clients get keys that Zipf's law draws, and store what they miss, while a tender moves pages. In
 //! the first half of the rounds most wanted values have less than 500 bytes, in the second half more: so pages have to go to the classes
-//! of greater chunks. `example_cache` plays few rounds, and prints what is so under every schedule. `example_cache show` plays more, and prints each.
+//! of greater chunks. `example_cache` plays few rounds, and prints what is so under every schedule. `example_cache show` plays more, and
+//! prints each.
 #![tactic(auto)]
 
 mod client;

@@ -1,3 +1,2 @@
 pub mod Refusals
 pub mod Classes
-pub mod Device

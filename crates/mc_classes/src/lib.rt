@@ -6,8 +6,7 @@
 //!   of memory.
 //! - [`ClassTable::class_for`] returns the lowest class with room for n bytes. `size`, `per_page`, `count`, `page`, `limit`,
 //!   `pages` and `arena_pages` return the table's numbers.
-//! - A [`Sink`] is a writer of bytes, for all crates above. Its ghost members show contracts the bytes that it holds and how
-//!   often a write failed. A failed write is a [`Fault`], and [`Failures`] counts them for contracts, at no cost.
+//! - The writers of `mc_io`, [`Sink`], [`Fault`] and [`Failures`], are passed on.
 //!
 //! ```rust
 //! fn chunk_size(alloc: Global, config: &Config, bytes: u64) -> Result<Option<u64>, ConfigError> {
@@ -26,13 +25,10 @@
 #![tactic(auto)]
 
 mod config;
-mod device;
-mod failures;
 mod laws;
 mod table;
 
 pub use config::{Config, ConfigError};
-pub use device::{Fault, Sink};
-pub use failures::Failures;
 pub use laws::{one_table, sound_table};
+pub use mc_io::{Failures, Fault, Sink};
 pub use table::{ClassId, ClassTable, PageId};

@@ -7,7 +7,7 @@ use Rattle.mc_classes.specs.declared.config.ConfigError.{ConfigError}
 use Rattle.mc_classes.specs.declared.config.ConfigError.TheVariants.{NoMemory}
 use Rattle.mc_classes.specs.Refusals.{refusal_of, number_of}
 use Rattle.mc_classes.specs.Classes.{Classes, IsTableOf}
-use Rattle.mc_classes.specs.Device.{Extends}
+use Rattle.mc_io.specs.Device.{Extends}
 use Rattle.mc_options.specs.declared.settings.Run.{Run}
 use Rattle.mc_script.specs.declared.command.Command.{Command}
 use Rattle.mc_script.specs.Script.{script_of}

@@ -1,7 +1,7 @@
 -- What a run by threads answers, and what it has written by then: nothing, or all at its end.
 use Rattle.std.specs.Prelude.{◌≡◌, ℕ, ◌<◌, ◌≤◌, List, length, Option, None, Some, Result, Ok, Err}
 use Rattle.std.specs.Io.KnownBytes.{Appends, Keeps}
-use Rattle.mc_classes.specs.Device.{Extends}
+use Rattle.mc_io.specs.Device.{Extends}
 use Rattle.mc_classes.specs.Refusals.{refusal_of}
 use Rattle.mc_options.specs.declared.settings.Run.{Run}
 use Rattle.mc_script.specs.declared.command.Command.{Command}

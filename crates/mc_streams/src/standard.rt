@@ -1,7 +1,7 @@
 //! Standard streams as the readers and writers of a run.
 ghost use Rattle.std.specs.Prelude.{◌≡◌, ◌<◌, ◌≤◌, ◌+◌, ◌-◌, ◌^◌, ◌⊎◌, ◌++◌, [], true, false, drop, length, take, IfOk, IsErr, OnErr, OnOk, vec_capacity, vec_len};
 ghost use Rattle.std.specs.Io.KnownBytes.{Appends, Consumes, IsAtEnd, Keeps, append_known};
-ghost use Rattle.mc_classes.specs.Device.{Extends};
+ghost use Rattle.mc_io.specs.Device.{Extends};
 
 use crate::recorded::{RecordedReader, is_interrupted};
 use crate::source::Source;

@@ -3,8 +3,8 @@ use Rattle.std.proofs.Common.{◌≡◌, ℕ, List, [], ◌++◌, Option, Some, 
 use Rattle.std.specs.Prelude.{OnErr, OnOk}
 use Rattle.std.specs.Io.KnownBytes.{Appends}
 use Rattle.std.proofs.KnownBytes.{Appends-trans}
-use Rattle.mc_classes.specs.declared.device.Fault.{Fault}
-use Rattle.mc_classes.specs.Device.{Extends}
+use Rattle.mc_io.specs.declared.device.Fault.{Fault}
+use Rattle.mc_io.specs.Device.{Extends}
 
 -- a text was written, and then another, if that went well
 pub appends_then : (r : Result (Unit {0}) Fault) (old mid new : Option (List ℕ)) (first second whole : List ℕ)

@@ -2,7 +2,7 @@
 ghost use Rattle.std.specs.Prelude.{◌≡◌, ◌+◌, ◌*◌, ◌<◌, ◌≤◌, ◌^◌, if◌then◌else◌, codes, count_by, nat_lt, OnErr, OnOk};
 ghost use Rattle.std.specs.List.{flat_map};
 ghost use Rattle.std.specs.Io.KnownBytes.{Appends};
-ghost use Rattle.mc_classes.specs.Device.{Extends};
+ghost use Rattle.mc_io.specs.Device.{Extends};
 ghost use Rattle.mc_watch.specs.Texts.{stat_line, class_line, class_lines, classes_lines, totals_lines, slabs_text, general_text, AreCounts};
 
 use itoa::Buffer;

@@ -1,7 +1,7 @@
 //! Writers, as contracts see them: by the bytes that they are known to hold, and the times that they failed.
 ghost use Rattle.std.specs.Prelude.{◌≡◌, ◌<◌, ℕ, List, Option, OnOk, OnErr};
 ghost use Rattle.std.specs.Io.KnownBytes.{Appends};
-ghost use Rattle.mc_classes.specs.Device.{Extends};
+ghost use Rattle.mc_io.specs.Device.{Extends};
 
 /// A read or a write failed. The device reports no more than that.
 #[derive(Clone, Copy, Debug, PartialEq, Eq)]
