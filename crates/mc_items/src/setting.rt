@@ -31,7 +31,7 @@ pub enum SetError {
     /// No class has chunks of that size.
     #[error("no class has chunks of that size")]
     TooLarge,
-    /// The class has no free chunk and no dead one, no page is left, and none of its oldest items, as many as an eviction looks at, could be evicted.
+    /// The class has no free chunk and no dead one, no page is left, and none of its candidates for an eviction could be evicted.
     #[error("no chunk is free, no page is left, and none of the class's oldest items could be evicted")]
     NoRoom,
     /// The first free chunk has the greatest issue number, or the hand has no stamp left.
@@ -43,8 +43,8 @@ pub enum SetError {
 }
 
 /// Stores an item of these words under the key, in place of the one that it had, and says its stamp. Its chunk is a free one of the
-/// lowest class where key, stamp, length and words fit; else a dead one; else one of a new page; else the first of the
-/// class's oldest items that nobody holds is evicted. It waits for the locks of the slabs and of the key's stripe. (memcached's `process_update_command`, with
+/// lowest class where key, stamp, length and words fit; else a dead one; else one of a new page; else the first candidate that nobody
+/// holds is evicted. It waits for the locks of the slabs and of the key's stripe. (memcached's `process_update_command`, with
 /// items.c's `do_item_alloc` and `do_store_item`)
 pub fn set<R: Wait>(
     rt: &R,

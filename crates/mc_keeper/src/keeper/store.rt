@@ -27,7 +27,7 @@ pub enum Stored {
     Yes,
     /// It is larger than a chunk of the last class. All is as before.
     TooLarge,
-    /// Its class has neither a free chunk nor a dead one, no page is left, and somebody holds each of the class's candidates for an eviction. No item
+    /// Its class has neither a free chunk nor a dead one, no page is left, and somebody holds each candidate for an eviction. No item
     /// came or went.
     NoRoom,
 }
@@ -35,7 +35,7 @@ pub enum Stored {
 impl Keeper {
     /// Stores an item of these words, 8 bytes each, under the key, in the place of the key's old one, which whoever holds it holds
     /// still. With key, stamp and length it takes 24 + 8 n bytes, and goes into a chunk of the lowest class that has so many: a
-    /// free one, else a dead one, else one of a new page, else that of the first candidate for an eviction that nobody holds, whose item
+    /// free one, else a dead one, else one of a new page, else that of the first candidate that nobody holds, whose item
     /// is evicted. In mode 2 of the automover an eviction asks for a page. (items.c's `do_item_alloc_pull` and
     /// `do_item_replace`, slabs.c's `slabs automove 2`; that the dead wait for a sweep is own.) The worker takes no part.
     ///
