@@ -1,4 +1,4 @@
 //! How far an eviction looks.
 
-/// How many of a class's oldest chunks an eviction looks at. (after items.c's `lru_pull_tail`, own)
+/// How many of a class's oldest chunks an eviction looks at. (the tries of items.c's `lru_pull_tail`)
 pub const EVICTION_TRIES: u64 = 5;
