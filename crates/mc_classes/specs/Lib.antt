@@ -1,3 +1,4 @@
+pub mod Limits
 pub mod Refusals
 pub mod Classes
 pub mod Device

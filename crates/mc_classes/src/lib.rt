@@ -8,10 +8,15 @@ mod config;
 mod device;
 mod failures;
 mod laws;
+mod limits;
 mod table;
 
 pub use config::{Config, ConfigError};
 pub use device::{Fault, Sink};
 pub use failures::Failures;
 pub use laws::{one_table, sound_table};
+pub use limits::{
+    LEAST_PAGE_BYTES, MOST_BULK, MOST_CLASSES, MOST_PAGE_BYTES, MOST_PAGE_CHUNKS, MOST_PAGES,
+    MOST_REFS, MOST_STRIPES,
+};
 pub use table::{ClassId, ClassTable, PageId};
