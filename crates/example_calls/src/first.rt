@@ -1,5 +1,6 @@
 //! The first chunk that a new arena hands out.
 ghost use Rattle.std.specs.Prelude.{◌≡◌, ℕ, ◌<◌, ◌≤◌, ◌↔◌, [], length, nat_lt, if◌then◌else◌, is_some, IfErr, IfOk, None, OnErr, OnOk, Some, true};
+ghost use Rattle.mc_classes.specs.Limits.{most_refs};
 ghost use Rattle.mc_pages.specs.Changes.{next_page};
 ghost use Rattle.mc_pages.specs.ClassState.{first_free};
 ghost use Rattle.mc_pages.specs.SlabState.{class_at};
@@ -82,7 +83,7 @@ fn header_of_first(
     requires held { (view hand.old).slabs ≡ Some (slabs_lent held.old) }
     requires whole { (slabs_lent held.old).uncut ≡ None }
     requires free { is_some (first_free (class_at (slabs_lent held.old) class)) ≡ true }
-    requires room { length (view hand.old).row.holdings ≤ 255 }
+    requires room { length (view hand.old).row.holdings ≤ most_refs }
     requires alone { (setup_of arena.now).hands ≡ 1 }
     requires before { has_prepared (view hand.old) ≡ true }
     ensures arena { IsHandOf arena.now hand.new }
@@ -114,7 +115,7 @@ pub fn pop_worn(
     requires arena { IsHandOf arena.now hand.old }
     requires class { is_class (setup_of arena.now).table class ≡ true }
     requires held { (view hand.old).slabs ≡ Some (slabs_lent held.old) }
-    requires room { length (view hand.old).row.holdings ≤ 255 }
+    requires room { length (view hand.old).row.holdings ≤ most_refs }
     requires worn { (setup_of arena.now).start ≡ most_issue }
     ensures arena { IsHandOf arena.now hand.new }
     ensures held { (view hand.new).slabs ≡ Some (slabs_lent held.new) }

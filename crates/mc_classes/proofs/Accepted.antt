@@ -4,20 +4,21 @@ use Rattle.std.proofs.lemmas.Bool.{and_parts, leb-true, ltb-true, eqb-true}
 use Rattle.std.proofs.lemmas.Option.{none-some}
 use Rattle.mc_classes.specs.declared.config.Config.{Config}
 use Rattle.mc_classes.specs.declared.config.ConfigError.{ConfigError}
+use Rattle.mc_classes.specs.Limits.{least_page_bytes, most_page_bytes, most_pages, most_stripes, most_page_chunks, most_bulk}
 use Rattle.mc_classes.specs.Refusals.{refusal_of, first_size, is_between}
 
 -- each number is within its bounds
 pub record IsAccepted (config : Config) : Type 0 where
   pub page_multiple : config.page % 8 ≡ 0
-  pub page : (64 ≤ config.page) × (config.page ≤ 16384)
+  pub page : (least_page_bytes ≤ config.page) × (config.page ≤ most_page_bytes)
   pub first : (24 ≤ config.first) × (config.first ≤ config.page)
   pub factor : (0 < config.den) × (config.den < config.num) × (config.num ≤ 65535)
   pub max_multiple : config.max % 8 ≡ 0
   pub max : (config.first ≤ config.max) × (config.max ≤ config.page)
-  pub pages : (1 ≤ config.limit / config.page) × (config.limit / config.page ≤ 64)
-  pub stripes : (1 ≤ config.stripes) × (config.stripes ≤ 64)
-  pub chunks : config.page / first_size config ≤ 256
-  pub bulk : (1 ≤ config.bulk) × (config.bulk ≤ 256)
+  pub pages : (1 ≤ config.limit / config.page) × (config.limit / config.page ≤ most_pages)
+  pub stripes : (1 ≤ config.stripes) × (config.stripes ≤ most_stripes)
+  pub chunks : config.page / first_size config ≤ most_page_chunks
+  pub bulk : (1 ≤ config.bulk) × (config.bulk ≤ most_bulk)
 
 -- a test that does not refuse is passed, and the next one follows
 passed : (test : Bool) (error : ConfigError) (rest : Option ConfigError) → cond (not test) (Some error) rest ≡ None → (test ≡ true) × (rest ≡ None)

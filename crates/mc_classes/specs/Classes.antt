@@ -2,6 +2,7 @@
 use Rattle.std.specs.Prelude.{◌≡◌, ℕ, ◌+◌, ◌-◌, ◌*◌, ◌/◌, ◌^◌, ◌<◌, ◌≤◌, IsTrue, nat_le, List, length, slice_get, slice_index, position, Option, Some}
 use Rattle.std.specs.Option.{option_map}
 use Rattle.mc_classes.specs.declared.config.Config.{Config}
+use Rattle.mc_classes.specs.Limits.{least_page_bytes, most_page_bytes, most_pages, most_classes, most_page_chunks}
 use Rattle.mc_classes.specs.Refusals.{rounded_up, is_below_max}
 
 -- the bytes of a page, the bytes that may be granted but for first pages of classes, and the size of each class, class 1 first
@@ -46,8 +47,8 @@ pub record ComesFrom (config : Config) (raws sizes : List ℕ) : Type 0 where
   pub begins : slice_get raws 0 ≡ Some config.first
   pub steps : (i : ℕ) → i + 1 < length sizes → IsStep config (slice_index raws i) (slice_index sizes i) (slice_index raws (i + 1))
   pub last : slice_get sizes (length sizes - 1) ≡ Some config.max
-  pub most : length sizes ≤ 63
-  pub ends : length sizes < 63 → config.max * config.den ≤ slice_index raws (length raws - 1) * config.num
+  pub most : length sizes ≤ most_classes
+  pub ends : length sizes < most_classes → config.max * config.den ≤ slice_index raws (length raws - 1) * config.num
 
 -- some raw sizes exist from which the table's sizes come
 pub record IsTableOf (config : Config) (classes : Classes) : Type 0 where
@@ -56,13 +57,12 @@ pub record IsTableOf (config : Config) (classes : Classes) : Type 0 where
   pub raws : List ℕ
   pub comes : ComesFrom config raws classes.sizes
 
--- what every table keeps: 1 to 63 classes, with chunks of 24 bytes to a page, none smaller than a lower class's; at most 256 chunks a page,
--- and at most 64 pages within the limit
+-- what every table keeps: its numbers are within the limits, its classes have 24 bytes to a page, and none is smaller than a lower one
 pub record IsSound (classes : Classes) : Type 0 where
-  pub page : (64 ≤ classes.page) × (classes.page ≤ 16384)
+  pub page : (least_page_bytes ≤ classes.page) × (classes.page ≤ most_page_bytes)
   pub limit : classes.limit < 2 ^ 64
-  pub pages : (1 ≤ pages_of classes) × (pages_of classes ≤ 64)
-  pub count : (1 ≤ length classes.sizes) × (length classes.sizes ≤ 63)
+  pub pages : (1 ≤ pages_of classes) × (pages_of classes ≤ most_pages)
+  pub count : (1 ≤ length classes.sizes) × (length classes.sizes ≤ most_classes)
   pub sizes : (class : ℕ) → IsClass classes class → (24 ≤ size_of classes class) × (size_of classes class ≤ classes.page)
-  pub chunks : (class : ℕ) → IsClass classes class → (1 ≤ per_page_of classes class) × (per_page_of classes class ≤ 256)
+  pub chunks : (class : ℕ) → IsClass classes class → (1 ≤ per_page_of classes class) × (per_page_of classes class ≤ most_page_chunks)
   pub order : (low high : ℕ) → IsClass classes low → IsClass classes high → low ≤ high → size_of classes low ≤ size_of classes high

@@ -1,5 +1,6 @@
 -- Which configurations are refused, and why.
 use Rattle.std.specs.Prelude.{ℕ, ◌+◌, ◌*◌, ◌/◌, ◌%◌, ◌==◌, Bool, not, ◌&&◌, nat_le, nat_lt, if◌then◌else◌, Option, None, Some}
+use Rattle.mc_classes.specs.Limits.{least_page_bytes, most_page_bytes, most_pages, most_stripes, most_page_chunks, most_bulk}
 use Rattle.mc_classes.specs.declared.config.Config.{Config}
 use Rattle.mc_classes.specs.declared.config.ConfigError.{ConfigError}
 use Rattle.mc_classes.specs.declared.config.ConfigError.TheVariants.{PageSize, FirstSize, Factor, ChunkMax, Limit, Stripes, TooManyChunks, Bulk, NoMemory}
@@ -23,14 +24,14 @@ first_size config = if is_below_max config config.first then rounded_up config.f
 -- the first test that the configuration fails, in the order of the refusals
 abbrev pub refusal_of : Config → Option ConfigError
 refusal_of config =
-    if not (config.page % 8 == 0 && is_between 64 16384 config.page) then Some PageSize
+    if not (config.page % 8 == 0 && is_between least_page_bytes most_page_bytes config.page) then Some PageSize
     else if not (is_between 24 config.page config.first) then Some FirstSize
     else if not (nat_lt 0 config.den && nat_lt config.den config.num && nat_le config.num 65535) then Some Factor
     else if not (config.max % 8 == 0 && is_between config.first config.page config.max) then Some ChunkMax
-    else if not (is_between 1 64 (config.limit / config.page)) then Some Limit
-    else if not (is_between 1 64 config.stripes) then Some Stripes
-    else if not (nat_le (config.page / first_size config) 256) then Some TooManyChunks
-    else if not (is_between 1 256 config.bulk) then Some Bulk
+    else if not (is_between 1 most_pages (config.limit / config.page)) then Some Limit
+    else if not (is_between 1 most_stripes config.stripes) then Some Stripes
+    else if not (nat_le (config.page / first_size config) most_page_chunks) then Some TooManyChunks
+    else if not (is_between 1 most_bulk config.bulk) then Some Bulk
     else None
 
 -- the number of a refusal, counted from 1 in the order of the tests

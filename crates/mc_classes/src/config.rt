@@ -2,6 +2,9 @@
 ghost use Rattle.std.specs.Prelude.{◌≡◌, ◌^◌, ◌≤◌, IfErr, OnOk};
 ghost use Rattle.mc_classes.specs.Refusals.{refusal_of, number_of, rounded_up, is_below_max, first_size};
 
+use crate::limits::{
+    LEAST_PAGE_BYTES, MOST_BULK, MOST_PAGE_BYTES, MOST_PAGE_CHUNKS, MOST_PAGES, MOST_STRIPES,
+};
 use mc_memory::Refused;
 use thiserror::Error;
 
@@ -90,7 +93,7 @@ impl From<Refused> for ConfigError {
 
 /// The least multiple of 8 that is at least `n`.
 pub(crate) fn rounded_up(n: u64) -> u64
-    requires { n ≤ 16384 }
+    requires { n ≤ MOST_PAGE_BYTES }
     ensures { result ≡ rounded_up n }
 {
     n.div_ceil(8) * 8
@@ -101,7 +104,7 @@ impl Config {
     pub(crate) fn is_below_max(&self, raw: u64) -> bool
         requires raw { raw ≤ 2 ^ 30 }
         requires num { self.now.num ≤ 65535 }
-        requires max { self.now.max ≤ 16384 }
+        requires max { self.now.max ≤ MOST_PAGE_BYTES }
         requires den { self.now.den ≤ 65535 }
         ensures { result ≡ is_below_max self.now raw }
     {
@@ -110,9 +113,9 @@ impl Config {
 
     /// The size of class 1.
     fn first_size(&self) -> u64
-        requires first { self.now.first ≤ 16384 }
+        requires first { self.now.first ≤ MOST_PAGE_BYTES }
         requires num { self.now.num ≤ 65535 }
-        requires max { self.now.max ≤ 16384 }
+        requires max { self.now.max ≤ MOST_PAGE_BYTES }
         requires den { self.now.den ≤ 65535 }
         ensures { result ≡ first_size self.now }
     {
@@ -128,7 +131,7 @@ impl Config {
         ensures accepted { OnOk result (refusal_of self.now ≡ None) }
         ensures refused { IfErr result (λ error. refusal_of self.now ≡ Some error) }
     {
-        if self.page % 8 != 0 || self.page < 64 || self.page > 16_384 {
+        if self.page % 8 != 0 || self.page < LEAST_PAGE_BYTES || self.page > MOST_PAGE_BYTES {
             return Err(ConfigError::PageSize);
         }
         if self.first < 24 || self.first > self.page {
@@ -141,16 +144,16 @@ impl Config {
             return Err(ConfigError::ChunkMax);
         }
         let pages = self.limit / self.page;
-        if pages < 1 || pages > 64 {
+        if pages < 1 || pages > MOST_PAGES {
             return Err(ConfigError::Limit);
         }
-        if self.stripes < 1 || self.stripes > 64 {
+        if self.stripes < 1 || self.stripes > MOST_STRIPES {
             return Err(ConfigError::Stripes);
         }
-        if self.page / self.first_size() > 256 {
+        if self.page / self.first_size() > MOST_PAGE_CHUNKS {
             return Err(ConfigError::TooManyChunks);
         }
-        if self.bulk < 1 || self.bulk > 256 {
+        if self.bulk < 1 || self.bulk > MOST_BULK {
             return Err(ConfigError::Bulk);
         }
         Ok(())

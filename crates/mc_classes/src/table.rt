@@ -4,6 +4,7 @@ ghost use Rattle.mc_classes.specs.Refusals.{refusal_of};
 ghost use Rattle.mc_classes.specs.Classes.{ComesFrom, IsClass, IsSound, IsTableOf, arena_pages_of, class_of, pages_of, per_page_of, size_of};
 
 use crate::config::{Config, ConfigError, rounded_up};
+use crate::limits::MOST_CLASSES;
 use mc_memory::{Refused, with_capacity};
 use std::alloc::Global;
 use std::marker::Model;
@@ -13,9 +14,6 @@ pub type ClassId = u64;
 
 /// The number of a page, from 0.
 pub type PageId = u64;
-
-/// The most classes that a table has.
-const MOST_CLASSES: usize = 63;
 
 /// The size classes of a configuration, smallest first.
 #[derive(Drop)]
@@ -113,7 +111,7 @@ impl ClassTable {
         self.limit / self.page
     }
 
-    /// How many pages there are, at most 127: those within the limit, and for each class one that it may get as its
+    /// How many pages there are, `most_arena_pages` at most: those within the limit, and for each class one that it may get as its
     /// first when these are granted.
     pub fn arena_pages(&self) -> u64
         ensures pages { result ≡ arena_pages_of self.now }
@@ -136,9 +134,9 @@ fn sizes_of(alloc: Global, config: &Config) -> Result<Vec<u64>, Refused>
     requires { refusal_of config.now ≡ None }
     ensures { IfOk result (λ sizes. (raws : List ℕ) × ComesFrom config.now raws sizes.items) }
 {
-    let mut sizes = with_capacity(alloc, MOST_CLASSES)?;
+    let mut sizes = with_capacity(alloc, MOST_CLASSES as usize)?;
     let mut raw = config.first;
-    while sizes.len() + 1 < MOST_CLASSES && config.is_below_max(raw) {
+    while sizes.len() + 1 < MOST_CLASSES as usize && config.is_below_max(raw) {
         let size = rounded_up(raw);
         sizes.push(size).unwrap();
         raw = size * config.num / config.den;

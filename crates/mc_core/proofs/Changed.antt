@@ -12,6 +12,7 @@ use Rattle.mc_core.specs.Columns.{Each, holds, holders}
 use Rattle.mc_core.proofs.Base.{each_row, each_set}
 use Rattle.mc_core.proofs.Holders.{holds-cons, holders_set, not_held}
 use Rattle.mc_core.proofs.Rows.{rows_less}
+use Rattle.mc_core.specs.Chunks.{most_holdings}
 
 -- the hand's holdings that pass the test are changed
 abbrev pub rows_changed : List (List Holding) → ℕ → (Holding → Bool) → (Holding → Holding) → List (List Holding)
@@ -49,11 +50,11 @@ module _ (test : Holding → Bool) (change : Holding → Holding) where
     holders_changed within same chunk =
         let set = holders_set chunk rows hand (change_each test change row_of_hand) within in let as_often = holds_changed same chunk row_of_hand in omega arith
 
-    pub most_changed : hand < length rows → All (λ row. length row ≤ 256) rows → All (λ row. length row ≤ 256) (rows_changed rows hand test change)
+    pub most_changed : hand < length rows → All (λ row. length row ≤ most_holdings) rows → All (λ row. length row ≤ most_holdings) (rows_changed rows hand test change)
     most_changed within most =
-        let before : length row_of_hand ≤ 256 = most hand [] within in
+        let before : length row_of_hand ≤ most_holdings = most hand [] within in
         let long : length (change_each test change row_of_hand) ≡ length row_of_hand = length-map row_of_hand changed in
-        All-set (λ (row : List Holding). length row ≤ 256) rows hand (change_each test change row_of_hand) (omega arith) most
+        All-set (λ (row : List Holding). length row ≤ most_holdings) rows hand (change_each test change row_of_hand) (omega arith) most
 
     -- whatever holds of each holding holds of those that are changed, if the change keeps it
     pub each_changed : (P Q : Holding → Type 0) → ((holding : Holding) → P holding → Q holding) → ((holding : Holding) → test holding ≡ true → P holding → Q (change holding)) → Each P rows → Each Q (rows_changed rows hand test change)

@@ -15,7 +15,7 @@ use Rattle.mc_core.specs.declared.holding.Purpose.TheVariants.{Item, Copy}
 use Rattle.mc_core.specs.Head.{is_free}
 use Rattle.mc_core.specs.State.{State, is_class, has_chunk, head_place, head_at, room_in, is_hand, has_slabs, with_slabs, holdings_at}
 use Rattle.mc_core.specs.Silent.{is_handed_out}
-use Rattle.mc_core.specs.Chunks.{most_issue, has_place, can_hand_out, handed_out, with_fresh, new_holding, next_free, can_pop, popped, after_pop, target_of, is_target, popped_off, can_pop_off, after_pop_off}
+use Rattle.mc_core.specs.Chunks.{most_issue, has_place, can_hand_out, handed_out, with_fresh, new_holding, next_free, can_pop, popped, after_pop, target_of, is_target, popped_off, can_pop_off, after_pop_off, most_holdings}
 use Rattle.mc_core.specs.Columns.{Shows, holders, link_of}
 use Rattle.mc_core.specs.Past.{Moment}
 use Rattle.mc_core.specs.Lawful.{IsLawful}
@@ -41,7 +41,7 @@ none_known (suc n) (suc place) word nothing is at = none_known n place word noth
 
 module _ (m : Moment) (l : IsLawful m) (hand : ℕ) (there : is_hand m.state hand ≡ true) (next : SlabState) (same : (page : ℕ) → class_of_page next page ≡ class_of_page m.state.slabs page)
     (chunk : ChunkId) (near : has_chunk m.state.table chunk ≡ true) (free : is_free (head_at m.state chunk).tag ≡ true) (unused : (head_at m.state chunk).issue < most_issue)
-    (room : length (holdings_at m.state hand) < 256) (purpose : Purpose) where
+    (room : length (holdings_at m.state hand) < most_holdings) (purpose : Purpose) where
   abbrev old : Head
   old = head_at m.state chunk
 
@@ -99,7 +99,7 @@ pub record MayHandOut (m : Moment) (hand : ℕ) (chunk : ChunkId) : Type 0 where
   pub near : has_chunk m.state.table chunk ≡ true
   pub free : is_free (head_at m.state chunk).tag ≡ true
   pub unused : (head_at m.state chunk).issue < most_issue
-  pub room : length (holdings_at m.state hand) < 256
+  pub room : length (holdings_at m.state hand) < most_holdings
 
 module _ (m : Moment) (l : IsLawful m) (hand : ℕ) where
   can_hand_out_parts : (chunk : ChunkId) → can_hand_out m.state (Some chunk) ≡ true → (is_free (head_at m.state chunk).tag ≡ true) × ((head_at m.state chunk).issue < most_issue)
@@ -119,7 +119,7 @@ module _ (m : Moment) (l : IsLawful m) (hand : ℕ) where
         | Some chunk ↦ λ first may.
             let at = first_placed m l class chunk is first in
             let free = can_hand_out_parts chunk may in
-            each chunk (record { near = near_placed m l chunk at.1; free = free.0; unused = free.1; room = ltb-true (length (holdings_at m.state hand)) 256 more.1 })
+            each chunk (record { near = near_placed m l chunk at.1; free = free.0; unused = free.1; room = ltb-true (length (holdings_at m.state hand)) most_holdings more.1 })
       ] refl parts.1
 
   -- and after one takes the place of another
@@ -135,7 +135,7 @@ module _ (m : Moment) (l : IsLawful m) (hand : ℕ) where
         | Some chunk ↦ λ found may.
             let at = found_placed m l class chunk (is_target m.state.table m.state.heads old.page) is found in
             let free = can_hand_out_parts chunk may in
-            each chunk (record { near = near_placed m l chunk at.1; free = free.0; unused = free.1; room = ltb-true (length (holdings_at m.state hand)) 256 more.1 })
+            each chunk (record { near = near_placed m l chunk at.1; free = free.0; unused = free.1; room = ltb-true (length (holdings_at m.state hand)) most_holdings more.1 })
       ] refl parts.1
 
   pub pop_tallied : (class : ℕ) → is_hand m.state hand ≡ true → can_pop m.state hand class ≡ true → IsTallied (after_pop m.state hand class)

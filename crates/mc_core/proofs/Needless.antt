@@ -19,7 +19,7 @@ use Rattle.mc_core.specs.Head.{is_free, is_unlinked, is_linked, is_dead}
 use Rattle.mc_core.specs.Holdings.{is_of, is_fresh, holding_of}
 use Rattle.mc_core.specs.State.{is_class, has_chunk, head_at, holdings_at}
 use Rattle.mc_core.specs.Silent.{is_among, is_handed_out, is_listed}
-use Rattle.mc_core.specs.Chunks.{next_free, is_target, target_of}
+use Rattle.mc_core.specs.Chunks.{next_free, is_target, target_of, most_holdings}
 use Rattle.mc_core.specs.Items.{can_count, chunk_of}
 use Rattle.mc_core.specs.Columns.{head_in, holders}
 use Rattle.mc_core.specs.Places.{is_cut_there}
@@ -33,11 +33,11 @@ use Rattle.mc_core.proofs.Holders.{found_each, found_passes}
 use Rattle.mc_core.proofs.Entered.{entry_of, tag_free, tag_unlinked}
 
 -- so many hands hold a chunk at most
-holders_most : (chunk : ChunkId) (rows : List (List Holding)) → All (λ row. length row ≤ 256) rows → holders chunk rows ≤ length rows * 256
+holders_most : (chunk : ChunkId) (rows : List (List Holding)) → All (λ row. length row ≤ most_holdings) rows → holders chunk rows ≤ length rows * most_holdings
 holders_most chunk [] most = omega arith
 holders_most chunk (row ∷ rows) most =
-    let here : length row ≤ 256 = All-head (λ (r : List Holding). length r ≤ 256) row rows most in
-    let rest = holders_most chunk rows (All-tail (λ (r : List Holding). length r ≤ 256) row rows most) in
+    let here : length row ≤ most_holdings = All-head (λ (r : List Holding). length r ≤ most_holdings) row rows most in
+    let rest = holders_most chunk rows (All-tail (λ (r : List Holding). length r ≤ most_holdings) row rows most) in
     let few = count_by-le-length (is_of chunk) row in
     omega (arith, here, rest, few)
 

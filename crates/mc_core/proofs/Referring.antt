@@ -1,6 +1,7 @@
 -- A reference to a linked chunk comes: counts and holdings stay as the law says.
 use Rattle.std.proofs.Common.{◌≡◌, ◌⊎◌, ℕ, ◌+◌, ◌<◌, ◌≤◌, ◌==◌, true, false, List, length, Some, None, refl, sym, ap, ◌∙◌, arith, slice_set, slice_index_or, inl, inr, ltb-true}
 use Rattle.std.proofs.lemmas.Bool.{cases_Bool, and_parts}
+use Rattle.mc_classes.specs.Limits.{most_refs}
 use Rattle.mc_pages.specs.declared.ids.ChunkId.{ChunkId}
 use Rattle.mc_pages.specs.SlabState.{class_of_page}
 use Rattle.mc_core.specs.declared.head.Head.{Head}
@@ -10,7 +11,7 @@ use Rattle.mc_core.specs.declared.holding.Holding.{Holding}
 use Rattle.mc_core.specs.Head.{is_free, is_out, is_linked}
 use Rattle.mc_core.specs.Holdings.{is_fresh}
 use Rattle.mc_core.specs.State.{has_chunk, head_place, head_at, room_in, word_at, is_hand, holdings_at, item_at}
-use Rattle.mc_core.specs.Chunks.{has_place}
+use Rattle.mc_core.specs.Chunks.{has_place, most_holdings}
 use Rattle.mc_core.specs.Items.{can_count, referred, new_reference, with_reference, chunk_of, can_look_up, can_refer, can_refer_to, with_got, referred_to, after_refer, can_again, has_place_unlocked}
 use Rattle.mc_core.specs.Columns.{head_in, Each}
 use Rattle.mc_core.specs.Past.{Moment}
@@ -42,7 +43,7 @@ module _ (m : Moment) (l : IsLawful m) (hand : ℕ) (there : is_hand m.state han
       ]
 
   module _ (chunk : ChunkId) (near : has_chunk m.state.table chunk ≡ true) (linked : (head_at m.state chunk).tag ≡ Linked)
-      (fit : 3 + word_at m.state chunk 2 ≤ room_in m.state.table (class_of_page m.state.slabs chunk.page)) (room : length (holdings_at m.state hand) < 256) where
+      (fit : 3 + word_at m.state chunk 2 ≤ room_in m.state.table (class_of_page m.state.slabs chunk.page)) (room : length (holdings_at m.state hand) < most_holdings) where
     abbrev old : Head
     old = head_at m.state chunk
 
@@ -85,7 +86,7 @@ module _ (m : Moment) (l : IsLawful m) (hand : ℕ) (there : is_hand m.state han
   refer_tallied key can =
       let parts = and_parts _ (can_refer_to m.state (chunk_of m.state key)) can in
       let more = and_parts (can_look_up m.state hand key) (has_place m.state hand) parts.0 in
-      let room = ltb-true (length (holdings_at m.state hand)) 256 more.1 in
+      let room = ltb-true (length (holdings_at m.state hand)) most_holdings more.1 in
       elim (chunk_of m.state key) as (λ o. chunk_of m.state key ≡ o → can_refer_to m.state o ≡ true → IsTallied (referred_to (with_got m.state hand key) hand o)) [
         | None ↦ λ _ never. absurd (cc)
         | Some place ↦ λ found may.
@@ -100,5 +101,5 @@ module _ (m : Moment) (l : IsLawful m) (hand : ℕ) (there : is_hand m.state han
       let linked = and_parts _ (is_linked (head_at m.state chunk).tag) same.0 in
       let room = and_parts (has_chunk m.state.table chunk) (has_place_unlocked m.state hand) linked.0 in
       let is = tag_linked (head_at m.state chunk).tag linked.1 in
-      let few = ltb-true (length (holdings_at m.state hand)) 255 room.1 in
+      let few = ltb-true (length (holdings_at m.state hand)) most_refs room.1 in
       referred_tallied chunk room.0 is (entry_linked m l chunk room.0 is).fits (omega arith)

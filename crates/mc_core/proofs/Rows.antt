@@ -13,6 +13,7 @@ use Rattle.mc_core.specs.Holdings.{is_of, is_fresh, lose}
 use Rattle.mc_core.specs.Columns.{Each, holders}
 use Rattle.mc_core.proofs.Base.{each_row, each_set, all_lose, all_more}
 use Rattle.mc_core.proofs.Holders.{holds-push, holds-lose, length-lose, length-lose-le, holders_set, nobodys}
+use Rattle.mc_core.specs.Chunks.{most_holdings}
 
 -- the hand has one holding more
 abbrev pub rows_more : List (List Holding) → ℕ → Holding → List (List Holding)
@@ -40,14 +41,14 @@ module _ (rows : List (List Holding)) (hand : ℕ) where
   each_more P holding each is = each_set P rows hand (row ++ holding ∷ []) each (all_more P row holding (each_row P rows hand each) is)
 
   -- no row grows too long
-  pub most_less : (test : Holding → Bool) → hand < length rows → All (λ row. length row ≤ 256) rows → All (λ row. length row ≤ 256) (rows_less rows hand test)
+  pub most_less : (test : Holding → Bool) → hand < length rows → All (λ row. length row ≤ most_holdings) rows → All (λ row. length row ≤ most_holdings) (rows_less rows hand test)
   most_less test within most =
-      let before : length row ≤ 256 = most hand [] within in
+      let before : length row ≤ most_holdings = most hand [] within in
       let less = length-lose-le test row in
-      All-set (λ (row : List Holding). length row ≤ 256) rows hand (lose test row) (omega arith) most
+      All-set (λ (row : List Holding). length row ≤ most_holdings) rows hand (lose test row) (omega arith) most
 
-  pub most_more : (holding : Holding) → length row < 256 → All (λ row. length row ≤ 256) rows → All (λ row. length row ≤ 256) (rows_more rows hand holding)
-  most_more holding room most = All-set (λ (row : List Holding). length row ≤ 256) rows hand (row ++ holding ∷ []) (rw (length-append row (holding ∷ [])) (omega arith)) most
+  pub most_more : (holding : Holding) → length row < most_holdings → All (λ row. length row ≤ most_holdings) rows → All (λ row. length row ≤ most_holdings) (rows_more rows hand holding)
+  most_more holding room most = All-set (λ (row : List Holding). length row ≤ most_holdings) rows hand (row ++ holding ∷ []) (rw (length-append row (holding ∷ [])) (omega arith)) most
 
   module _ (within : hand < length rows) where
     holders_more : (chunk : ChunkId) (holding : Holding) → holders chunk (rows_more rows hand holding) ≡ holders chunk rows + truth (is_of chunk holding)
@@ -105,15 +106,15 @@ module _ (rows : List (List Holding)) (hand : ℕ) where
         again others there =
             let set = holders_set chunk others hand (slice_index_or others hand [] ++ holding ∷ []) there in let push = holds-push chunk (slice_index_or others hand []) holding in omega arith
 
-    pub most_swapped : (test : Holding → Bool) (lost holding : Holding) → find test row ≡ Some lost → All (λ row. length row ≤ 256) rows → All (λ row. length row ≤ 256) (rows_more (rows_less rows hand test) hand holding)
+    pub most_swapped : (test : Holding → Bool) (lost holding : Holding) → find test row ≡ Some lost → All (λ row. length row ≤ most_holdings) rows → All (λ row. length row ≤ most_holdings) (rows_more (rows_less rows hand test) hand holding)
     most_swapped test lost holding found most =
-        let before : length row ≤ 256 = most hand [] within in
+        let before : length row ≤ most_holdings = most hand [] within in
         let shorter = length-lose test row lost found in
         let now = ap length (get_or-set_same rows hand (lose test row) [] within) in
         most_more_of (rows_less rows hand test) (omega arith) (most_less test within most)
       where
-        most_more_of : (others : List (List Holding)) → length (slice_index_or others hand []) < 256 → All (λ row. length row ≤ 256) others → All (λ row. length row ≤ 256) (rows_more others hand holding)
-        most_more_of others room most = All-set (λ (row : List Holding). length row ≤ 256) others hand (slice_index_or others hand [] ++ holding ∷ []) (rw (length-append (slice_index_or others hand []) (holding ∷ [])) (omega arith)) most
+        most_more_of : (others : List (List Holding)) → length (slice_index_or others hand []) < most_holdings → All (λ row. length row ≤ most_holdings) others → All (λ row. length row ≤ most_holdings) (rows_more others hand holding)
+        most_more_of others room most = All-set (λ (row : List Holding). length row ≤ most_holdings) others hand (slice_index_or others hand [] ++ holding ∷ []) (rw (length-append (slice_index_or others hand []) (holding ∷ [])) (omega arith)) most
 
 -- where none passes, none is lost
 lose_none : (test : Holding → Bool) (row : List Holding) → find test row ≡ None → lose test row ≡ row

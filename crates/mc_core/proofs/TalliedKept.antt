@@ -32,6 +32,7 @@ use Rattle.mc_core.proofs.Dropping.{drop_tallied, unlink_tallied, condemn_tallie
 use Rattle.mc_core.proofs.Closing.{put_back_tallied, clear_tallied, cut_tallied}
 use Rattle.mc_core.proofs.Made.{first_heads}
 use Rattle.mc_core.specs.Holdings.{words_of}
+use Rattle.mc_core.specs.Chunks.{most_holdings}
 
 pub counted_changes : ChangesKeep CountedIn
 counted_changes m hand (Grow class) may = may.lawful.counted
@@ -145,4 +146,4 @@ held_first table stripes hands start sound some_stripe some_hand few _ =
     let heads = replicate (arena_pages_of table * most_of table) (uncut_from start) in
     let words = (new_state table stripes hands start).words in
     held_from_so table (fresh_slabs table) heads words (replicate hands []) (none_each (IsSo table (fresh_slabs table) heads words (replicate hands [])) hands)
-    (All-replicate (λ (row : List Holding). length row ≤ 256) hands [] (omega arith))
+    (All-replicate (λ (row : List Holding). length row ≤ most_holdings) hands [] (omega arith))

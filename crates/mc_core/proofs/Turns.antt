@@ -15,6 +15,7 @@ use Rattle.mc_core.specs.State.{head_place, has_chunk, most_of, page_words, room
 use Rattle.mc_core.specs.Columns.{head_in, Shows, Each, holders, link_of}
 use Rattle.mc_core.specs.Counts.{AreCounted, AreHeld, IsSized}
 use Rattle.mc_core.proofs.Base.{head_written, head_other}
+use Rattle.mc_core.specs.Chunks.{most_holdings}
 
 -- the words of a chunk whose page stays of its class
 pub shows_moved : (table : Classes) (slabs next : SlabState) (words : List ℕ) (chunk : ChunkId) (known : Words) → class_of_page next chunk.page ≡ class_of_page slabs chunk.page →
@@ -46,7 +47,7 @@ each_so table slabs heads words rows held = λ hand row within place holding ins
   alone = held.alone hand row within place holding inside;
 }
 
-pub held_from_so : (table : Classes) (slabs : SlabState) (heads : List Head) (words : List ℕ) (rows : List (List Holding)) → Each (IsSo table slabs heads words rows) rows → All (λ row. length row ≤ 256) rows →
+pub held_from_so : (table : Classes) (slabs : SlabState) (heads : List Head) (words : List ℕ) (rows : List (List Holding)) → Each (IsSo table slabs heads words rows) rows → All (λ row. length row ≤ most_holdings) rows →
     AreHeld table slabs heads words rows
 held_from_so table slabs heads words rows each most = record {
   inside = λ hand row within place holding inside. (each hand row within place holding inside).inside;

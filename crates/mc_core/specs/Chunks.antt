@@ -14,6 +14,7 @@ use Rattle.mc_core.specs.declared.holding.Kind.{Kind}
 use Rattle.mc_core.specs.declared.holding.Kind.TheVariants.{Reference, Fresh}
 use Rattle.mc_core.specs.declared.holding.Purpose.{Purpose}
 use Rattle.mc_core.specs.declared.holding.Purpose.TheVariants.{Item, Copy}
+use Rattle.mc_core.specs.declared.limits.TheConstants.{MOST_HOLDINGS}
 use Rattle.mc_core.specs.declared.look.Look.TheVariants.{Popped, PoppedOff, PutBack, Cleared, Cut}
 use Rattle.mc_core.specs.Head.{is_free, is_out, is_dead}
 use Rattle.mc_core.specs.Holdings.{is_of, is_fresh, holding_of, words_of}
@@ -27,7 +28,7 @@ most_issue = 2 ^ 46 - 1
 
 -- the most holdings of a hand
 abbrev pub most_holdings : ℕ
-most_holdings = 256
+most_holdings = MOST_HOLDINGS
 
 -- the hand may hold one more chunk
 abbrev pub has_place : State → ℕ → Bool

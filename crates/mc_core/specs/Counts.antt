@@ -10,6 +10,7 @@ use Rattle.mc_core.specs.Head.{is_free, is_out}
 use Rattle.mc_core.specs.Holdings.{is_fresh, words_of, item_of, length_of}
 use Rattle.mc_core.specs.State.{room_in, has_chunk}
 use Rattle.mc_core.specs.Columns.{head_in, Shows, Each, holders, link_of}
+use Rattle.mc_core.specs.Chunks.{most_holdings}
 
 -- counts: a header counts its link and its holders; the count is 0 where the chunk is out or free; and issue numbers fit their bits
 pub record AreCounted (table : Classes) (heads : List Head) (holdings : List (List Holding)) : Type 0 where
@@ -28,4 +29,4 @@ pub record AreHeld (table : Classes) (slabs : SlabState) (heads : List Head) (wo
   pub shows : Each (λ holding. Shows table slabs words holding.chunk (words_of holding)) holdings
   pub sized : Each (λ holding. IsSized (room_in table (class_of_page slabs holding.chunk.page)) holding) holdings
   pub alone : Each (λ holding. is_fresh holding ≡ true → ((head_in table heads holding.chunk).tag ≡ Unlinked) × (holders holding.chunk holdings ≡ 1)) holdings
-  pub most : All (λ row. length row ≤ 256) holdings
+  pub most : All (λ row. length row ≤ most_holdings) holdings

@@ -1,6 +1,7 @@
 -- Items that are linked, referred to, read and unlinked.
 use Rattle.std.specs.Prelude.{ℕ, ◌+◌, ◌-◌, ◌/◌, ◌%◌, ◌^◌, ◌==◌, Bool, true, false, not, ◌&&◌, ◌||◌, nat_lt, if◌then◌else◌, List, [], ◌∷◌, length, is_none, nat_eq, Option, Some, None}
 use Rattle.std.specs.Option.{option_eq, option_map_or}
+use Rattle.mc_classes.specs.Limits.{most_refs}
 use Rattle.mc_pages.specs.declared.ids.ChunkId.{ChunkId}
 use Rattle.mc_pages.specs.ClassState.{is_chunk}
 use Rattle.mc_stripe.specs.StripeState.{StripeState, ReadyStripe, place_of, can_store}
@@ -200,9 +201,9 @@ after_unlink state hand key =
     (stripe_unlinked (stripe_at state (stripe_of state key)) (has_fresh (holdings_at state hand)) (writer_of state hand) key))
     (chunk_of state key)
 
--- the hand may take one more reference without a lock: it holds fewer than 255 chunks, so a place is left for one that it gets under a lock
+-- the hand may take one more reference without a lock: it holds few enough chunks that a place is left for one that it gets under a lock
 abbrev pub has_place_unlocked : State → ℕ → Bool
-has_place_unlocked state hand = nat_lt (length (holdings_at state hand)) 255
+has_place_unlocked state hand = nat_lt (length (holdings_at state hand)) most_refs
 
 -- the hand has a place without a lock, and the chunk is linked with this issue, with room in its count
 abbrev pub can_again : State → ℕ → ChunkId → ℕ → Bool

@@ -4,6 +4,7 @@ use Rattle.std.specs.Option.{option_map, option_map_or, option_or}
 use Rattle.std.proofs.lemmas.List.{append-nil, length-append}
 use Rattle.std.proofs.lemmas.List.Folds.{find-append}
 use Rattle.std.proofs.lemmas.List.Elements.{All-contains, Contains-append_left}
+use Rattle.mc_classes.specs.Limits.{most_refs}
 use Rattle.mc_pages.specs.declared.ids.ChunkId.{ChunkId}
 use Rattle.mc_core.specs.declared.holding.Holding.{Holding}
 use Rattle.mc_core.specs.declared.holding.Kind.{Kind}
@@ -41,11 +42,11 @@ pub ready_still : (before now : Hand) → now.locks ≡ before.locks → (view n
 ready_still before now locks holdings ready = record {
   unlocked = unlocked_still before now locks ready;
   unfilled = ap has_fresh holdings ∙ ready.unfilled;
-  few = subst (λ (hs : List Holding). length hs ≤ 255) (sym holdings) ready.few;
+  few = subst (λ (hs : List Holding). length hs ≤ most_refs) (sym holdings) ready.few;
 }
 
 -- and one that holds one more, where there is room for it
-pub ready_more : (before now : Hand) (one : Holding) → now.locks ≡ before.locks → (view now).row.holdings ≡ (view before).row.holdings ++ one ∷ [] → is_fresh one ≡ false → length (view before).row.holdings < 255 → IsReady (view before) → IsReady (view now)
+pub ready_more : (before now : Hand) (one : Holding) → now.locks ≡ before.locks → (view now).row.holdings ≡ (view before).row.holdings ++ one ∷ [] → is_fresh one ≡ false → length (view before).row.holdings < most_refs → IsReady (view before) → IsReady (view now)
 ready_more before now one locks holdings old few ready = record {
   unlocked = unlocked_still before now locks ready;
   unfilled = ap has_fresh holdings ∙ fresh_more (view before).row.holdings one ready.unfilled old;

@@ -1,6 +1,7 @@
 -- What a get leaves, and a delete, from what they did.
 use Rattle.std.proofs.Common.{◌≡◌, ◌<◌, ℕ, Bool, true, [], ◌∷◌, length, Option, Some, None, Result, Ok, Err, IfOk, IfSome, OnErr, refl, ap, sym, ◌∙◌}
 use Rattle.std.specs.Option.{option_map}
+use Rattle.mc_classes.specs.Limits.{most_refs}
 use Rattle.mc_pages.specs.declared.ids.ChunkId.{ChunkId}
 use Rattle.mc_core.specs.Past.{known_by}
 use Rattle.mc_words.specs.declared.item.refs.Again.{Again}
@@ -53,8 +54,8 @@ pub get_leaves : (number stripe key : ℕ) (found : Option Ref) (view now : View
 get_leaves number stripe key (Some item) view now did = leaves_one item view now (gets_one number stripe key item view now did)
 get_leaves number stripe key None view now on = leaves_none view now (none_keeps number stripe key view now on)
 
--- a ready hand, where it held fewer than 255
-pub get_ready : (before now : Hand) (found : Option Ref) → now.locks ≡ before.locks → HoldsToo found (view before) (view now) → length (view before).row.holdings < 255 → IsReady (view before) → IsReady (view now)
+-- a ready hand, where it held few enough for one more
+pub get_ready : (before now : Hand) (found : Option Ref) → now.locks ≡ before.locks → HoldsToo found (view before) (view now) → length (view before).row.holdings < most_refs → IsReady (view before) → IsReady (view now)
 get_ready before now (Some item) locks holds few ready = ready_more before now (holding_by (view now) item) locks holds refl few ready
 get_ready before now None locks holds few ready = ready_still before now locks holds ready
 

@@ -1,7 +1,9 @@
 //! References to the items of keys, by the locks of their stripes.
 ghost use Rattle.std.specs.Option.{option_map};
 ghost use Rattle.std.specs.Prelude.{◌<◌, ◌↔◌, ◌≡◌, ◌≤◌, Err, IfOk, IfSome, OnErr, false, length, true};
+ghost use Rattle.mc_classes.specs.Limits.{most_refs};
 ghost use Rattle.mc_core.specs.State.{has_chunk};
+ghost use Rattle.mc_core.specs.Chunks.{most_holdings};
 ghost use Rattle.mc_words.specs.hand.Arenas.{IsHandOf, setup_of, view};
 ghost use Rattle.mc_words.specs.lock.Lent.{IsLentStripe};
 ghost use Rattle.mc_words.specs.hand.Observers.{locks_of, number_of, stripe_lent, stripe_number};
@@ -17,6 +19,7 @@ ghost use Rattle.mc_stripe.specs.StripeState as stripes;
 ghost use Rattle.mc_stripe.specs.declared.history.Call.TheVariants as call;
 
 use crate::refs::{Ref, look_at};
+use mc_classes::MOST_REFS;
 use mc_memory::Refused;
 use mc_stripe::NoMemory;
 use mc_words::{Arena, Hand, StripeHeld};
@@ -26,7 +29,7 @@ use thiserror::Error;
 /// Why a get was refused. It wrote no entry into its stripe's history.
 #[derive(Debug, PartialEq, Eq, Drop, Error)]
 pub enum GetError {
-    /// The hand holds 255 chunks.
+    /// The hand holds `MOST_REFS` chunks.
     #[error("the hand holds 255 chunks, as many as it may")]
     TooManyRefs,
     /// The stripe got no room for one more call.
@@ -34,7 +37,7 @@ pub enum GetError {
     NoMemory(Refused),
 }
 
-/// Gets a reference to the key's item, if it has one, and waits for the lock of its stripe. At 255 chunks of the hand it is refused
+/// Gets a reference to the key's item, if it has one, and waits for the lock of its stripe. At `MOST_REFS` chunks of the hand it is refused
 /// first, and at want of memory next: no entry is written then. (memcached's `item_get`, whose `do_item_get` counts the reference)
 #[inline(always)]
 pub fn get<R: Wait>(
@@ -55,7 +58,7 @@ pub fn get<R: Wait>(
     ensures said { IfOk result (λ found. IfSome found (IsAsSaid (view hand.new))) }
     ensures calls { IfOk result (λ found. TellsOn (setup_of arena.now) key (λ number. call.Get number key (option_map item_stamp found)) hand.old hand.new) }
     ensures refused { OnErr result (TellsNoCall (view hand.old) (view hand.new)) }
-    ensures many { (result ≡ Err GetError.TooManyRefs) ↔ (255 ≤ length (view hand.old).row.holdings) }
+    ensures many { (result ≡ Err GetError.TooManyRefs) ↔ (most_refs ≤ length (view hand.old).row.holdings) }
     ensures same { result ≡ Err GetError.TooManyRefs → view hand.new ≡ view hand.old }
     ensures no_memory { result ≡ Err (GetError.NoMemory tt) → FindsNoRoomFor (setup_of arena.now) key hand.old hand.new }
     ensures holdings { IfOk result (λ found. HoldsToo found (view hand.old) (view hand.new)) }
@@ -63,7 +66,7 @@ pub fn get<R: Wait>(
     ensures keeps { KeepsRefs (view hand.old) (view hand.new) }
     ensures unsaid { SaysNothing (view hand.old) (view hand.new) }
 {
-    if hand.refs() >= 255 {
+    if hand.refs() >= MOST_REFS {
         return Err(GetError::TooManyRefs);
     }
     let stripe = key % arena.config().stripes;
@@ -77,7 +80,7 @@ pub fn get<R: Wait>(
 /// Why a get that doesn't wait was refused. It wrote no entry into its stripe's history.
 #[derive(Debug, PartialEq, Eq, Drop, Error)]
 pub enum TryGetError {
-    /// The hand holds 255 chunks.
+    /// The hand holds `MOST_REFS` chunks.
     #[error("the hand holds 255 chunks, as many as it may")]
     TooManyRefs,
     /// The stripe got no room for one more call.
@@ -103,7 +106,7 @@ pub fn try_get(arena: &Arena, hand: &mut Hand, key: u64) -> Result<Option<Ref>, 
     ensures said { IfOk result (λ found. IfSome found (IsAsSaid (view hand.new))) }
     ensures calls { IfOk result (λ found. TellsOn (setup_of arena.now) key (λ number. call.Get number key (option_map item_stamp found)) hand.old hand.new) }
     ensures refused { OnErr result (TellsNoCall (view hand.old) (view hand.new)) }
-    ensures many { (result ≡ Err TryGetError.TooManyRefs) ↔ (255 ≤ length (view hand.old).row.holdings) }
+    ensures many { (result ≡ Err TryGetError.TooManyRefs) ↔ (most_refs ≤ length (view hand.old).row.holdings) }
     ensures same { result ≡ Err TryGetError.TooManyRefs → view hand.new ≡ view hand.old }
     ensures held { result ≡ Err TryGetError.Held → FindsStripeHeld (setup_of arena.now) key hand.old hand.new }
     ensures no_memory { result ≡ Err (TryGetError.NoMemory tt) → FindsNoRoomFor (setup_of arena.now) key hand.old hand.new }
@@ -112,7 +115,7 @@ pub fn try_get(arena: &Arena, hand: &mut Hand, key: u64) -> Result<Option<Ref>, 
     ensures keeps { KeepsRefs (view hand.old) (view hand.new) }
     ensures unsaid { SaysNothing (view hand.old) (view hand.new) }
 {
-    if hand.refs() >= 255 {
+    if hand.refs() >= MOST_REFS {
         return Err(TryGetError::TooManyRefs);
     }
     let stripe = key % arena.config().stripes;
@@ -136,7 +139,7 @@ fn look_up(
     requires arena { IsHandOf arena.now hand.old }
     requires lent { IsLentStripe (view hand.old) (stripe_number held) (stripe_lent held) }
     requires near { stripe_number held ≡ stripe_of_key (setup_of arena.now) key }
-    requires few { length (view hand.old).row.holdings < 256 }
+    requires few { length (view hand.old).row.holdings < most_holdings }
     ensures arena { IsHandOf arena.now hand.new }
     ensures locks { locks_of hand.new ≡ without_stripe (locks_of hand.old) }
     ensures done { IfOk result (λ found. GetsAt held key found hand.old hand.new) }
@@ -163,7 +166,7 @@ pub(crate) fn refer_at(
     requires arena { IsHandOf arena.now hand.old }
     requires lent { IsLentStripe (view hand.old) (stripe_number held) (stripe_lent held) }
     requires near { stripe_number held ≡ stripe_of_key (setup_of arena.now) key }
-    requires few { length (view hand.old).row.holdings < 256 }
+    requires few { length (view hand.old).row.holdings < most_holdings }
     ensures arena { IsHandOf arena.now hand.new }
     ensures locks { locks_of hand.new ≡ without_stripe (locks_of hand.old) }
     ensures done { IfOk result (λ found. DoesOn (λ number stripe. LooksUp number stripe key found) hand.old held hand.new) }

@@ -1,5 +1,6 @@
 //! References to items that are had again by hints, with no lock.
 ghost use Rattle.std.specs.Prelude.{◌↔◌, ◌≡◌, ◌≤◌, Err, IfOk, OnErr, Some, length, true};
+ghost use Rattle.mc_classes.specs.Limits.{most_refs};
 ghost use Rattle.mc_core.specs.State.{has_chunk};
 ghost use Rattle.mc_words.specs.hand.Arenas.{IsHandOf, setup_of, view};
 ghost use Rattle.mc_words.specs.item.Again.{FindsContended, FindsGone};
@@ -24,9 +25,9 @@ pub fn hint(item: &Ref) -> Hint
     item.reference.hint()
 }
 
-/// Gets a reference to the item of a hint, if it is there still, by one exchange and no lock. `Gone` where the item was deleted
-/// or evicted, or is in another chunk; `Contended` where it is there, but others came between, so that one may try again;
-/// `TooManyRefs` at 255 chunks of the hand, which is tested first. A refused call changes nothing. (own)
+/// Gets a reference to the item of a hint, if it is there still, by one exchange and no lock. `Gone` where it was deleted or evicted,
+/// or stands in another chunk; `Contended` where it is there, but others came between, so that one may try again; `TooManyRefs` at
+/// `MOST_REFS` chunks of the hand, which is tested first. Nothing is changed then. (own)
 pub fn again(arena: &Arena, hand: &mut Hand, hint: Hint) -> Result<Ref, Again>
     requires arena { IsHandOf arena.now hand.old }
     requires ready { IsReady (view hand.old) }
@@ -43,7 +44,7 @@ pub fn again(arena: &Arena, hand: &mut Hand, hint: Hint) -> Result<Ref, Again>
     ensures known { IfOk result (λ item. IsAsKnown (view hand.old) hint (held_item (view hand.new) (item_chunk item))) }
     ensures gone { result ≡ Err Again.Gone → FindsGone (view hand.old) (hint_chunk hint) (hint_issue hint) (view hand.new) }
     ensures contended { result ≡ Err Again.Contended → FindsContended (view hand.old) (hint_chunk hint) (hint_issue hint) (view hand.new) }
-    ensures many { (result ≡ Err Again.TooManyRefs) ↔ (255 ≤ length (view hand.old).row.holdings) }
+    ensures many { (result ≡ Err Again.TooManyRefs) ↔ (most_refs ≤ length (view hand.old).row.holdings) }
     ensures refused { result ≡ Err Again.TooManyRefs → view hand.new ≡ view hand.old }
     ensures holdings { IfOk result (λ item. HoldsToo (Some item) (view hand.old) (view hand.new)) }
     ensures no_more { OnErr result (HoldsTheSame (view hand.old) (view hand.new)) }

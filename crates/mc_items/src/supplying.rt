@@ -1,6 +1,7 @@
 //! Chunks for items, under one hold of the slabs lock.
 ghost use Rattle.std.specs.List.{list_all};
 ghost use Rattle.std.specs.Prelude.{◌≡◌, ◌≤◌, IfErr, IfOk, IfSome, None, Ok, OnErr, false, is_some, length, true};
+ghost use Rattle.mc_classes.specs.Limits.{most_refs};
 ghost use Rattle.mc_pages.specs.Changes.{HasNoPageFor, next_page};
 ghost use Rattle.mc_pages.specs.ClassState.{first_free, popped};
 ghost use Rattle.mc_pages.specs.SlabState.{class_at};
@@ -34,7 +35,7 @@ pub(crate) fn pop_or_sweep(
     requires arena { IsHandOf arena.now hand.old }
     requires class { is_class (setup_of arena.now).table class ≡ true }
     requires held { HasSlabs hand.old held.old }
-    requires room { length (view hand.old).row.holdings ≤ 255 }
+    requires room { length (view hand.old).row.holdings ≤ most_refs }
     ensures arena { IsHandOf arena.now hand.new }
     ensures locks { locks_of hand.new ≡ locks_of hand.old }
     ensures held { HasSlabs hand.new held.new }
@@ -158,7 +159,7 @@ pub(crate) fn supply_chunk(
     requires held { HasSlabs hand.old held.old }
     requires one { has_no_stripes (view hand.old) ≡ true }
     requires fresh { has_fresh (view hand.old).row.holdings ≡ false }
-    requires few { length (view hand.old).row.holdings ≤ 255 }
+    requires few { length (view hand.old).row.holdings ≤ most_refs }
     requires whole { (slabs_lent held.old).uncut ≡ None }
     ensures arena { IsHandOf arena.now hand.new }
     ensures locks { locks_of hand.new ≡ locks_of hand.old }

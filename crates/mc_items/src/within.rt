@@ -1,5 +1,6 @@
 //! Items that are set without a wait: a hand tries for each lock n times. A caller that can't wait uses these calls: a static library can't. (own)
 ghost use Rattle.std.specs.Prelude.{◌+◌, ◌≡◌, ◌≤◌, IfErr, IfOk, OnErr, OnOk, Some, false, length, true};
+ghost use Rattle.mc_classes.specs.Limits.{most_refs};
 ghost use Rattle.mc_core.specs.Holdings.{has_fresh, item_in, numbers};
 ghost use Rattle.mc_core.specs.State.{is_class};
 ghost use Rattle.mc_words.specs.hand.Arenas.{IsHandOf, setup_of, view};
@@ -98,7 +99,7 @@ fn chunk_within(
     requires class { is_class (setup_of arena.now).table class ≡ true }
     requires unlocked { is_unlocked (view hand.old) ≡ true }
     requires fresh { has_fresh (view hand.old).row.holdings ≡ false }
-    requires few { length (view hand.old).row.holdings ≤ 255 }
+    requires few { length (view hand.old).row.holdings ≤ most_refs }
     ensures arena { IsHandOf arena.now hand.new }
     ensures locks { locks_of hand.new ≡ locks_of hand.old }
     ensures supplies { IfOk result (λ supplied. IfOk supplied (λ fresh. ActsOnce (SuppliesChunk (number_of hand.old) class (fresh_chunk fresh)) hand.old hand.new)) }

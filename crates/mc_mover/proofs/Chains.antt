@@ -1,6 +1,7 @@
 -- What a call leaves so that the next one may come: a ready hand, and each of its references.
 use Rattle.std.proofs.Common.{◌≡◌, ◌≤◌, ℕ, ◌+◌, List, [], ◌++◌, length, Option, Result, Ok, Err, IfOk, OnErr, Contains, refl, sym, ap, subst, ◌∙◌, append-nil}
 use Rattle.std.proofs.lemmas.List.Elements.{Contains-append_left}
+use Rattle.mc_classes.specs.Limits.{most_refs}
 use Rattle.mc_pages.specs.declared.moves.Reassign.{Reassign}
 use Rattle.mc_pages.specs.SlabState.{SlabState}
 use Rattle.mc_core.specs.declared.event.Change.{Change}
@@ -30,7 +31,7 @@ pub ready_still : (before now : Hand) → now.locks ≡ before.locks → (view n
 ready_still before now locks holdings ready = record {
   unlocked = sym (unlocked_from now.seat.me.0 now.locks now.noted.4) ∙ (ap is_neither locks ∙ (unlocked_from before.seat.me.0 before.locks before.noted.4 ∙ ready.unlocked));
   unfilled = ap has_fresh holdings ∙ ready.unfilled;
-  few = subst (λ (hs : List Holding). length hs ≤ 255) (sym holdings) ready.few;
+  few = subst (λ (hs : List Holding). length hs ≤ most_refs) (sym holdings) ready.few;
 }
 
 -- what is held stays, and what is known grows: so each reference stays

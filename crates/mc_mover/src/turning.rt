@@ -1,5 +1,6 @@
 //! A turn of the mover, under one hold of the slabs lock.
 ghost use Rattle.std.specs.Prelude.{◌≡◌, ◌≤◌, true, false, length, None, Err, IfOk, OnErr};
+ghost use Rattle.mc_classes.specs.Limits.{most_refs};
 ghost use Rattle.mc_core.specs.Holdings.{has_fresh};
 ghost use Rattle.mc_words.specs.hand.Arenas.{IsHandOf, view};
 ghost use Rattle.mc_words.specs.hand.Idle.{has_no_stripes};
@@ -93,7 +94,7 @@ fn turn_held(arena: &Arena, hand: &mut Hand, held: &mut SlabsHeld) -> Result<Tur
     requires whole { (slabs_lent held.old).uncut ≡ None }
     requires one { has_no_stripes (view hand.old) ≡ true }
     requires fresh { has_fresh (view hand.old).row.holdings ≡ false }
-    requires few { length (view hand.old).row.holdings ≤ 255 }
+    requires few { length (view hand.old).row.holdings ≤ most_refs }
     ensures arena { IsHandOf arena.now hand.new }
     ensures locks { locks_of hand.new ≡ locks_of hand.old }
     ensures held { HasSlabs hand.new held.new }

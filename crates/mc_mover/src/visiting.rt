@@ -1,5 +1,6 @@
 //! One chunk of the moving page: what the mover sees there, and what it does.
 ghost use Rattle.std.specs.Prelude.{◌≡◌, ◌≤◌, true, false, length, IfOk, OnErr};
+ghost use Rattle.mc_classes.specs.Limits.{most_refs};
 ghost use Rattle.mc_pages.specs.Accounted.{is_cleared, is_cut};
 ghost use Rattle.mc_pages.specs.Moves.{is_held_up};
 ghost use Rattle.mc_pages.specs.Pages.{is_on_the_move};
@@ -39,7 +40,7 @@ pub(crate) fn visit(
     requires cut { is_cut (slabs_lent held.old) class chunk ≡ true }
     requires one { has_no_stripes (view hand.old) ≡ true }
     requires fresh { has_fresh (view hand.old).row.holdings ≡ false }
-    requires few { length (view hand.old).row.holdings ≤ 255 }
+    requires few { length (view hand.old).row.holdings ≤ most_refs }
     ensures arena { IsHandOf arena.now hand.new }
     ensures locks { locks_of hand.new ≡ locks_of hand.old }
     ensures held { HasSlabs hand.new held.new }

@@ -3,6 +3,7 @@ use Rattle.std.proofs.Common.{◌≡◌, ◌≢◌, ℕ, ◌+◌, ◌*◌, ◌<�
 use Rattle.std.specs.Option.{option_map}
 use Rattle.std.proofs.lemmas.Bool.{both_ways}
 use Rattle.std.proofs.lemmas.Option.{same_Some, none-some}
+use Rattle.mc_classes.specs.Limits.{most_arena_pages, most_page_chunks}
 use Rattle.mc_pages.specs.declared.ids.ChunkId.{ChunkId}
 use Rattle.mc_pages.specs.declared.ids.Moving.{Moving}
 use Rattle.mc_pages.specs.declared.moves.Found.{Found}
@@ -126,12 +127,12 @@ below_total slabs chunk all h on =
     let some = uncut_count-own slabs own chunk (is_of_class-class_of_owner own (owner_at slabs.owners chunk.page) on.owned.0 refl) in
     omega (arith, all.total own on.owned, uncut, some, on.within)
 
--- no class has more than 127 pages
-pub pages_below : (slabs : SlabState) (granted given : ℕ) → IsInOrder slabs granted → IsClass slabs given → length (class_at slabs given).pages ≤ 127
+-- no class has more pages than there are
+pub pages_below : (slabs : SlabState) (granted given : ℕ) → IsInOrder slabs granted → IsClass slabs given → length (class_at slabs given).pages ≤ most_arena_pages
 pages_below slabs granted given kept is = omega (arith, length-pages_le slabs given kept.accounted is, kept.pages)
 
--- the position of a pass that isn't at its end, and what held it up, are below 256
-pub position_below : (slabs : SlabState) (granted : ℕ) (found : Found) (move : Moving) → IsInOrder slabs granted → CanPass slabs found move → (move.at < 256) × (move.busy < 256)
+-- the position of a pass that isn't at its end, and what held it up, are below the most chunks of a page
+pub position_below : (slabs : SlabState) (granted : ℕ) (found : Found) (move : Moving) → IsInOrder slabs granted → CanPass slabs found move → (move.at < most_page_chunks) × (move.busy < most_page_chunks)
 position_below slabs granted found move kept can =
     let is = kept.accounted.move move can.runs in
     let most = kept.at_most move.src is.src in

@@ -2,11 +2,12 @@
 use Rattle.std.proofs.Common.{◌*◌, ◌≤◌, length, Option, Some, None, arith}
 use Rattle.std.specs.Prelude.{IfSome}
 use Rattle.std.proofs.Math.Nat.{mul-le-mul_left}
+use Rattle.mc_classes.specs.Limits.{most_arena_pages, most_page_chunks}
 use Rattle.mc_pages.specs.declared.ids.ChunkId.{ChunkId}
 use Rattle.mc_pages.specs.Rows.{RowsState, IsRow}
 use Rattle.mc_pages.specs.Links.{HasNumber}
 
-pub numbered : (rows : RowsState) (link : Option ChunkId) → IfSome link (IsRow rows) → length rows.rows ≤ 32512 → rows.most ≤ 256 → HasNumber link
+pub numbered : (rows : RowsState) (link : Option ChunkId) → IfSome link (IsRow rows) → length rows.rows ≤ most_arena_pages * most_page_chunks → rows.most ≤ most_page_chunks → HasNumber link
 numbered rows None row few most = tt
 numbered rows (Some chunk) row few most =
     let some : 1 ≤ rows.most = omega (arith, row.0) in

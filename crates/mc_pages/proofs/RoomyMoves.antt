@@ -1,6 +1,7 @@
 -- The steps of a move, with the room that is kept for its end.
 use Rattle.std.proofs.Common.{◌≡◌, ◌≢◌, ℕ, ◌+◌, ◌-◌, ◌<◌, ◌≤◌, ◌==◌, List, length, set, slice_index_or, Result, Ok, IfOk, ne_eqb, Bool, true, false, Option, Some, is_some, if◌then◌else◌, refl, sym, ap, ap₂, ◌∙◌, subst, arith}
 use Rattle.std.specs.Option.{option_map}
+use Rattle.mc_classes.specs.Limits.{most_page_chunks}
 use Rattle.mc_pages.specs.declared.ids.Moving.{Moving}
 use Rattle.mc_pages.specs.declared.ledger.Owner.TheVariants as owner
 use Rattle.mc_pages.specs.Base.{Entries}
@@ -29,7 +30,7 @@ held_up_le true = omega arith
 held_up_le false = omega arith
 
 -- the position of a move that goes on is below the most chunks that a page has, and so is the number of busy chunks
-pub position_below : (slabs : Inside) (found : Found) (move moving : Moving) → AreKept slabs → CanPass (slabs_of slabs) found move → slabs.moving ≡ Some moving → (moving.at < 256) × (moving.busy < 256)
+pub position_below : (slabs : Inside) (found : Found) (move moving : Moving) → AreKept slabs → CanPass (slabs_of slabs) found move → slabs.moving ≡ Some moving → (moving.at < most_page_chunks) × (moving.busy < most_page_chunks)
 position_below slabs found move moving kept can runs =
     let is = kept.order.accounted.move move can.runs in
     let same : move ≡ moving = Some-same move moving (sym can.runs ∙ runs) in

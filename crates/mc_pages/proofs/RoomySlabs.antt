@@ -5,6 +5,7 @@ use Rattle.std.proofs.Math.Bool.{and-false}
 use Rattle.std.proofs.Math.Nat.{mul-le-mul, mul-le-mul_right}
 use Rattle.std.proofs.lemmas.Bool.{cases_eq, cases_lt}
 use Rattle.std.proofs.lemmas.List.{get_or_read, get_or_past}
+use Rattle.mc_classes.specs.Limits.{most_arena_pages, most_page_chunks}
 use Rattle.mc_pages.specs.declared.ids.ChunkId.{ChunkId}
 use Rattle.mc_pages.specs.declared.rows.ListName.TheVariants.{Free, HandedOut}
 use Rattle.mc_pages.specs.declared.rows.Field.TheVariants.{Next, Head}
@@ -212,7 +213,7 @@ lengths_below slabs class place kept is at =
     let s = slabs_of slabs in
     let state = class_at s class in
     let lists = lists_at slabs class place is at in
-    let most : length state.pages * state.per_page ≤ 127 * 256 = mul-le-mul (pages_below s slabs.granted class kept.order is) (kept.order.at_most class is) in
+    let most : length state.pages * state.per_page ≤ most_arena_pages * most_page_chunks = mul-le-mul (pages_below s slabs.granted class kept.order is) (kept.order.at_most class is) in
     let all = kept.order.accounted.total class is in
     (omega (arith, all, most, kept.linked.long (Free place), ap length lists.0), omega (arith, all, most, kept.linked.long (HandedOut place), ap length lists.1))
 

@@ -3,6 +3,7 @@ use Rattle.std.proofs.Common.{◌≡◌, ℕ, ◌+◌, ◌-◌, ◌<◌, ◌≤�
 use Rattle.std.proofs.lemmas.Bool.{cases_lt}
 use Rattle.std.proofs.lemmas.Option.{same_Some, none-some, slice_get-get_or}
 use Rattle.std.proofs.lemmas.List.{get_or_push, length_push}
+use Rattle.mc_classes.specs.Limits.{most_arena_pages, most_page_chunks}
 use Rattle.mc_pages.specs.declared.ids.ChunkId.{ChunkId}
 use Rattle.mc_pages.specs.declared.ledger.Entry.{Entry}
 use Rattle.mc_pages.specs.declared.ledger.Owner.{Owner}
@@ -22,9 +23,9 @@ use Rattle.mc_pages.proofs.CutNext.{next_uncut-last, next_uncut-more}
 
 -- what no change of one class changes
 pub record IsSteady (slabs : SlabState) : Type 0 where
-  pub pages : length slabs.owners ≤ 127
+  pub pages : length slabs.owners ≤ most_arena_pages
   pub per_page : (class : ℕ) → IsClass slabs class → 1 ≤ (class_at slabs class).per_page
-  pub at_most : (class : ℕ) → IsClass slabs class → (class_at slabs class).per_page ≤ 256
+  pub at_most : (class : ℕ) → IsClass slabs class → (class_at slabs class).per_page ≤ most_page_chunks
 
 -- a whole in order has it
 pub IsSteady_from : (slabs : SlabState) (granted : ℕ) → IsInOrder slabs granted → IsSteady slabs

@@ -1,6 +1,7 @@
 -- What all pages and chunks keep beside that they are accounted for, and the room that is kept for them.
 use Rattle.std.specs.Prelude.{◌≡◌, ℕ, ◌+◌, ◌-◌, ◌*◌, ◌<◌, ◌≤◌, ◌==◌, Bool, false, IsTrue, not, nat_lt, List, length, map, count_by, slice_get, slice_index_or, vec_len, vec_capacity, is_some, Option, Some}
 use Rattle.std.specs.Option.{option_map_or}
+use Rattle.mc_classes.specs.Limits.{most_arena_pages, most_page_chunks}
 use Rattle.mc_pages.specs.declared.ids.ChunkId.{ChunkId}
 use Rattle.mc_pages.specs.declared.ids.Moving.{Moving}
 use Rattle.mc_pages.specs.declared.ledger.Owner.{Owner}
@@ -59,15 +60,15 @@ pub record IsBeingCut (slabs : SlabState) (chunk : ChunkId) : Type 0 where
 abbrev pub populated_count : List ClassState → ℕ
 populated_count classes = count_by (λ class. nat_lt 0 (length class.pages)) classes
 
--- every page and every chunk is accounted for; there are at most 127 pages, with 1 to 256 chunks each, and the lowest n are granted
+-- all is accounted for; pages and their chunks are within the limits, and the lowest so many pages were granted
 pub record IsInOrder (slabs : SlabState) (granted : ℕ) : Type 0 where
   pub accounted : IsAccounted slabs
   pub lowest : AreGranted slabs.owners granted
   -- beyond the limit no more were granted than there are classes with a page
   pub graced : granted ≤ ordinary_count slabs.ledger + populated_count slabs.classes
-  pub pages : length slabs.owners ≤ 127
+  pub pages : length slabs.owners ≤ most_arena_pages
   pub per_page : (class : ℕ) → IsClass slabs class → 1 ≤ (class_at slabs class).per_page
-  pub at_most : (class : ℕ) → IsClass slabs class → (class_at slabs class).per_page ≤ 256
+  pub at_most : (class : ℕ) → IsClass slabs class → (class_at slabs class).per_page ≤ most_page_chunks
   pub uncut : (chunk : ChunkId) → slabs.uncut ≡ Some chunk → IsBeingCut slabs chunk
 
 -- a page is on the move to the class, or to the pool for 0

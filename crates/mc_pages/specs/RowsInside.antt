@@ -1,5 +1,6 @@
 -- The rows as their callers see them.
-use Rattle.std.specs.Prelude.{◌≤◌, vec_len}
+use Rattle.std.specs.Prelude.{◌*◌, ◌≤◌, vec_len}
+use Rattle.mc_classes.specs.Limits.{most_arena_pages, most_page_chunks}
 use Rattle.mc_pages.specs.declared.rows.fields.Rows.TheInside.{Inside}
 use Rattle.mc_pages.specs.Rows.{RowsState}
 
@@ -17,4 +18,4 @@ rows_of rows = record {
 
 -- there are at most 32512 rows, and at most 256 for a page
 abbrev pub HasSpace : Inside → Type 0
-HasSpace rows = (vec_len rows.rows ≤ 32512) × (rows.most ≤ 256)
+HasSpace rows = (vec_len rows.rows ≤ most_arena_pages * most_page_chunks) × (rows.most ≤ most_page_chunks)

@@ -1,5 +1,6 @@
 //! One size class: the pages it has. Its free list and its hand-out order are rows.
 ghost use Rattle.std.specs.Prelude.{◌≡◌, ◌<◌, ◌≤◌, length, slice_index_or, OnOk};
+ghost use Rattle.mc_classes.specs.Limits.{most_page_chunks};
 ghost use Rattle.mc_pages.specs.ClassState.{new_class, evicted, with_page, without_page};
 ghost use Rattle.mc_pages.specs.Room.{in_state};
 
@@ -31,7 +32,7 @@ impl Model for SlabClass {
 impl SlabClass {
     /// A class without pages.
     pub(crate) fn new(alloc: Global, size: u64, per_page: u64) -> SlabClass
-        requires { per_page ≤ 256 }
+        requires { per_page ≤ most_page_chunks }
         ensures { result ≡ record { state = new_class size per_page; room = 0 } }
     {
         SlabClass {

@@ -7,6 +7,7 @@ use Rattle.std.proofs.lemmas.Bool.Decides.{nat_tests}
 use Rattle.std.proofs.lemmas.Option.{none-some}
 use Rattle.std.proofs.lemmas.List.{get_or_past}
 use Rattle.std.proofs.lemmas.List.Sums.{get_or-le-sum_by}
+use Rattle.mc_classes.specs.Limits.{most_refs}
 use Rattle.mc_pages.specs.declared.ids.ChunkId.{ChunkId}
 use Rattle.mc_pages.specs.ClassState.{is_chunk, times}
 use Rattle.mc_pages.specs.SlabState.{SlabState, granted_count}
@@ -34,7 +35,7 @@ pub record IsLawful (m : Machine) : Type 0 where
   pub granted : ℕ
   pub order : IsInOrder (off m.slabs) granted
   pub workers : length m.holds ≡ 64
-  pub few : (worker : ℕ) → length (held_by m.holds worker) ≤ 255
+  pub few : (worker : ℕ) → length (held_by m.holds worker) ≤ most_refs
   -- a chunk that a worker holds has an item
   pub stored : (worker : ℕ) (chunk : ChunkId) → 1 ≤ times chunk (held_by m.holds worker) → 1 ≤ places chunk m.items
 

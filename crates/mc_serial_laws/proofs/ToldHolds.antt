@@ -5,6 +5,7 @@ use Rattle.std.specs.Option.{option_map}
 use Rattle.std.proofs.lemmas.Bool.{and_parts, cases_eq, cases_Bool}
 use Rattle.std.proofs.lemmas.Bool.Decides.{nat_tests}
 use Rattle.std.proofs.lemmas.List.{get_or-set_same, get_or-set_other, length-set}
+use Rattle.mc_classes.specs.Limits.{most_refs}
 use Rattle.mc_pages.specs.declared.ids.ChunkId.{ChunkId}
 use Rattle.mc_pages.specs.Accounted.{truth}
 use Rattle.mc_pages.specs.ClassState.{is_chunk, times, without}
@@ -27,7 +28,7 @@ use Rattle.mc_serial_laws.proofs.ToldSets.{answered_by, both_pass, first_fails, 
 
 -- a worker holds other chunks, and one more answer tells what they store
 module _ (m : Machine) (answers : List Answered) (answered : Answered) (worker : ℕ) (chunks : List ChunkId) (told : AreTold m answers) (few : worker ≤ 63)
-    (there : (c : ChunkId) → 1 ≤ times c chunks → 1 ≤ places c m.items) (short : length chunks ≤ 255)
+    (there : (c : ChunkId) → 1 ≤ times c chunks → 1 ≤ places c m.items) (short : length chunks ≤ most_refs)
     (same_words : (key : ℕ) → last_words key (answered ∷ answers) ≡ last_words key answers)
     (same_held : (w : ℕ) → (worker == w) ≡ false → held_words w (answered ∷ answers) ≡ held_words w answers)
     (stands : Stand m.items chunks (held_words worker (answered ∷ answers))) where

@@ -4,6 +4,7 @@ use Rattle.std.specs.Prelude.{if◌then◌else◌, ◌==◌, codes}
 use Rattle.std.specs.Option.{option_and_then, option_map}
 use Rattle.std.proofs.lemmas.Bool.Decides.{nat_tests}
 use Rattle.std.proofs.lemmas.Option.{same_Some}
+use Rattle.mc_classes.specs.Limits.{most_refs}
 use Rattle.mc_pages.specs.declared.ids.ChunkId.{ChunkId}
 use Rattle.mc_serial_spec.specs.Item.{Item}
 use Rattle.mc_serial_spec.specs.Items.{item_at, linked_chunk}
@@ -20,8 +21,8 @@ use Rattle.mc_serial_laws.proofs.Stands.{length-stand}
 use Rattle.mc_serial_laws.proofs.Told.{AreTold}
 
 module _ (m : Machine) (answers : List Answered) (all : AreTold m answers) where
-  -- a worker is full where the answers tell of 255 holds
-  full_told : (worker : ℕ) → is_full m.holds worker ≡ (holds_of worker answers == 255)
+  -- a worker is full where the answers tell of the most holds
+  full_told : (worker : ℕ) → is_full m.holds worker ≡ (holds_of worker answers == most_refs)
   full_told worker =
       let same : holds_of worker answers ≡ length (held_by m.holds worker)
       = length-stand m.items (held_by m.holds worker) (held_words worker answers) (all.holds worker) in

@@ -1,6 +1,7 @@
--- What a key is answered: whoever asks for its item finds the same, and a worker with 255 holds is refused.
+-- What a key is answered: whoever asks for its item finds the same, and a worker with the most holds is refused.
 use Rattle.std.specs.Prelude.{◌≡◌, ℕ, ◌==◌, ◌⊎◌, if◌then◌else◌, List, [], length, codes, Option, Some, None}
 use Rattle.mc_classes.specs.Classes.{Classes}
+use Rattle.mc_classes.specs.Limits.{most_refs}
 use Rattle.mc_script.specs.declared.command.Command.{Command}
 use Rattle.mc_script.specs.declared.command.Command.TheVariants.{Get, Hold, Touch, Delete}
 use Rattle.mc_serial_spec.specs.Machine.{Machine, fresh_machine}
@@ -18,9 +19,9 @@ abbrev pub found_or_none : List ℕ → ℕ → Option (List ℕ) → List ℕ
 found_or_none answer key None = key_line (codes "NOT_FOUND") key
 found_or_none answer key (Some words) = key_line answer key
 
--- TOO_MANY_REFS to a worker with 255 holds, and else this reply
+-- TOO_MANY_REFS to a worker with the most holds, and else this reply
 abbrev pub unless_full : ℕ → ℕ → List ℕ → List ℕ
-unless_full holds key reply = if holds == 255 then key_line (codes "TOO_MANY_REFS") key else reply
+unless_full holds key reply = if holds == most_refs then key_line (codes "TOO_MANY_REFS") key else reply
 
 -- the reply to a get of a key by a worker with n holds, where the key has these words, or no item
 abbrev pub reply_to_get : ℕ → ℕ → Option (List ℕ) → List ℕ

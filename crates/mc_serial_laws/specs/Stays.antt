@@ -47,7 +47,7 @@ abbrev pub holds_now : ℕ → ℕ → List Answered → ℕ
 holds_now worker key [] = 0
 holds_now worker key (answered ∷ before) = holds_after worker key answered.command answered.reply (holds_now worker key before)
 
--- a get of the key by this worker is answered by the key's last words, unless the worker has 255 holds
+-- a get of the key by this worker is answered by the key's last words, unless the worker has the most holds
 abbrev pub GetsWords : Machine → List Answered → ℕ → Type 0
 GetsWords m told key = (worker : ℕ) (served : Served) → serve m (Get worker key) ≡ Some served
     → (words : List ℕ) × (last_words key told ≡ Some words) × (served.reply ≡ reply_to_get (holds_of worker told) key (Some words))

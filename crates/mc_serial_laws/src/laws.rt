@@ -61,15 +61,15 @@ pub fn dropped_were_held()
     ensures { (table : Classes) (bulk mode : ℕ) (commands : List Command) → IsSound table → All IsValid commands → TellsHeldWords table bulk mode commands }
 {}
 
-/// Each key has no item, or the words of its last stored set; and get, hold, touch and delete agree which, whoever asks. A worker
-/// with 255 holds is answered TOO_MANY_REFS by get and hold, and no other is. This holds after any valid commands.
+/// Each key has no item, or the words of its last stored set; and get, hold, touch and delete agree which, whoever asks.
+/// A worker with the most holds is answered TOO_MANY_REFS by get and hold, and no other is. So it is after any valid commands.
 pub fn keys_have_one_answer()
     ensures { (table : Classes) (bulk mode : ℕ) (commands : List Command) → IsSound table → All IsValid commands → TellsOneItem table bulk mode commands }
 {}
 
-/// STORED, VALUE, HELD and TOUCHED are answers that show a key's item. After one of them a get of the key is answered by its
-/// words, as long as no set was stored, the key wasn't deleted and the mover had no turn. So nothing else takes an item away: no
-/// window, no reassign, no statistics, no drop, and no set that is refused. A worker with 255 holds is refused.
+/// After an answer that shows a key's item, which is STORED, VALUE, HELD or TOUCHED, a get of the key is answered by its
+/// words, as long as no set was stored, the key wasn't deleted and the mover had no turn. So nothing else takes an item
+/// away: no window, no reassign, no statistics, no drop, and no set that is refused. A worker with the most holds is refused.
 pub fn seen_items_stay()
     ensures { (table : Classes) (bulk mode : ℕ) (commands : List Command) → IsSound table → All IsValid commands → KeepsSeen table bulk mode commands }
 {}

@@ -4,6 +4,7 @@ use Rattle.std.specs.Prelude.{sum_by}
 use Rattle.std.proofs.lemmas.Bool.Decides.{nat_tests}
 use Rattle.std.proofs.lemmas.List.Elements.{All-set}
 use Rattle.std.proofs.lemmas.List.Sums.{sum_by-le, sum_by-set, count_by-le-length}
+use Rattle.mc_classes.specs.Limits.{most_refs}
 use Rattle.mc_pages.specs.declared.ids.ChunkId.{ChunkId}
 use Rattle.mc_pages.specs.Accounted.{truth}
 use Rattle.mc_pages.specs.ClassState.{is_chunk, times, without}
@@ -40,7 +41,7 @@ module _ (holds : Holds) (worker : ℕ) (x : ChunkId) (inside : worker < length 
 -- there are few holds of one chunk
 pub holds_few : (holds : Holds) (y : ChunkId) → length holds ≡ 64 → AreFew holds → hold_count holds y < 65535
 holds_few holds y of_each few =
-    let most : sum_by (times y) holds ≤ length holds * 255
-    = sum_by-le (times y) 255 holds (λ k d within. omega (arith, count_by-le-length (λ (c : ChunkId). is_chunk c y) (get_or holds k d), few k d within)) in
-    let in_all : sum_by (times y) holds ≤ 64 * 255 = subst (λ (n : ℕ). sum_by (times y) holds ≤ n * 255) of_each most in
+    let most : sum_by (times y) holds ≤ length holds * most_refs
+    = sum_by-le (times y) most_refs holds (λ k d within. omega (arith, count_by-le-length (λ (c : ChunkId). is_chunk c y) (get_or holds k d), few k d within)) in
+    let in_all : sum_by (times y) holds ≤ 64 * most_refs = subst (λ (n : ℕ). sum_by (times y) holds ≤ n * most_refs) of_each most in
     omega (arith, in_all)

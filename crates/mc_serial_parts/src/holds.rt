@@ -5,6 +5,7 @@ ghost use Rattle.mc_pages.specs.ClassState.{is_chunk};
 ghost use Rattle.mc_serial_spec.specs.Holds.{no_holds, held_by, is_full, is_held, with_hold, without_hold};
 
 use crate::hold_counts::HoldCounts;
+use mc_classes::MOST_REFS;
 use mc_memory::{Refused, push, with_capacity};
 use mc_pages::ChunkId;
 use std::alloc::Global;
@@ -12,9 +13,6 @@ use std::marker::Model;
 
 /// How many workers a run has at most, the thread that moves pages counted as worker 0.
 const WORKERS: usize = 64;
-
-/// The most chunks that a worker may hold (own).
-const MAX_HOLDS: usize = 255;
 
 /// For each worker the chunks that it holds, the one that was taken last standing last.
 #[derive(Drop)]
@@ -56,7 +54,7 @@ impl Holds {
         requires { worker < 64 }
         ensures full { result ≡ is_full self.now worker }
     {
-        self.by_worker[worker as usize].len() >= MAX_HOLDS
+        self.by_worker[worker as usize].len() as u64 >= MOST_REFS
     }
 
     /// Whether somebody holds the chunk.

@@ -1,5 +1,6 @@
 -- Which chunks the workers hold.
 use Rattle.std.specs.Prelude.{ℕ, Bool, nat_lt, not, List, [], ◌∷◌, length, sum_by, slice_index_or, slice_set, replicate}
+use Rattle.mc_classes.specs.Limits.{most_refs}
 use Rattle.mc_pages.specs.declared.ids.ChunkId.{ChunkId}
 use Rattle.mc_pages.specs.ClassState.{times, without}
 
@@ -13,7 +14,7 @@ no_holds = replicate 64 []
 
 -- the most chunks that a worker may hold
 abbrev pub most_holds : ℕ
-most_holds = 255
+most_holds = most_refs
 
 -- the chunks that a worker holds
 abbrev pub held_by : Holds → ℕ → List ChunkId

@@ -3,6 +3,7 @@ pub(crate) mod held;
 pub(crate) mod join;
 pub(crate) mod recall;
 
+ghost use Rattle.mc_core.specs.Chunks.{most_holdings};
 ghost use Rattle.mc_words.specs.lock.Out.{IsNoted};
 ghost use Rattle.mc_words.specs.hand.Tallies.{IsTallied};
 
@@ -41,10 +42,10 @@ impl Hand {
     ghost use Rattle.mc_words.specs.lock.Slots.{number_of};
     ghost use Rattle.mc_words.specs.hand.Tallies.{next_stamp};
 
-    /// How many chunks the hand holds, 256 at most: fresh ones, and those that it has references to.
+    /// How many chunks it holds, `MOST_HOLDINGS` at most: fresh ones, and those that it has references to.
     pub fn refs(&self) -> u64
         ensures count { result ≡ length (view self.now).row.holdings }
-        ensures most { LawfulView (view self.now) → result ≤ 256 }
+        ensures most { LawfulView (view self.now) → result ≤ most_holdings }
     {
         self.chunks
     }

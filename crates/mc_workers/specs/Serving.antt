@@ -1,6 +1,7 @@
 -- What a worker's line does by its hand, as the reply reports it.
 use Rattle.std.specs.Prelude.{◌≡◌, ◌≤◌, ℕ, List, [], ◌∷◌, ◌++◌, length, All, true, false, Some, None, Option}
 use Rattle.std.specs.Option.{option_map}
+use Rattle.mc_classes.specs.Limits.{most_refs}
 use Rattle.mc_stripe.specs.declared.history.Call.TheVariants as call
 use Rattle.mc_words.specs.declared.hand.Hand.{Hand}
 use Rattle.mc_words.specs.hand.Arenas.{view}
@@ -41,7 +42,7 @@ Finds setup key found before now =
 
 -- the hand holds 255 chunks or more, and did nothing
 abbrev pub HoldsMost : Hand → Hand → Type 0
-HoldsMost before now = (255 ≤ length (view before).row.holdings) × (view now ≡ view before)
+HoldsMost before now = (most_refs ≤ length (view before).row.holdings) × (view now ≡ view before)
 
 -- the item that is referred to was read whole, and the reference given up
 abbrev pub read_and_released : Ref → View → View

@@ -30,7 +30,7 @@ pub enum Reply {
     NotFound,
     /// The worker holds nothing by this key.
     NotHeld,
-    /// The worker holds 255 chunks.
+    /// The worker holds `MOST_REFS` chunks.
     TooManyRefs,
 }
 

@@ -10,14 +10,12 @@ use super::State;
 use crate::head::{Head, Tag};
 use crate::holding;
 use crate::holding::{Holding, Kind, Purpose};
+use crate::limits::MOST_HOLDINGS;
 use crate::look::Look;
 use crate::series::Series;
 use mc_classes::{ClassId, PageId};
 use mc_memory::Refused;
 use mc_pages::ChunkId;
-
-/// The most holdings of a hand.
-const MOST_HOLDINGS: usize = 256;
 
 /// The greatest issue number, with which a chunk is used up.
 const MOST_ISSUE: u64 = 70_368_744_177_663;
@@ -72,7 +70,7 @@ impl State {
         requires { hand < length self.now.ids }
         ensures { result ≡ has_place self.now hand }
     {
-        self.holdings(hand).len() < MOST_HOLDINGS
+        (self.holdings(hand).len() as u64) < MOST_HOLDINGS
     }
 
     /// Whether the chunk is there, free and not used up.

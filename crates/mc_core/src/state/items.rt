@@ -11,6 +11,7 @@ use crate::holding::{Holding, Kind, Purpose};
 use crate::ids::Ids;
 use crate::look::Look;
 use crate::{look, words};
+use mc_classes::MOST_REFS;
 use mc_memory::Refused;
 use mc_pages::ChunkId;
 
@@ -314,7 +315,7 @@ impl State {
     {
         let head = self.head(chunk);
         self.has_chunk(chunk)
-            && self.holdings(hand).len() < 255
+            && (self.holdings(hand).len() as u64) < MOST_REFS
             && head.tag == Tag::Linked
             && head.issue == issue
             && head.can_count()

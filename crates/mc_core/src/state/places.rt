@@ -1,5 +1,6 @@
 //! The places of the arena's words.
 ghost use Rattle.std.specs.Prelude.{◌≡◌, ◌+◌, ◌*◌, ◌^◌, ◌<◌, ◌≤◌, length, slice_index_or, MatchOption};
+ghost use Rattle.mc_classes.specs.Limits.{most_page_chunks};
 ghost use Rattle.mc_pages.specs.SlabState.{class_of_page};
 ghost use Rattle.mc_core.specs.State.{most_of, is_class, room_in, has_chunk, head_place, room_at, word_place};
 
@@ -18,7 +19,7 @@ impl State {
     /// The most chunks of a page.
     pub(super) fn most(&self) -> u64
         ensures most { result ≡ most_of self.now.table }
-        ensures bound { result ≤ 256 }
+        ensures bound { result ≤ most_page_chunks }
     {
         self.table.per_page(1)
     }

@@ -15,21 +15,21 @@ use mc_memory::Refused;
 use mc_pages::ChunkId;
 use mc_serial_parts::count_unheld;
 
-/// The worker has as many holds as it may have, 255 (own; memcached's references have 16 bits).
+/// The worker has as many holds as it may have, `MOST_REFS`.
 #[derive(Clone, Copy, Debug, PartialEq, Eq)]
 pub struct TooManyRefs;
 
 /// Why a worker doesn't hold an item.
 #[derive(Debug, PartialEq, Eq, Drop)]
 pub enum HoldError {
-    /// The worker has as many holds as it may have, 255.
+    /// It has as many holds as it may have.
     TooManyRefs,
     /// Memory ran out.
     NoMemory(Refused),
 }
 
 impl Keeper {
-    /// The words of the key's item, 8 bytes each, lent. None where the key has no item. A worker with 255 holds is refused
+    /// The words of the key's item, 8 bytes each, lent. None where the key has no item. A worker with `MOST_REFS` holds is refused
     /// (own, as a reader of the arena holds what it reads). It takes no memory. (items.c's `do_item_get`, without its count)
     pub fn get(&self, worker: u64, key: u64) -> Result<Option<&[u64]>, TooManyRefs>
         requires { worker < 64 }

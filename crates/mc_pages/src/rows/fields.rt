@@ -2,6 +2,7 @@
 //!
 //! No module is below this one, so that no other reaches what is private here: lists and calls write by `put`.
 ghost use Rattle.std.specs.Prelude.{◌≡◌, ℕ, ◌+◌, ◌*◌, ◌<◌, ◌≤◌, IfOk, length};
+ghost use Rattle.mc_classes.specs.Limits.{most_arena_pages, most_page_chunks};
 ghost use Rattle.mc_pages.specs.Rows.{RowsState, IsChange, IsField, IsRow, IsList, field_of, with_change, row_at, row_place, length_of, lengthened, shortened, fresh_rows};
 ghost use Rattle.mc_pages.specs.RowsInside.{rows_of, HasSpace};
 
@@ -52,8 +53,8 @@ impl Rows {
         pages: usize,
         classes: usize,
     ) -> Result<Rows, Refused>
-        requires most { most ≤ 256 }
-        requires pages { pages ≤ 127 }
+        requires most { most ≤ most_page_chunks }
+        requires pages { pages ≤ most_arena_pages }
         ensures { IfOk result (λ rows. rows ≡ fresh_rows most (pages * most) classes) }
     {
         let none = Row {

@@ -3,15 +3,13 @@ ghost use Rattle.std.specs.Prelude.{◌≡◌};
 ghost use Rattle.mc_pages.specs.Links.{HasNumber};
 
 use crate::ids::ChunkId;
+use mc_classes::MOST_PAGE_CHUNKS;
 use std::marker::Model;
-
-/// The most chunks that a page has.
-const MOST: u64 = 256;
 
 /// A chunk, or none.
 #[derive(Clone, Copy)]
 pub(crate) struct Link {
-    /// 0 is none. Any other leads to the chunk of the number before it, counted by pages of 256 chunks.
+    /// 0 is none. Any other leads to the chunk of the number before it, counted by pages of the most chunks.
     number: u32,
 }
 
@@ -37,7 +35,7 @@ impl Link {
     {
         match chunk {
             Some(chunk) => Link {
-                number: (chunk.page * MOST + chunk.index + 1) as u32,
+                number: (chunk.page * MOST_PAGE_CHUNKS + chunk.index + 1) as u32,
             },
             None => Link { number: 0 },
         }
@@ -53,8 +51,8 @@ impl Link {
         }
         let place = u64::from(self.number - 1);
         Some(ChunkId {
-            page: place / MOST,
-            index: place % MOST,
+            page: place / MOST_PAGE_CHUNKS,
+            index: place % MOST_PAGE_CHUNKS,
         })
     }
 }

@@ -2,6 +2,7 @@
 use Rattle.std.proofs.Common.{◌≡◌, ◌≢◌, ℕ, zero, suc, ◌+◌, ◌%◌, ◌/◌, ◌^◌, ◌<◌, ◌≤◌, ◌==◌, ◌&&◌, Bool, true, List, [], ◌∷◌, ◌++◌, length, Some, refl, sym, ap, subst, ◌∙◌, arith, eqb-true, lt-ltb, get_or-set_same, append-nil, Contains, nat_eq}
 use Rattle.std.proofs.lemmas.Bool.{and_from, and_parts}
 use Rattle.std.proofs.lemmas.List.Elements.{Contains-push}
+use Rattle.mc_classes.specs.Limits.{most_refs}
 use Rattle.mc_pages.specs.declared.ids.ChunkId.{ChunkId}
 use Rattle.mc_core.specs.declared.head.Head.{Head}
 use Rattle.mc_core.specs.declared.holding.Holding.{Holding}
@@ -69,7 +70,7 @@ seen_small view now chunk word near h is =
     small_word word fit.issue (subst (λ (h : Head). h.count ≤ 16385) same ((needless view h.was).most chunk here))
 
 -- the header is as it was seen
-pub may_again : (view : View) (chunk : ChunkId) (issue head : ℕ) → has_chunk view.setup.table chunk ≡ true → length view.row.holdings < 255 → is_there issue (decode head) ≡ true → head + 1 < 2 ^ 64 → MayExchange view (core.Again chunk issue) (head_word view.setup chunk) head (head + 1)
+pub may_again : (view : View) (chunk : ChunkId) (issue head : ℕ) → has_chunk view.setup.table chunk ≡ true → length view.row.holdings < most_refs → is_there issue (decode head) ≡ true → head + 1 < 2 ^ 64 → MayExchange view (core.Again chunk issue) (head_word view.setup chunk) head (head + 1)
 may_again view chunk issue head near few there small was fits hit =
     let s : State = was.moment.state in
     let here = near_here view chunk near was in
@@ -77,7 +78,7 @@ may_again view chunk issue head near few there small was fits hit =
     let parts = and_parts (is_linked (decode head).tag) ((decode head).issue == issue) there in
     let tag : is_linked (head_at s chunk).tag ≡ true = ap (λ (h : Head). is_linked h.tag) is ∙ parts.0 in
     let same : ((head_at s chunk).issue == issue) ≡ true = ap (λ (h : Head). h.issue == issue) is ∙ parts.1 in
-    let place : has_place_unlocked s was.hand ≡ true = lt-ltb (length (holdings_at s was.hand)) 255 (let e = ap length (holdings_here view was) in omega arith) in
+    let place : has_place_unlocked s was.hand ≡ true = lt-ltb (length (holdings_at s was.hand)) most_refs (let e = ap length (holdings_here view was) in omega arith) in
     let all = needless view was in
     let fit : FitsBits (decode head) = subst FitsBits is (fits_here view was chunk near) in
     let most : (decode head).count ≤ 16385 = subst (λ (h : Head). h.count ≤ 16385) is (all.most chunk here) in

@@ -11,7 +11,7 @@ use Rattle.mc_core.specs.declared.event.Step.TheVariants as core
 use Rattle.mc_core.specs.Head.{decode, is_linked}
 use Rattle.mc_core.specs.State.{State, has_chunk, has_stripe, head_at, head_place, holdings_at, ids_at, looks_at, number_at, room_at, stripe_at, stripe_of}
 use Rattle.mc_core.specs.Silent.{is_aside, writer_of}
-use Rattle.mc_core.specs.Chunks.{has_place}
+use Rattle.mc_core.specs.Chunks.{has_place, most_holdings}
 use Rattle.mc_core.specs.Items.{after_refer, can_refer_to, can_look_up, chunk_of, new_reference, referred, referred_to, with_got}
 use Rattle.mc_core.specs.Codes.{plus, FitsBits}
 use Rattle.mc_core.specs.Past.{Moment, Knowledge, Own, history_at, knowledge_at, known_of_place, moment_stepped, own_calls_after}
@@ -54,7 +54,7 @@ module _ (view : View) (stripe : ℕ) (value : ReadyStripe) (key : ℕ) (chunk :
   entry_near = ap (λ table. has_chunk table chunk) (sym was.same_table) ∙ ((needless view was).entry key (chunk, stamp) leads_here).0
 
 -- a reference is taken
-pub may_refer : (view : View) (stripe : ℕ) (value : ReadyStripe) (key : ℕ) (chunk : ChunkId) (stamp : ℕ) → LeadsTo view stripe value key chunk stamp → value.ready ≡ true → is_aside value.state key ≡ false → length view.row.holdings < 256
+pub may_refer : (view : View) (stripe : ℕ) (value : ReadyStripe) (key : ℕ) (chunk : ChunkId) (stamp : ℕ) → LeadsTo view stripe value key chunk stamp → value.ready ≡ true → is_aside value.state key ≡ false → length view.row.holdings < most_holdings
     → MayWrite view (core.Refer key) (head_word view.setup chunk) (plus 1)
 may_refer view stripe value key chunk stamp to ready inside few was fits =
     let m = was.moment in
@@ -71,7 +71,7 @@ may_refer view stripe value key chunk stamp to ready inside few was fits =
     let most : (decode word).count ≤ 16385 = subst (λ (h : Head). h.count ≤ 16385) is (all.most chunk here) in
     let more : decode (plus 1 word) ≡ referred (head_at s chunk) =
     summed word fits referred (plus 1) ((all_are_sums (decode word) small).refer (omega arith)) (record { issue = small.issue; count = omega arith }) ∙ ap referred (sym is) in
-    let place : has_place s was.hand ≡ true = lt-ltb (length (holdings_at s was.hand)) 256 (let e = ap length (holdings_here view was) in omega arith) in
+    let place : has_place s was.hand ≡ true = lt-ltb (length (holdings_at s was.hand)) most_holdings (let e = ap length (holdings_here view was) in omega arith) in
     let has : has_stripe s was.hand (stripe_of s key) ≡ true = ap (has_stripe s was.hand) (stripe_is view stripe value key chunk stamp to was) ∙ (stripe_here view stripe value to.mine was).0 in
     let look : can_look_up s was.hand key ≡ true =
     and_from _ _ (and_from _ _ has (ap (λ (v : ReadyStripe). v.ready) same ∙ ready)) (ap (λ (v : ReadyStripe). not (is_aside v.state key)) same ∙ ap not inside) in

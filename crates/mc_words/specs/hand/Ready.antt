@@ -1,11 +1,12 @@
 -- Hands that may make any call on items and pages.
 use Rattle.std.specs.Prelude.{◌≡◌, ◌≤◌, true, false, length}
+use Rattle.mc_classes.specs.Limits.{most_refs}
 use Rattle.mc_core.specs.Holdings.{has_fresh}
 use Rattle.mc_words.specs.hand.Idle.{is_unlocked}
 use Rattle.mc_words.specs.hand.View.{View}
 
--- the hand has no lock, fills no chunk, and holds at most 255 chunks
+-- the hand has no lock, fills no chunk, and holds few enough chunks for one more under a lock
 pub record IsReady (view : View) : Type 0 where
   pub unlocked : is_unlocked view ≡ true
   pub unfilled : has_fresh view.row.holdings ≡ false
-  pub few : length view.row.holdings ≤ 255
+  pub few : length view.row.holdings ≤ most_refs

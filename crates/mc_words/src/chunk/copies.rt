@@ -1,5 +1,6 @@
 //! Chunks that are handed out for copies of items on the moving page.
 ghost use Rattle.std.specs.Prelude.{◌≡◌, ◌≤◌, true, false, length, None, Some, IfSome};
+ghost use Rattle.mc_classes.specs.Limits.{most_refs};
 ghost use Rattle.mc_pages.specs.Changes.{after_replace};
 ghost use Rattle.mc_pages.specs.Pages.{is_on_the_move};
 ghost use Rattle.mc_pages.specs.SlabState.{class_at, class_of_page};
@@ -27,7 +28,7 @@ impl Arena {
         requires held { (view hand.old).slabs ≡ Some held.old.shared }
         requires moving { is_on_the_move held.old.shared old.page ≡ true }
         requires out { is_handed_out held.old.shared old ≡ true }
-        requires room { length (view hand.old).row.holdings ≤ 255 }
+        requires room { length (view hand.old).row.holdings ≤ most_refs }
         ensures arena { IsHandOf self.now hand.new }
         ensures locks { hand.new.locks ≡ hand.old.locks }
         ensures held { (view hand.new).slabs ≡ Some held.new.shared }

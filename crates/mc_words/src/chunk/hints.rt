@@ -9,7 +9,7 @@ use std::alloc::Global;
 use std::sync::atomic::AtomicU64;
 use std::sync::atomic::Ordering::SeqCst;
 
-/// How many words the bits of a page's chunks take, of which there are at most 256.
+/// How many words the bits of a page's chunks take, of which there are `MOST_PAGE_CHUNKS` at most.
 pub(crate) const WORDS_A_PAGE: u64 = 4;
 
 /// How many words the hints have, for 127 pages.

@@ -1,6 +1,7 @@
 //! Chunks that are handed out, put back and cut, under the slabs lock.
 ghost use Rattle.std.specs.Prelude.{◌≡◌, ℕ, ◌<◌, ◌≤◌, [], true, false, length, None, Some, Ok, IfOk, IfSome, IsOk, OnOk, OnErr};
 ghost use Rattle.std.specs.Option.{option_map};
+ghost use Rattle.mc_classes.specs.Limits.{most_refs};
 ghost use Rattle.mc_pages.specs.ClassState.{first_free};
 ghost use Rattle.mc_pages.specs.SlabState.{class_at, class_of_chunk};
 ghost use Rattle.mc_pages.specs.Changes.{after_back, after_cut, after_pop};
@@ -36,7 +37,7 @@ impl Arena {
         requires arena { IsHandOf self.now hand.old }
         requires class { is_class (setup_of self.now).table class ≡ true }
         requires held { (view hand.old).slabs ≡ Some held.old.shared }
-        requires room { length (view hand.old).row.holdings ≤ 255 }
+        requires room { length (view hand.old).row.holdings ≤ most_refs }
         ensures arena { IsHandOf self.now hand.new }
         ensures locks { hand.new.locks ≡ hand.old.locks }
         ensures held { (view hand.new).slabs ≡ Some held.new.shared }

@@ -1,5 +1,6 @@
 //! Dead chunks that are found by hints, and put back.
 ghost use Rattle.std.specs.Prelude.{◌≡◌, ◌<◌, ◌≤◌, List, [], Some, true};
+ghost use Rattle.mc_classes.specs.Limits.{most_page_chunks};
 ghost use Rattle.mc_classes.specs.Classes.{arena_pages_of};
 ghost use Rattle.mc_pages.specs.declared.ids.ChunkId.{ChunkId};
 ghost use Rattle.mc_pages.specs.SlabState.{class_at, class_of_page};
@@ -115,7 +116,7 @@ impl Arena {
     )
         requires arena { IsHandOf self.now hand.old }
         requires page { first.page < arena_pages_of (setup_of self.now).table }
-        requires few { first.index ≤ 256 }
+        requires few { first.index ≤ most_page_chunks }
         requires most { per_page ≤ most_of (setup_of self.now).table }
         requires held { (view hand.old).slabs ≡ Some held.now.shared }
         requires out { AreHandedOut (setup_of self.now).table held.now.shared (class_of_page held.now.shared first.page) dead.old }

@@ -1,5 +1,6 @@
 //! References to items that are had again by hints.
 ghost use Rattle.std.specs.Prelude.{◌≡◌, ◌≢◌, ◌+◌, ◌<◌, ◌≤◌, ◌^◌, ◌↔◌, [], true, length, Contains, Err, IfOk, IfErr};
+ghost use Rattle.mc_classes.specs.Limits.{most_refs};
 ghost use Rattle.mc_core.specs.Head.{decode};
 ghost use Rattle.mc_core.specs.Past.{Known};
 ghost use Rattle.mc_core.specs.State.{has_chunk};
@@ -16,10 +17,11 @@ use crate::arena::Arena;
 use crate::hand::Hand;
 use crate::header::is_there;
 use crate::item::refs::{Again, Hint, Ref};
+use mc_classes::MOST_REFS;
 use mc_core::Step;
 
 impl Arena {
-    /// Gets a reference to the item of a hint, if it is there still. It takes no lock and no memory. A hand that holds 255 chunks
+    /// Gets a reference to the item of a hint, if it is there still. It takes no lock and no memory. A hand that holds `MOST_REFS` chunks
     /// is refused, so a place is left for a reference under a lock. (own)
     pub fn again(&self, hand: &mut Hand, hint: Hint) -> Result<Ref, Again>
         requires arena { IsHandOf self.now hand.old }
@@ -32,10 +34,10 @@ impl Arena {
         ensures known { IfOk result (λ r. (k : Known) → Contains (view hand.old).row.knows.known k → k.chunk ≡ hint.chunk → k.issue ≡ hint.issue → held_item (view hand.new) r.chunk ≡ k.words) }
         ensures gone { result ≡ Err Again.Gone → FindsGone (view hand.old) hint.chunk hint.issue (view hand.new) }
         ensures contended { result ≡ Err Again.Contended → FindsContended (view hand.old) hint.chunk hint.issue (view hand.new) }
-        ensures many { (result ≡ Err Again.TooManyRefs) ↔ (255 ≤ length (view hand.old).row.holdings) }
+        ensures many { (result ≡ Err Again.TooManyRefs) ↔ (most_refs ≤ length (view hand.old).row.holdings) }
         ensures refused { result ≡ Err Again.TooManyRefs → view hand.new ≡ view hand.old }
     {
-        if hand.chunks >= 255 {
+        if hand.chunks >= MOST_REFS {
             return Err(Again::TooManyRefs);
         }
         let head = self.head(hand, hint.chunk);
@@ -53,7 +55,7 @@ impl Arena {
     fn refer_again(&self, hand: &mut Hand, hint: Hint, head: u64) -> Result<Ref, u64>
         requires arena { IsHandOf self.now hand.old }
         requires near { has_chunk (setup_of self.now).table hint.chunk ≡ true }
-        requires few { length (view hand.old).row.holdings < 255 }
+        requires few { length (view hand.old).row.holdings < most_refs }
         requires there { hints.is_there hint.issue (decode head) ≡ true }
         requires small { head + 1 < 2 ^ 64 }
         ensures arena { IsHandOf self.now hand.new }

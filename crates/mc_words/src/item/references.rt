@@ -5,6 +5,7 @@ ghost use Rattle.mc_stripe.specs.StripeState.{place_of};
 ghost use Rattle.mc_core.specs.Silent.{is_aside};
 ghost use Rattle.mc_core.specs.declared.event.Change.TheVariants as change;
 ghost use Rattle.mc_core.specs.declared.event.Step.TheVariants as step;
+ghost use Rattle.mc_core.specs.Chunks.{most_holdings};
 ghost use Rattle.mc_words.specs.hand.Arenas.{IsHandOf, setup_of, view};
 ghost use Rattle.mc_words.specs.item.Calls.{key_missed};
 ghost use Rattle.mc_words.specs.rule.Happens.{Happens};
@@ -16,14 +17,13 @@ use crate::hand::Hand;
 use crate::hand::held::{StripeHeld, TooManyRefs};
 use crate::header::ISSUE_UNIT;
 use crate::item::refs::Ref;
-use mc_core::{Change, Step};
+use mc_core::{Change, MOST_HOLDINGS, Step};
 use mc_pages::ChunkId;
 use mc_stripe::Key;
 
 impl Arena {
-    /// Looks a key up once, whose stripe the hand has, and gets a reference to its item. None where the key has no item. The
-    /// stripe records the get either way, and has room for it. A hand that holds 256 chunks is refused. (memcached's
-    /// `do_item_get`)
+    /// Looks a key up once, whose stripe the hand has, and gets a reference to its item. None where the key has no item. Either is
+    /// told to the stripe, which has room for a call. A hand that holds `MOST_HOLDINGS` chunks is refused. (memcached's `do_item_get`)
     pub fn refer(
         &self,
         hand: &mut Hand,
@@ -44,16 +44,16 @@ impl Arena {
         ensures reference { IfOk result (λ found. IfSome found (λ r. IsRefOf (view hand.new) r.chunk r.room × IsIssueOf (view hand.new) r.chunk r.issue)) }
         ensures none { result ≡ Ok None → (place_of held.old.stripe.state key ≡ None) × Happens (view hand.old) (change.GotNone key ∷ []) (step.MissStripe held.old.number) (view hand.new) }
         ensures view { result ≡ Ok None → view hand.new ≡ key_missed hand.old.number held.old.number held.old.stripe key (view hand.old) }
-        ensures many { IsErr result ↔ (256 ≤ length (view hand.old).row.holdings) }
+        ensures many { IsErr result ↔ (most_holdings ≤ length (view hand.old).row.holdings) }
         ensures refused { OnErr result ((held.new ≡ held.old) × (view hand.new ≡ view hand.old)) }
     {
-        if hand.chunks >= 256 {
+        if hand.chunks >= MOST_HOLDINGS {
             return Err(TooManyRefs);
         }
         Ok(self.refer_within(hand, held, key))
     }
 
-    /// The same as `refer`, for a hand that holds fewer than 256 chunks.
+    /// The same for a hand that holds fewer than `MOST_HOLDINGS` chunks.
     #[inline(always)]
     pub fn refer_within(&self, hand: &mut Hand, held: &mut StripeHeld, key: Key) -> Option<Ref>
         requires arena { IsHandOf self.now hand.old }
@@ -61,7 +61,7 @@ impl Arena {
         requires held { slice_index_or (view hand.old).stripes held.old.number None ≡ Some held.old.stripe }
         requires ready { held.old.stripe.ready ≡ true }
         requires inside { is_aside held.old.stripe.state key ≡ false }
-        requires few { length (view hand.old).row.holdings < 256 }
+        requires few { length (view hand.old).row.holdings < most_holdings }
         ensures arena { IsHandOf self.now hand.new }
         ensures locks { hand.new.locks ≡ hand.old.locks }
         ensures number { held.new.number ≡ held.old.number }
@@ -91,7 +91,7 @@ impl Arena {
         requires ready { held.now.stripe.ready ≡ true }
         requires inside { is_aside held.now.stripe.state key ≡ false }
         requires leads { (stamp : ℕ) × (place_of held.now.stripe.state key ≡ Some (chunk, stamp)) }
-        requires few { length (view hand.old).row.holdings < 256 }
+        requires few { length (view hand.old).row.holdings < most_holdings }
         ensures arena { IsHandOf self.now hand.new }
         ensures locks { hand.new.locks ≡ hand.old.locks }
         ensures number { hand.new.number ≡ hand.old.number }

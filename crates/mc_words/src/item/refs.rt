@@ -66,6 +66,6 @@ pub enum Again {
     Gone,
     /// The item was seen, and then its header was changed by another hand. It was there still, so a hand may try again.
     Contended,
-    /// The hand holds 255 chunks.
+    /// The hand holds `MOST_REFS` chunks.
     TooManyRefs,
 }

@@ -1,4 +1,5 @@
 use Rattle.std.proofs.Common.{◌≡◌, ◌≤◌, length, List, true, Result, Ok, Err, IfOk, IfErr, refl, ap, sym, subst, ◌∙◌}
+use Rattle.mc_classes.specs.Limits.{most_refs}
 use Rattle.mc_core.specs.declared.holding.Holding.{Holding}
 use Rattle.mc_core.specs.Holdings.{has_fresh}
 use Rattle.mc_words.specs.lock.Doing.{HoldsSlabs}
@@ -50,7 +51,7 @@ supply_chunk-supplied-requires-clause-fresh c =
 pub supply_chunk-supplied-requires-clause-few : goal.supply_chunk-supplied-requires-clause-few
 supply_chunk-supplied-requires-clause-few c =
     let held = c.in-Ok in
-    subst (λ (hs : List Holding). length hs ≤ 255) (sym (waits_slabs_keep (λ (v : View). v.row.holdings) (λ word v. refl) (λ slabs v. refl) c.args.hand.now.seat.me.0 held.held.shared c.slabs_within.new.hand.seat.me.0 held.ensures.within.waits)) c.requires.few
+    subst (λ (hs : List Holding). length hs ≤ most_refs) (sym (waits_slabs_keep (λ (v : View). v.row.holdings) (λ word v. refl) (λ slabs v. refl) c.args.hand.now.seat.me.0 held.held.shared c.slabs_within.new.hand.seat.me.0 held.ensures.within.waits)) c.requires.few
 
 pub returns-clause-locks : goal.returns-clause-locks
 returns-clause-locks c = c.give_slabs.ensures.locks ∙ (ap without_slabs (c.supply_chunk-supplied.ensures.locks ∙ c.in-Ok.ensures.locks) ∙ slabs_back c.args.hand.now c.requires.unlocked)

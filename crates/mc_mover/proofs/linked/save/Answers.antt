@@ -1,4 +1,5 @@
 use Rattle.std.proofs.Common.{◌≡◌, ℕ, ◌≤◌, length, None, Some, map, refl, sym, ap, subst, ◌∙◌, slice_index_or}
+use Rattle.mc_classes.specs.Limits.{most_refs}
 use Rattle.mc_pages.specs.ClassState.{ClassState}
 use Rattle.mc_pages.specs.SlabState.{SlabState, class_at, class_of_page}
 use Rattle.mc_pages.proofs.ClassChanges.{per_pages-with_class}
@@ -144,7 +145,7 @@ sweep_and_save-requires-clause-linked c =
     first.linked
 
 pub sweep_and_save-requires-clause-few : goal.sweep_and_save-requires-clause-few
-sweep_and_save-requires-clause-few c = subst (λ (v : View). length v.row.holdings ≤ 255) (sym c.in_default.ensures.view) c.requires.few
+sweep_and_save-requires-clause-few c = subst (λ (v : View). length v.row.holdings ≤ most_refs) (sym c.in_default.ensures.view) c.requires.few
 
 pub rescue_to_target-requires-clause-linked : goal.rescue_to_target-requires-clause-linked
 rescue_to_target-requires-clause-linked c =
@@ -159,7 +160,7 @@ rescue_to_target-requires-clause-linked c =
     first.linked
 
 pub rescue_to_target-requires-clause-few : goal.rescue_to_target-requires-clause-few
-rescue_to_target-requires-clause-few c = subst (λ (v : View). length v.row.holdings ≤ 255) (sym c.in_default.ensures.view) c.requires.few
+rescue_to_target-requires-clause-few c = subst (λ (v : View). length v.row.holdings ≤ most_refs) (sym c.in_default.ensures.view) c.requires.few
 
 pub returns-in-Err-clause-unready : goal.returns-in-Err-clause-unready
 returns-in-Err-clause-unready c = refused c.reserve.result c.in-Err.error c.in-Err.is (can_store c.args.stripe.stripe) c.reserve.ensures.succeeds

@@ -1,4 +1,5 @@
 use Rattle.std.proofs.Common.{◌≤◌, length, List, ap, sym, subst, ◌∙◌}
+use Rattle.mc_classes.specs.Limits.{most_refs}
 use Rattle.mc_core.specs.declared.holding.Holding.{Holding}
 use Rattle.mc_core.specs.Holdings.{has_fresh}
 use Rattle.mc_words.specs.lock.Doing.{HoldsSlabs}
@@ -31,7 +32,7 @@ turn_held-answer-requires-clause-fresh g c =
 pub turn_held-answer-requires-clause-few : goal.turn_held-answer-requires-clause-few
 turn_held-answer-requires-clause-few g c =
     let held = c.lock_slabs-held in
-    subst (λ (hs : List Holding). length hs ≤ 255) (sym (wait_holdings c.args.hand.now.seat.me.0 held.result.shared held.new.hand.seat.me.0 held.ensures.waits)) c.requires.ready.few
+    subst (λ (hs : List Holding). length hs ≤ most_refs) (sym (wait_holdings c.args.hand.now.seat.me.0 held.result.shared held.new.hand.seat.me.0 held.ensures.waits)) c.requires.ready.few
 
 pub returns-clause-turns : goal.returns-clause-turns
 returns-clause-turns g c =

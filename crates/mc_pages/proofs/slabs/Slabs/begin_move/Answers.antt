@@ -1,5 +1,6 @@
 use Rattle.std.proofs.Common.{◌≡◌, ◌≢◌, ℕ, ◌-◌, ◌≤◌, ◌==◌, List, length, vec_len, set, Some, Ok, refl, sym, ap, ap₂, ◌∙◌, subst, arith}
 use Rattle.std.specs.Vec.{with_item}
+use Rattle.mc_classes.specs.Limits.{most_arena_pages}
 use Rattle.mc_pages.specs.declared.ledger.Owner.TheVariants as owner
 use Rattle.mc_pages.specs.declared.ledger.Entry.{Entry}
 use Rattle.mc_pages.specs.declared.ledger.Entry.TheVariants.{Began}
@@ -44,7 +45,7 @@ page_count c =
     let is = is_class (goal.at.overflow_add-page_count c).After-reserve c.if-dst-eq0.false in
     c.page_count.ensures ∙ ap (λ (class : ClassState). length class.pages) (read_state c.self.inside c.args.dst _ _ is refl c.index_mut-slab.ensures.value)
 
-few : (c : After-page_count) → c.page_count.result ≤ 127
+few : (c : After-page_count) → c.page_count.result ≤ most_arena_pages
 few c =
     let is = is_class (goal.at.overflow_add-page_count c).After-reserve c.if-dst-eq0.false in
     omega (arith, page_count c, pages_below (slabs_of c.self.inside) c.self.inside.granted c.args.dst c.self.invariant.order is)

@@ -7,6 +7,7 @@ use Rattle.mc_core.specs.Codes.{plus}
 use Rattle.mc_core.specs.Head.{decode}
 use Rattle.mc_core.specs.State.{has_chunk, is_class, room_in}
 use Rattle.mc_core.specs.declared.event.Step.TheVariants as core
+use Rattle.mc_core.specs.Chunks.{most_holdings}
 use Rattle.mc_words.specs.hand.View.{View, Setup}
 use Rattle.mc_words.specs.rule.Layout.{head_word}
 use Rattle.mc_words.specs.item.Fresh.{IsFreshOf}
@@ -49,7 +50,7 @@ add-requires c =
     let place : c.head_word-word.result ≡ head_word seen.setup chunk = c.head_word-word.ensures.word ∙ ap (λ (s : Setup). head_word s chunk) (sym arena.setup) in
     let mine = after_slabs view seen seen slabs chunk head c.requires.held is looks in
     let last = after_last view seen seen slabs chunk head c.requires.held is looks in
-    let few : length seen.row.holdings < 256 = let few = c.requires.room in let same = ap length (after_holds view seen seen slabs chunk head c.requires.held is looks) in omega arith in
+    let few : length seen.row.holdings < most_holdings = let few = c.requires.room in let same = ap length (after_holds view seen seen slabs chunk head c.requires.held is looks) in omega arith in
     (refl, (refl, (c.head_word-word.ensures.near, (arena, subst (λ (n : ℕ). MayWrite seen (core.Pop class) n (plus 327681)) (sym place) (may_pop seen slabs class chunk head mine seen_class first near few last (issue_left c.head-head.result c.if-head-ge-MOST_ISSUE.false))))))
 
 pub invariant_of-hand : goal.invariant_of-hand

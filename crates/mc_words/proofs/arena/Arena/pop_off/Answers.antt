@@ -8,6 +8,7 @@ use Rattle.mc_core.specs.Codes.{plus}
 use Rattle.mc_core.specs.State.{has_chunk, is_class, room_in}
 use Rattle.mc_core.specs.declared.event.Step.TheVariants as core
 use Rattle.mc_core.proofs.Listed.{Contains_from_among}
+use Rattle.mc_core.specs.Chunks.{most_holdings}
 use Rattle.mc_words.specs.hand.View.{View, Setup}
 use Rattle.mc_words.specs.rule.Layout.{head_word}
 use Rattle.mc_words.specs.item.Fresh.{IsFreshOf}
@@ -98,7 +99,7 @@ add-requires c =
     let sees = sees_target old.page slabs chunk view seen c.requires.held (free_once view was slabs c.requires.held (class_of_page slabs old.page) class_is) finds in
     let holds : seen.row.holdings ≡ view.row.holdings = ap (λ (v : View). v.row.holdings) finds.fit.is ∙ passed_holds old.page finds.before view finds.passed finds.passes in
     let place : c.head_word-word.result ≡ head_word seen.setup chunk = c.head_word-word.ensures.word ∙ ap (λ (s : Setup). head_word s chunk) (sym arena.setup) in
-    let few : length seen.row.holdings < 256 = let few = c.requires.room in let same = ap length holds in omega arith in
+    let few : length seen.row.holdings < most_holdings = let few = c.requires.room in let same = ap length holds in omega arith in
     (refl, (refl, (c.head_word-word.ensures.near, (arena, subst (λ (n : ℕ). MayWrite seen (core.PopOff old) n (plus 327681)) (sym place) (may_pop_off seen slabs old chunk mine c.requires.moving sees c.requires.out few)))))
 
 pub overflow_add-hand : goal.overflow_add-hand
