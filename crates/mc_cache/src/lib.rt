@@ -20,7 +20,7 @@
 //!
 //! A caller may rely on this: a get gives a value only where the key's item has it, and some worker stored it; else the bytes
 //! stay. A set may evict other items, so each get may miss. Two keys with one hash take each other's place. What threads do, and
-//! when `tend` is called, is the caller's: `crates/embed` is a program. CALLING.md has the contracts.
+//! when `tend` is called, is the caller's: `crates/example_first` is a program. CALLING.md has the contracts.
 #![tactic(auto)]
 
 mod bytes;
