@@ -26,7 +26,7 @@ use Rattle.mc_core.proofs.SameSlabs.{looked_keeps}
 use Rattle.mc_words.specs.rule.Happens.{LawfulView}
 use Rattle.mc_words.specs.rule.Meaning.{beginning_of}
 use Rattle.mc_words.specs.hand.View.{OwnEvent, View, events_of, own_event}
-use Rattle.example_calls.specs.Preparing.{has_prepared, prepares}
+use Rattle.example_calls.specs.Preparing.{has_prepared, is_prepare_event}
 
 -- the issue number of the header at this place
 abbrev pub issue_at : State → ℕ → ℕ
@@ -67,7 +67,7 @@ calm_changes m hand (change ∷ changes) =
     let next : Moment = moment_changed m hand change in
     calm_then m.state next.state (moment_changes next hand changes).state (calm_change m.state hand change) (calm_changes next hand changes)
 
-calm_step : (before : List Change) (s : State) (hand : ℕ) (next : Step) → prepares (own_event before next) ≡ true → IsCalm s (after_step s hand next)
+calm_step : (before : List Change) (s : State) (hand : ℕ) (next : Step) → is_prepare_event (own_event before next) ≡ true → IsCalm s (after_step s hand next)
 calm_step before s hand step.TakeSlabs is = (λ place. refl, refl)
 calm_step before s hand (step.TakeStripe stripe) is = absurd (cc)
 calm_step before s hand step.MissSlabs is = (λ place. refl, refl)
@@ -97,27 +97,27 @@ calm_step before s hand (step.Cut page index) is =
 calm_step before s hand (step.Again chunk issue) is = absurd (cc)
 calm_step before s hand (step.Join kept spent) is = absurd (cc)
 
-calm_event : (m : Moment) (event : Event) → prepares (own_event event.before event.step) ≡ true → IsCalm m.state (moment_after m event).state
+calm_event : (m : Moment) (event : Event) → is_prepare_event (own_event event.before event.step) ≡ true → IsCalm m.state (moment_after m event).state
 calm_event m event is =
     let changed : Moment = moment_changes m event.hand event.before in
     calm_then m.state changed.state (moment_after m event).state (calm_changes m event.hand event.before) (calm_step event.before changed.state event.hand event.step is)
 
 -- a whole run of one hand
-calm_run : (m : Moment) (run : List Event) → IsRun m run → length m.state.ids ≡ 1 → list_all prepares (events_of 0 run) ≡ true → IsCalm m.state (moment_at_end m run).state
+calm_run : (m : Moment) (run : List Event) → IsRun m run → length m.state.ids ≡ 1 → list_all is_prepare_event (events_of 0 run) ≡ true → IsCalm m.state (moment_at_end m run).state
 calm_run m [] is one all = (λ place. refl, refl)
 calm_run m (event ∷ run) is one all =
     let there = hand_there m.state event.hand (and_parts (is_hand m.state event.hand) _ is.0).0 in
     let first : event.hand ≡ 0 = omega (arith, there, one) in
     let own : OwnEvent = own_event event.before event.step in
-    let parts = and_parts (prepares own) (list_all prepares (events_of 0 run))
-    (ap (λ (b : Bool). list_all prepares (if b then own ∷ events_of 0 run else events_of 0 run)) (sym (eq-eqb event.hand 0 first)) ∙ all) in
+    let parts = and_parts (is_prepare_event own) (list_all is_prepare_event (events_of 0 run))
+    (ap (λ (b : Bool). list_all is_prepare_event (if b then own ∷ events_of 0 run else events_of 0 run)) (sym (eq-eqb event.hand 0 first)) ∙ all) in
     let next : Moment = moment_after m event in
     let now = calm_event m event parts.0 in
     calm_then m.state next.state (moment_at_end next run).state now (calm_run next run is.1 (ap length now.1 ∙ one) parts.1)
 
 -- an event more
-pub one_more : (events : List OwnEvent) (event : OwnEvent) → list_all prepares events ≡ true → prepares event ≡ true → list_all prepares (events ++ event ∷ []) ≡ true
-one_more events event all is = list_all-append prepares events (event ∷ []) ∙ and_from _ _ all (and_from _ _ is refl)
+pub one_more : (events : List OwnEvent) (event : OwnEvent) → list_all is_prepare_event events ≡ true → is_prepare_event event ≡ true → list_all is_prepare_event (events ++ event ∷ []) ≡ true
+one_more events event all is = list_all-append is_prepare_event events (event ∷ []) ∙ and_from _ _ all (and_from _ _ is refl)
 
 -- a chunk's header before the hand handed a chunk out
 pub issue_here : (view : View) (was : LawfulView view) → view.setup.hands ≡ 1 → has_prepared view ≡ true → (chunk : ChunkId) → has_chunk view.setup.table chunk ≡ true → (head_at was.moment.state chunk).issue ≡ view.setup.start
@@ -131,8 +131,8 @@ issue_here view was one all chunk near =
     let there = hand_there s was.hand was.there in
     let hands = was.hands in
     let mine : was.hand ≡ 0 = omega (arith, there, hands, one) in
-    let did : list_all prepares (events_of 0 was.run) ≡ true =
-    ap (λ (n : ℕ). list_all prepares (events_of n was.run)) (sym mine) ∙ (ap (λ (v : View). list_all prepares v.events) (sym was.is) ∙ all) in
+    let did : list_all is_prepare_event (events_of 0 was.run) ≡ true =
+    ap (λ (n : ℕ). list_all is_prepare_event (events_of n was.run)) (sym mine) ∙ (ap (λ (v : View). list_all is_prepare_event v.events) (sym was.is) ∙ all) in
     let calm = calm_run begin was.run was.reached.is_run many did in
     let long : length begin.state.heads ≡ count = length-replicate count (uncut_from view.setup.start) in
     let within = head_place_within table begin.state.heads chunk long near in

@@ -13,7 +13,7 @@ use Rattle.mc_pages.proofs.Owners.{position-AreGranted}
 use Rattle.mc_core.specs.declared.event.Event.{Event}
 use Rattle.mc_core.specs.declared.event.Step.TheVariants as step
 use Rattle.mc_core.specs.Laws.{IsRun, moment_at_end}
-use Rattle.mc_core.specs.Past.{Knowledge, Moment, Sight, moment_stepped, slabs_word}
+use Rattle.mc_core.specs.Past.{Knowledge, Moment, SeenWord, moment_stepped, slabs_word}
 use Rattle.mc_core.specs.State.{has_slabs, is_hand}
 use Rattle.mc_core.specs.Views.{held_slabs}
 use Rattle.mc_core.proofs.Plays.{hand_there}
@@ -63,7 +63,7 @@ next_fresh table class sound =
     ap (λ b. if b || is_without_page (fresh_slabs table) class then untouched_page (fresh_slabs table) else None) left
     ∙ position-AreGranted (all_untouched (arena_pages_of table)) 0 (IsInOrder-fresh table sound).lowest (omega (arith, long, pages))
 
-same_word : (xs : List Sight) (a b : ℕ) → xs ++ slabs_word a ∷ [] ≡ xs ++ slabs_word b ∷ [] → a ≡ b
+same_word : (xs : List SeenWord) (a b : ℕ) → xs ++ slabs_word a ∷ [] ≡ xs ++ slabs_word b ∷ [] → a ≡ b
 same_word [] a b e = cc
 same_word (x ∷ xs) a b e = let rest : xs ++ slabs_word a ∷ [] ≡ xs ++ slabs_word b ∷ [] = cc in same_word xs a b rest
 

@@ -11,9 +11,9 @@ use Rattle.mc_core.specs.declared.head.Head.{Head}
 use Rattle.mc_core.specs.declared.head.Tag.TheVariants.{Unlinked}
 use Rattle.mc_core.specs.declared.holding.Holding.{Holding}
 use Rattle.mc_core.specs.Chunks.{most_issue}
-use Rattle.mc_core.specs.Columns.{head_in, holders, link_of}
+use Rattle.mc_core.specs.Columns.{head_in, holder_count, link_count}
 use Rattle.mc_core.specs.Head.{code, decode}
-use Rattle.mc_core.specs.Holdings.{holding_of, is_fresh, is_of}
+use Rattle.mc_core.specs.Holdings.{holding_of, is_fresh, is_of_chunk}
 use Rattle.mc_core.specs.State.{State, has_chunk, head_at, holdings_at, is_class, room_in}
 use Rattle.mc_core.proofs.Codes.{are_one_word}
 use Rattle.mc_core.proofs.Holders.{found_each}
@@ -36,11 +36,11 @@ fresh_header view seen chunk issue room word near found h is =
     let lawful = h.was.lawful in
     let holding : Holding = fresh_holding chunk issue room in
     let here : holding_of chunk (holdings_at s h.was.hand) ≡ Some holding = ap (holding_of chunk) (holdings_here view h.was) ∙ found in
-    let issue_is : issue ≡ (head_at s chunk).issue = found_each (λ (o : Holding). o.issue ≡ (head_in s.table s.heads o.chunk).issue) s.holdings h.was.hand (is_of chunk) holding here lawful.held.issues in
-    let alone : ((head_at s chunk).tag ≡ Unlinked) × (holders chunk s.holdings ≡ 1) =
-    found_each (λ (o : Holding). is_fresh o ≡ true → ((head_in s.table s.heads o.chunk).tag ≡ Unlinked) × (holders o.chunk s.holdings ≡ 1)) s.holdings h.was.hand (is_of chunk) holding here lawful.held.alone refl in
+    let issue_is : issue ≡ (head_at s chunk).issue = found_each (λ (o : Holding). o.issue ≡ (head_in s.table s.heads o.chunk).issue) s.holdings h.was.hand (is_of_chunk chunk) holding here lawful.held.issues in
+    let alone : ((head_at s chunk).tag ≡ Unlinked) × (holder_count chunk s.holdings ≡ 1) =
+    found_each (λ (o : Holding). is_fresh o ≡ true → ((head_in s.table s.heads o.chunk).tag ≡ Unlinked) × (holder_count o.chunk s.holdings ≡ 1)) s.holdings h.was.hand (is_of_chunk chunk) holding here lawful.held.alone refl in
     let count : (head_at s chunk).count ≡ 1 =
-    lawful.counted.counted chunk (near_here view chunk near h.was) ∙ (λ k. link_of (alone.0 k) + alone.1 k) in
+    lawful.counted.counted chunk (near_here view chunk near h.was) ∙ (λ k. link_count (alone.0 k) + alone.1 k) in
     let head : head_at s chunk ≡ record { issue = issue; tag = Unlinked; count = 1 } = λ k. record { issue = sym issue_is k; tag = alone.0 k; count = count k } in
     sym (are_one_word.again word) ∙ ap code (sym (seen_is view seen chunk (decode word) h is) ∙ head)
 
@@ -61,7 +61,7 @@ module _ (view now : View) (slabs : SlabState) (class : ℕ) (chunk : ChunkId) (
   held_now =
       let holding : Holding = fresh_holding chunk (pops.head.issue + 1) (room_in view.setup.table class) in
       ap (λ (v : View). holding_of chunk v.row.holdings) pops.is
-      ∙ (find-append (is_of chunk) view.row.holdings (holding ∷ [])
+      ∙ (find-append (is_of_chunk chunk) view.row.holdings (holding ∷ [])
       ∙ (ap (λ (o : Option Holding). option_or o (holding_of chunk (holding ∷ []))) (not_held view now slabs mine class chunk pops.head is pops.first was near) ∙ ap (λ (b : Bool). if b then Some holding else None) (is_chunk-same chunk)))
 
   -- its header as it is read then

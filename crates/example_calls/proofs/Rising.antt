@@ -12,11 +12,11 @@ use Rattle.mc_core.specs.declared.holding.Holding.{Holding}
 use Rattle.mc_core.specs.declared.holding.Kind.{Kind}
 use Rattle.mc_core.specs.declared.holding.Kind.TheVariants.{Reference, Fresh}
 use Rattle.mc_core.specs.declared.holding.Purpose.TheVariants.{Item, Copy, Rescue}
-use Rattle.mc_core.specs.Chunks.{handed_out, let_go, most_issue, next_free, popped, popped_off, target_of, with_tag_free, with_tag_out}
-use Rattle.mc_core.specs.Evictions.{condemned}
+use Rattle.mc_core.specs.Chunks.{head_after_hand_out, head_after_release, most_issue, next_free, state_after_pop_of, popped_off, target_of, with_tag_free, with_tag_out}
+use Rattle.mc_core.specs.Evictions.{head_after_condemn}
 use Rattle.mc_core.specs.Head.{never_cut, uncut_from}
-use Rattle.mc_core.specs.Holdings.{holding_of, is_of}
-use Rattle.mc_core.specs.Items.{after_link_of, chunk_of, linked, referred, referred_to, told_link, unlinked, with_got, with_unlinked}
+use Rattle.mc_core.specs.Holdings.{holding_of, is_of_chunk}
+use Rattle.mc_core.specs.Items.{after_link_of, chunk_of_key, head_after_link, head_after_refer, referred_to, recorded_link, head_after_unlink, with_got, with_unlinked}
 use Rattle.mc_core.specs.Laws.{moment_at_end}
 use Rattle.mc_core.specs.Past.{Moment, moment_after, moment_changes}
 use Rattle.mc_core.specs.Run.{after_step}
@@ -56,19 +56,19 @@ rises_head s chunk h more place = rises_set s.heads (head_place s.table chunk) p
 rises_then : (s between now : State) → Rises s between → Rises between now → Rises s now
 rises_then s between now first second place = let a = first place in let b = second place in omega (arith, a, b)
 
-rises_popped : (s : State) (hand : ℕ) (next : Option ChunkId) → Rises s (popped s hand next)
+rises_popped : (s : State) (hand : ℕ) (next : Option ChunkId) → Rises s (state_after_pop_of s hand next)
 rises_popped s hand None = rises_none s
-rises_popped s hand (Some chunk) = rises_head s chunk (handed_out (head_at s chunk)) (omega arith)
+rises_popped s hand (Some chunk) = rises_head s chunk (head_after_hand_out (head_at s chunk)) (omega arith)
 
 rises_popped_off : (s : State) (hand : ℕ) (old : ChunkId) (next : Option ChunkId) → Rises s (popped_off s hand old next)
 rises_popped_off s hand old None = rises_none s
-rises_popped_off s hand old (Some chunk) = rises_head s chunk (handed_out (head_at s chunk)) (omega arith)
+rises_popped_off s hand old (Some chunk) = rises_head s chunk (head_after_hand_out (head_at s chunk)) (omega arith)
 
-rises_told : (s : State) (hand : ℕ) (chunk : ChunkId) (holding : Holding) (kind : Kind) → Rises s (with_head (told_link s hand holding kind) chunk (linked (head_at s chunk)))
-rises_told s hand chunk holding (Reference own) = rises_head s chunk (linked (head_at s chunk)) (omega arith)
-rises_told s hand chunk holding (Fresh Item own) = rises_head s chunk (linked (head_at s chunk)) (omega arith)
-rises_told s hand chunk holding (Fresh (Copy old) own) = rises_head s chunk (linked (head_at s chunk)) (omega arith)
-rises_told s hand chunk holding (Fresh (Rescue old item) own) = rises_head s chunk (linked (head_at s chunk)) (omega arith)
+rises_told : (s : State) (hand : ℕ) (chunk : ChunkId) (holding : Holding) (kind : Kind) → Rises s (with_head (recorded_link s hand holding kind) chunk (head_after_link (head_at s chunk)))
+rises_told s hand chunk holding (Reference own) = rises_head s chunk (head_after_link (head_at s chunk)) (omega arith)
+rises_told s hand chunk holding (Fresh Item own) = rises_head s chunk (head_after_link (head_at s chunk)) (omega arith)
+rises_told s hand chunk holding (Fresh (Copy old) own) = rises_head s chunk (head_after_link (head_at s chunk)) (omega arith)
+rises_told s hand chunk holding (Fresh (Rescue old item) own) = rises_head s chunk (head_after_link (head_at s chunk)) (omega arith)
 
 rises_linked : (s : State) (hand : ℕ) (chunk : ChunkId) (found : Option Holding) → Rises s (after_link_of s hand chunk found)
 rises_linked s hand chunk None = rises_none s
@@ -76,11 +76,11 @@ rises_linked s hand chunk (Some holding) = rises_told s hand chunk holding holdi
 
 rises_referred : (s : State) (hand : ℕ) (place : Option (ChunkId × ℕ)) → Rises s (referred_to s hand place)
 rises_referred s hand None = rises_none s
-rises_referred s hand (Some place) = rises_head s place.0 (referred (head_at s place.0)) (omega arith)
+rises_referred s hand (Some place) = rises_head s place.0 (head_after_refer (head_at s place.0)) (omega arith)
 
 rises_unlinked : (s : State) (place : Option (ChunkId × ℕ)) → Rises s (with_unlinked s place)
 rises_unlinked s None = rises_none s
-rises_unlinked s (Some place) = rises_head s place.0 (unlinked (head_at s place.0)) (omega arith)
+rises_unlinked s (Some place) = rises_head s place.0 (head_after_unlink (head_at s place.0)) (omega arith)
 
 rises_step : (s : State) (hand : ℕ) (next : Step) → Rises s (after_step s hand next)
 rises_step s hand step.TakeSlabs = rises_none s
@@ -95,16 +95,16 @@ rises_step s hand (step.PopOff old) = rises_popped_off s hand old (target_of s.t
 rises_step s hand (step.Fill chunk place word) = rises_none s
 rises_step s hand (step.Word chunk place) = rises_none s
 rises_step s hand (step.WordHeld chunk place) = rises_none s
-rises_step s hand (step.Link chunk) = rises_linked (without_holding s hand (is_of chunk)) hand chunk (holding_of chunk (holdings_at s hand))
-rises_step s hand (step.Refer key) = rises_referred (with_got s hand key) hand (chunk_of s key)
-rises_step s hand (step.Unlink key) = rises_unlinked _ (chunk_of s key)
-rises_step s hand (step.Release chunk) = rises_head s chunk (let_go (head_at s chunk)) (omega arith)
-rises_step s hand (step.Discard chunk) = rises_head s chunk (let_go (head_at s chunk)) (omega arith)
-rises_step s hand (step.Condemn chunk) = rises_head s chunk (condemned (head_at s chunk)) (omega arith)
+rises_step s hand (step.Link chunk) = rises_linked (without_holding s hand (is_of_chunk chunk)) hand chunk (holding_of chunk (holdings_at s hand))
+rises_step s hand (step.Refer key) = rises_referred (with_got s hand key) hand (chunk_of_key s key)
+rises_step s hand (step.Unlink key) = rises_unlinked _ (chunk_of_key s key)
+rises_step s hand (step.Release chunk) = rises_head s chunk (head_after_release (head_at s chunk)) (omega arith)
+rises_step s hand (step.Discard chunk) = rises_head s chunk (head_after_release (head_at s chunk)) (omega arith)
+rises_step s hand (step.Condemn chunk) = rises_head s chunk (head_after_condemn (head_at s chunk)) (omega arith)
 rises_step s hand (step.PutBack chunk) = rises_head s chunk (with_tag_free (head_at s chunk)) (omega arith)
 rises_step s hand (step.Clear chunk) = rises_head s chunk (with_tag_out (head_at s chunk)) (omega arith)
 rises_step s hand (step.Cut page index) = let chunk : ChunkId = record { page = page; index = index } in rises_head s chunk (with_tag_free (head_at s chunk)) (omega arith)
-rises_step s hand (step.Again chunk issue) = rises_head s chunk (referred (head_at s chunk)) (omega arith)
+rises_step s hand (step.Again chunk issue) = rises_head s chunk (head_after_refer (head_at s chunk)) (omega arith)
 rises_step s hand (step.Join kept spent) = rises_none s
 
 rises_event : (m : Moment) (event : Event) → Rises m.state (moment_after m event).state

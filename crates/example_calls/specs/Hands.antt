@@ -11,6 +11,6 @@ abbrev pub IsReadyHandOf : Arena → Hand → Type 0
 IsReadyHandOf arena hand = IsHandOf arena hand × IsReady (view hand)
 
 -- the hand is one of the arena's, may make any call, and refers to the item
-pub record RefersTo (arena : Arena) (item : Ref) (hand : Hand) : Type 0 where
+pub record IsReadyWithRef (arena : Arena) (item : Ref) (hand : Hand) : Type 0 where
   pub ready : IsReadyHandOf arena hand
   pub refers : IsItemRef (view hand) item

@@ -18,13 +18,13 @@ is_preparing (Cut page index) = true
 is_preparing other = false
 
 -- the event of the hand is one of those that come before the first chunk is handed out, whatever pages and lists it changed before
-abbrev pub prepares : OwnEvent → Bool
-prepares (made before step) = is_preparing step
-prepares joined = false
+abbrev pub is_prepare_event : OwnEvent → Bool
+is_prepare_event (made before step) = is_preparing step
+is_prepare_event joined = false
 
 -- each event of the hand is one of those that come before the first chunk is handed out
 abbrev pub has_prepared : View → Bool
-has_prepared view = list_all prepares view.events
+has_prepared view = list_all is_prepare_event view.events
 
 -- the header of a chunk that is out for the first time, and held once, where issue numbers count on from this one
 abbrev pub first_out : ℕ → Head

@@ -1,12 +1,12 @@
 //! Calls that try for a lock n times and then give up, and a hand that comes back out of a struct.
 ghost use Rattle.std.specs.Prelude.{◌+◌, ◌≡◌, IfOk, OnErr};
-ghost use Rattle.mc_stripe.specs.StripeState.{stamp_of};
+ghost use Rattle.mc_stripe.specs.StripeState.{stamp_of_key};
 ghost use Rattle.mc_words.specs.hand.Arenas.{view};
-ghost use Rattle.mc_words.specs.hand.Observers.{locks_of, number_of};
+ghost use Rattle.mc_words.specs.hand.Observers.{locks_of, hand_number};
 ghost use Rattle.mc_words.specs.hand.Ready.{IsReady};
 ghost use Rattle.mc_words.specs.hand.Seats.{IsSeatedAt};
 ghost use Rattle.mc_words.specs.item.Refs.{KeepsRefs};
-ghost use Rattle.example_calls.specs.Bounded.{FindsStamp, GivesNoStamp, IsNextStamp, Makes, MakesAtMost, SaysItem, SetsOwn, granted_as_given};
+ghost use Rattle.example_calls.specs.Bounded.{FindsStamp, GivesNoStamp, IsNextStamp, Makes, MakesAtMost, StoresKeyAndWords, SetsOwn, granted_as_given};
 ghost use Rattle.example_calls.specs.Hands.{IsReadyHandOf};
 
 use mc_items::{SetWithinError, set_within};
@@ -55,7 +55,7 @@ pub fn stamp_within(
 
 // The stamp of the key's item.
 fn stamp_in(stripe: &Stripe, key: Key) -> Option<Stamp>
-    ensures { result ≡ stamp_of stripe.now.state key }
+    ensures { result ≡ stamp_of_key stripe.now.state key }
 {
     stripe.find(key).map(|place| place.1)
 }
@@ -72,7 +72,7 @@ pub fn set_at_second_try(
     requires { IsReadyHandOf arena.now hand.old }
     ensures ready { IsReadyHandOf arena.now hand.new }
     ensures stamp { IfOk result (IsNextStamp hand.old) }
-    ensures said { IfOk result (SaysItem key words.now hand.old hand.new) }
+    ensures said { IfOk result (StoresKeyAndWords key words.now hand.old hand.new) }
     ensures unused { OnErr result (GivesNoStamp hand.old hand.new) }
     ensures keeps { KeepsRefs (view hand.old) (view hand.new) }
 {
@@ -94,7 +94,7 @@ pub fn recall_and_set(
     requires ready { IsReady (view hand.old) }
     ensures ready { IsReadyHandOf arena.now hand.new }
     ensures locks { locks_of hand.new ≡ locks_of hand.old }
-    ensures number { number_of hand.new ≡ number_of hand.old }
+    ensures number { hand_number hand.new ≡ hand_number hand.old }
     ensures sets { IfOk result (SetsOwn key words.now hand.old hand.new) }
 {
     arena.recall(hand);

@@ -2,7 +2,7 @@
 ghost use Rattle.std.specs.Prelude.{◌≡◌, IfSome, true};
 ghost use Rattle.mc_core.specs.State.{has_chunk};
 ghost use Rattle.mc_words.specs.hand.Arenas.{setup_of};
-ghost use Rattle.mc_words.specs.hand.Observers.{hint_chunk, number_of};
+ghost use Rattle.mc_words.specs.hand.Observers.{hint_chunk, hand_number};
 ghost use Rattle.example_calls.specs.Hands.{IsReadyHandOf};
 
 use mc_items::{again, delete, get, hint, read, release, set, touch, try_get};
@@ -15,7 +15,7 @@ use std::sync::Wait;
 pub fn call_twice<R: Wait>(rt: &R, alloc: Global, arena: &Arena, hand: &mut Hand, key: u64)
     requires { IsReadyHandOf arena.now hand.old }
     ensures ready { IsReadyHandOf arena.now hand.new }
-    ensures number { number_of hand.new ≡ number_of hand.old }
+    ensures number { hand_number hand.new ≡ hand_number hand.old }
 {
     let _ = set(rt, arena, hand, key, &[1, 2, 3]);
     let _ = set(rt, arena, hand, key, &[4, 5]);
@@ -42,7 +42,7 @@ fn get_and_hint<R: Wait>(
 ) -> Option<Hint>
     requires { IsReadyHandOf arena.now hand.old }
     ensures ready { IsReadyHandOf arena.now hand.new }
-    ensures number { number_of hand.new ≡ number_of hand.old }
+    ensures number { hand_number hand.new ≡ hand_number hand.old }
     ensures near { IfSome result (λ hint. has_chunk (setup_of arena.now).table (hint_chunk hint) ≡ true) }
 {
     let Ok(Some(item)) = get(rt, arena, hand, key) else {
@@ -60,7 +60,7 @@ fn get_by_hint(arena: &Arena, hand: &mut Hand, hint: Option<Hint>)
     requires ready { IsReadyHandOf arena.now hand.old }
     requires near { IfSome hint (λ hint. has_chunk (setup_of arena.now).table (hint_chunk hint) ≡ true) }
     ensures ready { IsReadyHandOf arena.now hand.new }
-    ensures number { number_of hand.new ≡ number_of hand.old }
+    ensures number { hand_number hand.new ≡ hand_number hand.old }
 {
     if let Some(hint) = hint {
         if let Ok(item) = again(arena, hand, hint) {
@@ -73,7 +73,7 @@ fn get_by_hint(arena: &Arena, hand: &mut Hand, hint: Option<Hint>)
 fn try_and_release(arena: &Arena, hand: &mut Hand, key: u64)
     requires { IsReadyHandOf arena.now hand.old }
     ensures ready { IsReadyHandOf arena.now hand.new }
-    ensures number { number_of hand.new ≡ number_of hand.old }
+    ensures number { hand_number hand.new ≡ hand_number hand.old }
 {
     if let Ok(Some(item)) = try_get(arena, hand, key) {
         release(arena, hand, item);
@@ -84,7 +84,7 @@ fn try_and_release(arena: &Arena, hand: &mut Hand, key: u64)
 fn move_twice<R: Wait>(rt: &R, alloc: Global, arena: &Arena, hand: &mut Hand)
     requires { IsReadyHandOf arena.now hand.old }
     ensures ready { IsReadyHandOf arena.now hand.new }
-    ensures number { number_of hand.new ≡ number_of hand.old }
+    ensures number { hand_number hand.new ≡ hand_number hand.old }
 {
     set_mode(rt, arena, hand, 1);
     set_mode(rt, arena, hand, 2);

@@ -3,7 +3,7 @@ ghost use Rattle.std.specs.Prelude.{◌≡◌, IfOk};
 ghost use Rattle.mc_words.specs.hand.Arenas.{view};
 ghost use Rattle.mc_words.specs.item.Refs.{KeepsRefs};
 ghost use Rattle.mc_items.specs.ItemRefs.{item_words};
-ghost use Rattle.example_calls.specs.Hands.{IsReadyHandOf, RefersTo};
+ghost use Rattle.example_calls.specs.Hands.{IsReadyHandOf, IsReadyWithRef};
 
 use mc_items::{Ref, delete, get, read, release, set, touch};
 use mc_memory::Refused;
@@ -23,8 +23,8 @@ pub fn read_after_all<R: Wait>(
     key: u64,
     words: &[u64],
 ) -> Result<Vec<u64>, Refused>
-    requires { RefersTo arena.now item.now hand.old }
-    ensures refers { RefersTo arena.now item.now hand.new }
+    requires { IsReadyWithRef arena.now item.now hand.old }
+    ensures refers { IsReadyWithRef arena.now item.now hand.new }
     ensures words { IfOk result (λ read. read.items ≡ item_words (view hand.old) item.now) }
 {
     let _ = set(rt, arena, hand, key, words);
@@ -44,8 +44,8 @@ pub fn read_after_trims<R: Wait>(
     hand: &mut Hand,
     item: &Ref,
 ) -> Result<Vec<u64>, Refused>
-    requires { RefersTo arena.now item.now hand.old }
-    ensures refers { RefersTo arena.now item.now hand.new }
+    requires { IsReadyWithRef arena.now item.now hand.old }
+    ensures refers { IsReadyWithRef arena.now item.now hand.new }
     ensures words { IfOk result (λ read. read.items ≡ item_words (view hand.old) item.now) }
 {
     let _ = trim(rt, arena, hand);

@@ -1,10 +1,10 @@
 //! What remains behind a trim: what two hands stored, and what is recorded of the ledger.
 ghost use Rattle.std.specs.Prelude.{◌≡◌, [], Contains, length, slice_get};
-ghost use Rattle.mc_pages.specs.Base.{base_of};
-ghost use Rattle.mc_core.specs.Past.{Saying};
+ghost use Rattle.mc_pages.specs.Base.{base_pages};
+ghost use Rattle.mc_core.specs.Past.{StoredItem};
 ghost use Rattle.mc_words.specs.hand.Arenas.{IsHandOf, view};
 ghost use Rattle.mc_words.specs.hand.Ready.{IsReady};
-ghost use Rattle.mc_words.specs.rule.Joins.{Agrees};
+ghost use Rattle.mc_words.specs.rule.Joins.{KnowledgeAgrees};
 ghost use Rattle.example_calls.specs.Hands.{IsReadyHandOf};
 
 use mc_items::set;
@@ -28,9 +28,9 @@ pub fn join_behind_a_trim<R: Wait>(
     requires ready { IsReady (view hand) × IsReady (view other) }
     requires none { ((view hand).row.holdings ≡ []) × ((view other).row.holdings ≡ []) }
     ensures arena { IsHandOf arena.now result }
-    ensures agree { Agrees (view result).row.knows }
-    ensures first { (saying : Saying) → Contains (view hand).row.knows.said saying → Contains (view result).row.knows.said saying }
-    ensures second { (saying : Saying) → Contains (view other).row.knows.said saying → Contains (view result).row.knows.said saying }
+    ensures agree { KnowledgeAgrees (view result).row.knows }
+    ensures first { (saying : StoredItem) → Contains (view hand).row.knows.said saying → Contains (view result).row.knows.said saying }
+    ensures second { (saying : StoredItem) → Contains (view other).row.knows.said saying → Contains (view result).row.knows.said saying }
 {
     let mut hand = hand;
     let mut other = other;
@@ -64,7 +64,7 @@ pub fn page_behind_a_trim<R: Wait>(
     requires { IsReadyHandOf arena.now hand.old }
     ensures arena { IsHandOf arena.now hand.new }
     ensures trimmed { (view hand.new).row.knows.hold.left.trimmed ≡ length (view hand.new).row.knows.hold.left.ledger }
-    ensures base { result ≡ slice_get (base_of (view hand.new).row.knows.hold.left) page }
+    ensures base { result ≡ slice_get (base_pages (view hand.new).row.knows.hold.left) page }
 {
     let mut held = arena.lock_slabs(rt, hand);
     arena.trim_ledger(hand, &mut held);

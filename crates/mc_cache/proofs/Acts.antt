@@ -4,7 +4,7 @@ use Rattle.std.proofs.lemmas.Option.{slice_get_read}
 use Rattle.mc_words.specs.declared.arena.Arena.{Arena}
 use Rattle.mc_words.specs.declared.hand.Hand.{Hand}
 use Rattle.mc_words.specs.hand.Arenas.{setup_of, view}
-use Rattle.mc_items.specs.Keeping.{SaysNothing}
+use Rattle.mc_items.specs.Keeping.{StoresNothing}
 use Rattle.mc_cache.specs.shard.Finding.{GivesTouchedIf}
 use Rattle.mc_cache.specs.shard.Hands.{IsIdleHandOf}
 use Rattle.mc_cache.specs.declared.cache.Cache.{Cache}
@@ -67,7 +67,7 @@ acted cache key hands at arena hand after Does are is_hash is_shard near is_aren
     (acts cache.arenas.items hands at.shard arena hand after (Does (hash_in cache key)) near are.count is_arena is_hand done)
 
 -- what a get gave, which said nothing
-pub reads_touching_if : (touches : Bool) (arena : Arena) (hash : ℕ) (key : List ℕ) (before now : Hand) (old new : List ℕ) → GivesTouchedIf touches (setup_of arena) hash key before now old new → SaysNothing (view before) (view now)
+pub reads_touching_if : (touches : Bool) (arena : Arena) (hash : ℕ) (key : List ℕ) (before now : Hand) (old new : List ℕ) → GivesTouchedIf touches (setup_of arena) hash key before now old new → StoresNothing (view before) (view now)
     → (value : List ℕ) × ReadsTouchingIf touches hash key value arena before now × (new ≡ old ++ value)
 reads_touching_if true arena hash key before now old new gives unsaid = (gives.0, (gives.1, unsaid), gives.2)
 reads_touching_if false arena hash key before now old new gives unsaid = (gives.0, (gives.1, unsaid), gives.2)

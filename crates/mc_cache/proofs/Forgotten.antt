@@ -3,7 +3,7 @@ use Rattle.std.proofs.Common.{◌≡◌, ◌≤◌, ◌+◌, ◌/◌, ◌==◌, 
 use Rattle.std.proofs.lemmas.Bool.Decides.{nat_tests}
 use Rattle.std.proofs.lemmas.List.{get_or-replicate}
 use Rattle.mc_cache.specs.declared.recent.Recent.{Recent}
-use Rattle.mc_cache.specs.Marks.{is_noted, mark_count, mark_of, most_asks, no_marks, place_of}
+use Rattle.mc_cache.specs.Marks.{is_noted, mark_count, noted_mark, most_asks, no_marks, mark_place}
 use Rattle.mc_cache.specs.Recent.{is_due, marks_found}
 
 -- after so many asks no marks are found
@@ -14,7 +14,7 @@ no_mark : (n : ℕ) → (0 == n + 1) ≡ false
 no_mark n = grind (arith, nat_tests)
 
 none_noted : (hash : ℕ) → is_noted no_marks hash ≡ false
-none_noted hash = ap (λ (n : ℕ). n == mark_of hash) (get_or-replicate mark_count (place_of hash) 0 0 (omega arith)) ∙ no_mark (hash / mark_count)
+none_noted hash = ap (λ (n : ℕ). n == noted_mark hash) (get_or-replicate mark_count (mark_place hash) 0 0 (omega arith)) ∙ no_mark (hash / mark_count)
 
 -- so each hash is due
 pub due_then : (recent : Recent) (hash : ℕ) → most_asks ≤ recent.asks → true ≡ is_due recent hash

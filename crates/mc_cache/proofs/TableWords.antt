@@ -6,7 +6,7 @@ use Rattle.std.specs.Option.{option_map}
 use Rattle.mc_classes.specs.declared.config.Config.{Config}
 use Rattle.mc_classes.specs.declared.config.ConfigError.{ConfigError}
 use Rattle.mc_classes.specs.Classes.{ComesFrom}
-use Rattle.mc_classes.specs.Refusals.{first_size, is_below_max, is_between, refusal_of, rounded_up}
+use Rattle.mc_classes.specs.Refusals.{first_size, is_below_max, is_between, config_refusal, rounded_up}
 use Rattle.mc_classes.proofs.Accepted.{IsAccepted, accepted}
 use Rattle.mc_classes.proofs.Sizes.{last_size, some_class}
 use Rattle.mc_words.specs.declared.arena.Arena.{Arena}
@@ -17,7 +17,7 @@ use Rattle.mc_words.specs.hand.View.{Setup}
 use Rattle.mc_cache.specs.declared.opening.CacheConfig.{CacheConfig}
 use Rattle.mc_cache.specs.declared.opening.NewError.{NewError}
 use Rattle.mc_cache.specs.declared.opening.NewError.TheVariants as refused
-use Rattle.mc_cache.specs.Bytes.{bytes_of, class_count, classes_from, words_an_arena, words_of_arenas}
+use Rattle.mc_cache.specs.Bytes.{cache_bytes, class_count, classes_from, words_an_arena, words_of_arenas}
 use Rattle.mc_cache.specs.Opening.{IsNewShard, cache_refusal}
 
 -- the first of a table's sizes is the one that the configuration tells
@@ -100,7 +100,7 @@ regrouped stripes page limit size count stripes' page' limit' size' count' s p l
     spread : (pages heads rest : ℕ) → pages + pages * heads + pages * rest ≡ pages * (1 + heads + rest)
     spread pages heads rest = omega arith
 
-pub words_are : (config : Config) (hands : ℕ) (setup : Setup) → refusal_of config ≡ None → IsMadeWith config hands 0 setup → word_count setup ≡ words_an_arena config
+pub words_are : (config : Config) (hands : ℕ) (setup : Setup) → config_refusal config ≡ None → IsMadeWith config hands 0 setup → word_count setup ≡ words_an_arena config
 words_are config hands setup none made =
     let acc = accepted config none in
     let comes = made.table.comes in
@@ -127,13 +127,13 @@ unmapped : (refusal : Option ConfigError) → option_map (λ error. refused.Conf
 unmapped None h = refl
 unmapped (Some error) h = absurd (none-some (refused.Config error) (sym h))
 
-pub arena_accepted : (config : CacheConfig) → cache_refusal config ≡ None → refusal_of config.arena ≡ None
+pub arena_accepted : (config : CacheConfig) → cache_refusal config ≡ None → config_refusal config.arena ≡ None
 arena_accepted config h =
     let workers = passed (is_between 1 4096 config.shards) refused.Shards _ h in
     unmapped _ (passed (is_between 1 63 config.workers) refused.Workers _ workers)
 
 -- the tables of all shards of a new cache
-pub bytes_are : (config : CacheConfig) (arenas : List Arena) → refusal_of config.arena ≡ None → length arenas ≡ config.shards → All (IsNewShard config) arenas → 8 * words_of_arenas arenas ≡ bytes_of config
+pub bytes_are : (config : CacheConfig) (arenas : List Arena) → config_refusal config.arena ≡ None → length arenas ≡ config.shards → All (IsNewShard config) arenas → 8 * words_of_arenas arenas ≡ cache_bytes config
 bytes_are config arenas none count new =
     let all : words_of_arenas arenas ≡ length arenas * words_an_arena config.arena =
     words_of_all arenas (words_an_arena config.arena) (λ place arena near. words_are config.arena (config.workers + 1) (setup_of (get_or arenas place arena)) none (new place arena near).made) in

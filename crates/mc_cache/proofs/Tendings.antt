@@ -6,7 +6,7 @@ use Rattle.std.proofs.lemmas.List.Sums.{fold-append}
 use Rattle.mc_watch.specs.Decider.{DeciderState}
 use Rattle.mc_words.specs.declared.hand.Hand.{Hand}
 use Rattle.mc_words.specs.hand.Arenas.{view}
-use Rattle.mc_items.specs.Keeping.{SaysNothing}
+use Rattle.mc_items.specs.Keeping.{StoresNothing}
 use Rattle.mc_cache.specs.declared.tended.Tended.{Tended}
 use Rattle.mc_cache.specs.Tending.{SayNothing, TendsFirst, tended_in_all, tended_with}
 use Rattle.mc_cache.specs.Windows.{TendsShard, nothing_tended}
@@ -68,7 +68,7 @@ pub none_said : (hands : List Hand) → SayNothing hands hands
 none_said hands shard hand after near = ap (λ (h : Hand). (view h).row.knows.said) (get_or_default hands shard after hand near)
 
 -- one hand more was used, and said nothing
-pub still_unsaid : (hands hands_now : List Hand) (count : ℕ) (hand now : Hand) → length hands ≡ length hands_now → count < length hands_now → hand ≡ get_or hands_now count hand → SaysNothing (view hand) (view now) → SayNothing hands hands_now → SayNothing hands (set hands_now count now)
+pub still_unsaid : (hands hands_now : List Hand) (count : ℕ) (hand now : Hand) → length hands ≡ length hands_now → count < length hands_now → hand ≡ get_or hands_now count hand → StoresNothing (view hand) (view now) → SayNothing hands hands_now → SayNothing hands (set hands_now count now)
 still_unsaid hands hands_now count hand now len near is unsaid h = λ k a b less.
     ⊎_elim
     (λ (same : k ≡ count).

@@ -6,8 +6,8 @@ use Rattle.mc_items.specs.declared.setting.SetError.{SetError}
 use Rattle.mc_cache.specs.declared.cache.Cache.{Cache}
 use Rattle.mc_cache.specs.declared.cache.Worker.{Worker}
 use Rattle.mc_cache.specs.Hashing.{hash_of, shard_of}
-use Rattle.mc_cache.specs.Marks.{asks_after, with_mark}
-use Rattle.mc_cache.specs.Recent.{is_due, marks_found, marks_of}
+use Rattle.mc_cache.specs.Marks.{asks_after, marks_with}
+use Rattle.mc_cache.specs.Recent.{is_due, marks_found, recent_marks}
 use Rattle.mc_cache.specs.Shards.{ActsOnShard, AreIdleHands, DeletesThere, ReadsOther, ReadsTouchingIf, ReadsValue, RefusesValue}
 
 -- the worker has an idle hand of each of the cache's arenas
@@ -45,7 +45,7 @@ GivesAndTouches cache key old new before now =
 
 -- the key's hash is noted as that of a key which the worker touched lately
 abbrev pub NotesHashOf : Cache → List ℕ → Worker → Worker → Type 0
-NotesHashOf cache key before now = marks_of now.recent ≡ with_mark (hash_in cache key) (marks_found before.recent)
+NotesHashOf cache key before now = recent_marks now.recent ≡ marks_with (hash_in cache key) (marks_found before.recent)
 
 -- the worker has counted one ask more
 abbrev pub CountsAsk : Worker → Worker → Type 0

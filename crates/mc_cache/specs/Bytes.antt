@@ -29,8 +29,8 @@ abbrev pub words_an_arena : Config → ℕ
 words_an_arena config = words_apart * (2 + config.stripes) + (config.limit / config.page + class_count config) * words_a_page config + 8
 
 -- the bytes of all tables, at eight a word
-abbrev pub bytes_of : CacheConfig → ℕ
-bytes_of config = config.shards * (8 * words_an_arena config.arena)
+abbrev pub cache_bytes : CacheConfig → ℕ
+cache_bytes config = config.shards * (8 * words_an_arena config.arena)
 
 -- how many words the tables of these arenas have
 unfoldable pub words_of_arenas : List Arena → ℕ

@@ -1,14 +1,14 @@
 -- Worked cases of caches, which the prover computes.
 use Rattle.std.specs.Prelude.{◌≡◌, ◌∷◌, [], false, true}
 use Rattle.mc_mover.specs.declared.counts.Turn.TheVariants.{Finished, Went}
-use Rattle.mc_cache.specs.Bytes.{bytes_of}
-use Rattle.mc_cache.specs.Marks.{is_noted, no_marks, with_mark}
+use Rattle.mc_cache.specs.Bytes.{cache_bytes}
+use Rattle.mc_cache.specs.Marks.{is_noted, no_marks, marks_with}
 use Rattle.mc_cache.specs.Tending.{tended_in_all}
 use Rattle.mc_cache.specs.Windows.{turns_tended}
 
 -- three shards of two pages of 64 bytes, with chunks of 24 bytes at least and one stripe: 133 words each
 abbrev pub SmallTables : Type 0
-SmallTables = bytes_of (record { arena = record { page = 64; limit = 128; first = 24; num = 5; den = 4; max = 64; stripes = 1; bulk = 1 }; shards = 3; workers = 2 }) ≡ 3192
+SmallTables = cache_bytes (record { arena = record { page = 64; limit = 128; first = 24; num = 5; den = 4; max = 64; stripes = 1; bulk = 1 }; shards = 3; workers = 2 }) ≡ 3192
 
 -- a turn that went on and one that finished: one move that ended, and what both did
 abbrev pub TwoTurns : Type 0
@@ -24,4 +24,4 @@ TwoShards =
 
 -- the hash 5 is noted, and then 1029, which has its remainder: 5 is noted no more
 abbrev pub AskedAgain : Type 0
-AskedAgain = (is_noted (with_mark 5 no_marks) 5 ≡ true) × (is_noted (with_mark 1029 (with_mark 5 no_marks)) 5 ≡ false)
+AskedAgain = (is_noted (marks_with 5 no_marks) 5 ≡ true) × (is_noted (marks_with 1029 (marks_with 5 no_marks)) 5 ≡ false)

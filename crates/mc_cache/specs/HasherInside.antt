@@ -5,8 +5,8 @@ use Rattle.mc_cache.specs.declared.hashing.KeyedHasher.TheInside.{Inside}
 use Rattle.mc_cache.specs.Hashing.{started_by}
 
 -- the two numbers
-abbrev pub key_of : Inside → HashKey
-key_of hasher = hasher.key
+abbrev pub hash_key_of : Inside → HashKey
+hash_key_of hasher = hasher.key
 
 -- the hasher has taken the two numbers of its key in, and nothing else
 abbrev pub IsStarted : Inside → Type 0

@@ -6,12 +6,12 @@ abbrev pub mark_count : ℕ
 mark_count = 1024
 
 -- the place of a hash among the marks
-abbrev pub place_of : ℕ → ℕ
-place_of hash = hash % mark_count
+abbrev pub mark_place : ℕ → ℕ
+mark_place hash = hash % mark_count
 
 -- the mark that notes the hash; 0 is the mark of none
-abbrev pub mark_of : ℕ → ℕ
-mark_of hash = hash / mark_count + 1
+abbrev pub noted_mark : ℕ → ℕ
+noted_mark hash = hash / mark_count + 1
 
 -- no hash is noted
 abbrev pub no_marks : List ℕ
@@ -19,11 +19,11 @@ no_marks = replicate mark_count 0
 
 -- the marks note the hash
 abbrev pub is_noted : List ℕ → ℕ → Bool
-is_noted marks hash = slice_index marks (place_of hash) == mark_of hash
+is_noted marks hash = slice_index marks (mark_place hash) == noted_mark hash
 
 -- the marks after the hash was noted, in the place of another hash with its remainder
-abbrev pub with_mark : ℕ → List ℕ → List ℕ
-with_mark hash marks = slice_set marks (place_of hash) (mark_of hash)
+abbrev pub marks_with : ℕ → List ℕ → List ℕ
+marks_with hash marks = slice_set marks (mark_place hash) (noted_mark hash)
 
 -- the count of asks after which all hashes are forgotten
 abbrev pub most_asks : ℕ

@@ -2,13 +2,13 @@
 use Rattle.std.specs.Prelude.{◌≡◌, ◌+◌, not, if◌then◌else◌, List, All, Option, None, Some}
 use Rattle.std.specs.List.{range_with_len}
 use Rattle.std.specs.Option.{option_map}
-use Rattle.mc_classes.specs.Refusals.{is_between, refusal_of}
+use Rattle.mc_classes.specs.Refusals.{is_between, config_refusal}
 use Rattle.mc_core.specs.declared.event.StripeChange.TheVariants.{Forget}
 use Rattle.mc_words.specs.declared.arena.Arena.{Arena}
 use Rattle.mc_words.specs.declared.hand.Hand.{Hand}
 use Rattle.mc_words.specs.hand.Arenas.{setup_of, view}
 use Rattle.mc_words.specs.hand.Hands.{IsMadeWith, IsNewHand}
-use Rattle.mc_words.specs.hand.Observers.{number_of}
+use Rattle.mc_words.specs.hand.Observers.{hand_number}
 use Rattle.mc_mover.specs.Recording.{ChangesEach}
 use Rattle.mc_cache.specs.declared.opening.CacheConfig.{CacheConfig}
 use Rattle.mc_cache.specs.declared.opening.NewError.{NewError}
@@ -19,14 +19,14 @@ abbrev pub cache_refusal : CacheConfig → Option NewError
 cache_refusal config =
     if not (is_between 1 4096 config.shards) then Some Shards
     else if not (is_between 1 63 config.workers) then Some Workers
-    else option_map (λ error. Config error) (refusal_of config.arena)
+    else option_map (λ error. Config error) (config_refusal config.arena)
 
 -- the first thing that the arena's first hand did was to forget the history of each stripe
 pub record KeepsNoHistory (arena : Arena) : Type 0 where
   pub hand : Hand
   pub new : IsNewHand arena 0 hand
   pub after : Hand
-  pub forgets : ChangesEach Forget (number_of hand) (range_with_len 0 (setup_of arena).config.stripes) (view hand) (view after)
+  pub forgets : ChangesEach Forget (hand_number hand) (range_with_len 0 (setup_of arena).config.stripes) (view hand) (view after)
 
 -- the arena is made with the cache's configuration, with a hand for each worker and one for the tender, and keeps no history
 pub record IsNewShard (config : CacheConfig) (arena : Arena) : Type 0 where

@@ -1,16 +1,16 @@
 -- Hands of the arenas of all shards, and what a call does on one of them.
 use Rattle.std.specs.Prelude.{◌≡◌, ◌≤◌, ℕ, Bool, false, true, List, All, length, slice_get, slice_set, Some}
-use Rattle.mc_packing.specs.Packing.{packed}
+use Rattle.mc_packing.specs.Packing.{packed_item}
 use Rattle.mc_words.specs.declared.arena.Arena.{Arena}
 use Rattle.mc_words.specs.declared.hand.Hand.{Hand}
 use Rattle.mc_words.specs.hand.Arenas.{setup_of, view}
 use Rattle.mc_words.specs.item.Items.{item_with}
-use Rattle.mc_words.specs.hand.Observers.{number_of}
-use Rattle.mc_items.specs.Keeping.{Says, SaysNothing}
+use Rattle.mc_words.specs.hand.Observers.{hand_number}
+use Rattle.mc_items.specs.Keeping.{StoresWithStamp, StoresNothing}
 use Rattle.mc_items.specs.OnKeys.{FindsStripeHeld}
 use Rattle.mc_items.specs.Setting.{SetsItem}
 use Rattle.mc_items.specs.declared.setting.SetError.{SetError}
-use Rattle.mc_cache.specs.shard.Finding.{DeletesKey, FindsFull, FindsKey, FindsOther, FindsValue, TouchesKey, TouchesValue}
+use Rattle.mc_cache.specs.shard.Finding.{DeletesKey, FindsFull, FindsKey, FindsOtherKey, FindsValue, TouchesKey, TouchesValue}
 use Rattle.mc_cache.specs.shard.Hands.{IsIdleHandOf}
 use Rattle.mc_cache.specs.shard.Reading.{LeavesSlabs}
 use Rattle.mc_cache.specs.shard.Setting.{RefusesBytes}
@@ -40,51 +40,51 @@ IsKey key = (1 ≤ length key) × (length key ≤ 250)
 
 -- the hand stored this value under the key, with a stamp of its own
 abbrev pub StoresValue : ℕ → List ℕ → List ℕ → Arena → Hand → Hand → Type 0
-StoresValue hash key value arena hand now = (stamp : ℕ) × Says (item_with hash stamp (packed key value)) stamp (view hand) (view now) × SetsItem (number_of hand) hash stamp (packed key value) (view hand) (view now)
+StoresValue hash key value arena hand now = (stamp : ℕ) × StoresWithStamp (item_with hash stamp (packed_item key value)) stamp (view hand) (view now) × SetsItem (hand_number hand) hash stamp (packed_item key value) (view hand) (view now)
 
 -- the store of this value under the key was refused to the hand
 abbrev pub RefusesValue : ℕ → List ℕ → List ℕ → SetError → Arena → Hand → Hand → Type 0
-RefusesValue hash key value error arena hand now = RefusesBytes (number_of hand) hash (packed key value) error (view hand) (view now)
+RefusesValue hash key value error arena hand now = RefusesBytes (hand_number hand) hash (packed_item key value) error (view hand) (view now)
 
 -- the hand found the key with this value, and stored nothing
 abbrev pub ReadsValue : ℕ → List ℕ → List ℕ → Arena → Hand → Hand → Type 0
-ReadsValue hash key value arena hand now = FindsValue (setup_of arena) hash key value hand × SaysNothing (view hand) (view now)
+ReadsValue hash key value arena hand now = FindsValue (setup_of arena) hash key value hand × StoresNothing (view hand) (view now)
 
 -- the hand found the key, and stored nothing
-abbrev pub ReadsKey : ℕ → List ℕ → Arena → Hand → Hand → Type 0
-ReadsKey hash key arena hand now = FindsKey (setup_of arena) hash key hand × SaysNothing (view hand) (view now)
+abbrev pub FindsKeyInShard : ℕ → List ℕ → Arena → Hand → Hand → Type 0
+FindsKeyInShard hash key arena hand now = FindsKey (setup_of arena) hash key hand × StoresNothing (view hand) (view now)
 
 -- the hand found no item under the hash, or one of another key, and stored nothing
 abbrev pub ReadsOther : ℕ → List ℕ → Arena → Hand → Hand → Type 0
-ReadsOther hash key arena hand now = FindsOther (setup_of arena) hash key hand × SaysNothing (view hand) (view now)
+ReadsOther hash key arena hand now = FindsOtherKey (setup_of arena) hash key hand × StoresNothing (view hand) (view now)
 
 -- the hand found the key and stored nothing; it deleted the key, if the key was still there
 abbrev pub DeletesThere : ℕ → List ℕ → Bool → Arena → Hand → Hand → Type 0
-DeletesThere hash key there arena hand now = DeletesKey (setup_of arena) hash key there hand now × SaysNothing (view hand) (view now)
+DeletesThere hash key there arena hand now = DeletesKey (setup_of arena) hash key there hand now × StoresNothing (view hand) (view now)
 
 -- the hand found the key and touched it, and stored nothing
 abbrev pub TouchesThere : ℕ → List ℕ → Arena → Hand → Hand → Type 0
-TouchesThere hash key arena hand now = TouchesKey (setup_of arena) hash key hand now × SaysNothing (view hand) (view now)
+TouchesThere hash key arena hand now = TouchesKey (setup_of arena) hash key hand now × StoresNothing (view hand) (view now)
 
 -- the hand stored nothing
-abbrev pub SaysNoMore : Arena → Hand → Hand → Type 0
-SaysNoMore arena hand now = SaysNothing (view hand) (view now)
+abbrev pub StoresNoMore : Arena → Hand → Hand → Type 0
+StoresNoMore arena hand now = StoresNothing (view hand) (view now)
 
 -- the hand stored nothing, and found at last that the hash's stripe records its calls and has no room for one more
 abbrev pub LooksInVain : ℕ → Arena → Hand → Hand → Type 0
-LooksInVain hash arena hand now = SaysNothing (view hand) (view now) × ((between : Hand) × FindsFull (setup_of arena) hash between now)
+LooksInVain hash arena hand now = StoresNothing (view hand) (view now) × ((between : Hand) × FindsFull (setup_of arena) hash between now)
 
 -- the hand touched nothing: it didn't take the slabs lock
 abbrev pub TouchesNothing : Arena → Hand → Hand → Type 0
 TouchesNothing arena hand now = LeavesSlabs (view hand) (view now)
 
 -- the hand found the lock of the hash's stripe with another hand
-abbrev pub FindsHeld : ℕ → Arena → Hand → Hand → Type 0
-FindsHeld hash arena hand now = FindsStripeHeld (setup_of arena) hash hand now
+abbrev pub FindsStripeLocked : ℕ → Arena → Hand → Hand → Type 0
+FindsStripeLocked hash arena hand now = FindsStripeHeld (setup_of arena) hash hand now
 
 -- the hand found the key with this value and touched it, and stored nothing
 abbrev pub ReadsAndTouches : ℕ → List ℕ → List ℕ → Arena → Hand → Hand → Type 0
-ReadsAndTouches hash key value arena hand now = TouchesValue (setup_of arena) hash key value hand now × SaysNothing (view hand) (view now)
+ReadsAndTouches hash key value arena hand now = TouchesValue (setup_of arena) hash key value hand now × StoresNothing (view hand) (view now)
 
 -- the hand found the key with this value, touched it if that was asked, and stored nothing
 abbrev pub ReadsTouchingIf : Bool → ℕ → List ℕ → List ℕ → Arena → Hand → Hand → Type 0

@@ -4,7 +4,7 @@ use Rattle.mc_watch.specs.Decider.{DeciderState, fresh_decider}
 use Rattle.mc_words.specs.declared.arena.Arena.{Arena}
 use Rattle.mc_words.specs.declared.hand.Hand.{Hand}
 use Rattle.mc_words.specs.hand.Arenas.{setup_of, view}
-use Rattle.mc_items.specs.Keeping.{SaysNothing}
+use Rattle.mc_items.specs.Keeping.{StoresNothing}
 use Rattle.mc_cache.specs.declared.cache.Cache.{Cache}
 use Rattle.mc_cache.specs.declared.tended.Tended.{Tended}
 use Rattle.mc_cache.specs.declared.tending.Tender.{Tender}
@@ -13,8 +13,8 @@ use Rattle.mc_cache.specs.Observers.{shard_count}
 use Rattle.mc_cache.specs.Windows.{TendsShard, count_with, nothing_tended}
 
 -- the tender's hands, shard by shard
-abbrev pub hands_of : Tender → List Hand
-hands_of tender = tender.worker.hands.items
+abbrev pub tender_hands : Tender → List Hand
+tender_hands tender = tender.worker.hands.items
 
 -- the tender's deciders, shard by shard
 abbrev pub deciders_of : Tender → List DeciderState
@@ -51,9 +51,9 @@ pub record TendsFirst (count : ℕ) (hands : List Hand) (deciders : List Decider
 -- on each shard of the cache a window was done, and this is what was done in all
 pub record TendsCache (cache : Cache) (done : Tended) (before now : Tender) : Type 0 where
   pub shares : List Tended
-  pub tends : TendsFirst (shard_count cache) (hands_of before) (deciders_of before) (hands_of now) (deciders_of now) shares
+  pub tends : TendsFirst (shard_count cache) (tender_hands before) (deciders_of before) (tender_hands now) (deciders_of now) shares
   pub counted : done ≡ tended_in_all shares
 
 -- none of the hands stored anything
 abbrev pub SayNothing : List Hand → List Hand → Type 0
-SayNothing before now = (shard : ℕ) (hand after : Hand) → shard < length before → SaysNothing (view (slice_index_or before shard hand)) (view (slice_index_or now shard after))
+SayNothing before now = (shard : ℕ) (hand after : Hand) → shard < length before → StoresNothing (view (slice_index_or before shard hand)) (view (slice_index_or now shard after))

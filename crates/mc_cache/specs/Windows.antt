@@ -6,7 +6,7 @@ use Rattle.mc_words.specs.page.Moves.{Reassigns}
 use Rattle.mc_mover.specs.declared.counts.Turn.{Turn}
 use Rattle.mc_mover.specs.declared.counts.Turn.TheVariants.{Went}
 use Rattle.mc_mover.specs.declared.numbers.Survey.{Survey}
-use Rattle.mc_mover.specs.Acting.{ActsOnce, TellsTurn}
+use Rattle.mc_mover.specs.Acting.{ActsOnceByNumber, RecordsTurn}
 use Rattle.mc_mover.specs.Answering.{is_finished}
 use Rattle.mc_mover.specs.Surveying.{Surveys, evictions_in, free_in, pages_in}
 use Rattle.mc_mover.specs.Recording.{TrimsLedger}
@@ -14,12 +14,12 @@ use Rattle.mc_mover.specs.Telling.{counts_in}
 use Rattle.mc_mover.specs.Turning.{Turns}
 use Rattle.mc_watch.specs.declared.decider.Decision.{Decision}
 use Rattle.mc_watch.specs.declared.refusal.Feed.{Feed}
-use Rattle.mc_watch.specs.Decider.{DeciderState, after_window, decision_of, refusal_of}
+use Rattle.mc_watch.specs.Decider.{DeciderState, after_window, decision_of, feed_refusal}
 use Rattle.mc_cache.specs.declared.tended.Tended.{Tended}
 
 -- why the decider doesn't take the numbers of a survey
 abbrev pub refusal_for : DeciderState → Survey → Option Feed
-refusal_for decider survey = refusal_of decider (evictions_in survey) (pages_in survey) (free_in survey)
+refusal_for decider survey = feed_refusal decider (evictions_in survey) (pages_in survey) (free_in survey)
 
 -- the decider at the end of a window with these numbers; a decider that refuses the numbers stays
 abbrev pub decider_after : DeciderState → Survey → DeciderState
@@ -33,14 +33,14 @@ decision_after decider survey = if is_none (refusal_for decider survey) then dec
 -- the page of the decision was asked for, and got this answer; or there is no decision, and nothing was done
 abbrev pub ActsOnDecision : Option Decision → Option (Result (Unit {0}) Reassign) → Hand → Hand → Type 0
 ActsOnDecision None None before now = now ≡ before
-ActsOnDecision (Some decision) (Some answer) before now = ActsOnce (λ number. Reassigns number (Some decision.src) decision.dst answer) before now
+ActsOnDecision (Some decision) (Some answer) before now = ActsOnceByNumber (λ number. Reassigns number (Some decision.src) decision.dst answer) before now
 ActsOnDecision decision answer before now = ⊥
 
 -- the dead of all classes were put back, the decider was fed what was left then, and its decision was acted on
 pub record EndsWindow (answer : Option (Result (Unit {0}) Reassign)) (decider : DeciderState) (before : Hand) (left : DeciderState) (now : Hand) : Type 0 where
   pub survey : Survey
   pub surveyed : Hand
-  pub surveys : ActsOnce (λ number. Surveys true survey) before surveyed
+  pub surveys : ActsOnceByNumber (λ number. Surveys true survey) before surveyed
   pub feeds : left ≡ decider_after decider survey
   pub acts : ActsOnDecision (decision_after decider survey) answer surveyed now
 
@@ -51,7 +51,7 @@ is_under_way other = false
 
 -- the hand did a turn, and its own calls are more by just those that the turn counts
 abbrev pub MakesTurn : Turn → Hand → Hand → Type 0
-MakesTurn turn before now = ActsOnce (λ number. Turns number turn) before now × TellsTurn before now turn
+MakesTurn turn before now = ActsOnceByNumber (λ number. Turns number turn) before now × RecordsTurn before now turn
 
 -- the hand did these turns, one after another; the newest is first in the list
 unfoldable pub DoesTurns : List Turn → Hand → Hand → Type 0
@@ -106,5 +106,5 @@ pub record TendsShard (done : Tended) (decider : DeciderState) (before : Hand) (
   pub counts : Tended
   pub turned : Hand
   pub turns : DoesWindowTurns counts asked turned
-  pub trims : ActsOnce TrimsLedger turned now
+  pub trims : ActsOnceByNumber TrimsLedger turned now
   pub counted : done ≡ record counts { began = began_by answer }

@@ -1,7 +1,7 @@
 //! How many bytes a cache takes.
 ghost use Rattle.std.specs.Prelude.{◌≡◌, ◌≤◌, ◌*◌, ◌+◌, ◌^◌, IfErr, IfOk, None, OnOk, Some};
-ghost use Rattle.mc_classes.specs.Refusals.{first_size, refusal_of};
-ghost use Rattle.mc_cache.specs.Bytes.{bytes_of, class_count, words_a_page, words_an_arena};
+ghost use Rattle.mc_classes.specs.Refusals.{first_size, config_refusal};
+ghost use Rattle.mc_cache.specs.Bytes.{cache_bytes, class_count, words_a_page, words_an_arena};
 ghost use Rattle.mc_cache.specs.Cases.{SmallTables};
 ghost use Rattle.mc_cache.specs.Opening.{cache_refusal};
 
@@ -20,7 +20,7 @@ const CONFIG_WORDS: u64 = 8;
 
 // The size of class 1.
 fn first_size(config: &Config) -> u64
-    requires accepted { refusal_of config.now ≡ None }
+    requires accepted { config_refusal config.now ≡ None }
     ensures size { result ≡ first_size config.now }
     ensures some { 1 ≤ result }
 {
@@ -33,7 +33,7 @@ fn first_size(config: &Config) -> u64
 
 // How many classes a configuration gives.
 fn class_count(config: &Config) -> u64
-    requires accepted { refusal_of config.now ≡ None }
+    requires accepted { config_refusal config.now ≡ None }
     ensures count { result ≡ class_count config.now }
     ensures few { result ≤ 63 }
 {
@@ -48,7 +48,7 @@ fn class_count(config: &Config) -> u64
 
 // The words of a page: its class, its headers, its data.
 fn words_a_page(config: &Config) -> u64
-    requires accepted { refusal_of config.now ≡ None }
+    requires accepted { config_refusal config.now ≡ None }
     ensures words { result ≡ words_a_page config.now }
     ensures few { result ≤ 2305 }
 {
@@ -57,7 +57,7 @@ fn words_a_page(config: &Config) -> u64
 
 // The words of an arena's table.
 fn words_an_arena(config: &Config) -> u64
-    requires accepted { refusal_of config.now ≡ None }
+    requires accepted { config_refusal config.now ≡ None }
     ensures words { result ≡ words_an_arena config.now }
     ensures few { result ≤ 2 ^ 19 }
 {
@@ -71,7 +71,7 @@ impl Cache {
     /// the locks. Lists, indexes and what a worker packs into come beside that as they grow, and 8 KiB for each worker and the tender. The
     /// configuration is refused as by `new`. (own)
     pub fn bytes(config: &CacheConfig) -> Result<u64, NewError>
-        ensures bytes { IfOk result (λ bytes. bytes ≡ bytes_of config.now) }
+        ensures bytes { IfOk result (λ bytes. bytes ≡ cache_bytes config.now) }
         ensures accepted { OnOk result (cache_refusal config.now ≡ None) }
         ensures refused { IfErr result (λ error. cache_refusal config.now ≡ Some error) }
     {

@@ -25,9 +25,9 @@ impl Model for KeyedHasher {
 
     ghost Value = { HashKey };
 
-    ghost use Rattle.mc_cache.specs.HasherInside.{key_of, IsStarted};
+    ghost use Rattle.mc_cache.specs.HasherInside.{hash_key_of, IsStarted};
 
-    ghost view = { key_of };
+    ghost view = { hash_key_of };
 
     ghost invariant = { IsStarted };
 }

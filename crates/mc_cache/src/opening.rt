@@ -5,10 +5,10 @@ ghost use Rattle.mc_words.specs.hand.Arenas.{setup_of};
 ghost use Rattle.mc_words.specs.hand.Hands.{IsMadeWith};
 ghost use Rattle.mc_cache.specs.Belonging.{BelongsTo, HaveIdleHands};
 ghost use Rattle.mc_cache.specs.Observers.{arenas_of, hash_key, shard_count};
-ghost use Rattle.mc_cache.specs.Bytes.{bytes_of, table_bytes};
+ghost use Rattle.mc_cache.specs.Bytes.{cache_bytes, table_bytes};
 ghost use Rattle.mc_cache.specs.Opening.{AreNewShards, IsNewShard, KeepsNoHistory, cache_refusal};
 ghost use Rattle.mc_cache.specs.Pairs.{ArePaired};
-ghost use Rattle.mc_cache.specs.Tending.{IsFreshDecider, IsTenderOf, deciders_of, hands_of};
+ghost use Rattle.mc_cache.specs.Tending.{IsFreshDecider, IsTenderOf, deciders_of, tender_hands};
 ghost use Rattle.mc_cache.specs.Shards.{AreIdleHands, AreIdleHandsOf};
 ghost use Rattle.mc_cache.specs.declared.opening.NewError.TheVariants as refused;
 
@@ -93,7 +93,7 @@ impl Cache {
         ensures tender { IfOk result (λ made. IsTenderOf made.0 made.2) }
         ensures deciders { IfOk result (λ made. ArePaired IsFreshDecider (arenas_of made.0) (deciders_of made.2)) }
         ensures arenas { IfOk result (λ made. All (IsNewShard config.now) (arenas_of made.0)) }
-        ensures bytes { IfOk result (λ made. table_bytes made.0 ≡ bytes_of config.now) }
+        ensures bytes { IfOk result (λ made. table_bytes made.0 ≡ cache_bytes config.now) }
         ensures refused { IfErr result (λ error. error ≡ unwrap_or (cache_refusal config.now) (refused.NoMemory tt)) }
     {
         if let Err(error) = test(config) {
@@ -125,7 +125,7 @@ fn open<R: Wait>(
     ensures shards { IfOk result (λ made. length made.0.items ≡ config.now.shards) }
     ensures count { IfOk result (λ made. length made.1.items ≡ config.now.workers) }
     ensures hands { IfOk result (λ made. HaveIdleHands made.0.items made.1.items) }
-    ensures tender { IfOk result (λ made. AreIdleHands made.0.items (hands_of made.2)) }
+    ensures tender { IfOk result (λ made. AreIdleHands made.0.items (tender_hands made.2)) }
     ensures deciders { IfOk result (λ made. ArePaired IsFreshDecider made.0.items (deciders_of made.2)) }
     ensures new { IfOk result (λ made. All (IsNewShard config.now) made.0.items) }
 {

@@ -1,6 +1,6 @@
 //! Which keys a worker touched lately, by their hashes.
 ghost use Rattle.std.specs.Prelude.{◌≡◌, ◌≤◌, length};
-ghost use Rattle.mc_cache.specs.Marks.{mark_count, mark_of, most_asks, place_of};
+ghost use Rattle.mc_cache.specs.Marks.{mark_count, noted_mark, most_asks, mark_place};
 
 use mc_memory::{Refused, filled};
 use std::alloc::Global;
@@ -24,26 +24,26 @@ pub(crate) struct Recent {
 
 // Where a hash is noted.
 fn place_of(hash: u64) -> usize
-    ensures { result ≡ place_of hash }
+    ensures { result ≡ mark_place hash }
 {
     (hash % PLACES) as usize
 }
 
 // The mark that notes the hash.
 fn mark_of(hash: u64) -> u64
-    ensures { result ≡ mark_of hash }
+    ensures { result ≡ noted_mark hash }
 {
     hash / PLACES + 1
 }
 
 impl Recent {
     ghost use Rattle.std.specs.Prelude.{◌≡◌, IfOk};
-    ghost use Rattle.mc_cache.specs.Marks.{asks_after, no_marks, with_mark};
-    ghost use Rattle.mc_cache.specs.Recent.{is_due, marks_found, marks_of};
+    ghost use Rattle.mc_cache.specs.Marks.{asks_after, no_marks, marks_with};
+    ghost use Rattle.mc_cache.specs.Recent.{is_due, marks_found, recent_marks};
 
     /// Marks that note no hash. They take 8 KiB.
     pub(crate) fn new(alloc: Global) -> Result<Recent, Refused>
-        ensures marks { IfOk result (λ recent. marks_of recent ≡ no_marks) }
+        ensures marks { IfOk result (λ recent. recent_marks recent ≡ no_marks) }
         ensures asks { IfOk result (λ recent. recent.asks ≡ 0) }
     {
         Ok(Recent {
@@ -54,7 +54,7 @@ impl Recent {
 
     // One ask more. Before it all hashes are forgotten where 4,096 asks came since they were.
     fn count_ask(&mut self)
-        ensures marks { marks_of self.new ≡ marks_found self.old }
+        ensures marks { recent_marks self.new ≡ marks_found self.old }
         ensures asks { self.new.asks ≡ asks_after self.old.asks }
     {
         if self.asks < MOST_ASKS {
@@ -79,7 +79,7 @@ impl Recent {
 
     /// Notes the hash, in the place of the one that was noted there. Before it all are forgotten where 4,096 asks came since they were.
     pub(crate) fn note(&mut self, hash: u64)
-        ensures notes { marks_of self.new ≡ with_mark hash (marks_found self.old) }
+        ensures notes { recent_marks self.new ≡ marks_with hash (marks_found self.old) }
         ensures asks { self.new.asks ≡ asks_after self.old.asks }
     {
         self.count_ask();

@@ -1,9 +1,9 @@
 //! The statistics of a cache: sums over the classes of all shards.
 ghost use Rattle.std.specs.Prelude.{◌≡◌, ◌≤◌, ◌-◌, ◌^◌, ◌∷◌, [], OnOk, length, max, slice_index_or, ℕ};
 ghost use Rattle.mc_words.specs.hand.Arenas.{view};
-ghost use Rattle.mc_items.specs.Keeping.{SaysNothing};
+ghost use Rattle.mc_items.specs.Keeping.{StoresNothing};
 ghost use Rattle.mc_cache.specs.shard.Hands.{IsIdleHandOf};
-ghost use Rattle.mc_cache.specs.Stats.{AddsNumbers, AddsSurvey, CountsShard, SumsSurveys, class_in_all, class_with, most_classes, no_class, sum_in_all};
+ghost use Rattle.mc_cache.specs.Stats.{AddsNumbers, AddsSurvey, CountsShard, SumsSurveys, class_in_all, class_with, most_classes_of_shards, no_statistics, sum_in_all};
 
 use mc_memory::{Refused, push};
 use mc_mover::{Survey, survey};
@@ -47,7 +47,7 @@ pub struct CacheStats {
 impl ClassStats {
     // The numbers of a class before any shard is counted.
     fn new() -> ClassStats
-        ensures none { result ≡ no_class }
+        ensures none { result ≡ no_statistics }
     {
         ClassStats {
             pages: 0,
@@ -110,7 +110,7 @@ pub(crate) fn count_shard<R: Wait>(
 ) -> Result<(), Refused>
     requires { IsIdleHandOf arena.now hand.old }
     ensures idle { IsIdleHandOf arena.now hand.new }
-    ensures unsaid { SaysNothing (view hand.old) (view hand.new) }
+    ensures unsaid { StoresNothing (view hand.old) (view hand.new) }
     ensures counts { OnOk result (CountsShard stats.old hand.old stats.new hand.new) }
 {
     let survey = survey(rt, alloc, arena, hand, false)?;
@@ -129,7 +129,7 @@ fn add_classes(rows: &mut Vec<ClassStats>, classes: &[Numbers]) -> Result<(), Re
 // Adds rows of nothing behind the others, until there are n.
 fn lengthen(rows: &mut Vec<ClassStats>, count: usize) -> Result<(), Refused>
     ensures count { OnOk result (length rows.new.items ≡ max (length rows.old.items) count) }
-    ensures same { OnOk result ((place : ℕ) → slice_index_or rows.new.items place no_class ≡ slice_index_or rows.old.items place no_class) }
+    ensures same { OnOk result ((place : ℕ) → slice_index_or rows.new.items place no_statistics ≡ slice_index_or rows.old.items place no_statistics) }
 {
     let more = count.saturating_sub(rows.len());
     for _ in 0..more {
@@ -154,6 +154,6 @@ fn add_each(rows: &mut [ClassStats], classes: &[Numbers])
 pub fn worked_stats()
     ensures sums { class_in_all 1 ((record { pages = 1; free = 2; evictions = 3 } ∷ record { pages = 4; free = 5; evictions = 6 } ∷ []) ∷ (record { pages = 7; free = 8; evictions = 9 } ∷ record { pages = 10; free = 20; evictions = 30 } ∷ []) ∷ []) ≡ record { pages = 14; free = 25; evictions = 36 } }
     ensures lacks { class_in_all 1 ((record { pages = 1; free = 2; evictions = 3 } ∷ []) ∷ (record { pages = 7; free = 8; evictions = 9 } ∷ record { pages = 10; free = 20; evictions = 30 } ∷ []) ∷ []) ≡ record { pages = 10; free = 20; evictions = 30 } }
-    ensures most { most_classes ((record { pages = 1; free = 2; evictions = 3 } ∷ record { pages = 4; free = 5; evictions = 6 } ∷ []) ∷ (record { pages = 7; free = 8; evictions = 9 } ∷ []) ∷ []) ≡ 2 }
+    ensures most { most_classes_of_shards ((record { pages = 1; free = 2; evictions = 3 } ∷ record { pages = 4; free = 5; evictions = 6 } ∷ []) ∷ (record { pages = 7; free = 8; evictions = 9 } ∷ []) ∷ []) ≡ 2 }
     ensures stays { sum_in_all (λ number. number) ((2 ^ 64 - 2) ∷ 3 ∷ []) ≡ 2 ^ 64 - 1 }
 {}

@@ -1,7 +1,7 @@
 //! A window of one shard: a survey, the decision, and turns of the mover.
 ghost use Rattle.std.specs.Prelude.{◌≡◌, IfOk, OnErr, OnOk};
 ghost use Rattle.mc_words.specs.hand.Arenas.{view};
-ghost use Rattle.mc_items.specs.Keeping.{SaysNothing};
+ghost use Rattle.mc_items.specs.Keeping.{StoresNothing};
 ghost use Rattle.mc_cache.specs.shard.Hands.{IsIdleHandOf};
 ghost use Rattle.mc_cache.specs.Windows.{DoesWindowTurns, EndsWindow, TendsShard, began_by, decider_after, decision_after, is_under_way};
 
@@ -28,7 +28,7 @@ pub(crate) fn tend_shard<R: Wait>(
 ) -> Result<Tended, Refused>
     requires { IsIdleHandOf arena.now hand.old }
     ensures idle { IsIdleHandOf arena.now hand.new }
-    ensures unsaid { SaysNothing (view hand.old) (view hand.new) }
+    ensures unsaid { StoresNothing (view hand.old) (view hand.new) }
     ensures tends { IfOk result (λ done. TendsShard done decider.old hand.old decider.new hand.new) }
 {
     let answer = end_window(rt, alloc, arena, hand, decider)?;
@@ -49,7 +49,7 @@ fn end_window<R: Wait>(
 ) -> Result<Option<Result<(), Reassign>>, Refused>
     requires { IsIdleHandOf arena.now hand.old }
     ensures idle { IsIdleHandOf arena.now hand.new }
-    ensures unsaid { SaysNothing (view hand.old) (view hand.new) }
+    ensures unsaid { StoresNothing (view hand.old) (view hand.new) }
     ensures ends { IfOk result (λ answer. EndsWindow answer decider.old hand.old decider.new hand.new) }
 {
     let survey = survey(rt, alloc, arena, hand, true)?;
@@ -83,7 +83,7 @@ fn decide(
 fn do_turns<R: Wait>(rt: &R, arena: &Arena, hand: &mut Hand) -> Result<Tended, Refused>
     requires { IsIdleHandOf arena.now hand.old }
     ensures idle { IsIdleHandOf arena.now hand.new }
-    ensures unsaid { SaysNothing (view hand.old) (view hand.new) }
+    ensures unsaid { StoresNothing (view hand.old) (view hand.new) }
     ensures does { IfOk result (λ done. DoesWindowTurns done hand.old hand.new) }
 {
     let mut done = Tended::new();

@@ -54,7 +54,7 @@ impl Worker {
     ghost use Rattle.std.specs.Prelude.{◌≡◌, ◌<◌, ◌↔◌, ◌⊎◌, Err, Ok, OnErr, OnOk, false, length, true};
     ghost use Rattle.mc_items.specs.declared.setting.SetError as items;
     ghost use Rattle.mc_cache.specs.Belonging.{ActsOnKey, BelongsTo, CountsAsk, DeletesNoneOf, GivesAndTouches, GivesValueOf, KeepsHands, NotesHashOf, RefusesValueOf, hash_in};
-    ghost use Rattle.mc_cache.specs.Shards.{DeletesThere, FindsHeld, IsKey, LooksInVain, ReadsKey, ReadsOther, SaysNoMore, StoresValue, TouchesNothing, TouchesThere};
+    ghost use Rattle.mc_cache.specs.Shards.{DeletesThere, FindsStripeLocked, IsKey, LooksInVain, FindsKeyInShard, ReadsOther, StoresNoMore, StoresValue, TouchesNothing, TouchesThere};
     ghost use Rattle.mc_cache.specs.declared.working.CallError.TheVariants as call_error;
     ghost use Rattle.mc_cache.specs.declared.working.SetError.TheVariants as set_error;
     ghost use Rattle.mc_cache.specs.declared.working.TryGetError.TheVariants as try_error;
@@ -108,7 +108,7 @@ impl Worker {
         ensures value { result ≡ Ok true → GivesValueOf cache.now key.now into.old.items into.new.items self.old self.new }
         ensures none { result ≡ Ok false → ActsOnKey cache.now key.now (ReadsOther (hash_in cache.now key.now) key.now) self.old self.new }
         ensures kept { (result ≡ Ok true → ⊥) → into.new.items ≡ into.old.items }
-        ensures refused { OnErr result (IsKey key.now → ActsOnKey cache.now key.now SaysNoMore self.old self.new) }
+        ensures refused { OnErr result (IsKey key.now → ActsOnKey cache.now key.now StoresNoMore self.old self.new) }
         ensures untouched { IsKey key.now → ActsOnKey cache.now key.now TouchesNothing self.old self.new }
     {
         let Some(at) = cache.place_of(key) else {
@@ -141,7 +141,7 @@ impl Worker {
         ensures none { result ≡ Ok false → ActsOnKey cache.now key.now (ReadsOther (hash_in cache.now key.now) key.now) self.old self.new }
         ensures unasked { (result ≡ Ok true → ⊥) → self.new.recent ≡ self.old.recent }
         ensures kept { (result ≡ Ok true → ⊥) → into.new.items ≡ into.old.items }
-        ensures refused { OnErr result (IsKey key.now → ActsOnKey cache.now key.now SaysNoMore self.old self.new) }
+        ensures refused { OnErr result (IsKey key.now → ActsOnKey cache.now key.now StoresNoMore self.old self.new) }
     {
         let Some(at) = cache.place_of(key) else {
             return Err(CallError::KeyLength);
@@ -174,8 +174,8 @@ impl Worker {
         ensures value { result ≡ Ok true → GivesValueOf cache.now key.now into.old.items into.new.items self.old self.new }
         ensures none { result ≡ Ok false → ActsOnKey cache.now key.now (ReadsOther (hash_in cache.now key.now) key.now) self.old self.new }
         ensures kept { (result ≡ Ok true → ⊥) → into.new.items ≡ into.old.items }
-        ensures held { result ≡ Err try_error.Held → ActsOnKey cache.now key.now (FindsHeld (hash_in cache.now key.now)) self.old self.new }
-        ensures refused { OnErr result (IsKey key.now → ActsOnKey cache.now key.now SaysNoMore self.old self.new) }
+        ensures held { result ≡ Err try_error.Held → ActsOnKey cache.now key.now (FindsStripeLocked (hash_in cache.now key.now)) self.old self.new }
+        ensures refused { OnErr result (IsKey key.now → ActsOnKey cache.now key.now StoresNoMore self.old self.new) }
         ensures untouched { IsKey key.now → ActsOnKey cache.now key.now TouchesNothing self.old self.new }
     {
         let Some(at) = cache.place_of(key) else {
@@ -202,7 +202,7 @@ impl Worker {
         ensures belongs { BelongsTo cache.now self.new }
         ensures key { (result ≡ Err call_error.KeyLength) ↔ ¬ IsKey key.now }
         ensures same { result ≡ Err call_error.KeyLength → KeepsHands self.old self.new }
-        ensures there { result ≡ Ok true → ActsOnKey cache.now key.now (ReadsKey (hash_in cache.now key.now) key.now) self.old self.new }
+        ensures there { result ≡ Ok true → ActsOnKey cache.now key.now (FindsKeyInShard (hash_in cache.now key.now) key.now) self.old self.new }
         ensures none { result ≡ Ok false → ActsOnKey cache.now key.now (ReadsOther (hash_in cache.now key.now) key.now) self.old self.new }
         ensures refused { OnErr result (IsKey key.now → ActsOnKey cache.now key.now (LooksInVain (hash_in cache.now key.now)) self.old self.new) }
         ensures untouched { IsKey key.now → ActsOnKey cache.now key.now TouchesNothing self.old self.new }

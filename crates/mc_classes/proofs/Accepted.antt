@@ -5,7 +5,7 @@ use Rattle.std.proofs.lemmas.Option.{none-some}
 use Rattle.mc_classes.specs.declared.config.Config.{Config}
 use Rattle.mc_classes.specs.declared.config.ConfigError.{ConfigError}
 use Rattle.mc_classes.specs.Limits.{least_page_bytes, most_page_bytes, most_pages, most_stripes, most_page_chunks, most_bulk}
-use Rattle.mc_classes.specs.Refusals.{refusal_of, first_size, is_between}
+use Rattle.mc_classes.specs.Refusals.{config_refusal, first_size, is_between}
 
 -- each number is within its bounds
 pub record IsAccepted (config : Config) : Type 0 where
@@ -30,7 +30,7 @@ between low high n h =
     let parts = and_parts (leb low n) (leb n high) h in
     (leb-true low n parts.0, leb-true n high parts.1)
 
-pub accepted : (config : Config) → refusal_of config ≡ None → IsAccepted config
+pub accepted : (config : Config) → config_refusal config ≡ None → IsAccepted config
 accepted config h =
     let page = passed _ _ _ h in
     let first = passed _ _ _ page.1 in

@@ -6,7 +6,7 @@ use Rattle.std.proofs.lemmas.Nat.{le-div, mul-le}
 use Rattle.std.proofs.lemmas.Option.{get_or_from_slice_get, slice_get_within}
 use Rattle.mc_classes.specs.declared.config.Config.{Config}
 use Rattle.mc_classes.specs.Classes.{Classes, ComesFrom, IsSound, IsTableOf}
-use Rattle.mc_classes.specs.Refusals.{first_size, is_below_max, refusal_of, rounded_up}
+use Rattle.mc_classes.specs.Refusals.{first_size, is_below_max, config_refusal, rounded_up}
 use Rattle.mc_classes.proofs.Accepted.{IsAccepted, accepted}
 use Rattle.mc_classes.proofs.Begun.{below_max, grown_within, rounded_within}
 
@@ -118,7 +118,7 @@ module _ (config : Config) (raws sizes : List ℕ) (a : IsAccepted config) (come
             subst (λ (k : ℕ). get_or sizes (low - 1) 0 ≤ get_or sizes k 0) at (rises (low - 1) (high - low) (omega (arith, l.0, h.1)));
       }
 
-pub sound_table : (config : Config) (table : Classes) → refusal_of config ≡ None → IsTableOf config table → IsSound table
+pub sound_table : (config : Config) (table : Classes) → config_refusal config ≡ None → IsTableOf config table → IsSound table
 sound_table config table h t =
     let s = sound config t.raws table.sizes (accepted config h) t.comes in
     let at_page : ℕ → Classes = λ n. record { page = n; limit = config.limit; sizes = table.sizes } in

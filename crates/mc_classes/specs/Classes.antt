@@ -12,12 +12,12 @@ pub record Classes : Type 0 where
   pub sizes : List ℕ
 
 -- how many pages may be granted within the limit
-abbrev pub pages_of : Classes → ℕ
-pages_of classes = classes.limit / classes.page
+abbrev pub page_limit : Classes → ℕ
+page_limit classes = classes.limit / classes.page
 
 -- how many pages there are: those within the limit, and for each class one more, which it may get as its first
 abbrev pub arena_pages_of : Classes → ℕ
-arena_pages_of classes = pages_of classes + length classes.sizes
+arena_pages_of classes = page_limit classes + length classes.sizes
 
 -- this is the number of a class of the table: classes are numbered from 1
 abbrev pub IsClass : Classes → ℕ → Type 0
@@ -61,7 +61,7 @@ pub record IsTableOf (config : Config) (classes : Classes) : Type 0 where
 pub record IsSound (classes : Classes) : Type 0 where
   pub page : (least_page_bytes ≤ classes.page) × (classes.page ≤ most_page_bytes)
   pub limit : classes.limit < 2 ^ 64
-  pub pages : (1 ≤ pages_of classes) × (pages_of classes ≤ most_pages)
+  pub pages : (1 ≤ page_limit classes) × (page_limit classes ≤ most_pages)
   pub count : (1 ≤ length classes.sizes) × (length classes.sizes ≤ most_classes)
   pub sizes : (class : ℕ) → IsClass classes class → (24 ≤ size_of classes class) × (size_of classes class ≤ classes.page)
   pub chunks : (class : ℕ) → IsClass classes class → (1 ≤ per_page_of classes class) × (per_page_of classes class ≤ most_page_chunks)

@@ -22,8 +22,8 @@ abbrev pub first_size : Config → ℕ
 first_size config = if is_below_max config config.first then rounded_up config.first else config.max
 
 -- the first test that the configuration fails, in the order of the refusals
-abbrev pub refusal_of : Config → Option ConfigError
-refusal_of config =
+abbrev pub config_refusal : Config → Option ConfigError
+config_refusal config =
     if not (config.page % 8 == 0 && is_between least_page_bytes most_page_bytes config.page) then Some PageSize
     else if not (is_between 24 config.page config.first) then Some FirstSize
     else if not (nat_lt 0 config.den && nat_lt config.den config.num && nat_le config.num 65535) then Some Factor
@@ -35,13 +35,13 @@ refusal_of config =
     else None
 
 -- the number of a refusal, counted from 1 in the order of the tests
-abbrev pub number_of : ConfigError → ℕ
-number_of PageSize = 1
-number_of FirstSize = 2
-number_of Factor = 3
-number_of ChunkMax = 4
-number_of Limit = 5
-number_of Stripes = 6
-number_of TooManyChunks = 7
-number_of Bulk = 8
-number_of (NoMemory _) = 9
+abbrev pub config_error_number : ConfigError → ℕ
+config_error_number PageSize = 1
+config_error_number FirstSize = 2
+config_error_number Factor = 3
+config_error_number ChunkMax = 4
+config_error_number Limit = 5
+config_error_number Stripes = 6
+config_error_number TooManyChunks = 7
+config_error_number Bulk = 8
+config_error_number (NoMemory _) = 9

@@ -1,6 +1,6 @@
 //! What a slab memory is configured with, and why a configuration is refused.
 ghost use Rattle.std.specs.Prelude.{◌≡◌, ◌^◌, ◌≤◌, IfErr, OnOk};
-ghost use Rattle.mc_classes.specs.Refusals.{refusal_of, number_of, rounded_up, is_below_max, first_size};
+ghost use Rattle.mc_classes.specs.Refusals.{config_refusal, config_error_number, rounded_up, is_below_max, first_size};
 
 use crate::limits::{
     LEAST_PAGE_BYTES, MOST_BULK, MOST_PAGE_BYTES, MOST_PAGE_CHUNKS, MOST_PAGES, MOST_STRIPES,
@@ -64,7 +64,7 @@ pub enum ConfigError {
 impl ConfigError {
     /// The refusal's number, 1 to 9, in the order of the tests.
     pub fn number(self) -> u64
-        ensures { result ≡ number_of self }
+        ensures { result ≡ config_error_number self }
     {
         match self {
             ConfigError::PageSize => 1,
@@ -128,8 +128,8 @@ impl Config {
 
     /// Makes the tests, in their order, and allocates nothing.
     pub fn test(&self) -> Result<(), ConfigError>
-        ensures accepted { OnOk result (refusal_of self.now ≡ None) }
-        ensures refused { IfErr result (λ error. refusal_of self.now ≡ Some error) }
+        ensures accepted { OnOk result (config_refusal self.now ≡ None) }
+        ensures refused { IfErr result (λ error. config_refusal self.now ≡ Some error) }
     {
         if self.page % 8 != 0 || self.page < LEAST_PAGE_BYTES || self.page > MOST_PAGE_BYTES {
             return Err(ConfigError::PageSize);

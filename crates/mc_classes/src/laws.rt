@@ -2,7 +2,7 @@
 ghost use Rattle.std.specs.Prelude.{◌≡◌, None};
 ghost use Rattle.mc_classes.specs.declared.config.Config.{Config};
 ghost use Rattle.mc_classes.specs.Classes.{Classes, IsSound, IsTableOf};
-ghost use Rattle.mc_classes.specs.Refusals.{refusal_of};
+ghost use Rattle.mc_classes.specs.Refusals.{config_refusal};
 
 /// A configuration has no two class tables.
 pub fn one_table()
@@ -11,5 +11,5 @@ pub fn one_table()
 
 /// The definitions alone keep the sizes and counts of a table within their bounds.
 pub fn sound_table()
-    ensures { (config : Config) (table : Classes) → refusal_of config ≡ None → IsTableOf config table → IsSound table }
+    ensures { (config : Config) (table : Classes) → config_refusal config ≡ None → IsTableOf config table → IsSound table }
 {}

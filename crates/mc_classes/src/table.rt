@@ -1,7 +1,7 @@
 //! The size classes: which sizes there are, which class an item goes to, how many chunks a page has.
 ghost use Rattle.std.specs.Prelude.{◌≡◌, ℕ, List, length, nat_le, position, unwrap_or, ◌≤◌, IfOk, IfErr, IfSome};
-ghost use Rattle.mc_classes.specs.Refusals.{refusal_of};
-ghost use Rattle.mc_classes.specs.Classes.{ComesFrom, IsClass, IsSound, IsTableOf, arena_pages_of, class_of, pages_of, per_page_of, size_of};
+ghost use Rattle.mc_classes.specs.Refusals.{config_refusal};
+ghost use Rattle.mc_classes.specs.Classes.{ComesFrom, IsClass, IsSound, IsTableOf, arena_pages_of, class_of, page_limit, per_page_of, size_of};
 
 use crate::config::{Config, ConfigError, rounded_up};
 use crate::limits::MOST_CLASSES;
@@ -37,10 +37,10 @@ impl ClassTable {
     /// Computes the size classes (slabs.c's `slabs_init`, with the factor as a fraction). A configuration is
     /// refused by the first test that it fails, before anything is allocated.
     pub fn build(alloc: Global, config: &Config) -> Result<ClassTable, ConfigError>
-        ensures accepted { IfOk result (λ _. refusal_of config.now ≡ None) }
+        ensures accepted { IfOk result (λ _. config_refusal config.now ≡ None) }
         ensures table { IfOk result (λ table. IsTableOf config.now table) }
         ensures sound { IfOk result (λ table. IsSound table) }
-        ensures refused { IfErr result (λ error. error ≡ unwrap_or (refusal_of config.now) (ConfigError.NoMemory tt)) }
+        ensures refused { IfErr result (λ error. error ≡ unwrap_or (config_refusal config.now) (ConfigError.NoMemory tt)) }
     {
         config.test()?;
         let sizes = sizes_of(alloc, config)?;
@@ -105,7 +105,7 @@ impl ClassTable {
 
     /// How many pages may be granted within the limit.
     pub fn pages(&self) -> u64
-        ensures pages { result ≡ pages_of self.now }
+        ensures pages { result ≡ page_limit self.now }
         ensures sound { IsSound self.now }
     {
         self.limit / self.page
@@ -131,7 +131,7 @@ fn place_for(sizes: &[u64], bytes: u64) -> Option<usize>
 /// The sizes of the classes: each raw size is raised to a multiple of 8, and the factor gives the next
 /// raw size; a class of the greatest size comes last. All their room is taken first, so that no push can fail.
 fn sizes_of(alloc: Global, config: &Config) -> Result<Vec<u64>, Refused>
-    requires { refusal_of config.now ≡ None }
+    requires { config_refusal config.now ≡ None }
     ensures { IfOk result (λ sizes. (raws : List ℕ) × ComesFrom config.now raws sizes.items) }
 {
     let mut sizes = with_capacity(alloc, MOST_CLASSES as usize)?;

@@ -6,7 +6,7 @@ use Rattle.mc_pages.specs.declared.ids.ChunkId.{ChunkId}
 use Rattle.mc_pages.specs.declared.ids.Moving.{Moving}
 use Rattle.mc_pages.specs.declared.moves.Found.{Found}
 use Rattle.mc_pages.specs.Ledger.{owner_at}
-use Rattle.mc_pages.specs.ClassState.{times}
+use Rattle.mc_pages.specs.ClassState.{times_in}
 use Rattle.mc_pages.specs.SlabState.{SlabState, class_at}
 use Rattle.mc_pages.specs.Accounted.{is_moving, is_of_class, cut_count, is_cleared, places_in}
 use Rattle.mc_pages.specs.Moves.{is_held_up, chunk_at_position, CanPass, CanWrap, CanFinish}
@@ -21,8 +21,8 @@ not_true false h = refl
 none_listed : (slabs : SlabState) (class : ℕ) (chunk : ChunkId) → is_listed slabs class chunk ≡ false → places_in slabs class chunk ≡ 0
 none_listed slabs class chunk h =
     let parts = or_none (is_among (class_at slabs class).free chunk) (is_among (class_at slabs class).order chunk) h in
-    let free : times chunk (class_at slabs class).free ≡ 0 = none_among (class_at slabs class).free chunk parts.0 in
-    let order : times chunk (class_at slabs class).order ≡ 0 = none_among (class_at slabs class).order chunk parts.1 in
+    let free : times_in chunk (class_at slabs class).free ≡ 0 = none_among (class_at slabs class).free chunk parts.0 in
+    let order : times_in chunk (class_at slabs class).order ≡ 0 = none_among (class_at slabs class).order chunk parts.1 in
     omega arith
 
 pub wrap_asked : (table : Classes) (slabs : SlabState) (moving : Option Moving) → IsOfTable table slabs → slabs.moving ≡ moving → can_wrap (run_of table moving) ≡ true → (move : Moving) × CanWrap slabs move
@@ -80,8 +80,8 @@ finish_asked table slabs (Some move) of runs h =
           runs = runs;
           all_cleared = λ index within.
               let chunk : ChunkId = record { page = move.page; index = index } in
-              let free : times chunk (class_at slabs move.src).free ≡ 0 = none_of_page (class_at slabs move.src).free chunk neither.0 in
-              let order : times chunk (class_at slabs move.src).order ≡ 0 = none_of_page (class_at slabs move.src).order chunk neither.1 in
+              let free : times_in chunk (class_at slabs move.src).free ≡ 0 = none_of_page (class_at slabs move.src).free chunk neither.0 in
+              let order : times_in chunk (class_at slabs move.src).order ≡ 0 = none_of_page (class_at slabs move.src).order chunk neither.1 in
               cleared_from slabs move index of.accounted runs whole within (omega arith);
         },
       ),

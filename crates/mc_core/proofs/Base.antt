@@ -9,19 +9,19 @@ use Rattle.std.proofs.Common.{div-mul-le_self, le-div_iff_mul-le}
 use Rattle.mc_classes.specs.Classes.{Classes, arena_pages_of, size_of}
 use Rattle.mc_pages.specs.declared.ids.ChunkId.{ChunkId}
 use Rattle.mc_pages.specs.Ledger.{owner_at}
-use Rattle.mc_pages.specs.ClassState.{is_chunk, times}
-use Rattle.mc_pages.specs.SlabState.{SlabState, IsClass, class_at, class_of_page, class_of_chunk}
+use Rattle.mc_pages.specs.ClassState.{is_chunk, times_in}
+use Rattle.mc_pages.specs.SlabState.{SlabState, HasClass, class_at, class_of_page, class_of_chunk}
 use Rattle.mc_pages.specs.Accounted.{truth, is_cut, cut_count, is_of_class}
 use Rattle.mc_pages.proofs.Chunks.{is_chunk-same}
 use Rattle.mc_core.specs.declared.head.Head.{Head}
 use Rattle.mc_core.specs.declared.head.Tag.{Tag}
 use Rattle.mc_core.specs.declared.head.Tag.TheVariants.{Out, Free, Unlinked, Linked}
 use Rattle.mc_core.specs.declared.holding.Holding.{Holding}
-use Rattle.mc_core.specs.Holdings.{lose, is_of}
+use Rattle.mc_core.specs.Holdings.{without_first, is_of_chunk}
 use Rattle.mc_core.specs.Head.{never_cut, is_free, is_out}
 use Rattle.mc_core.specs.State.{has_chunk, head_place, most_of, page_words, room_in, is_class}
 use Rattle.mc_core.specs.Past.{Moment}
-use Rattle.mc_core.specs.Columns.{head_in, place_in, Each, holds, holders, IsHandedOut}
+use Rattle.mc_core.specs.Columns.{head_in, place_in, Each, count_of_holdings, holder_count, IsHandedOut}
 use Rattle.mc_core.specs.Places.{is_cut_there}
 use Rattle.mc_core.specs.Lawful.{IsLawful}
 use Rattle.mc_core.proofs.Listed.{per_page_is}
@@ -57,7 +57,7 @@ head_other table heads chunk other head hc ho apart =
 
 -- a chunk was cut for its class
 pub record IsPlaced (slabs : SlabState) (chunk : ChunkId) : Type 0 where
-  pub class : IsClass slabs (class_of_page slabs chunk.page)
+  pub class : HasClass slabs (class_of_page slabs chunk.page)
   pub cut : is_cut slabs (class_of_page slabs chunk.page) chunk ≡ true
   pub within : chunk.index < (class_of_chunk slabs chunk).per_page
 
@@ -90,7 +90,7 @@ in_order tag (inl is) = ap (λ (t : Tag). not (is_free t) && not (is_out t)) is
 in_order tag (inr is) = ap (λ (t : Tag). not (is_free t) && not (is_out t)) is
 
 -- a handed-out chunk stands in the hand-out order of its class
-pub placed_at : (m : Moment) → IsLawful m → (chunk : ChunkId) (issue : ℕ) → has_chunk m.state.table chunk ≡ true → IsHandedOut (head_in m.state.table m.state.heads chunk) issue → IsPlaced m.state.slabs chunk × (times chunk (class_of_chunk m.state.slabs chunk).order ≡ 1)
+pub placed_at : (m : Moment) → IsLawful m → (chunk : ChunkId) (issue : ℕ) → has_chunk m.state.table chunk ≡ true → IsHandedOut (head_in m.state.table m.state.heads chunk) issue → IsPlaced m.state.slabs chunk × (times_in chunk (class_of_chunk m.state.slabs chunk).order ≡ 1)
 placed_at m l chunk issue h out =
     let slabs = m.state.slabs in
     let tag = (head_in m.state.table m.state.heads chunk).tag in
@@ -185,28 +185,28 @@ module _ {X : Type 0} where
       ] h refl
 
 -- less one entry
-pub all_lose : (P : Holding → Type 0) (test : Holding → Bool) (row : List Holding) → All P row → All P (lose test row)
+pub all_lose : (P : Holding → Type 0) (test : Holding → Bool) (row : List Holding) → All P row → All P (without_first test row)
 all_lose P test [] all = all
 all_lose P test (x ∷ row) all =
-    elim (test x) as (λ b. All P (cond b row (x ∷ lose test row))) [
+    elim (test x) as (λ b. All P (cond b row (x ∷ without_first test row))) [
       | true ↦ All-tail P x row all
-      | false ↦ All-cons P x (lose test row) (All-head P x row all) (all_lose P test row (All-tail P x row all))
+      | false ↦ All-cons P x (without_first test row) (All-head P x row all) (all_lose P test row (All-tail P x row all))
     ]
 
 -- a row's holds are among all
-pub holds_row : (chunk : ChunkId) (rows : List (List Holding)) (hand : ℕ) → holds chunk (slice_index_or rows hand []) ≤ holders chunk rows
+pub holds_row : (chunk : ChunkId) (rows : List (List Holding)) (hand : ℕ) → count_of_holdings chunk (slice_index_or rows hand []) ≤ holder_count chunk rows
 holds_row chunk [] hand = omega arith
 holds_row chunk (row ∷ rows) zero = omega arith
 holds_row chunk (row ∷ rows) (suc hand) = let rest = holds_row chunk rows hand in omega arith
 
-is_of-same : (chunk : ChunkId) (holding : Holding) → holding.chunk ≡ chunk → is_of chunk holding ≡ true
+is_of-same : (chunk : ChunkId) (holding : Holding) → holding.chunk ≡ chunk → is_of_chunk chunk holding ≡ true
 is_of-same chunk holding e = subst (λ (c : ChunkId). is_chunk c chunk ≡ true) (sym e) (is_chunk-same chunk)
 
 -- a holding is one of its chunk's
-pub holds_own : (row : List Holding) (holding : Holding) → Contains row holding → 1 ≤ holds holding.chunk row
+pub holds_own : (row : List Holding) (holding : Holding) → Contains row holding → 1 ≤ count_of_holdings holding.chunk row
 holds_own row holding (k, within, at) =
-    let here : truth (is_of holding.chunk (slice_index_or row k holding)) ≡ 1 = ap (λ (h : Holding). truth (is_of holding.chunk h)) at ∙ ap truth (is_of-same holding.chunk holding refl) in
-    omega (arith, get_or-le-sum_by (λ (h : Holding). truth (is_of holding.chunk h)) row k holding within, here)
+    let here : truth (is_of_chunk holding.chunk (slice_index_or row k holding)) ≡ 1 = ap (λ (h : Holding). truth (is_of_chunk holding.chunk h)) at ∙ ap truth (is_of-same holding.chunk holding refl) in
+    omega (arith, get_or-le-sum_by (λ (h : Holding). truth (is_of_chunk holding.chunk h)) row k holding within, here)
 
 -- a header with a count is of a chunk that is handed out
 pub handed_out_from : (head : Head) → 1 ≤ head.count → ((is_free head.tag ≡ true) ⊎ (is_out head.tag ≡ true) → head.count ≡ 0) → IsHandedOut head head.issue
@@ -224,7 +224,7 @@ module _ (m : Moment) (l : IsLawful m) where
   IsOut holding = (has_chunk m.state.table holding.chunk ≡ true) × IsHandedOut (head_in m.state.table m.state.heads holding.chunk) holding.issue
 
   -- a chunk that somebody holds is handed out
-  pub out_from_holders : (chunk : ChunkId) → has_chunk m.state.table chunk ≡ true → 1 ≤ holders chunk m.state.holdings → IsHandedOut (head_in m.state.table m.state.heads chunk) (head_in m.state.table m.state.heads chunk).issue
+  pub out_from_holders : (chunk : ChunkId) → has_chunk m.state.table chunk ≡ true → 1 ≤ holder_count chunk m.state.holdings → IsHandedOut (head_in m.state.table m.state.heads chunk) (head_in m.state.table m.state.heads chunk).issue
   out_from_holders chunk h some =
       let counted = l.counted.counted chunk h in
       handed_out_from (head_in m.state.table m.state.heads chunk) (omega (arith, counted, some)) (l.counted.shut chunk h)

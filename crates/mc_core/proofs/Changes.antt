@@ -5,7 +5,7 @@ use Rattle.mc_core.specs.declared.event.Change.{Change}
 use Rattle.mc_core.specs.declared.event.Change.TheVariants.{Grow, BeginMove, FinishMove, Touch, SetAutomove, TrimLedger, Passed, Wrap, Evicted, OfStripe, GotNone, DeletedNone}
 use Rattle.mc_core.specs.State.{State}
 use Rattle.mc_core.specs.Silent.{allows_change, after_change, allows_changes, after_changes}
-use Rattle.mc_core.specs.Done.{IsDone}
+use Rattle.mc_core.specs.Done.{IsResultOf}
 
 -- a change leaves the hands
 same_ids : (state : State) (hand : ℕ) (change : Change) → (after_change state hand change).ids ≡ state.ids
@@ -28,14 +28,14 @@ kept_ids state hand [] = refl
 kept_ids state hand (change ∷ changes) = kept_ids (after_change state hand change) hand changes ∙ same_ids state hand change
 
 -- after they were made, the hand is still there
-pub still_there : (state new : State) (hand : ℕ) (changes : List Change) (told : Bool) → IsDone (allows_changes state hand changes) (after_changes state hand changes) new told → told ≡ true →
+pub still_there : (state new : State) (hand : ℕ) (changes : List Change) (told : Bool) → IsResultOf (allows_changes state hand changes) (after_changes state hand changes) new told → told ≡ true →
     hand < length state.ids → hand < length new.ids
 still_there state new hand changes told done was here =
     let same : new.ids ≡ state.ids = ap (λ (s : State). s.ids) (done.left (sym done.answer ∙ was)) ∙ kept_ids state hand changes in
     subst (λ ids. hand < length ids) (sym same) here
 
 -- after the first of these changes the others are left
-pub one_change : (state new : State) (hand : ℕ) (change : Change) (rest : List Change) (told : Bool) → IsDone (allows_change state hand change) (after_change state hand change) new told → told ≡ true →
+pub one_change : (state new : State) (hand : ℕ) (change : Change) (rest : List Change) (told : Bool) → IsResultOf (allows_change state hand change) (after_change state hand change) new told → told ≡ true →
     (length new.ids ≡ length state.ids)
     × (allows_changes new hand rest ≡ allows_changes state hand (change ∷ rest))
     × (after_changes new hand rest ≡ after_changes state hand (change ∷ rest))
@@ -51,14 +51,14 @@ pub change_at : (changes : List Change) (index : ℕ) (d : Change) → index < l
 change_at changes index d within = drop-cons changes index d within
 
 -- a change that isn't allowed ends it
-pub no_change : (state new : State) (hand : ℕ) (change : Change) (rest : List Change) (told : Bool) → IsDone (allows_change state hand change) (after_change state hand change) new told → told ≡ false →
+pub no_change : (state new : State) (hand : ℕ) (change : Change) (rest : List Change) (told : Bool) → IsResultOf (allows_change state hand change) (after_change state hand change) new told → told ≡ false →
     allows_changes state hand (change ∷ rest) ≡ false
 no_change state new hand change rest told done fails =
     ap (λ b. b && allows_changes (after_change state hand change) hand rest) (sym done.answer ∙ fails)
 
 -- after the change at this place those behind it are left
 pub more_changes : (state new : State) (hand : ℕ) (changes : List Change) (index : ℕ) (d : Change) (told : Bool) → index < length changes →
-    IsDone (allows_change state hand (get_or changes index d)) (after_change state hand (get_or changes index d)) new told → told ≡ true →
+    IsResultOf (allows_change state hand (get_or changes index d)) (after_change state hand (get_or changes index d)) new told → told ≡ true →
     (length new.ids ≡ length state.ids)
     × (allows_changes new hand (drop (index + 1) changes) ≡ allows_changes state hand (drop index changes))
     × (after_changes new hand (drop (index + 1) changes) ≡ after_changes state hand (drop index changes))
@@ -74,7 +74,7 @@ more_changes state new hand changes index d told within done was =
 
 -- at a change that isn't allowed they aren't
 pub end_of_changes : (state new : State) (hand : ℕ) (changes : List Change) (index : ℕ) (d : Change) (told : Bool) → index < length changes →
-    IsDone (allows_change state hand (get_or changes index d)) (after_change state hand (get_or changes index d)) new told → told ≡ false →
+    IsResultOf (allows_change state hand (get_or changes index d)) (after_change state hand (get_or changes index d)) new told → told ≡ false →
     allows_changes state hand (drop index changes) ≡ false
 end_of_changes state new hand changes index d told within done fails =
     ap (allows_changes state hand) (change_at changes index d within) ∙ no_change state new hand (get_or changes index d) (drop (suc index) changes) told done fails

@@ -10,8 +10,8 @@ use Rattle.mc_core.specs.declared.holding.Holding.{Holding}
 use Rattle.mc_core.specs.Head.{is_free, is_out, is_unlinked, is_dead}
 use Rattle.mc_core.specs.State.{has_chunk, head_place, head_at, with_head, has_slabs, with_slabs}
 use Rattle.mc_core.specs.Silent.{is_handed_out, is_listed}
-use Rattle.mc_core.specs.Chunks.{with_tag_free, with_tag_out, can_put_back, after_put_back, can_clear, after_clear, is_next_uncut, can_cut, after_cut}
-use Rattle.mc_core.specs.Columns.{holders, link_of}
+use Rattle.mc_core.specs.Chunks.{with_tag_free, with_tag_out, can_put_back, after_put_back, can_clear, state_after_clear, is_next_uncut, can_cut, state_after_cut}
+use Rattle.mc_core.specs.Columns.{holder_count, link_count}
 use Rattle.mc_core.specs.Past.{Moment}
 use Rattle.mc_core.specs.Lawful.{IsLawful}
 use Rattle.mc_core.proofs.Holders.{nobodys}
@@ -21,11 +21,11 @@ use Rattle.mc_core.proofs.Tallied.{IsTallied}
 module _ (m : Moment) (l : IsLawful m) (hand : ℕ) where
   -- a header without count and link gets another tag without a link
   module _ (next : SlabState) (same : (page : ℕ) → class_of_page next page ≡ class_of_page m.state.slabs page) (chunk : ChunkId) (head : Head) (near : has_chunk m.state.table chunk ≡ true)
-      (none : (head_at m.state chunk).count ≡ 0) (still : head.count ≡ (head_at m.state chunk).count) (issue : head.issue ≡ (head_at m.state chunk).issue) (no_link : link_of head.tag ≡ 0) where
+      (none : (head_at m.state chunk).count ≡ 0) (still : head.count ≡ (head_at m.state chunk).count) (issue : head.issue ≡ (head_at m.state chunk).issue) (no_link : link_count head.tag ≡ 0) where
     abbrev rows : List (List Holding)
     rows = m.state.holdings
 
-    nobody : holders chunk rows ≡ 0
+    nobody : holder_count chunk rows ≡ 0
     nobody = let count = l.counted.counted chunk near in omega arith
 
     turn : Turn m.state.table m.state.heads rows rows chunk head
@@ -62,7 +62,7 @@ module _ (m : Moment) (l : IsLawful m) (hand : ℕ) where
       let near = and_parts (has_slabs m.state hand) (has_chunk m.state.table chunk) dead.0 in
       closed_tallied (slabs_changes.after_back m.state.slabs chunk) (λ page. refl) chunk (with_tag_free (head_at m.state chunk)) near.1 (dead_none chunk dead.1) refl refl refl
 
-  pub clear_tallied : (chunk : ChunkId) → can_clear m.state hand chunk ≡ true → IsTallied (after_clear m.state hand chunk)
+  pub clear_tallied : (chunk : ChunkId) → can_clear m.state hand chunk ≡ true → IsTallied (state_after_clear m.state hand chunk)
   clear_tallied chunk can =
       let listed = and_parts _ (is_listed m.state.slabs (class_of_page m.state.slabs chunk.page) chunk) can in
       let closed = and_parts _ (is_free (head_at m.state chunk).tag || is_dead (head_at m.state chunk)) listed.0 in
@@ -74,7 +74,7 @@ module _ (m : Moment) (l : IsLawful m) (hand : ℕ) where
       ] in
       closed_tallied (slabs_changes.after_clear m.state.slabs chunk) (λ page. refl) chunk (with_tag_out (head_at m.state chunk)) near.1 none refl refl refl
 
-  pub cut_tallied : (chunk : ChunkId) → can_cut m.state hand chunk ≡ true → IsTallied (after_cut m.state hand chunk)
+  pub cut_tallied : (chunk : ChunkId) → can_cut m.state hand chunk ≡ true → IsTallied (state_after_cut m.state hand chunk)
   cut_tallied chunk can =
       let out = and_parts _ (is_out (head_at m.state chunk).tag) can in
       let next = and_parts _ (is_next_uncut m.state.slabs chunk) out.0 in

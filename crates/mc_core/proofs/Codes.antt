@@ -4,23 +4,23 @@ use Rattle.std.proofs.lemmas.Bool.{and_parts}
 use Rattle.mc_core.specs.declared.head.Head.{Head}
 use Rattle.mc_core.specs.declared.head.Tag.{Tag}
 use Rattle.mc_core.specs.declared.head.Tag.TheVariants.{Out, Free, Unlinked, Linked}
-use Rattle.mc_core.specs.Head.{number_of, tag_of, code, decode, is_unlinked, is_linked}
+use Rattle.mc_core.specs.Head.{number_of_tag, tag_of, code, decode, is_unlinked, is_linked}
 use Rattle.mc_core.proofs.Entered.{tag_linked, tag_unlinked}
 use Rattle.mc_core.specs.Codes.{FitsBits, AreOneWord, AllAreSums}
 
-tag_number : (t : Tag) → tag_of (number_of t) ≡ t
+tag_number : (t : Tag) → tag_of (number_of_tag t) ≡ t
 tag_number Out = refl
 tag_number Free = refl
 tag_number Unlinked = refl
 tag_number Linked = refl
 
-number_tag : (n : ℕ) → n < 4 → number_of (tag_of n) ≡ n
+number_tag : (n : ℕ) → n < 4 → number_of_tag (tag_of n) ≡ n
 number_tag zero h = refl
 number_tag (suc zero) h = refl
 number_tag (suc (suc zero)) h = refl
 number_tag (suc (suc (suc n))) h = omega arith
 
-number_small : (t : Tag) → number_of t < 4
+number_small : (t : Tag) → number_of_tag t < 4
 number_small Out = omega arith
 number_small Free = omega arith
 number_small Unlinked = omega arith
@@ -33,7 +33,7 @@ code_small head fits = let t4 = number_small head.tag in let i = fits.issue in l
 decode_code : (head : Head) → FitsBits head → decode (code head) ≡ head
 unfolding code decode
 decode_code head fits =
-    let t : ℕ = number_of head.tag in
+    let t : ℕ = number_of_tag head.tag in
     let i : ℕ = head.issue in
     let n : ℕ = head.count in
     let t4 : t < 4 = number_small head.tag in
@@ -45,7 +45,7 @@ decode_code head fits =
 
 code_decode : (word : ℕ) → code (decode word) ≡ word
 unfolding code decode
-code_decode word = let t : number_of (tag_of (word / 65536 % 4)) ≡ word / 65536 % 4 = number_tag (word / 65536 % 4) (omega arith) in omega arith
+code_decode word = let t : number_of_tag (tag_of (word / 65536 % 4)) ≡ word / 65536 % 4 = number_tag (word / 65536 % 4) (omega arith) in omega arith
 
 decode_fits : (word : ℕ) → word < 2 ^ 64 → FitsBits (decode word)
 unfolding decode
@@ -61,21 +61,21 @@ all_are_sums head fits =
     let i = fits.issue in
     let n = fits.count in
     record {
-      hand_out = λ is none left. let t : number_of head.tag ≡ 1 = ap number_of is in omega arith;
+      hand_out = λ is none left. let t : number_of_tag head.tag ≡ 1 = ap number_of_tag is in omega arith;
       refer = λ room. omega arith;
       release = λ some. omega arith;
-      link = λ is room. let t : number_of head.tag ≡ 2 = ap number_of is in omega arith;
-      unlink = λ is some. let t : number_of head.tag ≡ 3 = ap number_of is in omega arith;
+      link = λ is room. let t : number_of_tag head.tag ≡ 2 = ap number_of_tag is in omega arith;
+      unlink = λ is some. let t : number_of_tag head.tag ≡ 3 = ap number_of_tag is in omega arith;
       condemn = λ idle.
           let both = and_parts (is_linked head.tag) (head.count == 1) idle in
-          let t : number_of head.tag ≡ 3 = ap number_of (tag_linked head.tag both.0) in
+          let t : number_of_tag head.tag ≡ 3 = ap number_of_tag (tag_linked head.tag both.0) in
           let one = eqb-true head.count 1 both.1 in omega arith;
       put_back = λ dead.
           let both = and_parts (is_unlinked head.tag) (head.count == 0) dead in
-          let t : number_of head.tag ≡ 2 = ap number_of (tag_unlinked head.tag both.0) in omega arith;
-      clear_free = λ is. let t : number_of head.tag ≡ 1 = ap number_of is in omega arith;
+          let t : number_of_tag head.tag ≡ 2 = ap number_of_tag (tag_unlinked head.tag both.0) in omega arith;
+      clear_free = λ is. let t : number_of_tag head.tag ≡ 1 = ap number_of_tag is in omega arith;
       clear_dead = λ dead.
           let both = and_parts (is_unlinked head.tag) (head.count == 0) dead in
-          let t : number_of head.tag ≡ 2 = ap number_of (tag_unlinked head.tag both.0) in omega arith;
-      cut = λ is. let t : number_of head.tag ≡ 0 = ap number_of is in omega arith;
+          let t : number_of_tag head.tag ≡ 2 = ap number_of_tag (tag_unlinked head.tag both.0) in omega arith;
+      cut = λ is. let t : number_of_tag head.tag ≡ 0 = ap number_of_tag is in omega arith;
     }

@@ -10,13 +10,13 @@ use Rattle.mc_core.specs.declared.holding.Holding.{Holding}
 use Rattle.mc_core.specs.declared.holding.Kind.{Kind}
 use Rattle.mc_core.specs.declared.holding.Kind.TheVariants.{Reference, Fresh}
 use Rattle.mc_core.specs.Head.{is_linked}
-use Rattle.mc_core.specs.Holdings.{is_of, is_fresh_kind, is_copy_kind, is_copy_of, has_fresh, holding_of}
+use Rattle.mc_core.specs.Holdings.{is_of_chunk, is_fresh_kind, is_copy_kind, is_copy_of, has_fresh, holding_of}
 use Rattle.mc_core.specs.State.{has_chunk, head_place, head_at, with_head, item_at, is_hand, has_slabs, stripe_of, stripe_at, has_stripe, holdings_at, looks_at}
 use Rattle.mc_core.specs.Silent.{writer_of}
-use Rattle.mc_core.specs.Chunks.{let_go, holds_as, after_drop}
-use Rattle.mc_core.specs.Items.{unlinked, chunk_of, is_linked_at, can_unlink, stripe_unlinked, with_unlinked, after_unlink}
-use Rattle.mc_core.specs.Evictions.{condemned, is_linked_unheld, key_at, can_lose_entry, has_copy, has_reason, can_condemn, as_rescue, after_condemn}
-use Rattle.mc_core.specs.Columns.{Each, holders, link_of}
+use Rattle.mc_core.specs.Chunks.{head_after_release, holds_as, after_drop}
+use Rattle.mc_core.specs.Items.{head_after_unlink, chunk_of_key, is_linked_at, can_unlink, stripe_unlinked, with_unlinked, state_after_unlink}
+use Rattle.mc_core.specs.Evictions.{head_after_condemn, is_linked_unheld, key_at, can_lose_entry, has_copy, has_reason, can_condemn, as_rescue, after_condemn}
+use Rattle.mc_core.specs.Columns.{Each, holder_count, link_count}
 use Rattle.mc_core.specs.Counts.{AreCounted, AreHeld}
 use Rattle.mc_core.specs.Past.{Moment}
 use Rattle.mc_core.specs.Lawful.{IsLawful}
@@ -44,25 +44,25 @@ module _ (m : Moment) (l : IsLawful m) (hand : ℕ) (there : is_hand m.state han
     old = head_at m.state chunk
 
     abbrev left : List (List Holding)
-    left = rows_less rows hand (is_of chunk)
+    left = rows_less rows hand (is_of_chunk chunk)
 
     abbrev heads' : List Head
-    heads' = slice_set m.state.heads (head_place m.state.table chunk) (let_go old)
+    heads' = slice_set m.state.heads (head_place m.state.table chunk) (head_after_release old)
 
     is : holding.chunk ≡ chunk
-    is = same_from_is_chunk holding.chunk chunk (found_passes (is_of chunk) (holdings_at m.state hand) holding found)
+    is = same_from_is_chunk holding.chunk chunk (found_passes (is_of_chunk chunk) (holdings_at m.state hand) holding found)
 
     near : has_chunk m.state.table chunk ≡ true
-    near = subst (λ c. has_chunk m.state.table c ≡ true) is (found_each (λ h. has_chunk m.state.table h.chunk ≡ true) rows hand (is_of chunk) holding found l.held.inside)
+    near = subst (λ c. has_chunk m.state.table c ≡ true) is (found_each (λ h. has_chunk m.state.table h.chunk ≡ true) rows hand (is_of_chunk chunk) holding found l.held.inside)
 
-    turn : Turn m.state.table m.state.heads rows left chunk (let_go old)
+    turn : Turn m.state.table m.state.heads rows left chunk (head_after_release old)
     turn =
-        let less = less_here rows hand within chunk (is_of chunk) holding found is in
+        let less = less_here rows hand within chunk (is_of_chunk chunk) holding found is in
         let count = l.counted.counted chunk near in
         record {
           long = l.sized.headers;
           near = near;
-          others = λ other isnt. less_other rows hand within chunk other (is_of chunk) holding found is isnt;
+          others = λ other isnt. less_other rows hand within chunk other (is_of_chunk chunk) holding found is isnt;
           sum = omega arith;
           shut = λ shut. let none = l.counted.shut chunk near shut in absurd (omega arith);
           issued = l.counted.issued chunk near;
@@ -70,12 +70,12 @@ module _ (m : Moment) (l : IsLawful m) (hand : ℕ) (there : is_hand m.state han
 
     pub less_tallied : IsTallied (after_drop m.state hand chunk)
     less_tallied =
-        let stale = stale_less rows hand within (is_of chunk) holding found (λ i row inside j other on fresh. (l.held.alone i row inside j other on fresh).1) in
-        let kept = turn_each m.state.table m.state.heads rows left chunk (let_go old) turn m.state.slabs m.state.slabs m.state.words (λ page. refl) left
+        let stale = stale_less rows hand within (is_of_chunk chunk) holding found (λ i row inside j other on fresh. (l.held.alone i row inside j other on fresh).1) in
+        let kept = turn_each m.state.table m.state.heads rows left chunk (head_after_release old) turn m.state.slabs m.state.slabs m.state.words (λ page. refl) left
         (λ i row inside j other on same. (refl, stale i row inside j other on (same ∙ sym is)))
-        (each_less rows hand (IsSo m.state.table m.state.slabs m.state.heads m.state.words rows) (is_of chunk) each) in (
-          turn_counted m.state.table m.state.heads rows left chunk (let_go old) turn l.counted,
-          held_from_so m.state.table m.state.slabs heads' m.state.words left kept (most_less rows hand (is_of chunk) within l.held.most),
+        (each_less rows hand (IsSo m.state.table m.state.slabs m.state.heads m.state.words rows) (is_of_chunk chunk) each) in (
+          turn_counted m.state.table m.state.heads rows left chunk (head_after_release old) turn l.counted,
+          held_from_so m.state.table m.state.slabs heads' m.state.words left kept (most_less rows hand (is_of_chunk chunk) within l.held.most),
         )
 
   pub drop_tallied : (chunk : ChunkId) (fresh : Bool) → holds_as fresh (holding_of chunk (holdings_at m.state hand)) ≡ true → IsTallied (after_drop m.state hand chunk)
@@ -87,15 +87,15 @@ module _ (m : Moment) (l : IsLawful m) (hand : ℕ) (there : is_hand m.state han
 
   -- a key leads nowhere any more
   module _ (chunk : ChunkId) (near : has_chunk m.state.table chunk ≡ true) (linked : (head_at m.state chunk).tag ≡ Linked) where
-    unlinked_turn : Turn m.state.table m.state.heads rows rows chunk (unlinked (head_at m.state chunk))
+    unlinked_turn : Turn m.state.table m.state.heads rows rows chunk (head_after_unlink (head_at m.state chunk))
     unlinked_turn = record {
       long = l.sized.headers;
       near = near;
       others = λ other isnt. refl;
       sum =
           let count = l.counted.counted chunk near in
-          let link : link_of (head_at m.state chunk).tag ≡ 1 = ap link_of linked in
-          let no_link : link_of Unlinked ≡ 0 = refl in omega arith;
+          let link : link_count (head_at m.state chunk).tag ≡ 1 = ap link_count linked in
+          let no_link : link_count Unlinked ≡ 0 = refl in omega arith;
       shut = λ shut. absurd (neither shut);
       issued = l.counted.issued chunk near;
     }
@@ -104,50 +104,50 @@ module _ (m : Moment) (l : IsLawful m) (hand : ℕ) (there : is_hand m.state han
         neither (inl never) = cc
         neither (inr never) = cc
 
-    unlinked_tallied : IsTallied (with_head m.state chunk (unlinked (head_at m.state chunk)))
+    unlinked_tallied : IsTallied (with_head m.state chunk (head_after_unlink (head_at m.state chunk)))
     unlinked_tallied =
-        let kept = turn_each m.state.table m.state.heads rows rows chunk (unlinked (head_at m.state chunk)) unlinked_turn m.state.slabs m.state.slabs m.state.words (λ page. refl) rows
+        let kept = turn_each m.state.table m.state.heads rows rows chunk (head_after_unlink (head_at m.state chunk)) unlinked_turn m.state.slabs m.state.slabs m.state.words (λ page. refl) rows
         (λ i row inside j other on is. (refl, linked_stale m l hand there chunk linked i row inside j other on is)) each in (
-          turn_counted m.state.table m.state.heads rows rows chunk (unlinked (head_at m.state chunk)) unlinked_turn l.counted,
-          held_from_so m.state.table m.state.slabs (slice_set m.state.heads (head_place m.state.table chunk) (unlinked (head_at m.state chunk))) m.state.words rows kept l.held.most,
+          turn_counted m.state.table m.state.heads rows rows chunk (head_after_unlink (head_at m.state chunk)) unlinked_turn l.counted,
+          held_from_so m.state.table m.state.slabs (slice_set m.state.heads (head_place m.state.table chunk) (head_after_unlink (head_at m.state chunk))) m.state.words rows kept l.held.most,
         )
 
-  pub unlink_tallied : (key : ℕ) → can_unlink m.state hand key ≡ true → IsTallied (after_unlink m.state hand key)
+  pub unlink_tallied : (key : ℕ) → can_unlink m.state hand key ≡ true → IsTallied (state_after_unlink m.state hand key)
   unlink_tallied key can =
-      let parts = and_parts _ (is_linked_at m.state (chunk_of m.state key)) can in
-      told (slice_set m.state.stripes (stripe_of m.state key) (stripe_unlinked (stripe_at m.state (stripe_of m.state key)) (has_fresh (holdings_at m.state hand)) (writer_of m.state hand) key)) (chunk_of m.state key) refl parts.1
+      let parts = and_parts _ (is_linked_at m.state (chunk_of_key m.state key)) can in
+      told (slice_set m.state.stripes (stripe_of m.state key) (stripe_unlinked (stripe_at m.state (stripe_of m.state key)) (has_fresh (holdings_at m.state hand)) (writer_of m.state hand) key)) (chunk_of_key m.state key) refl parts.1
     where
-      told : (stripes : List ReadyStripe) (o : Option (ChunkId × ℕ)) → chunk_of m.state key ≡ o → is_linked_at m.state o ≡ true → IsTallied (with_unlinked (record m.state { stripes = stripes }) o)
+      told : (stripes : List ReadyStripe) (o : Option (ChunkId × ℕ)) → chunk_of_key m.state key ≡ o → is_linked_at m.state o ≡ true → IsTallied (with_unlinked (record m.state { stripes = stripes }) o)
       told stripes None found may = absurd (cc)
       told stripes (Some place) found may = let entry = entry_of m l key place found in unlinked_tallied place.0 entry.inside entry.linked
 
   -- an item is taken away
   module _ (chunk : ChunkId) (near : has_chunk m.state.table chunk ≡ true) (linked : (head_at m.state chunk).tag ≡ Linked) (one : (head_at m.state chunk).count ≡ 1) where
-    nobody : holders chunk rows ≡ 0
-    nobody = let count = l.counted.counted chunk near in let link : link_of (head_at m.state chunk).tag ≡ 1 = ap link_of linked in omega arith
+    nobody : holder_count chunk rows ≡ 0
+    nobody = let count = l.counted.counted chunk near in let link : link_count (head_at m.state chunk).tag ≡ 1 = ap link_count linked in omega arith
 
     -- each chunk is held as often as before
-    condemned_turn : (now : List (List Holding)) → ((other : ChunkId) → holders other now ≡ holders other rows) → Turn m.state.table m.state.heads rows now chunk (condemned (head_at m.state chunk))
+    condemned_turn : (now : List (List Holding)) → ((other : ChunkId) → holder_count other now ≡ holder_count other rows) → Turn m.state.table m.state.heads rows now chunk (head_after_condemn (head_at m.state chunk))
     condemned_turn now same = record {
       long = l.sized.headers;
       near = near;
       others = λ other isnt. same other;
       sum =
-          let link : link_of (head_at m.state chunk).tag ≡ 1 = ap link_of linked in
-          let no_link : link_of Unlinked ≡ 0 = refl in let held = same chunk in omega arith;
+          let link : link_count (head_at m.state chunk).tag ≡ 1 = ap link_count linked in
+          let no_link : link_count Unlinked ≡ 0 = refl in let held = same chunk in omega arith;
       shut = λ shut. refl;
       issued = l.counted.issued chunk near;
     }
 
     abbrev heads_condemned : List Head
-    heads_condemned = slice_set m.state.heads (head_place m.state.table chunk) (condemned (head_at m.state chunk))
+    heads_condemned = slice_set m.state.heads (head_place m.state.table chunk) (head_after_condemn (head_at m.state chunk))
 
     -- the copies are bound to the item
     module _ (item : List ℕ) where
       abbrev now : List (List Holding)
       now = rows_changed rows hand (is_copy_of chunk) (as_rescue chunk item)
 
-      same : (other : ChunkId) → holders other now ≡ holders other rows
+      same : (other : ChunkId) → holder_count other now ≡ holder_count other rows
       same = holders_changed (is_copy_of chunk) (as_rescue chunk item) rows hand within (λ h. refl)
 
       -- a holding of another chunk
@@ -156,7 +156,7 @@ module _ (m : Moment) (l : IsLawful m) (hand : ℕ) (there : is_hand m.state han
 
       stays_so : (holding : Holding) → IsSoApart holding → IsSo m.state.table m.state.slabs heads_condemned m.state.words now holding
       stays_so holding before =
-          turn_so m.state.table m.state.heads rows now chunk (condemned (head_at m.state chunk)) (condemned_turn now same) m.state.slabs m.state.slabs m.state.words (λ page. refl) holding (λ is. absurd (before.1 is)) before.0
+          turn_so m.state.table m.state.heads rows now chunk (head_after_condemn (head_at m.state chunk)) (condemned_turn now same) m.state.slabs m.state.slabs m.state.words (λ page. refl) holding (λ is. absurd (before.1 is)) before.0
 
       fresh_copy : (kind : Kind) → is_copy_kind chunk kind ≡ true → is_fresh_kind kind ≡ true
       fresh_copy (Reference own) is = absurd (cc)
@@ -176,7 +176,7 @@ module _ (m : Moment) (l : IsLawful m) (hand : ℕ) (there : is_hand m.state han
 
       bound_tallied : AreCounted m.state.table heads_condemned now × AreHeld m.state.table m.state.slabs heads_condemned m.state.words now
       bound_tallied = (
-        turn_counted m.state.table m.state.heads rows now chunk (condemned (head_at m.state chunk)) (condemned_turn now same) l.counted,
+        turn_counted m.state.table m.state.heads rows now chunk (head_after_condemn (head_at m.state chunk)) (condemned_turn now same) l.counted,
         held_from_so m.state.table m.state.slabs heads_condemned m.state.words now
             (each_changed (is_copy_of chunk) (as_rescue chunk item) rows hand IsSoApart (IsSo m.state.table m.state.slabs heads_condemned m.state.words now) stays_so bound_so
             (λ i row on j holding there. (each i row on j holding there, nobodys chunk rows nobody i row on j holding there)))

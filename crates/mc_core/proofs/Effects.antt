@@ -18,13 +18,13 @@ use Rattle.mc_core.specs.declared.holding.Kind.TheVariants.{Reference, Fresh}
 use Rattle.mc_core.specs.declared.holding.Purpose.TheVariants.{Item, Copy, Rescue}
 use Rattle.mc_core.specs.Head.{never_cut}
 use Rattle.mc_core.specs.Histories.{hand_of}
-use Rattle.mc_core.specs.Holdings.{is_of, holding_of, has_fresh}
+use Rattle.mc_core.specs.Holdings.{is_of_chunk, holding_of, has_fresh}
 use Rattle.mc_core.specs.State.{State, is_hand, head_at, with_head, number_at, stripe_of, stripe_at, with_stripe, holdings_at, with_holding, without_holding, with_slabs}
 use Rattle.mc_core.specs.Silent.{writer_of, allows_change, after_change, allows_changes, after_changes}
-use Rattle.mc_core.specs.Chunks.{next_free, target_of, popped, popped_off}
-use Rattle.mc_core.specs.Items.{linked, as_reference, after_link_of, told_link, referred_to, with_got, stripe_unlinked, with_unlinked, chunk_of}
-use Rattle.mc_core.specs.Run.{allows_step, after_step, is_allowed, after, play_from}
-use Rattle.mc_core.specs.Past.{Moment, history_at, sayings_of, moment_changed, moment_changes, moment_after}
+use Rattle.mc_core.specs.Chunks.{next_free, target_of, state_after_pop_of, popped_off}
+use Rattle.mc_core.specs.Items.{head_after_link, as_reference, after_link_of, recorded_link, referred_to, with_got, stripe_unlinked, with_unlinked, chunk_of_key}
+use Rattle.mc_core.specs.Run.{allows_step, after_step, is_allowed, state_after_event, play_from}
+use Rattle.mc_core.specs.Past.{Moment, history_at, items_stored_by_step, moment_changed, moment_changes, moment_after}
 use Rattle.mc_core.specs.Lawful.{IsLawful}
 use Rattle.mc_core.specs.Laws.{MayChange, MayStep, IsRun, moment_at_end}
 use Rattle.mc_core.specs.Effects.{Place, of_header, of_data, of_slabs, of_stripe, of_hands, IsSameAt, IsSameBut, WriteOneWord, HasGrown, HaveGrown, HistoriesGrow, RunsArePlayed}
@@ -114,9 +114,9 @@ hands_written s now heads words slabs locks = (of_hands, same)
     same of_hands apart = absurd (apart refl)
 
 -- steps that may come to nothing
-one_popped : (s : State) (hand : ℕ) (next : Option ChunkId) → SameLocks s (popped s hand next) → IsOneWord s (popped s hand next)
+one_popped : (s : State) (hand : ℕ) (next : Option ChunkId) → SameLocks s (state_after_pop_of s hand next) → IsOneWord s (state_after_pop_of s hand next)
 one_popped s hand None locks = nothing_written s s locks refl refl
-one_popped s hand (Some chunk) locks = header_written s (popped s hand (Some chunk)) locks _ _ refl refl
+one_popped s hand (Some chunk) locks = header_written s (state_after_pop_of s hand (Some chunk)) locks _ _ refl refl
 
 one_popped_off : (s : State) (hand : ℕ) (old : ChunkId) (next : Option ChunkId) → SameLocks s (popped_off s hand old next) → IsOneWord s (popped_off s hand old next)
 one_popped_off s hand old None locks = nothing_written s s locks refl refl
@@ -132,7 +132,7 @@ one_unlinked s (Some place) locks = header_written s (with_unlinked s (Some plac
 
 -- a link, by what it tells the stripe
 abbrev told_of : State → ℕ → ChunkId → Head → Holding → Holding → Kind → State
-told_of s hand chunk head reference holding kind = with_holding (with_head (told_link s hand holding kind) chunk head) hand reference
+told_of s hand chunk head reference holding kind = with_holding (with_head (recorded_link s hand holding kind) chunk head) hand reference
 
 one_told : (s : State) (hand : ℕ) (chunk : ChunkId) (head : Head) (reference holding : Holding) (kind : Kind)
     → SameLocks s (told_of s hand chunk head reference holding kind) → IsOneWord s (told_of s hand chunk head reference holding kind)
@@ -143,7 +143,7 @@ one_told s hand chunk head reference holding (Fresh (Rescue old item) own) locks
 
 one_linked : (s : State) (hand : ℕ) (chunk : ChunkId) (found : Option Holding) → SameLocks s (after_link_of s hand chunk found) → IsOneWord s (after_link_of s hand chunk found)
 one_linked s hand chunk None locks = nothing_written s s locks refl refl
-one_linked s hand chunk (Some holding) locks = one_told s hand chunk (linked (head_at s chunk)) (as_reference holding) holding holding.kind locks
+one_linked s hand chunk (Some holding) locks = one_told s hand chunk (head_after_link (head_at s chunk)) (as_reference holding) holding holding.kind locks
 
 -- a step that takes and gives no lock, and joins no hands
 module _ (s : State) (hand : ℕ) (next : Step) (plain : is_plain next ≡ true) where
@@ -172,10 +172,10 @@ one_word_step s hand (step.PopOff old) = one_popped_off s hand old (target_of s.
 one_word_step s hand (step.Fill chunk place word) = word_written s (after_step s hand (step.Fill chunk place word)) (locks_stay s hand (step.Fill chunk place word) refl) _ word refl refl
 one_word_step s hand (step.Word chunk place) = no_word s hand (step.Word chunk place) refl refl refl
 one_word_step s hand (step.WordHeld chunk place) = no_word s hand (step.WordHeld chunk place) refl refl refl
-one_word_step s hand (step.Link chunk) = one_linked (without_holding s hand (is_of chunk)) hand chunk (holding_of chunk (holdings_at s hand)) (locks_stay s hand (step.Link chunk) refl)
-one_word_step s hand (step.Refer key) = one_referred (with_got s hand key) hand (chunk_of s key) (locks_stay s hand (step.Refer key) refl)
+one_word_step s hand (step.Link chunk) = one_linked (without_holding s hand (is_of_chunk chunk)) hand chunk (holding_of chunk (holdings_at s hand)) (locks_stay s hand (step.Link chunk) refl)
+one_word_step s hand (step.Refer key) = one_referred (with_got s hand key) hand (chunk_of_key s key) (locks_stay s hand (step.Refer key) refl)
 one_word_step s hand (step.Unlink key) =
-    one_unlinked (with_stripe s (stripe_of s key) (stripe_unlinked (stripe_at s (stripe_of s key)) (has_fresh (holdings_at s hand)) (writer_of s hand) key)) (chunk_of s key) (locks_stay s hand (step.Unlink key) refl)
+    one_unlinked (with_stripe s (stripe_of s key) (stripe_unlinked (stripe_at s (stripe_of s key)) (has_fresh (holdings_at s hand)) (writer_of s hand) key)) (chunk_of_key s key) (locks_stay s hand (step.Unlink key) refl)
 one_word_step s hand (step.Release chunk) = one_head s hand (step.Release chunk) refl _ _ refl refl
 one_word_step s hand (step.Discard chunk) = one_head s hand (step.Discard chunk) refl _ _ refl refl
 one_word_step s hand (step.Condemn chunk) = one_head s hand (step.Condemn chunk) refl _ _ refl refl
@@ -230,11 +230,11 @@ no_word_changes s hand [] place = none_written s s (refl, refl, λ other. refl) 
 no_word_changes s hand (change ∷ changes) place =
     same_then s (after_change s hand change) (after_changes s hand (change ∷ changes)) place (no_word_change s hand change place) (no_word_changes (after_change s hand change) hand changes place)
 
-one_word_event : (m : Moment) (event : Event) → IsOneWord m.state (after m.state event)
+one_word_event : (m : Moment) (event : Event) → IsOneWord m.state (state_after_event m.state event)
 one_word_event m event =
     let ready : State = after_changes m.state event.hand event.before in
     let (written, same) = one_word_step ready event.hand event.step in
-    (written, λ place apart. same_then m.state ready (after m.state event) place (no_word_changes m.state event.hand event.before place) (same place apart))
+    (written, λ place apart. same_then m.state ready (state_after_event m.state event) place (no_word_changes m.state event.hand event.before place) (same place apart))
 
 pub write_one_word : WriteOneWord
 write_one_word = record {
@@ -258,7 +258,7 @@ grown_by_change m hand change may =
 grown_by_step : (m : Moment) (hand : ℕ) (next : Step) → MayStep m hand next → HaveGrown m.state (after_step m.state hand next) hand
 grown_by_step m hand next may =
     let now : State = after_step m.state hand next in
-    let grown = grown_told m.state now.stripes hand (sayings_of m.state hand next) (told_by_step m.state hand may.lawful.legal next may.allowed) in
+    let grown = grown_told m.state now.stripes hand (items_stored_by_step m.state hand next) (told_by_step m.state hand may.lawful.legal next may.allowed) in
     from_writer m.state now hand (λ stripe. record { more = (grown.each stripe).more; grown = (grown.each stripe).grown; own = (grown.each stripe).own })
 
 grown_then : (number : ℕ) (a b c : List Call) → HasGrown number a b → HasGrown number b c → HasGrown number a c
@@ -302,7 +302,7 @@ histories_grow = record { changes = grown_by_change; steps = grown_by_step; even
 played_out : (place : ℕ) (m : Moment) (events : List Event) → IsRun m events → play_from place m.state events ≡ Ok ((moment_at_end m events).state)
 played_out place m [] run = refl
 played_out place m (event ∷ events) run =
-    ap (λ b. cond b (play_from (place + 1) (after m.state event) events) (Err place)) run.0
+    ap (λ b. cond b (play_from (place + 1) (state_after_event m.state event) events) (Err place)) run.0
     ∙ ap (λ (s : State). play_from (place + 1) s events) (sym (state_after m event))
     ∙ played_out (place + 1) (moment_after m event) events run.1
 

@@ -7,7 +7,7 @@ use Rattle.mc_core.specs.declared.head.Tag.{Tag}
 use Rattle.mc_core.specs.declared.head.Tag.TheVariants.{Out, Free, Unlinked, Linked}
 use Rattle.mc_core.specs.Head.{is_linked, is_unlinked, is_out, is_free}
 use Rattle.mc_core.specs.State.{has_chunk}
-use Rattle.mc_core.specs.Items.{chunk_of}
+use Rattle.mc_core.specs.Items.{chunk_of_key}
 use Rattle.mc_core.specs.Columns.{head_in, place_in}
 use Rattle.mc_core.specs.Indexed.{IsEntry, stripe_for}
 use Rattle.mc_core.specs.Past.{Moment}
@@ -45,7 +45,7 @@ module _ (m : Moment) (l : IsLawful m) where
       slice_get-get_or m.state.stripes (key % length m.state.stripes) new_stripe (omega arith)
 
   -- where a key leads
-  pub entry_of : (key : ℕ) (place : ChunkId × ℕ) → chunk_of m.state key ≡ Some place → IsEntry m.state.table m.state.slabs m.state.heads m.state.words key place.1 place.0
+  pub entry_of : (key : ℕ) (place : ChunkId × ℕ) → chunk_of_key m.state key ≡ Some place → IsEntry m.state.table m.state.slabs m.state.heads m.state.words key place.1 place.0
   entry_of key place found = (l.indexed.entries (key % length m.state.stripes) key place.1 (stripe_for m.state.stripes key) place.0 (stripe_there key) found).1
 
   -- a linked chunk is where its first word leads

@@ -9,10 +9,10 @@ use Rattle.mc_pages.proofs.Chunks.{same_from_is_chunk}
 use Rattle.mc_core.specs.declared.holding.Holding.{Holding}
 use Rattle.mc_core.specs.declared.holding.Kind.{Kind}
 use Rattle.mc_core.specs.declared.holding.Kind.TheVariants.{Reference, Fresh}
-use Rattle.mc_core.specs.Holdings.{is_of, is_fresh, holding_of, words_of, is_fresh_kind, words_of_kind}
+use Rattle.mc_core.specs.Holdings.{is_of_chunk, is_fresh, holding_of, holding_words, is_fresh_kind, words_of_kind}
 use Rattle.mc_core.specs.State.{has_chunk, room_in, is_hand, holdings_at}
-use Rattle.mc_core.specs.Chunks.{can_fill_in, can_fill, filled, after_fill, filled_kind}
-use Rattle.mc_core.specs.Columns.{head_in, place_in, Each, holds, holders, link_of, Shows}
+use Rattle.mc_core.specs.Chunks.{can_fill_in, can_fill, holding_with_word, after_fill, filled_kind}
+use Rattle.mc_core.specs.Columns.{head_in, place_in, Each, count_of_holdings, holder_count, link_count, Shows}
 use Rattle.mc_core.specs.Counts.{AreCounted, AreHeld}
 use Rattle.mc_core.specs.Past.{Moment}
 use Rattle.mc_core.specs.Lawful.{IsLawful}
@@ -74,15 +74,15 @@ module _ (m : Moment) (l : IsLawful m) where
   word_written chunk place word near is within = get_or-set_same m.state.words (place_in m.state.table m.state.slabs chunk place) word 0 (word_within m l chunk place near is within)
 
   module _ (hand : ℕ) (there : is_hand m.state hand ≡ true) (chunk : ChunkId) (place word : ℕ) (holding : Holding) (found : holding_of chunk (holdings_at m.state hand) ≡ Some holding)
-      (fresh : is_fresh holding ≡ true) (inside : place < length (words_of holding)) where
+      (fresh : is_fresh holding ≡ true) (inside : place < length (holding_words holding)) where
     abbrev rows : List (List Holding)
     rows = m.state.holdings
 
     abbrev left : List (List Holding)
-    left = rows_less rows hand (is_of chunk)
+    left = rows_less rows hand (is_of_chunk chunk)
 
     abbrev now : List (List Holding)
-    now = rows_changed rows hand (is_of chunk) (filled place word)
+    now = rows_changed rows hand (is_of_chunk chunk) (holding_with_word place word)
 
     abbrev words' : List ℕ
     words' = slice_set m.state.words (place_in m.state.table m.state.slabs holding.chunk place) word
@@ -91,27 +91,27 @@ module _ (m : Moment) (l : IsLawful m) where
     within = hand_within m l hand there
 
     pub filled_is : holding.chunk ≡ chunk
-    filled_is = same_from_is_chunk holding.chunk chunk (found_passes (is_of chunk) (holdings_at m.state hand) holding found)
+    filled_is = same_from_is_chunk holding.chunk chunk (found_passes (is_of_chunk chunk) (holdings_at m.state hand) holding found)
 
     so : IsSo m.state.table m.state.slabs m.state.heads m.state.words rows holding
-    so = found_each (IsSo m.state.table m.state.slabs m.state.heads m.state.words rows) rows hand (is_of chunk) holding found (each_so m.state.table m.state.slabs m.state.heads m.state.words rows l.held)
+    so = found_each (IsSo m.state.table m.state.slabs m.state.heads m.state.words rows) rows hand (is_of_chunk chunk) holding found (each_so m.state.table m.state.slabs m.state.heads m.state.words rows l.held)
 
     -- each chunk is held as often as before, and this one by nobody else
-    same : (other : ChunkId) → holders other now ≡ holders other rows
-    same = holders_changed (is_of chunk) (filled place word) rows hand within (λ h. refl)
+    same : (other : ChunkId) → holder_count other now ≡ holder_count other rows
+    same = holders_changed (is_of_chunk chunk) (holding_with_word place word) rows hand within (λ h. refl)
 
-    pub left_none : holders holding.chunk left ≡ 0
-    left_none = fresh_lost m l hand there (is_of chunk) holding found fresh
+    pub left_none : holder_count holding.chunk left ≡ 0
+    left_none = fresh_lost m l hand there (is_of_chunk chunk) holding found fresh
 
     placed : IsPlaced m.state.slabs holding.chunk
-    placed = placed_of holding (found_each (IsOut m l) rows hand (is_of chunk) holding found out_each)
+    placed = placed_of holding (found_each (IsOut m l) rows hand (is_of_chunk chunk) holding found out_each)
 
     roomy : place < room_in m.state.table (class_of_page m.state.slabs holding.chunk.page)
     roomy = let room = so.shows.fits in omega arith
 
     counted : AreCounted m.state.table m.state.heads now
     counted = record {
-      counted = λ other near. l.counted.counted other near ∙ ap (λ n. link_of (head_in m.state.table m.state.heads other).tag + n) (sym (same other));
+      counted = λ other near. l.counted.counted other near ∙ ap (λ n. link_count (head_in m.state.table m.state.heads other).tag + n) (sym (same other));
       shut = l.counted.shut;
       issued = l.counted.issued;
     }
@@ -124,7 +124,7 @@ module _ (m : Moment) (l : IsLawful m) where
       shows = record {
         fits = before.shows.fits;
         known_words = λ at known is.
-            let on = slice_get_within (words_of other) at (Some known) is in
+            let on = slice_get_within (holding_words other) at (Some known) is in
             let fits = before.shows.fits in
             word_kept holding.chunk other.chunk place at word placed (placed_of other out) roomy (omega arith) apart ∙ before.shows.known_words at known is;
       };
@@ -133,26 +133,26 @@ module _ (m : Moment) (l : IsLawful m) where
     }
 
     -- the holding with the word
-    filled_so : IsSo m.state.table m.state.slabs m.state.heads words' now (filled place word holding)
+    filled_so : IsSo m.state.table m.state.slabs m.state.heads words' now (holding_with_word place word holding)
     filled_so = record {
       inside = so.inside;
       issue = so.issue;
       shows = subst (Shows m.state.table m.state.slabs words' holding.chunk) (sym (filled_words place word holding.kind fresh)) (record {
-        fits = let long = length-set (words_of holding) place (Some word) in let fits = so.shows.fits in omega arith;
+        fits = let long = length-set (holding_words holding) place (Some word) in let fits = so.shows.fits in omega arith;
         known_words = λ at known is. elim (cases_eq at place) [
           | inl here ↦
-              let last : Some word ≡ Some known = get_set_same (words_of holding) place (Some word) (Some known) (subst (λ n. slice_get (set (words_of holding) place (Some word)) n ≡ Some (Some known)) here is) in
+              let last : Some word ≡ Some known = get_set_same (holding_words holding) place (Some word) (Some known) (subst (λ n. slice_get (set (holding_words holding) place (Some word)) n ≡ Some (Some known)) here is) in
               let value : word ≡ known = cc in
               ap (λ n. slice_index words' (place_in m.state.table m.state.slabs holding.chunk n)) here ∙ (word_written holding.chunk place word so.inside placed roomy ∙ value)
           | inr apart ↦
-              let before = get_set_other (words_of holding) place at (Some word) (Some known) apart is in
-              let on = slice_get_within (words_of holding) at (Some known) before in
+              let before = get_set_other (holding_words holding) place at (Some word) (Some known) apart is in
+              let on = slice_get_within (holding_words holding) at (Some known) before in
               let fits = so.shows.fits in
               word_same_chunk holding.chunk place at word placed roomy (omega arith) apart ∙ so.shows.known_words at known before
         ];
       });
       sized = (
-        (λ is. ap length (filled_words place word holding.kind fresh) ∙ length-set (words_of holding) place (Some word) ∙ so.sized.0 fresh),
+        (λ is. ap length (filled_words place word holding.kind fresh) ∙ length-set (holding_words holding) place (Some word) ∙ so.sized.0 fresh),
         λ stale. absurd (both_ways (is_fresh holding) (sym (filled_fresh place word holding.kind) ∙ stale) fresh),
       );
       alone = λ is. let both = so.alone fresh in (both.0, same holding.chunk ∙ both.1);
@@ -160,18 +160,18 @@ module _ (m : Moment) (l : IsLawful m) where
 
     pub filled_tallied : AreCounted m.state.table m.state.heads now × AreHeld m.state.table m.state.slabs m.state.heads words' now
     filled_tallied =
-        let others = each_less rows hand (IsSo m.state.table m.state.slabs m.state.heads m.state.words rows) (is_of chunk) (each_so m.state.table m.state.slabs m.state.heads m.state.words rows l.held) in
-        let outs = each_less rows hand (IsOut m l) (is_of chunk) out_each in
+        let others = each_less rows hand (IsSo m.state.table m.state.slabs m.state.heads m.state.words rows) (is_of_chunk chunk) (each_so m.state.table m.state.slabs m.state.heads m.state.words rows l.held) in
+        let outs = each_less rows hand (IsOut m l) (is_of_chunk chunk) out_each in
         let apart = nobodys holding.chunk left left_none in
-        let once = fresh_once m l hand (is_of chunk) holding found fresh in
+        let once = fresh_once m l hand (is_of_chunk chunk) holding found fresh in
         let few = holds-le-holders holding.chunk rows hand in
-        let alone : holds chunk (holdings_at m.state hand) ≤ 1 = subst (λ c. holds c (holdings_at m.state hand) ≤ 1) filled_is (omega arith) in (
+        let alone : count_of_holdings chunk (holdings_at m.state hand) ≤ 1 = subst (λ c. count_of_holdings c (holdings_at m.state hand) ≤ 1) filled_is (omega arith) in (
           counted,
           held_from_so m.state.table m.state.slabs m.state.heads words' now
-              (each_changed_once rows hand chunk (filled place word) (IsSo m.state.table m.state.slabs m.state.heads words' now) holding found alone within
+              (each_changed_once rows hand chunk (holding_with_word place word) (IsSo m.state.table m.state.slabs m.state.heads words' now) holding found alone within
               (λ i row inside j other on.
               other_so (slice_index_or (slice_index_or left i row) j other) (apart i row inside j other on) (outs i row inside j other on) (others i row inside j other on)) filled_so)
-              (most_changed (is_of chunk) (filled place word) rows hand within l.held.most),
+              (most_changed (is_of_chunk chunk) (holding_with_word place word) rows hand within l.held.most),
         )
 
     pub after_fill_tallied : IsTallied (after_fill m.state hand chunk place word)
@@ -184,6 +184,6 @@ module _ (m : Moment) (l : IsLawful m) where
       IsTallied (after_fill m.state hand chunk place word)) [
         | None ↦ λ _ never. absurd (cc)
         | Some holding ↦ λ found may.
-            let both = and_parts (is_fresh holding) (nat_lt place (length (words_of holding))) may in
-            after_fill_tallied hand there chunk place word holding found both.0 (ltb-true place (length (words_of holding)) both.1)
+            let both = and_parts (is_fresh holding) (nat_lt place (length (holding_words holding))) may in
+            after_fill_tallied hand there chunk place word holding found both.0 (ltb-true place (length (holding_words holding)) both.1)
       ] refl can

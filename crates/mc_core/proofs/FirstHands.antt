@@ -9,12 +9,12 @@ use Rattle.mc_pages.specs.Accounted.{truth}
 use Rattle.mc_stripe.specs.declared.history.Call.{Call}
 use Rattle.mc_stripe.specs.StripeState.{ReadyStripe, new_stripe}
 use Rattle.mc_core.specs.declared.ids.Ids.{Ids}
-use Rattle.mc_core.specs.State.{gone}
-use Rattle.mc_core.specs.Past.{Own, Saying}
+use Rattle.mc_core.specs.State.{no_ids}
+use Rattle.mc_core.specs.Past.{Own, StoredItem}
 use Rattle.mc_core.specs.Columns.{Each}
-use Rattle.mc_core.specs.Identities.{IsFreeOrHeld, owns, owners, number_in, stamps_in, said_count, AreCountedTo}
+use Rattle.mc_core.specs.Identities.{IsFreeOrHeld, count_in_hand, count_in_hands, number_in, stamps_given, stored_count, AreCountedTo}
 use Rattle.mc_core.specs.Histories.{hand_of, set_count, IsSetIn, IsStored}
-use Rattle.mc_core.specs.Lawful.{HandsIn, NumberedIn, ToldIn}
+use Rattle.mc_core.specs.Lawful.{HandsIn, NumberedIn, RecordedIn}
 use Rattle.mc_core.specs.Laws.{HoldsAtFirst}
 use Rattle.mc_core.proofs.Grown.{calls_in}
 use Rattle.mc_core.proofs.MoreRows.{row_of}
@@ -37,9 +37,9 @@ module _ (hands : ℕ) where
   -- a hand is one of the first, and its place is its number
   hand_is : (hand number : ℕ) → number_in ids hand ≡ Some number → (hand < hands) × (number ≡ hand)
   hand_is hand number is = elim (cases_lt hand hands) [
-    | inl within ↦ let same : Some hand ≡ Some number = sym (ap (λ (i : Ids). i.number) (get_or-map-range_with_len named 0 hands hand hand gone within (zero-add hand))) ∙ is in
+    | inl within ↦ let same : Some hand ≡ Some number = sym (ap (λ (i : Ids). i.number) (get_or-map-range_with_len named 0 hands hand hand no_ids within (zero-add hand))) ∙ is in
         (within, some_same number hand (sym same))
-    | inr past ↦ absurd (none_some number (sym (ap (λ (i : Ids). i.number) (get_or_past ids hand gone (subst (λ k. k ≤ hand) (sym (length-map-range_with_len named 0 hands)) past))) ∙ is))
+    | inr past ↦ absurd (none_some number (sym (ap (λ (i : Ids). i.number) (get_or_past ids hand no_ids (subst (λ k. k ≤ hand) (sym (length-map-range_with_len named 0 hands)) past))) ∙ is))
   ]
     where
       some_same : (a b : ℕ) → ◌≡◌ {A = Option ℕ} (Some a) (Some b) → a ≡ b
@@ -50,17 +50,17 @@ module _ (hands : ℕ) where
 
   no_hand : (hand : ℕ) → number_in ids hand ≡ None → hands ≤ hand
   no_hand hand none = elim (cases_lt hand hands) [
-    | inl within ↦ absurd (some_none hand (sym (ap (λ (i : Ids). i.number) (get_or-map-range_with_len named 0 hands hand hand gone within (zero-add hand))) ∙ none))
+    | inl within ↦ absurd (some_none hand (sym (ap (λ (i : Ids). i.number) (get_or-map-range_with_len named 0 hands hand hand no_ids within (zero-add hand))) ∙ none))
     | inr past ↦ past
   ]
     where
       some_none : (n : ℕ) → ◌≡◌ {A = Option ℕ} (Some n) None → ⊥
       some_none n e = cc
 
-  no_stamps : (hand : ℕ) → stamps_in ids hand ≡ 0
+  no_stamps : (hand : ℕ) → stamps_given ids hand ≡ 0
   no_stamps hand = elim (cases_lt hand hands) [
-    | inl within ↦ ap (λ (i : Ids). i.stamps) (get_or-map-range_with_len named 0 hands hand hand gone within (zero-add hand))
-    | inr past ↦ ap (λ (i : Ids). i.stamps) (get_or_past ids hand gone (subst (λ k. k ≤ hand) (sym (length-map-range_with_len named 0 hands)) past))
+    | inl within ↦ ap (λ (i : Ids). i.stamps) (get_or-map-range_with_len named 0 hands hand hand no_ids within (zero-add hand))
+    | inr past ↦ ap (λ (i : Ids). i.stamps) (get_or_past ids hand no_ids (subst (λ k. k ≤ hand) (sym (length-map-range_with_len named 0 hands)) past))
   ]
 
   module _ (stripes : ℕ) where
@@ -73,21 +73,21 @@ module _ (hands : ℕ) where
     abbrev mine : List (List Own)
     mine = mine_from 0 hands
 
-    owns_one : (number own : ℕ) → owns number (own_of own ∷ []) ≡ truth (own == number)
+    owns_one : (number own : ℕ) → count_in_hand number (own_of own ∷ []) ≡ truth (own == number)
     owns_one number own = zero-add _
 
     -- a number is in one row at most
-    owners_from : (number first count : ℕ) → (owners number (mine_from first count) ≤ 1) × (number < first → owners number (mine_from first count) ≡ 0)
+    owners_from : (number first count : ℕ) → (count_in_hands number (mine_from first count) ≤ 1) × (number < first → count_in_hands number (mine_from first count) ≡ 0)
     owners_from number first zero = (omega arith, λ below. refl)
     owners_from number first (suc count) =
         let rest = owners_from number (first + 1) count in
         elim (cases_eq first number) [
           | inl same ↦
-              let one : owns number (own_of first ∷ []) ≡ 1 = zero-add _ ∙ ap truth (eq-eqb first number same) in
+              let one : count_in_hand number (own_of first ∷ []) ≡ 1 = zero-add _ ∙ ap truth (eq-eqb first number same) in
               let none = rest.1 (omega (arith, same)) in
               (omega (arith, one, none), λ below. absurd (omega (arith, same, below)))
           | inr apart ↦
-              let zero_is : owns number (own_of first ∷ []) ≡ 0 = zero-add _ ∙ ap truth (ne_eqb first number apart) in
+              let zero_is : count_in_hand number (own_of first ∷ []) ≡ 0 = zero-add _ ∙ ap truth (ne_eqb first number apart) in
               (omega (arith, zero_is, rest.0), λ below. let none = rest.1 (omega (arith, below)) in omega (arith, zero_is, none))
         ]
 
@@ -98,7 +98,7 @@ module _ (hands : ℕ) where
     past_row hand past = get_or_past mine hand [] (subst (λ k. k ≤ hand) (sym (length-map-range_with_len (λ number. own_of number ∷ []) 0 hands)) past)
 
   -- no stamp was said
-  none_counted : (number : ℕ) (row : List Saying) → row ≡ [] → AreCountedTo 0 number row
+  none_counted : (number : ℕ) (row : List StoredItem) → row ≡ [] → AreCountedTo 0 number row
   none_counted number row none count small = rw none (sym (none_between count))
     where
       none_between : (count : ℕ) → truth (nat_le 1 count && nat_le count 0) ≡ 0
@@ -129,7 +129,7 @@ numbered_first table stripes hands start sound _ _ _ _ =
       stamps = λ hand number is. subst (λ n. AreCountedTo n number (row_of (replicate hands []) hand)) (sym (no_stamps hands hand)) (none_counted hands number (row_of (replicate hands []) hand) (said_row hand));
       gapless = λ hand. All-weaker (Contains (row_of (mine hands stripes) hand)) (λ (own : Own). (most : ℕ) × AreCountedTo most own.number (row_of (replicate hands []) hand))
           (λ own among. (0, none_counted hands own.number (row_of (replicate hands []) hand) (said_row hand))) (row_of (mine hands stripes) hand) (All-contains_itself (row_of (mine hands stripes) hand));
-      of_own = λ hand. subst (All (λ (s : Saying). owns (s.stamp / 2 ^ 48) (row_of (mine hands stripes) hand) ≡ 1)) (sym (said_row hand)) (All-nil (λ (s : Saying). owns (s.stamp / 2 ^ 48) (row_of (mine hands stripes) hand) ≡ 1));
+      of_own = λ hand. subst (All (λ (s : StoredItem). count_in_hand (s.stamp / 2 ^ 48) (row_of (mine hands stripes) hand) ≡ 1)) (sym (said_row hand)) (All-nil (λ (s : StoredItem). count_in_hand (s.stamp / 2 ^ 48) (row_of (mine hands stripes) hand) ≡ 1));
       nothing = λ hand none. (past_row hands stripes hand (no_hand hands hand none), said_row hand, same_entry hands hand []);
     }
 
@@ -149,7 +149,7 @@ none_set : (stamp stripes : ℕ) → set_count stamp (replicate stripes new_stri
 none_set stamp zero = refl
 none_set stamp (suc stripes) = zero-add _ ∙ none_set stamp stripes
 
-none_said : (stamp hands : ℕ) → said_count stamp (replicate hands []) ≡ 0
+none_said : (stamp hands : ℕ) → stored_count stamp (replicate hands []) ≡ 0
 none_said stamp zero = refl
 none_said stamp (suc hands) = zero-add _ ∙ none_said stamp hands
 
@@ -159,12 +159,12 @@ entry_is zero i x y e = absurd (cc)
 entry_is (suc n) zero x y e = cc
 entry_is (suc n) (suc i) x y e = entry_is n i x y e
 
-pub told_first : HoldsAtFirst ToldIn
+pub told_first : HoldsAtFirst RecordedIn
 told_first table stripes hands start sound _ _ _ _ = record {
   own_calls = own_first stripes 0 hands;
   begun = All-replicate (IsBegun (replicate stripes new_stripe)) hands (replicate stripes [])
       (λ stripe calls value at is. (value.state.history, ap (λ (cs : List Call). cs ++ value.state.history) (entry_is stripes stripe [] calls at)));
-  writers = All-replicate (λ (value : ReadyStripe). All (λ call. owners (hand_of call) (mine hands stripes) ≡ 1) value.state.history) stripes new_stripe (All-nil (λ call. owners (hand_of call) (mine hands stripes) ≡ 1));
+  writers = All-replicate (λ (value : ReadyStripe). All (λ call. count_in_hands (hand_of call) (mine hands stripes) ≡ 1) value.state.history) stripes new_stripe (All-nil (λ call. count_in_hands (hand_of call) (mine hands stripes) ≡ 1));
   sets = λ stripe value is. subst (λ (v : ReadyStripe). All (IsSetIn (length (replicate stripes new_stripe)) stripe) v.state.history) (entry_is stripes stripe new_stripe value is) (All-nil (IsSetIn (length (replicate stripes new_stripe)) stripe));
   stored_once = λ stamp. none_set stamp stripes ∙ sym (none_said stamp hands);
   stored = All-replicate (All (IsStored (replicate stripes new_stripe))) hands [] (All-nil (IsStored (replicate stripes new_stripe)));

@@ -7,7 +7,7 @@ use Rattle.mc_core.specs.declared.event.Step.{Step}
 use Rattle.mc_core.specs.declared.event.Step.TheVariants.{TakeSlabs, TakeStripe, GiveSlabs, GiveStripe, Join}
 use Rattle.mc_core.specs.declared.event.Step.TheVariants as step
 use Rattle.mc_core.specs.declared.event.Change.{Change}
-use Rattle.mc_core.specs.State.{gone, is_held_by, number_at, has_slabs, has_stripe, stripe_at}
+use Rattle.mc_core.specs.State.{no_ids, is_held_by, number_at, has_slabs, has_stripe, stripe_at}
 use Rattle.mc_core.specs.Locks.{lock_word, has_stripes}
 use Rattle.mc_core.specs.Silent.{none_half_cut}
 use Rattle.mc_core.specs.Past.{Moment, no_hold, with_more, longer_each, moment_stepped, moment_changed}
@@ -151,7 +151,7 @@ module _ (m : Moment) (id : ℕ) where
   joined_same : (kept spent other : ℕ) → other ≢ kept → other ≢ spent → HasSame m (moment_stepped m id (Join kept spent)) other
   joined_same kept spent other first second = record {
     row = λ k. record {
-      ids = get_or-set_other m.state.ids spent other gone gone second k;
+      ids = get_or-set_other m.state.ids spent other no_ids no_ids second k;
       holdings = slice_index_or m.state.holdings other [];
       looks = get_or-set_other m.state.looks spent other [] [] second k;
       knows = record {
@@ -164,8 +164,8 @@ module _ (m : Moment) (id : ℕ) where
         known = (get_or-set_other (with_more m.past.known kept (row_of m.past.known spent)) spent other [] [] second ∙ get_or-set_other m.past.known kept other (row_of m.past.known kept ++ row_of m.past.known spent) [] first) k;
       };
     };
-    slabs = ap (λ ids. if is_held_by m.state.slabs_lock ids.number then Some m.state.slabs else None) (get_or-set_other m.state.ids spent other gone gone second);
-    stripes = λ i. ap (λ ids. if is_held_by (slice_index m.state.stripe_locks i) ids.number then Some (stripe_at m.state i) else None) (get_or-set_other m.state.ids spent other gone gone second);
+    slabs = ap (λ ids. if is_held_by m.state.slabs_lock ids.number then Some m.state.slabs else None) (get_or-set_other m.state.ids spent other no_ids no_ids second);
+    stripes = λ i. ap (λ ids. if is_held_by (slice_index m.state.stripe_locks i) ids.number then Some (stripe_at m.state i) else None) (get_or-set_other m.state.ids spent other no_ids no_ids second);
   }
 
 next_same : (m now : Moment) (id other : ℕ) → IsNext m now id → other ≢ id → HasSame m now other
@@ -181,7 +181,7 @@ framed_joined m id kept spent may =
     let join = are_joined m id kept spent may in
     record {
       table = refl;
-      hands = length-set m.state.ids spent gone;
+      hands = length-set m.state.ids spent no_ids;
       guarded = guards_step m.state id (Join kept spent) may.allowed;
       others = λ other apart. joined_same m id kept spent other (λ same. apart.0 (same ∙ sym join.same)) (λ same. eqb-false spent other apart.1 (sym same));
     }

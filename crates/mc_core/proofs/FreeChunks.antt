@@ -7,8 +7,8 @@ use Rattle.mc_classes.specs.Classes.{Classes, IsSound, arena_pages_of, size_of, 
 use Rattle.mc_pages.specs.declared.ids.ChunkId.{ChunkId}
 use Rattle.mc_pages.specs.declared.ledger.Owner.TheVariants.{Untouched}
 use Rattle.mc_pages.specs.Ledger.{owner_at}
-use Rattle.mc_pages.specs.ClassState.{times, first_free}
-use Rattle.mc_pages.specs.SlabState.{SlabState, IsClass, class_at, class_of_owner, class_of_page}
+use Rattle.mc_pages.specs.ClassState.{times_in, first_free}
+use Rattle.mc_pages.specs.SlabState.{SlabState, HasClass, class_at, class_of_owner, class_of_page}
 use Rattle.mc_pages.specs.Accounted.{truth, is_of_class, is_cut, cut_count}
 use Rattle.mc_pages.proofs.Chunks.{Contains_from_slice_get, times_from_Contains}
 use Rattle.mc_pages.proofs.Owners.{class_of_owner-is_of_class}
@@ -43,7 +43,7 @@ module _ (m : Moment) (l : IsLawful m) where
   slabs = m.state.slabs
 
   -- a chunk of a class's page is one of the arena
-  pub near_in : (chunk : ChunkId) → IsClass slabs (class_of_page slabs chunk.page) → chunk.index < (class_at slabs (class_of_page slabs chunk.page)).per_page → has_chunk m.state.table chunk ≡ true
+  pub near_in : (chunk : ChunkId) → HasClass slabs (class_of_page slabs chunk.page) → chunk.index < (class_at slabs (class_of_page slabs chunk.page)).per_page → has_chunk m.state.table chunk ≡ true
   near_in chunk is below =
       let class = class_of_page slabs chunk.page in
       let count = class_count m.state.table slabs l.paged.of_table in
@@ -59,7 +59,7 @@ module _ (m : Moment) (l : IsLawful m) where
   near_placed chunk placed = near_in chunk placed.class placed.within
 
   -- a chunk that was cut for a class is so for the class of its page
-  pub placed_in : (class : ℕ) (chunk : ChunkId) → IsClass slabs class → is_cut slabs class chunk ≡ true → (class_of_page slabs chunk.page ≡ class) × IsPlaced slabs chunk
+  pub placed_in : (class : ℕ) (chunk : ChunkId) → HasClass slabs class → is_cut slabs class chunk ≡ true → (class_of_page slabs chunk.page ≡ class) × IsPlaced slabs chunk
   placed_in class chunk is cut =
       let own = class_of_owner-is_of_class class (owner_at slabs.owners chunk.page) (and_parts (is_of_class class (owner_at slabs.owners chunk.page)) (nat_lt chunk.index (cut_count slabs.uncut chunk.page (class_at slabs class).per_page)) cut).0 in (
         own,
@@ -67,7 +67,7 @@ module _ (m : Moment) (l : IsLawful m) where
       )
 
   -- a chunk of a free list
-  pub free_placed : (class : ℕ) (chunk : ChunkId) → IsClass slabs class → 1 ≤ times chunk (class_at slabs class).free →
+  pub free_placed : (class : ℕ) (chunk : ChunkId) → HasClass slabs class → 1 ≤ times_in chunk (class_at slabs class).free →
       (class_of_page slabs chunk.page ≡ class) × IsPlaced slabs chunk × (is_free (head_in m.state.table m.state.heads chunk).tag ≡ true)
   free_placed class chunk is some = elim (cases_Bool (is_cut slabs class chunk && is_free (head_in m.state.table m.state.heads chunk).tag)) [
     | inl both ↦ let parts = and_parts (is_cut slabs class chunk) (is_free (head_in m.state.table m.state.heads chunk).tag) both in let at = placed_in class chunk is parts.0 in (at.0, at.1, parts.1)
@@ -75,13 +75,13 @@ module _ (m : Moment) (l : IsLawful m) where
   ]
 
   -- the one that comes next
-  pub first_placed : (class : ℕ) (chunk : ChunkId) → IsClass slabs class → first_free (class_at slabs class) ≡ Some chunk →
+  pub first_placed : (class : ℕ) (chunk : ChunkId) → HasClass slabs class → first_free (class_at slabs class) ≡ Some chunk →
       (class_of_page slabs chunk.page ≡ class) × IsPlaced slabs chunk × (is_free (head_in m.state.table m.state.heads chunk).tag ≡ true)
   first_placed class chunk is first =
       free_placed class chunk is (times_from_Contains chunk (class_at slabs class).free (Contains_from_slice_get chunk (class_at slabs class).free 0 first))
 
   -- the first that passes a test
-  pub found_placed : (class : ℕ) (chunk : ChunkId) (test : ChunkId → Bool) → IsClass slabs class → find test (class_at slabs class).free ≡ Some chunk →
+  pub found_placed : (class : ℕ) (chunk : ChunkId) (test : ChunkId → Bool) → HasClass slabs class → find test (class_at slabs class).free ≡ Some chunk →
       (class_of_page slabs chunk.page ≡ class) × IsPlaced slabs chunk × (is_free (head_in m.state.table m.state.heads chunk).tag ≡ true)
   found_placed class chunk test is found =
       free_placed class chunk is (times_from_among (class_at slabs class).free chunk (found_among test (class_at slabs class).free chunk found))

@@ -6,7 +6,7 @@ use Rattle.std.proofs.lemmas.List.Elements.{All-nil, All-head, All-tail, filter-
 use Rattle.mc_stripe.specs.declared.history.Call.{Call}
 use Rattle.mc_stripe.specs.StripeState.{ReadyStripe, new_stripe}
 use Rattle.mc_core.specs.State.{State}
-use Rattle.mc_core.specs.Past.{history_at, new_calls, told}
+use Rattle.mc_core.specs.Past.{history_at, new_calls, calls_with_new}
 use Rattle.mc_core.specs.Histories.{hand_of, IsSetIn}
 
 -- the history of one of the stripes
@@ -91,7 +91,7 @@ module _ (n writer : ℕ) where
 
   -- the writer's own grow by what came in
   own_lists : (before after : State) (place : ℕ) (old now : List ReadyStripe) → length now ≡ length old → ((k : ℕ) → history_at before (place + k) ≡ history_in old k) → ((k : ℕ) → history_at after (place + k) ≡ history_in now k)
-      → ((k : ℕ) → IsGrown n (place + k) writer (history_in old k) (history_in now k)) → told before after place (calls_in writer old) ≡ calls_in writer now
+      → ((k : ℕ) → IsGrown n (place + k) writer (history_in old k) (history_in now k)) → calls_with_new before after place (calls_in writer old) ≡ calls_in writer now
   own_lists before after place [] [] long in_old in_now each = refl
   own_lists before after place [] (y ∷ now) long in_old in_now each = absurd (omega (arith, long))
   own_lists before after place (x ∷ old) [] long in_old in_now each = absurd (omega (arith, long))
@@ -108,7 +108,7 @@ module _ (n writer : ℕ) where
 pub else_calls : (writer number : ℕ) (old now : List ReadyStripe) → writer ≢ number → AreGrown writer old now → calls_in number now ≡ calls_in number old
 else_calls writer number old now apart g = else_lists (length old) writer number 0 old now apart g.long (λ k. subst (λ p. IsGrown (length old) p writer (history_in old k) (history_in now k)) (sym (zero-add k)) (g.each k))
 
-pub own_calls : (before after : State) (writer : ℕ) → AreGrown writer before.stripes after.stripes → told before after 0 (calls_in writer before.stripes) ≡ calls_in writer after.stripes
+pub own_calls : (before after : State) (writer : ℕ) → AreGrown writer before.stripes after.stripes → calls_with_new before after 0 (calls_in writer before.stripes) ≡ calls_in writer after.stripes
 own_calls before after writer g =
     own_lists (length before.stripes) writer before after 0 before.stripes after.stripes g.long (λ k. ap (history_at before) (zero-add k)) (λ k. ap (history_at after) (zero-add k))
     (λ k. subst (λ p. IsGrown (length before.stripes) p writer (history_in before.stripes k) (history_in after.stripes k)) (sym (zero-add k)) (g.each k))

@@ -11,12 +11,12 @@ use Rattle.mc_core.specs.declared.event.Step.{Step}
 use Rattle.mc_core.specs.declared.event.Step.TheVariants as step
 use Rattle.mc_core.specs.declared.event.Change.{Change}
 use Rattle.mc_core.specs.declared.event.Change.TheVariants.{Grow, BeginMove, FinishMove, Touch, SetAutomove, TrimLedger, Passed, Wrap, Evicted, OfStripe, GotNone, DeletedNone}
-use Rattle.mc_core.specs.Frame.{AreGuarded}
-use Rattle.mc_core.specs.Holdings.{is_of, holding_of, key_in, has_fresh, words_of}
+use Rattle.mc_core.specs.Frame.{ChangesUnderLocks}
+use Rattle.mc_core.specs.Holdings.{is_of_chunk, holding_of, known_key, has_fresh, holding_words}
 use Rattle.mc_core.specs.State.{State, has_slabs, has_stripe, stripe_of, stripe_at, with_stripe, with_slabs, holdings_at, looks_at, without_holding}
 use Rattle.mc_core.specs.Silent.{writer_of, after_change, allows_change}
 use Rattle.mc_core.specs.Chunks.{next_free, target_of, has_place}
-use Rattle.mc_core.specs.Items.{with_got, chunk_of, after_link_of, can_link_holding, can_link_key, told_link, can_refer_to, can_look_up, can_lift, is_linked_at}
+use Rattle.mc_core.specs.Items.{with_got, chunk_of_key, after_link_of, can_link_holding, can_link_key, recorded_link, can_refer_to, can_look_up, can_lift, is_linked_at}
 use Rattle.mc_core.specs.Items as items
 use Rattle.mc_core.specs.Evictions.{key_at, can_lose_entry, has_copy, has_reason}
 use Rattle.mc_core.specs.Run.{after_step, allows_step}
@@ -36,21 +36,21 @@ stripe_written s hand key value has i =
 
 module _ (s now : State) (hand : ℕ) where
   -- neither is changed
-  pub guards_same : now.slabs ≡ s.slabs → now.stripes ≡ s.stripes → AreGuarded s now hand
+  pub guards_same : now.slabs ≡ s.slabs → now.stripes ≡ s.stripes → ChangesUnderLocks s now hand
   guards_same slabs stripes = record {
     slabs = inl slabs;
     stripes = λ i. inl (ap (λ (all : List ReadyStripe). slice_index_or all i new_stripe) stripes);
     count = ap length stripes;
   }
 
-  guards_slabs : has_slabs s hand ≡ true → now.stripes ≡ s.stripes → AreGuarded s now hand
+  guards_slabs : has_slabs s hand ≡ true → now.stripes ≡ s.stripes → ChangesUnderLocks s now hand
   guards_slabs has stripes = record {
     slabs = inr has;
     stripes = λ i. inl (ap (λ (all : List ReadyStripe). slice_index_or all i new_stripe) stripes);
     count = ap length stripes;
   }
 
-  guards_stripe : (key : ℕ) (value : ReadyStripe) → has_stripe s hand (stripe_of s key) ≡ true → now.slabs ≡ s.slabs → now.stripes ≡ slice_set s.stripes (stripe_of s key) value → AreGuarded s now hand
+  guards_stripe : (key : ℕ) (value : ReadyStripe) → has_stripe s hand (stripe_of s key) ≡ true → now.slabs ≡ s.slabs → now.stripes ≡ slice_set s.stripes (stripe_of s key) value → ChangesUnderLocks s now hand
   guards_stripe key value has slabs stripes = record {
     slabs = inl slabs;
     stripes = λ i. subst (λ (all : List ReadyStripe). (slice_index_or all i new_stripe ≡ stripe_at s i) ⊎ (has_stripe s hand i ≡ true)) (sym stripes) (stripe_written s hand key value has i);
@@ -58,17 +58,17 @@ module _ (s now : State) (hand : ℕ) where
   }
 
 -- which stripe a link writes
-told_stripes : (s : State) (hand : ℕ) (holding : Holding) (kind : Kind) → (value : ReadyStripe) × ((told_link s hand holding kind).stripes ≡ slice_set s.stripes (stripe_of s (key_in (words_of holding))) value)
+told_stripes : (s : State) (hand : ℕ) (holding : Holding) (kind : Kind) → (value : ReadyStripe) × ((recorded_link s hand holding kind).stripes ≡ slice_set s.stripes (stripe_of s (known_key (holding_words holding))) value)
 told_stripes s hand holding (Reference own) = (_, refl)
 told_stripes s hand holding (Fresh Item own) = (_, refl)
 told_stripes s hand holding (Fresh (Copy old) own) = (_, refl)
 told_stripes s hand holding (Fresh (Rescue old item) own) = (_, refl)
 
-guards_link : (s : State) (hand : ℕ) (chunk : ChunkId) (found : Option Holding) → can_link_holding s hand chunk found ≡ true → AreGuarded s (after_link_of (without_holding s hand (is_of chunk)) hand chunk found) hand
+guards_link : (s : State) (hand : ℕ) (chunk : ChunkId) (found : Option Holding) → can_link_holding s hand chunk found ≡ true → ChangesUnderLocks s (after_link_of (without_holding s hand (is_of_chunk chunk)) hand chunk found) hand
 guards_link s hand chunk None can = absurd (cc)
 guards_link s hand chunk (Some holding) can =
-    let left : State = without_holding s hand (is_of chunk) in
-    let key = key_in (words_of holding) in
+    let left : State = without_holding s hand (is_of_chunk chunk) in
+    let key = known_key (holding_words holding) in
     let parts = link_parts s hand chunk holding can in
     let ready = and_parts (has_stripe s hand (stripe_of s key) && can_store (stripe_at s (stripe_of s key))) _ parts.1 in
     let has = (and_parts (has_stripe s hand (stripe_of s key)) (can_store (stripe_at s (stripe_of s key))) ready.0).0 in
@@ -81,7 +81,7 @@ ready_has s hand key can =
     let first = and_parts (has_stripe s hand (stripe_of s key) && (stripe_at s (stripe_of s key)).ready) _ can in
     (and_parts (has_stripe s hand (stripe_of s key)) (stripe_at s (stripe_of s key)).ready first.0).0
 
-pub guards_step : (s : State) (hand : ℕ) (next : Step) → allows_step s hand next ≡ true → AreGuarded s (after_step s hand next) hand
+pub guards_step : (s : State) (hand : ℕ) (next : Step) → allows_step s hand next ≡ true → ChangesUnderLocks s (after_step s hand next) hand
 guards_step s hand step.TakeSlabs can = guards_same s _ hand refl refl
 guards_step s hand (step.TakeStripe stripe) can = guards_same s _ hand refl refl
 guards_step s hand step.MissSlabs can = guards_same s _ hand refl refl
@@ -99,16 +99,16 @@ guards_step s hand (step.Word chunk place) can = guards_same s _ hand refl refl
 guards_step s hand (step.WordHeld chunk place) can = guards_same s _ hand refl refl
 guards_step s hand (step.Link chunk) can = guards_link s hand chunk (holding_of chunk (holdings_at s hand)) can
 guards_step s hand (step.Refer key) can =
-    let first = and_parts (can_look_up s hand key && has_place s hand) (can_refer_to s (chunk_of s key)) can in
+    let first = and_parts (can_look_up s hand key && has_place s hand) (can_refer_to s (chunk_of_key s key)) can in
     let has = ready_has s hand key (and_parts (can_look_up s hand key) (has_place s hand) first.0).0 in
-    guards_stripe s _ hand key _ has (referred_keeps (λ x. x.slabs) (with_got s hand key) hand (chunk_of s key) (λ chunk. refl))
-    (referred_keeps (λ x. x.stripes) (with_got s hand key) hand (chunk_of s key) (λ chunk. refl))
+    guards_stripe s _ hand key _ has (referred_keeps (λ x. x.slabs) (with_got s hand key) hand (chunk_of_key s key) (λ chunk. refl))
+    (referred_keeps (λ x. x.stripes) (with_got s hand key) hand (chunk_of_key s key) (λ chunk. refl))
 guards_step s hand (step.Unlink key) can =
-    let first = and_parts (can_look_up s hand key && can_lift s hand key) (is_linked_at s (chunk_of s key)) can in
+    let first = and_parts (can_look_up s hand key && can_lift s hand key) (is_linked_at s (chunk_of_key s key)) can in
     let has = ready_has s hand key (and_parts (can_look_up s hand key) (can_lift s hand key) first.0).0 in
     let value : ReadyStripe = items.stripe_unlinked (stripe_at s (stripe_of s key)) (has_fresh (holdings_at s hand)) (writer_of s hand) key in
-    guards_stripe s _ hand key value has (unlinked_keeps (λ x. x.slabs) (with_stripe s (stripe_of s key) value) (chunk_of s key) (λ chunk. refl))
-    (unlinked_keeps (λ x. x.stripes) (with_stripe s (stripe_of s key) value) (chunk_of s key) (λ chunk. refl))
+    guards_stripe s _ hand key value has (unlinked_keeps (λ x. x.slabs) (with_stripe s (stripe_of s key) value) (chunk_of_key s key) (λ chunk. refl))
+    (unlinked_keeps (λ x. x.stripes) (with_stripe s (stripe_of s key) value) (chunk_of_key s key) (λ chunk. refl))
 guards_step s hand (step.Release chunk) can = guards_same s _ hand refl refl
 guards_step s hand (step.Discard chunk) can = guards_same s _ hand refl refl
 guards_step s hand (step.Condemn chunk) can =
@@ -126,7 +126,7 @@ guards_step s hand (step.Again chunk issue) can = guards_same s _ hand refl refl
 guards_step s hand (step.Join kept spent) can = guards_same s _ hand refl refl
 
 -- a stripe that the hand has is another value
-guards_at : (s : State) (hand stripe : ℕ) (value : ReadyStripe) → has_stripe s hand stripe ≡ true → AreGuarded s (with_stripe s stripe value) hand
+guards_at : (s : State) (hand stripe : ℕ) (value : ReadyStripe) → has_stripe s hand stripe ≡ true → ChangesUnderLocks s (with_stripe s stripe value) hand
 guards_at s hand stripe value has = record {
   slabs = inl refl;
   stripes = λ i. elim (cases_eq i stripe) [
@@ -136,7 +136,7 @@ guards_at s hand stripe value has = record {
   count = length-set s.stripes stripe _;
 }
 
-pub guards_change : (s : State) (hand : ℕ) (change : Change) → allows_change s hand change ≡ true → AreGuarded s (after_change s hand change) hand
+pub guards_change : (s : State) (hand : ℕ) (change : Change) → allows_change s hand change ≡ true → ChangesUnderLocks s (after_change s hand change) hand
 guards_change s hand (Grow class) can = guards_slabs s _ hand (and_parts (has_slabs s hand) _ can).0 refl
 guards_change s hand (BeginMove src dst) can = guards_slabs s _ hand (and_parts (has_slabs s hand) _ can).0 refl
 guards_change s hand FinishMove can = guards_slabs s _ hand (and_parts (has_slabs s hand) _ can).0 refl

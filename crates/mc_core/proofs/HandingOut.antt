@@ -15,8 +15,8 @@ use Rattle.mc_core.specs.declared.holding.Purpose.TheVariants.{Item, Copy}
 use Rattle.mc_core.specs.Head.{is_free}
 use Rattle.mc_core.specs.State.{State, is_class, has_chunk, head_place, head_at, room_in, is_hand, has_slabs, with_slabs, holdings_at}
 use Rattle.mc_core.specs.Silent.{is_handed_out}
-use Rattle.mc_core.specs.Chunks.{most_issue, has_place, can_hand_out, handed_out, with_fresh, new_holding, next_free, can_pop, popped, after_pop, target_of, is_target, popped_off, can_pop_off, after_pop_off, most_holdings}
-use Rattle.mc_core.specs.Columns.{Shows, holders, link_of}
+use Rattle.mc_core.specs.Chunks.{most_issue, has_place, can_hand_out, head_after_hand_out, with_fresh, new_holding, next_free, can_pop, state_after_pop_of, state_after_pop, target_of, is_target, popped_off, can_pop_off, after_pop_off, most_holdings}
+use Rattle.mc_core.specs.Columns.{Shows, holder_count, link_count}
 use Rattle.mc_core.specs.Past.{Moment}
 use Rattle.mc_core.specs.Lawful.{IsLawful}
 use Rattle.mc_core.proofs.Listed.{IsClass_from, Contains_from_among}
@@ -25,9 +25,9 @@ use Rattle.mc_core.proofs.Rows.{rows_more, each_more, most_more, more_here, more
 use Rattle.mc_core.proofs.Turns.{Turn, each_so, held_from_so, turn_counted, turn_each, turn_more, IsSo}
 use Rattle.mc_core.proofs.FreeChunks.{near_placed, first_placed, found_placed}
 use Rattle.mc_core.proofs.Tallied.{IsTallied}
-use Rattle.mc_core.specs.Holdings.{words_of}
+use Rattle.mc_core.specs.Holdings.{holding_words}
 
-link_of_free : (tag : Tag) → is_free tag ≡ true → link_of tag ≡ 0
+link_of_free : (tag : Tag) → is_free tag ≡ true → link_count tag ≡ 0
 link_of_free Out free = refl
 link_of_free Free free = refl
 link_of_free Unlinked free = refl
@@ -54,16 +54,16 @@ module _ (m : Moment) (l : IsLawful m) (hand : ℕ) (there : is_hand m.state han
   abbrev now : List (List Holding)
   now = rows_more rows hand holding
 
-  nobody : holders chunk rows ≡ 0
+  nobody : holder_count chunk rows ≡ 0
   nobody = let count = l.counted.counted chunk near in let none = l.counted.shut chunk near (inl free) in omega arith
 
-  turn : Turn m.state.table m.state.heads rows now chunk (handed_out old)
+  turn : Turn m.state.table m.state.heads rows now chunk (head_after_hand_out old)
   turn = record {
     long = l.sized.headers;
     near = near;
     others = λ other isnt. more_other rows hand (hand_within m l hand there) chunk other holding refl isnt;
     sum = let more = more_here rows hand (hand_within m l hand there) chunk holding refl in let none = l.counted.shut chunk near (inl free) in let unlinked = link_of_free old.tag free in
-        let no_link : link_of Unlinked ≡ 0 = refl in omega arith;
+        let no_link : link_count Unlinked ≡ 0 = refl in omega arith;
     shut = λ shut. absurd (neither shut);
     issued = omega arith;
   }
@@ -72,7 +72,7 @@ module _ (m : Moment) (l : IsLawful m) (hand : ℕ) (there : is_hand m.state han
       neither (inl never) = cc
       neither (inr never) = cc
 
-  unknown : Shows m.state.table next m.state.words chunk (words_of holding)
+  unknown : Shows m.state.table next m.state.words chunk (holding_words holding)
   unknown = record {
     fits = let long = length-replicate {A = Option ℕ} (room_in m.state.table (class_of_page next chunk.page)) None in omega arith;
     known_words = λ place word at. absurd (none_known (room_in m.state.table (class_of_page next chunk.page)) place word None refl at);
@@ -82,15 +82,15 @@ module _ (m : Moment) (l : IsLawful m) (hand : ℕ) (there : is_hand m.state han
   handed_out_tallied =
       let empty = nobody in
       let none = nobodys chunk rows nobody in
-      let kept = turn_each m.state.table m.state.heads rows now chunk (handed_out old) turn m.state.slabs next m.state.words same rows
+      let kept = turn_each m.state.table m.state.heads rows now chunk (head_after_hand_out old) turn m.state.slabs next m.state.words same rows
       (λ i row in' j other on is. absurd (none i row in' j other on is))
       (each_so m.state.table m.state.slabs m.state.heads m.state.words rows l.held) in
       let one = more_here rows hand (hand_within m l hand there) chunk holding refl in
-      let new = turn_more m.state.table m.state.heads rows now chunk (handed_out old) turn m.state.slabs next m.state.words same holding refl refl unknown
+      let new = turn_more m.state.table m.state.heads rows now chunk (head_after_hand_out old) turn m.state.slabs next m.state.words same holding refl refl unknown
       ((λ fresh. length-replicate (room_in m.state.table (class_of_page next chunk.page)) None), λ stale. absurd (cc)) (λ fresh. (refl, omega arith)) in (
-        turn_counted m.state.table m.state.heads rows now chunk (handed_out old) turn l.counted,
-        held_from_so m.state.table next (slice_set m.state.heads (head_place m.state.table chunk) (handed_out old)) m.state.words now
-            (each_more rows hand (IsSo m.state.table next (slice_set m.state.heads (head_place m.state.table chunk) (handed_out old)) m.state.words now) holding kept new)
+        turn_counted m.state.table m.state.heads rows now chunk (head_after_hand_out old) turn l.counted,
+        held_from_so m.state.table next (slice_set m.state.heads (head_place m.state.table chunk) (head_after_hand_out old)) m.state.words now
+            (each_more rows hand (IsSo m.state.table next (slice_set m.state.heads (head_place m.state.table chunk) (head_after_hand_out old)) m.state.words now) holding kept new)
             (most_more rows hand holding room l.held.most),
       )
 
@@ -108,13 +108,13 @@ module _ (m : Moment) (l : IsLawful m) (hand : ℕ) where
       (parts.0, ltb-true (head_at m.state chunk).issue most_issue parts.1)
 
   -- what holds after a free chunk of the class is handed out holds after the step
-  pub pop_by : (P : State → Type 0) (class : ℕ) → can_pop m.state hand class ≡ true → ((chunk : ChunkId) → MayHandOut m hand chunk → P (popped (with_slabs m.state (slabs_changes.after_pop m.state.slabs class)) hand (Some chunk))) → P (after_pop m.state hand class)
+  pub pop_by : (P : State → Type 0) (class : ℕ) → can_pop m.state hand class ≡ true → ((chunk : ChunkId) → MayHandOut m hand chunk → P (state_after_pop_of (with_slabs m.state (slabs_changes.after_pop m.state.slabs class)) hand (Some chunk))) → P (state_after_pop m.state hand class)
   pop_by P class can each =
       let parts = and_parts _ (can_hand_out m.state (next_free m.state class)) can in
       let more = and_parts _ (has_place m.state hand) parts.0 in
       let of_table = and_parts (has_slabs m.state hand) (is_class m.state.table class) more.0 in
       let is = IsClass_from m.state.table m.state.slabs class l.paged.of_table of_table.1 in
-      elim (next_free m.state class) as (λ o. next_free m.state class ≡ o → can_hand_out m.state o ≡ true → P (popped (with_slabs m.state (slabs_changes.after_pop m.state.slabs class)) hand o)) [
+      elim (next_free m.state class) as (λ o. next_free m.state class ≡ o → can_hand_out m.state o ≡ true → P (state_after_pop_of (with_slabs m.state (slabs_changes.after_pop m.state.slabs class)) hand o)) [
         | None ↦ λ _ never. absurd (cc)
         | Some chunk ↦ λ first may.
             let at = first_placed m l class chunk is first in
@@ -138,7 +138,7 @@ module _ (m : Moment) (l : IsLawful m) (hand : ℕ) where
             each chunk (record { near = near_placed m l chunk at.1; free = free.0; unused = free.1; room = ltb-true (length (holdings_at m.state hand)) most_holdings more.1 })
       ] refl parts.1
 
-  pub pop_tallied : (class : ℕ) → is_hand m.state hand ≡ true → can_pop m.state hand class ≡ true → IsTallied (after_pop m.state hand class)
+  pub pop_tallied : (class : ℕ) → is_hand m.state hand ≡ true → can_pop m.state hand class ≡ true → IsTallied (state_after_pop m.state hand class)
   pop_tallied class there can = pop_by IsTallied class can (λ chunk may. handed_out_tallied m l hand there (slabs_changes.after_pop m.state.slabs class) (λ page. refl) chunk may.near may.free may.unused may.room Item)
 
   pub pop_off_tallied : (old : ChunkId) → is_hand m.state hand ≡ true → can_pop_off m.state hand old ≡ true → IsTallied (after_pop_off m.state hand old)

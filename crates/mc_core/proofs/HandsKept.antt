@@ -9,12 +9,12 @@ use Rattle.mc_core.specs.declared.event.Step.TheVariants as step
 use Rattle.mc_core.specs.declared.ids.Ids.{Ids}
 use Rattle.mc_core.specs.declared.look.Look.{Look}
 use Rattle.mc_core.specs.State.{State, is_held_by, is_hand, number_at, has_slabs, with_look}
-use Rattle.mc_core.specs.Locks.{looked}
-use Rattle.mc_core.specs.Chunks.{popped, popped_off, next_free, target_of}
-use Rattle.mc_core.specs.Items.{referred_to, with_unlinked, chunk_of, with_got}
+use Rattle.mc_core.specs.Locks.{state_after_look}
+use Rattle.mc_core.specs.Chunks.{state_after_pop_of, popped_off, next_free, target_of}
+use Rattle.mc_core.specs.Items.{referred_to, with_unlinked, chunk_of_key, with_got}
 use Rattle.mc_core.specs.Silent.{after_change}
 use Rattle.mc_core.specs.Run.{after_step}
-use Rattle.mc_core.specs.Identities.{AreHands, IsFreeOrHeld, number_in, stamps_in}
+use Rattle.mc_core.specs.Identities.{AreHands, IsFreeOrHeld, number_in, stamps_given}
 use Rattle.mc_core.specs.Lawful.{HandsIn}
 use Rattle.mc_core.specs.Laws.{ChangesKeep}
 use Rattle.mc_core.proofs.Own.{IsOwn, own_change}
@@ -31,7 +31,7 @@ still_held before now word same (inr (hand, held)) = inr (hand, ap (is_held_by w
 
 -- a step that changes nothing of hands but what is the stepping hand's own
 pub hands_own : (before now : State) (hand : ℕ) → AreHands before.ids before.slabs_lock before.stripe_locks before.holdings before.looks → is_hand before hand ≡ true → IsOwn before now hand
-    → ((other : ℕ) → stamps_in now.ids other < 2 ^ 48) → AreHands now.ids now.slabs_lock now.stripe_locks now.holdings now.looks
+    → ((other : ℕ) → stamps_given now.ids other < 2 ^ 48) → AreHands now.ids now.slabs_lock now.stripe_locks now.holdings now.looks
 hands_own before now hand l there own stamps = record {
   count = (omega (arith, l.count.0, own.long), omega (arith, l.count.1, own.long));
   holding_rows = own.holding_rows ∙ l.holding_rows ∙ sym own.long;
@@ -50,7 +50,7 @@ hands_own before now hand l there own stamps = record {
 abbrev pub SameIds : State → State → Type 0
 SameIds before now = now.ids ≡ before.ids
 
-ids_popped : (s : State) (hand : ℕ) (chunk : Option ChunkId) → SameIds s (popped s hand chunk)
+ids_popped : (s : State) (hand : ℕ) (chunk : Option ChunkId) → SameIds s (state_after_pop_of s hand chunk)
 ids_popped s hand None = refl
 ids_popped s hand (Some chunk) = refl
 
@@ -66,7 +66,7 @@ ids_unlinked : (s : State) (place : Option (ChunkId × ℕ)) → SameIds s (with
 ids_unlinked s None = refl
 ids_unlinked s (Some place) = refl
 
-ids_looked : (s : State) (hand : ℕ) (look : Look) → SameIds s (looked s hand look)
+ids_looked : (s : State) (hand : ℕ) (look : Look) → SameIds s (state_after_look s hand look)
 ids_looked s hand look = elim (has_slabs s hand) as (λ b. (cond b (with_look s hand look) s).ids ≡ s.ids) [ true ↦ refl | false ↦ refl ]
 
 -- the step gives out no stamp, and hands stay
@@ -89,8 +89,8 @@ ids_step s hand (step.Fill chunk place word) h = refl
 ids_step s hand (step.Word chunk place) h = refl
 ids_step s hand (step.WordHeld chunk place) h = refl
 ids_step s hand (step.Link chunk) h = absurd (cc)
-ids_step s hand (step.Refer key) h = ids_referred (with_got s hand key) hand (chunk_of s key)
-ids_step s hand (step.Unlink key) h = ids_unlinked _ (chunk_of s key)
+ids_step s hand (step.Refer key) h = ids_referred (with_got s hand key) hand (chunk_of_key s key)
+ids_step s hand (step.Unlink key) h = ids_unlinked _ (chunk_of_key s key)
 ids_step s hand (step.Release chunk) h = refl
 ids_step s hand (step.Discard chunk) h = refl
 ids_step s hand (step.Condemn chunk) h = refl
@@ -117,4 +117,4 @@ ids_change s hand (DeletedNone key) = refl
 pub hands_changes : ChangesKeep HandsIn
 hands_changes m hand change may =
     hands_own m.state _ hand may.lawful.hands may.there (own_change m.state hand change)
-    (λ other. subst (λ (ids : List Ids). stamps_in ids other < 2 ^ 48) (sym (ids_change m.state hand change)) (may.lawful.hands.stamps other))
+    (λ other. subst (λ (ids : List Ids). stamps_given ids other < 2 ^ 48) (sym (ids_change m.state hand change)) (may.lawful.hands.stamps other))

@@ -13,14 +13,14 @@ use Rattle.mc_core.specs.declared.holding.Kind.{Kind}
 use Rattle.mc_core.specs.declared.holding.Kind.TheVariants.{Reference, Fresh}
 use Rattle.mc_core.specs.declared.holding.Purpose.TheVariants.{Item, Copy, Rescue}
 use Rattle.mc_core.specs.Head.{is_unlinked}
-use Rattle.mc_core.specs.Holdings.{key_in, stamp_in, is_complete, holding_of, is_of, words_of}
-use Rattle.mc_core.specs.State.{State, gone, is_held_by, is_hand, number_at, ids_at, head_at, holdings_at, has_slabs, without_holding}
+use Rattle.mc_core.specs.Holdings.{known_key, stamp_in, is_complete, holding_of, is_of_chunk, holding_words}
+use Rattle.mc_core.specs.State.{State, no_ids, is_held_by, is_hand, number_at, ids_at, head_at, holdings_at, has_slabs, without_holding}
 use Rattle.mc_core.specs.Locks.{lock_word}
-use Rattle.mc_core.specs.Hands.{has_no_stripe}
+use Rattle.mc_core.specs.Hands.{hand_has_no_stripe}
 use Rattle.mc_core.specs.Hands as hands
-use Rattle.mc_core.specs.Items.{most_stamps, told_link, after_link_of, can_link_holding, can_tell_link, can_link_key, can_count, suits, is_next_stamp, stamped}
+use Rattle.mc_core.specs.Items.{most_stamps, recorded_link, after_link_of, can_link_holding, can_record_link, can_link_key, can_count, is_allowed_for, is_next_stamp, ids_after_stamp}
 use Rattle.mc_core.specs.Run.{after_step}
-use Rattle.mc_core.specs.Identities.{AreHands, IsFreeOrHeld, number_in, stamps_in}
+use Rattle.mc_core.specs.Identities.{AreHands, IsFreeOrHeld, number_in, stamps_given}
 use Rattle.mc_core.specs.Past.{Moment}
 use Rattle.mc_core.specs.Lawful.{HandsIn}
 use Rattle.mc_core.specs.Laws.{MayStep, StepsKeep}
@@ -37,13 +37,13 @@ set_or P (x ∷ xs) (suc i) (suc j) v d new old = set_or P xs i j v d new old
 
 -- what is told of a link: it may be by cases of what the chunk is for
 pub link_parts : (state : State) (hand : ℕ) (chunk : ChunkId) (holding : Holding) → can_link_holding state hand chunk (Some holding) ≡ true →
-    (is_complete (words_of holding) ≡ true) × (can_link_key state hand (key_in (words_of holding)) ≡ true) × (suits state hand (words_of holding) holding.kind ≡ true)
+    (is_complete (holding_words holding) ≡ true) × (can_link_key state hand (known_key (holding_words holding)) ≡ true) × (is_allowed_for state hand (holding_words holding) holding.kind ≡ true)
 link_parts state hand chunk holding h =
-    let key = key_in (words_of holding) in
-    let parts = and_parts (is_complete (words_of holding) && can_tell_link state hand holding && is_unlinked (head_at state chunk).tag) (can_count (head_at state chunk)) h in
-    let more = and_parts (is_complete (words_of holding) && can_tell_link state hand holding) (is_unlinked (head_at state chunk).tag) parts.0 in
-    let first = and_parts (is_complete (words_of holding)) (can_tell_link state hand holding) more.0 in
-    let both = and_parts (can_link_key state hand key) (suits state hand (words_of holding) holding.kind) first.1 in
+    let key = known_key (holding_words holding) in
+    let parts = and_parts (is_complete (holding_words holding) && can_record_link state hand holding && is_unlinked (head_at state chunk).tag) (can_count (head_at state chunk)) h in
+    let more = and_parts (is_complete (holding_words holding) && can_record_link state hand holding) (is_unlinked (head_at state chunk).tag) parts.0 in
+    let first = and_parts (is_complete (holding_words holding)) (can_record_link state hand holding) more.0 in
+    let both = and_parts (can_link_key state hand key) (is_allowed_for state hand (holding_words holding) holding.kind) first.1 in
     (first.0, both.0, both.1)
 
 -- a next stamp
@@ -53,26 +53,26 @@ stamp_left ids stamp others h =
     let both = and_parts (nat_lt ids.stamps most_stamps && option_eq nat_eq ids.number (Some (stamp / 2 ^ 48))) (stamp % 2 ^ 48 == ids.stamps + 1) next in
     ltb-true ids.stamps most_stamps (and_parts (nat_lt ids.stamps most_stamps) (option_eq nat_eq ids.number (Some (stamp / 2 ^ 48))) both.0).0
 
-module _ (state : State) (hand : ℕ) (s : State) (same : s.ids ≡ state.ids) (below : (other : ℕ) → stamps_in state.ids other < 2 ^ 48) where
-  old_stamps : (other : ℕ) → stamps_in s.ids other < 2 ^ 48
-  old_stamps other = subst (λ (ids : List Ids). stamps_in ids other < 2 ^ 48) (sym same) (below other)
+module _ (state : State) (hand : ℕ) (s : State) (same : s.ids ≡ state.ids) (below : (other : ℕ) → stamps_given state.ids other < 2 ^ 48) where
+  old_stamps : (other : ℕ) → stamps_given s.ids other < 2 ^ 48
+  old_stamps other = subst (λ (ids : List Ids). stamps_given ids other < 2 ^ 48) (sym same) (below other)
 
-  new_stamps : (ids_at state hand).stamps < most_stamps → (other : ℕ) → stamps_in (slice_set s.ids hand (stamped (ids_at s hand))) other < 2 ^ 48
+  new_stamps : (ids_at state hand).stamps < most_stamps → (other : ℕ) → stamps_given (slice_set s.ids hand (ids_after_stamp (ids_at s hand))) other < 2 ^ 48
   new_stamps left other =
-      let here : (ids_at s hand).stamps ≡ (ids_at state hand).stamps = ap (λ (ids : List Ids). (slice_index_or ids hand gone).stamps) same in
-      set_or (λ (i : Ids). i.stamps < 2 ^ 48) s.ids hand other (stamped (ids_at s hand)) gone (omega (arith, here, left)) (old_stamps other)
+      let here : (ids_at s hand).stamps ≡ (ids_at state hand).stamps = ap (λ (ids : List Ids). (slice_index_or ids hand no_ids).stamps) same in
+      set_or (λ (i : Ids). i.stamps < 2 ^ 48) s.ids hand other (ids_after_stamp (ids_at s hand)) no_ids (omega (arith, here, left)) (old_stamps other)
 
-  stamps_told : (holding : Holding) (kind : Kind) → suits state hand (words_of holding) kind ≡ true → (other : ℕ) → stamps_in (told_link s hand holding kind).ids other < 2 ^ 48
+  stamps_told : (holding : Holding) (kind : Kind) → is_allowed_for state hand (holding_words holding) kind ≡ true → (other : ℕ) → stamps_given (recorded_link s hand holding kind).ids other < 2 ^ 48
   stamps_told holding (Reference own) h other = absurd (cc)
-  stamps_told holding (Fresh Item own) h other = new_stamps (stamp_left (ids_at state hand) (stamp_in (words_of holding)) _ h) other
-  stamps_told holding (Fresh (Copy old) own) h other = new_stamps (stamp_left (ids_at state hand) (stamp_in (words_of holding)) _ h) other
+  stamps_told holding (Fresh Item own) h other = new_stamps (stamp_left (ids_at state hand) (stamp_in (holding_words holding)) _ h) other
+  stamps_told holding (Fresh (Copy old) own) h other = new_stamps (stamp_left (ids_at state hand) (stamp_in (holding_words holding)) _ h) other
   stamps_told holding (Fresh (Rescue old item) own) h other = old_stamps other
 
-link_stamps : (state : State) (hand : ℕ) (chunk : ChunkId) (holding : Option Holding) → ((other : ℕ) → stamps_in state.ids other < 2 ^ 48) → can_link_holding state hand chunk holding ≡ true
-    → (other : ℕ) → stamps_in (after_link_of (without_holding state hand (is_of chunk)) hand chunk holding).ids other < 2 ^ 48
+link_stamps : (state : State) (hand : ℕ) (chunk : ChunkId) (holding : Option Holding) → ((other : ℕ) → stamps_given state.ids other < 2 ^ 48) → can_link_holding state hand chunk holding ≡ true
+    → (other : ℕ) → stamps_given (after_link_of (without_holding state hand (is_of_chunk chunk)) hand chunk holding).ids other < 2 ^ 48
 link_stamps state hand chunk None below h other = absurd (cc)
 link_stamps state hand chunk (Some holding) below h other =
-    stamps_told state hand (without_holding state hand (is_of chunk)) refl below holding holding.kind (link_parts state hand chunk holding h).2 other
+    stamps_told state hand (without_holding state hand (is_of_chunk chunk)) refl below holding holding.kind (link_parts state hand chunk holding h).2 other
 
 -- a hand writes a lock's word that says its number
 lock_is_held : (state : State) (hand : ℕ) (number : Option ℕ) → number_at state hand ≡ number → is_some number ≡ true → is_held_by (lock_word state hand) (number_at state hand) ≡ true
@@ -82,7 +82,7 @@ lock_is_held state hand (Some number) is there =
     ap (is_held_by (lock_word state hand)) is ∙ eq-eqb (lock_word state hand) (number + 1) word
 
 -- numbers after one hand is gone
-pub gone_set : (ids : List Ids) (spent other number : ℕ) → number_in (slice_set ids spent gone) other ≡ Some number → (other ≢ spent) × (number_in ids other ≡ Some number)
+pub gone_set : (ids : List Ids) (spent other number : ℕ) → number_in (slice_set ids spent no_ids) other ≡ Some number → (other ≢ spent) × (number_in ids other ≡ Some number)
 gone_set [] spent other number h = absurd (cc)
 gone_set (x ∷ ids) zero zero number h = absurd (cc)
 gone_set (x ∷ ids) zero (suc other) number h = ((λ e. absurd (omega (arith, e))), h)
@@ -106,10 +106,10 @@ none_held number (word ∷ locks) h =
     All-cons (λ w. is_held_by w number ≡ false) word locks (not_true (is_held_by word number) parts.0) (none_held number locks parts.1)
 
 -- a lock that the spent hand doesn't have is free or held as before
-held_without : (ids : List Ids) (spent word : ℕ) → is_held_by word (number_in ids spent) ≡ false → IsFreeOrHeld ids word → IsFreeOrHeld (slice_set ids spent gone) word
+held_without : (ids : List Ids) (spent word : ℕ) → is_held_by word (number_in ids spent) ≡ false → IsFreeOrHeld ids word → IsFreeOrHeld (slice_set ids spent no_ids) word
 held_without ids spent word not_spent (inl free) = inl free
 held_without ids spent word not_spent (inr (hand, held)) =
-    inr (hand, ap (is_held_by word) (ap (λ (i : Ids). i.number) (get_or-set_other ids spent hand gone gone (λ same. false≢true (sym not_spent ∙ ap (λ (h : ℕ). is_held_by word (number_in ids h)) (sym same) ∙ held)))) ∙ held)
+    inr (hand, ap (is_held_by word) (ap (λ (i : Ids). i.number) (get_or-set_other ids spent hand no_ids no_ids (λ same. false≢true (sym not_spent ∙ ap (λ (h : ℕ). is_held_by word (number_in ids h)) (sym same) ∙ held)))) ∙ held)
 
 empty_row : (row : List Holding) → length row ≡ 0 → row ≡ []
 empty_row [] h = refl
@@ -118,23 +118,23 @@ empty_row (x ∷ row) h = absurd (omega (arith, h))
 join_hands : (state : State) (hand kept spent : ℕ) → AreHands state.ids state.slabs_lock state.stripe_locks state.holdings state.looks → hands.can_join state hand kept spent ≡ true →
     AreHands (hands.after_join state spent).ids state.slabs_lock state.stripe_locks state.holdings (hands.after_join state spent).looks
 join_hands state hand kept spent l h =
-    let idle = (and_parts (hand == kept && not (kept == spent) && is_hand state spent && hands.is_idle state kept) (hands.is_idle state spent) h).1 in
-    let parts = and_parts (not (has_slabs state spent) && has_no_stripe state spent) (length (holdings_at state spent) == 0) idle in
-    let locks = and_parts (not (has_slabs state spent)) (has_no_stripe state spent) parts.0 in
-    let long = length-set state.ids spent gone in
+    let idle = (and_parts (hand == kept && not (kept == spent) && is_hand state spent && hands.is_hand_idle state kept) (hands.is_hand_idle state spent) h).1 in
+    let parts = and_parts (not (has_slabs state spent) && hand_has_no_stripe state spent) (length (holdings_at state spent) == 0) idle in
+    let locks = and_parts (not (has_slabs state spent)) (hand_has_no_stripe state spent) parts.0 in
+    let long = length-set state.ids spent no_ids in
     record {
       count = (omega (arith, l.count.0, long), omega (arith, l.count.1, long));
       holding_rows = l.holding_rows ∙ sym long;
       look_rows = length-set state.looks spent [] ∙ l.look_rows ∙ sym long;
       numbers = λ other number is. l.numbers other number (gone_set state.ids spent other number is).1;
       apart = λ a b number at_a at_b. l.apart a b number (gone_set state.ids spent a number at_a).1 (gone_set state.ids spent b number at_b).1;
-      stamps = λ other. set_or (λ (i : Ids). i.stamps < 2 ^ 48) state.ids spent other gone gone (omega arith) (l.stamps other);
+      stamps = λ other. set_or (λ (i : Ids). i.stamps < 2 ^ 48) state.ids spent other no_ids no_ids (omega arith) (l.stamps other);
       slabs = held_without state.ids spent state.slabs_lock (not_true (has_slabs state spent) locks.0) l.slabs;
-      stripes = All-both (λ word. is_held_by word (number_in state.ids spent) ≡ false) (IsFreeOrHeld state.ids) (IsFreeOrHeld (slice_set state.ids spent gone))
+      stripes = All-both (λ word. is_held_by word (number_in state.ids spent) ≡ false) (IsFreeOrHeld state.ids) (IsFreeOrHeld (slice_set state.ids spent no_ids))
           (λ word. held_without state.ids spent word) state.stripe_locks (none_held (number_at state spent) state.stripe_locks locks.1) l.stripes;
       nothing = λ other none. elim (cases_eq other spent) [
         | inl same ↦ subst (λ (i : ℕ). slice_index_or state.holdings i [] ≡ []) (sym same) (empty_row (holdings_at state spent) (eqb-true (length (holdings_at state spent)) 0 parts.1))
-        | inr apart ↦ l.nothing other (sym (ap (λ (i : Ids). i.number) (get_or-set_other state.ids spent other gone gone apart)) ∙ none)
+        | inr apart ↦ l.nothing other (sym (ap (λ (i : Ids). i.number) (get_or-set_other state.ids spent other no_ids no_ids apart)) ∙ none)
       ];
     }
 
@@ -142,7 +142,7 @@ plain : (m : Moment) (hand : ℕ) (step : Step) → is_plain step ≡ true → l
     → AreHands (after_step m.state hand step).ids (after_step m.state hand step).slabs_lock (after_step m.state hand step).stripe_locks (after_step m.state hand step).holdings (after_step m.state hand step).looks
 plain m hand step h same may =
     hands_own m.state _ hand may.lawful.hands may.there (own_step m.state hand step h)
-    (λ other. subst (λ (ids : List Ids). stamps_in ids other < 2 ^ 48) (sym (ids_step m.state hand step same)) (may.lawful.hands.stamps other))
+    (λ other. subst (λ (ids : List Ids). stamps_given ids other < 2 ^ 48) (sym (ids_step m.state hand step same)) (may.lawful.hands.stamps other))
 
 pub hands_steps : StepsKeep HandsIn
 hands_steps m hand step.TakeSlabs may = let l = may.lawful.hands in record {

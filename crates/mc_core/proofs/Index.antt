@@ -5,7 +5,7 @@ use Rattle.std.proofs.lemmas.Option.{slice_get-get_or, slice_get_within, get_or_
 use Rattle.mc_classes.specs.Classes.{Classes}
 use Rattle.mc_pages.specs.declared.ids.ChunkId.{ChunkId}
 use Rattle.mc_pages.specs.SlabState.{SlabState}
-use Rattle.mc_stripe.specs.StripeState.{ReadyStripe, new_stripe, place_of}
+use Rattle.mc_stripe.specs.StripeState.{ReadyStripe, new_stripe, chunk_and_stamp}
 use Rattle.mc_stripe.proofs.Entries.{by_equal}
 use Rattle.mc_core.specs.declared.head.Head.{Head}
 use Rattle.mc_core.specs.declared.head.Tag.TheVariants.{Linked}
@@ -15,11 +15,11 @@ use Rattle.mc_core.specs.Indexed.{IsEntry, stripe_for, AreIndexed}
 
 -- where a key leads
 abbrev pub leads : List ReadyStripe → ℕ → Option (ChunkId × ℕ)
-leads stripes key = place_of (stripe_for stripes key).state key
+leads stripes key = chunk_and_stamp (stripe_for stripes key).state key
 
 -- no key is in another's stripe
 abbrev pub AreOwn : List ReadyStripe → Type 0
-AreOwn stripes = (stripe key : ℕ) (value : ReadyStripe) (place : ChunkId × ℕ) → slice_get stripes stripe ≡ Some value → place_of value.state key ≡ Some place → key % length stripes ≡ stripe
+AreOwn stripes = (stripe key : ℕ) (value : ReadyStripe) (place : ChunkId × ℕ) → slice_get stripes stripe ≡ Some value → chunk_and_stamp value.state key ≡ Some place → key % length stripes ≡ stripe
 
 -- a word of a chunk
 abbrev pub word_of : Classes → SlabState → List ℕ → ChunkId → ℕ → ℕ
@@ -37,7 +37,7 @@ module _ (table : Classes) (slabs : SlabState) (heads : List Head) (words : List
     entries = λ stripe key stamp value chunk at there.
         let here = own stripe key value (chunk, stamp) at there in
         let same : stripe_for stripes key ≡ value = ap (λ n. slice_index_or stripes n new_stripe) here ∙ get_or_from_slice_get stripes stripe value new_stripe at in
-        (here, entry key stamp chunk (ap (λ (v : ReadyStripe). place_of v.state key) same ∙ there));
+        (here, entry key stamp chunk (ap (λ (v : ReadyStripe). chunk_and_stamp v.state key) same ∙ there));
     linked = linked;
   }
 
@@ -50,17 +50,17 @@ module _ (stripes : List ReadyStripe) (at : ℕ) (value : ReadyStripe) (within :
   abbrev next : List ReadyStripe
   next = slice_set stripes at value
 
-  leads_here : (key : ℕ) → key % length stripes ≡ at → leads next key ≡ place_of value.state key
+  leads_here : (key : ℕ) → key % length stripes ≡ at → leads next key ≡ chunk_and_stamp value.state key
   leads_here key here =
       let place : key % length next ≡ at = ap (λ n. key % n) (length-set stripes at value) ∙ here in
-      ap (λ (v : ReadyStripe). place_of v.state key) (ap (λ n. slice_index_or next n new_stripe) place ∙ get_or-set_same stripes at value new_stripe within)
+      ap (λ (v : ReadyStripe). chunk_and_stamp v.state key) (ap (λ n. slice_index_or next n new_stripe) place ∙ get_or-set_same stripes at value new_stripe within)
 
   leads_there : (key : ℕ) → (key % length stripes ≡ at → ⊥) → leads next key ≡ leads stripes key
   leads_there key apart =
       let place : key % length next ≡ key % length stripes = ap (λ n. key % n) (length-set stripes at value) in
-      ap (λ (v : ReadyStripe). place_of v.state key) (ap (λ n. slice_index_or next n new_stripe) place ∙ get_or-set_other stripes at (key % length stripes) value new_stripe apart)
+      ap (λ (v : ReadyStripe). chunk_and_stamp v.state key) (ap (λ n. slice_index_or next n new_stripe) place ∙ get_or-set_other stripes at (key % length stripes) value new_stripe apart)
 
-  own_after : AreOwn stripes → ((key : ℕ) (place : ChunkId × ℕ) → place_of value.state key ≡ Some place → key % length stripes ≡ at) → AreOwn next
+  own_after : AreOwn stripes → ((key : ℕ) (place : ChunkId × ℕ) → chunk_and_stamp value.state key ≡ Some place → key % length stripes ≡ at) → AreOwn next
   own_after own here = λ stripe key v place is there.
       let count = length-set stripes at value in
       let inside = slice_get_within next stripe v is in
@@ -68,34 +68,34 @@ module _ (stripes : List ReadyStripe) (at : ℕ) (value : ReadyStripe) (within :
       ap (λ n. key % n) count ∙ elim (cases_eq stripe at) [
         | inl same ↦
             let written : value ≡ v = sym (get_or-set_same stripes at value new_stripe within) ∙ (ap (λ n. slice_index_or next n new_stripe) (sym same) ∙ read) in
-            here key place (ap (λ (v : ReadyStripe). place_of v.state key) written ∙ there) ∙ sym same
+            here key place (ap (λ (v : ReadyStripe). chunk_and_stamp v.state key) written ∙ there) ∙ sym same
         | inr apart ↦
             let old : slice_index_or stripes stripe new_stripe ≡ v = sym (get_or-set_other stripes at stripe value new_stripe apart) ∙ read in
             own stripe key v place (slice_get-get_or stripes stripe new_stripe (omega arith) ∙ ap Some old) there
       ]
 
 -- one stripe is written, and all its keys lead where they led
-pub same_leads : (stripes : List ReadyStripe) (at : ℕ) (value : ReadyStripe) → at < length stripes → ((key : ℕ) → place_of value.state key ≡ place_of (slice_index_or stripes at new_stripe).state key) →
+pub same_leads : (stripes : List ReadyStripe) (at : ℕ) (value : ReadyStripe) → at < length stripes → ((key : ℕ) → chunk_and_stamp value.state key ≡ chunk_and_stamp (slice_index_or stripes at new_stripe).state key) →
     (key : ℕ) → leads (slice_set stripes at value) key ≡ leads stripes key
 same_leads stripes at value within same key = elim (cases_eq (key % length stripes) at) [
-  | inl here ↦ leads_here stripes at value within key here ∙ (same key ∙ ap (λ n. place_of (slice_index_or stripes n new_stripe).state key) (sym here))
+  | inl here ↦ leads_here stripes at value within key here ∙ (same key ∙ ap (λ n. chunk_and_stamp (slice_index_or stripes n new_stripe).state key) (sym here))
   | inr apart ↦ leads_there stripes at value within key apart
 ]
 
-pub same_own : (stripes : List ReadyStripe) (at : ℕ) (value : ReadyStripe) → at < length stripes → ((key : ℕ) → place_of value.state key ≡ place_of (slice_index_or stripes at new_stripe).state key) → AreOwn stripes → AreOwn (slice_set stripes at value)
+pub same_own : (stripes : List ReadyStripe) (at : ℕ) (value : ReadyStripe) → at < length stripes → ((key : ℕ) → chunk_and_stamp value.state key ≡ chunk_and_stamp (slice_index_or stripes at new_stripe).state key) → AreOwn stripes → AreOwn (slice_set stripes at value)
 same_own stripes at value within same own =
     own_after stripes at value within own (λ key place there. own at key (slice_index_or stripes at new_stripe) place (slice_get-get_or stripes at new_stripe within) (sym (same key) ∙ there))
 
 -- the stripe of a key is written, and that key alone leads elsewhere
 module _ (stripes : List ReadyStripe) (some : 1 ≤ length stripes) (changed : ℕ) (value : ReadyStripe) (now : Option (ChunkId × ℕ))
-    (gives : (key : ℕ) → place_of value.state key ≡ cond (nat_eq key changed) now (place_of (stripe_for stripes changed).state key)) where
+    (gives : (key : ℕ) → chunk_and_stamp value.state key ≡ cond (nat_eq key changed) now (chunk_and_stamp (stripe_for stripes changed).state key)) where
   within : changed % length stripes < length stripes
   within = omega arith
 
   pub one_leads : (key : ℕ) → leads (slice_set stripes (changed % length stripes) value) key ≡ cond (nat_eq key changed) now (leads stripes key)
   one_leads key = elim (cases_eq (key % length stripes) (changed % length stripes)) [
     | inl here ↦ leads_here stripes (changed % length stripes) value within key here
-        ∙ (gives key ∙ ap (λ n. cond (nat_eq key changed) now (place_of (slice_index_or stripes n new_stripe).state key)) (sym here))
+        ∙ (gives key ∙ ap (λ n. cond (nat_eq key changed) now (chunk_and_stamp (slice_index_or stripes n new_stripe).state key)) (sym here))
     | inr apart ↦ leads_there stripes (changed % length stripes) value within key apart
         ∙ by_equal key changed (λ _ is. absurd (apart (ap (λ n. n % length stripes) is))) (λ other _. rw other refl)
   ]

@@ -9,12 +9,12 @@ use Rattle.mc_pages.specs.Pages.{is_on_the_move}
 use Rattle.mc_core.specs.declared.head.Head.{Head}
 use Rattle.mc_core.specs.declared.head.Tag.{Tag}
 use Rattle.mc_core.specs.declared.head.Tag.TheVariants.{Unlinked, Linked}
-use Rattle.mc_core.specs.Holdings.{is_of, holding_of}
+use Rattle.mc_core.specs.Holdings.{is_of_chunk, holding_of}
 use Rattle.mc_core.specs.Head.{is_free, is_out, is_unlinked, is_dead, is_linked}
 use Rattle.mc_core.specs.State.{has_chunk, head_place, head_at, has_slabs, holdings_at}
 use Rattle.mc_core.specs.Silent.{is_handed_out, is_listed}
-use Rattle.mc_core.specs.Chunks.{handed_out, holds_as, after_drop, let_go, can_pop, after_pop, can_pop_off, after_pop_off, with_tag_free, with_tag_out, can_put_back, after_put_back, can_clear, after_clear, is_next_uncut, can_cut, after_cut}
-use Rattle.mc_core.specs.Items.{can_count, referred, with_reference, can_again, has_place_unlocked}
+use Rattle.mc_core.specs.Chunks.{head_after_hand_out, holds_as, after_drop, head_after_release, can_pop, state_after_pop, can_pop_off, after_pop_off, with_tag_free, with_tag_out, can_put_back, after_put_back, can_clear, state_after_clear, is_next_uncut, can_cut, state_after_cut}
+use Rattle.mc_core.specs.Items.{can_count, head_after_refer, with_reference, can_again, has_place_unlocked}
 use Rattle.mc_core.specs.Indexed.{AreIndexed}
 use Rattle.mc_core.specs.Past.{Moment}
 use Rattle.mc_core.specs.Lawful.{IsLawful}
@@ -38,11 +38,11 @@ module _ (m : Moment) (l : IsLawful m) where
   header_only next same chunk head near on back = header_indexed m l chunk near head next same on back m.state.stripes own (λ key. refl)
 
   handed_out_indexed : (hand : ℕ) (next : SlabState) → ((page : ℕ) → class_of_page next page ≡ class_of_page m.state.slabs page) → (chunk : ChunkId) → MayHandOut m hand chunk →
-      AreIndexed m.state.table next (slice_set m.state.heads (head_place m.state.table chunk) (handed_out (head_at m.state chunk))) m.state.words m.state.stripes
+      AreIndexed m.state.table next (slice_set m.state.heads (head_place m.state.table chunk) (head_after_hand_out (head_at m.state chunk))) m.state.words m.state.stripes
   handed_out_indexed hand next same chunk may =
-      header_only next same chunk (handed_out (head_at m.state chunk)) may.near (λ linked. absurd (free_not_linked (head_at m.state chunk).tag may.free linked)) (λ never. absurd (cc))
+      header_only next same chunk (head_after_hand_out (head_at m.state chunk)) may.near (λ linked. absurd (free_not_linked (head_at m.state chunk).tag may.free linked)) (λ never. absurd (cc))
 
-  pub pop_indexed : (hand class : ℕ) → can_pop m.state hand class ≡ true → IsIndexed (after_pop m.state hand class)
+  pub pop_indexed : (hand class : ℕ) → can_pop m.state hand class ≡ true → IsIndexed (state_after_pop m.state hand class)
   pop_indexed hand class can = pop_by m l hand IsIndexed class can (λ chunk may. handed_out_indexed hand (slabs_changes.after_pop m.state.slabs class) (λ page. refl) chunk may)
 
   pub pop_off_indexed : (hand : ℕ) (old : ChunkId) → can_pop_off m.state hand old ≡ true → IsIndexed (after_pop_off m.state hand old)
@@ -54,9 +54,9 @@ module _ (m : Moment) (l : IsLawful m) where
       elim (holding_of chunk (holdings_at m.state hand)) as (λ o. holding_of chunk (holdings_at m.state hand) ≡ o → holds_as fresh o ≡ true → IsIndexed (after_drop m.state hand chunk)) [
         | None ↦ λ _ never. absurd (cc)
         | Some holding ↦ λ found _.
-            let is = same_from_is_chunk holding.chunk chunk (found_passes (is_of chunk) (holdings_at m.state hand) holding found) in
-            let inside = found_each (λ h. has_chunk m.state.table h.chunk ≡ true) m.state.holdings hand (is_of chunk) holding found l.held.inside in
-            header_only m.state.slabs (λ page. refl) chunk (let_go (head_at m.state chunk)) (subst (λ c. has_chunk m.state.table c ≡ true) is inside) (λ linked. linked) (λ linked. linked)
+            let is = same_from_is_chunk holding.chunk chunk (found_passes (is_of_chunk chunk) (holdings_at m.state hand) holding found) in
+            let inside = found_each (λ h. has_chunk m.state.table h.chunk ≡ true) m.state.holdings hand (is_of_chunk chunk) holding found l.held.inside in
+            header_only m.state.slabs (λ page. refl) chunk (head_after_release (head_at m.state chunk)) (subst (λ c. has_chunk m.state.table c ≡ true) is inside) (λ linked. linked) (λ linked. linked)
       ] refl can
 
   pub again_indexed : (hand : ℕ) (chunk : ChunkId) (issue : ℕ) → can_again m.state hand chunk issue ≡ true → IsIndexed (with_reference m.state hand chunk)
@@ -65,7 +65,7 @@ module _ (m : Moment) (l : IsLawful m) where
       let same = and_parts _ ((head_at m.state chunk).issue == issue) count.0 in
       let linked = and_parts _ (is_linked (head_at m.state chunk).tag) same.0 in
       let room = and_parts (has_chunk m.state.table chunk) (has_place_unlocked m.state hand) linked.0 in
-      header_only m.state.slabs (λ page. refl) chunk (referred (head_at m.state chunk)) room.0 (λ linked. linked) (λ linked. linked)
+      header_only m.state.slabs (λ page. refl) chunk (head_after_refer (head_at m.state chunk)) room.0 (λ linked. linked) (λ linked. linked)
 
   -- a chunk that isn't linked gets another tag
   closed_indexed : (next : SlabState) → ((page : ℕ) → class_of_page next page ≡ class_of_page m.state.slabs page) → (chunk : ChunkId) (head : Head) → has_chunk m.state.table chunk ≡ true →
@@ -84,7 +84,7 @@ module _ (m : Moment) (l : IsLawful m) where
       let near = and_parts (has_slabs m.state hand) (has_chunk m.state.table chunk) dead.0 in
       closed_indexed (slabs_changes.after_back m.state.slabs chunk) (λ page. refl) chunk (with_tag_free (head_at m.state chunk)) near.1 (dead_not_linked chunk dead.1) (λ never. cc)
 
-  pub clear_indexed : (hand : ℕ) (chunk : ChunkId) → can_clear m.state hand chunk ≡ true → IsIndexed (after_clear m.state hand chunk)
+  pub clear_indexed : (hand : ℕ) (chunk : ChunkId) → can_clear m.state hand chunk ≡ true → IsIndexed (state_after_clear m.state hand chunk)
   clear_indexed hand chunk can =
       let listed = and_parts _ (is_listed m.state.slabs (class_of_page m.state.slabs chunk.page) chunk) can in
       let closed = and_parts _ (is_free (head_at m.state chunk).tag || is_dead (head_at m.state chunk)) listed.0 in
@@ -96,7 +96,7 @@ module _ (m : Moment) (l : IsLawful m) where
         | inr dead ↦ dead_not_linked chunk dead linked
       ]) (λ never. cc)
 
-  pub cut_indexed : (hand : ℕ) (chunk : ChunkId) → can_cut m.state hand chunk ≡ true → IsIndexed (after_cut m.state hand chunk)
+  pub cut_indexed : (hand : ℕ) (chunk : ChunkId) → can_cut m.state hand chunk ≡ true → IsIndexed (state_after_cut m.state hand chunk)
   cut_indexed hand chunk can =
       let out = and_parts _ (is_out (head_at m.state chunk).tag) can in
       let next = and_parts _ (is_next_uncut m.state.slabs chunk) out.0 in

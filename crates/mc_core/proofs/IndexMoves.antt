@@ -10,11 +10,11 @@ use Rattle.mc_pages.specs.declared.ids.ChunkId.{ChunkId}
 use Rattle.mc_pages.specs.ClassState.{is_chunk}
 use Rattle.mc_pages.specs.SlabState.{SlabState, class_of_page}
 use Rattle.mc_pages.proofs.Chunks.{is_chunk-same}
-use Rattle.mc_stripe.specs.StripeState.{ReadyStripe, place_of}
+use Rattle.mc_stripe.specs.StripeState.{ReadyStripe, chunk_and_stamp}
 use Rattle.mc_stripe.proofs.Entries.{by_equal}
 use Rattle.mc_core.specs.declared.head.Head.{Head}
 use Rattle.mc_core.specs.declared.head.Tag.TheVariants.{Linked}
-use Rattle.mc_core.specs.Holdings.{Words, word_in, item_length, item_in, fits, is_complete}
+use Rattle.mc_core.specs.Holdings.{Words, word_in, item_length, words_of_item, has_whole_item, is_complete}
 use Rattle.mc_core.specs.State.{has_chunk, head_place, room_in}
 use Rattle.mc_core.specs.Columns.{head_in, place_in, Shows}
 use Rattle.mc_core.specs.Indexed.{IsEntry, stripe_for, AreIndexed}
@@ -70,7 +70,7 @@ module _ (m : Moment) (l : IsLawful m) where
 
     -- the key leads nowhere any more, and its chunk isn't linked
     module _ (gone : head.tag ≡ Linked → ⊥) (there : leads stripes key ≡ Some (chunk, stamp))
-        (gives : (other : ℕ) → place_of value.state other ≡ cond (nat_eq other key) None (place_of (stripe_for stripes key).state other)) where
+        (gives : (other : ℕ) → chunk_and_stamp value.state other ≡ cond (nat_eq other key) None (chunk_and_stamp (stripe_for stripes key).state other)) where
       fewer_leads : (other : ℕ) → leads stripes' other ≡ cond (nat_eq other key) None (leads stripes other)
       fewer_leads = one_leads stripes l.legal.some key value None gives
 
@@ -98,7 +98,7 @@ module _ (m : Moment) (l : IsLawful m) where
     -- the key leads to the chunk now, which wasn't linked
     module _ (linked : head.tag ≡ Linked) (new : (head_in table m.state.heads chunk).tag ≡ Linked → ⊥) (nowhere : leads stripes key ≡ None)
         (first : word_of table slabs words chunk 0 ≡ key) (second : word_of table slabs words chunk 1 ≡ stamp) (room : 3 + word_of table slabs words chunk 2 ≤ room_in table (class_of_page slabs chunk.page))
-        (gives : (other : ℕ) → place_of value.state other ≡ cond (nat_eq other key) (Some (chunk, stamp)) (place_of (stripe_for stripes key).state other)) where
+        (gives : (other : ℕ) → chunk_and_stamp value.state other ≡ cond (nat_eq other key) (Some (chunk, stamp)) (chunk_and_stamp (stripe_for stripes key).state other)) where
       more_leads : (other : ℕ) → leads stripes' other ≡ cond (nat_eq other key) (Some (chunk, stamp)) (leads stripes other)
       more_leads = one_leads stripes l.legal.some key value (Some (chunk, stamp)) gives
 
@@ -141,7 +141,7 @@ module _ (m : Moment) (l : IsLawful m) where
         tag = linked;
         class = refl;
         first_words = λ at small.
-            let fits = (entry_linked m l c near linked).fits in
+            let has_whole_item = (entry_linked m l c near linked).fits in
             word_kept m l chunk c place at word placed (placed_at m l c (head_in table m.state.heads c).issue near (inr linked, refl)).0 within (omega arith)
             (λ same. unlinked (ap (λ c. (head_in table m.state.heads c).tag) (sym same) ∙ linked));
       })
@@ -154,10 +154,10 @@ some_is (Some word) is = refl
 
 pub first_known : (known : Words) (place : ℕ) → is_complete known ≡ true → place < 3 → slice_get known place ≡ Some (Some (word_in known place))
 first_known known place complete small =
-    let parts = and_parts (fits known) (list_all is_some (item_in known)) complete in
+    let parts = and_parts (has_whole_item known) (list_all is_some (words_of_item known)) complete in
     let long = leb-true (item_length known) (length known) parts.0 in
     let count = length-take-le (item_length known) known long in
-    let all = AllPass-from_list_all is_some (item_in known) parts.1 in
+    let all = AllPass-from_list_all is_some (words_of_item known) parts.1 in
     let front = get_or-take (item_length known) known place None (omega arith) in
     slice_get-get_or known place None (omega arith) ∙ ap Some (some_is (slice_index_or known place None) (ap is_some (sym front) ∙ all place None (omega arith)))
 

@@ -6,7 +6,7 @@ use Rattle.std.proofs.lemmas.Option.{get_or_from_slice_get}
 use Rattle.mc_classes.specs.Classes.{arena_pages_of}
 use Rattle.mc_pages.specs.SlabState.{fresh_slabs}
 use Rattle.mc_stripe.specs.Entries.{entry_at}
-use Rattle.mc_stripe.specs.StripeState.{Index, ReadyStripe, new_stripe, place_of}
+use Rattle.mc_stripe.specs.StripeState.{Index, ReadyStripe, new_stripe, chunk_and_stamp}
 use Rattle.mc_stripe.specs.Changes as stripe_changes
 use Rattle.mc_stripe.specs.Changes.{after_got, used_up}
 use Rattle.mc_stripe.proofs.Entries.{at_without_entry, by_equal}
@@ -19,7 +19,7 @@ use Rattle.mc_core.specs.declared.event.Step.TheVariants as step
 use Rattle.mc_core.specs.declared.event.StripeChange.{StripeChange}
 use Rattle.mc_core.specs.declared.event.StripeChange.TheVariants.{Reserve, ReserveCall, Trim, Forget}
 use Rattle.mc_core.specs.State.{State, most_of, head_place, stripe_of, stripe_at, has_slabs, has_stripe, with_look, new_state}
-use Rattle.mc_core.specs.Silent.{writer_of, can_tell_none, after_change, stripe_after}
+use Rattle.mc_core.specs.Silent.{writer_of, can_record_miss, after_change, stripe_after}
 use Rattle.mc_core.specs.Columns.{head_in}
 use Rattle.mc_core.specs.Indexed.{AreIndexed}
 use Rattle.mc_core.specs.Past.{Moment}
@@ -56,7 +56,7 @@ same_index Forget stripe = refl
 
 -- a stripe is written, and all its keys lead where they led
 module _ (m : Moment) (l : IsLawful m) where
-  indexed_stripe : (at : ℕ) (value : ReadyStripe) → at < length m.state.stripes → ((key : ℕ) → place_of value.state key ≡ place_of (stripe_at m.state at).state key) →
+  indexed_stripe : (at : ℕ) (value : ReadyStripe) → at < length m.state.stripes → ((key : ℕ) → chunk_and_stamp value.state key ≡ chunk_and_stamp (stripe_at m.state at).state key) →
       AreIndexed m.state.table m.state.slabs m.state.heads m.state.words (slice_set m.state.stripes at value)
   indexed_stripe at value within same =
       indexed_stays m.state.table m.state.slabs m.state.slabs m.state.heads m.state.heads m.state.words m.state.words m.state.stripes (slice_set m.state.stripes at value) l.legal.some l.indexed
@@ -64,7 +64,7 @@ module _ (m : Moment) (l : IsLawful m) where
       (λ chunk near linked. linked) (same_own m.state.stripes at value within same (own m l)) (same_leads m.state.stripes at value within same)
 
   -- a stripe has another value, whose keys lead where they led
-  indexed_quiet : (stripe : ℕ) (value : ReadyStripe) → ((key : ℕ) → place_of value.state key ≡ place_of (stripe_at m.state stripe).state key)
+  indexed_quiet : (stripe : ℕ) (value : ReadyStripe) → ((key : ℕ) → chunk_and_stamp value.state key ≡ chunk_and_stamp (stripe_at m.state stripe).state key)
       → AreIndexed m.state.table m.state.slabs m.state.heads m.state.words (slice_set m.state.stripes stripe value)
   indexed_quiet stripe value same = elim (cases_lt stripe (length m.state.stripes)) [
     | inl within ↦ indexed_stripe stripe value within same
@@ -77,18 +77,18 @@ module _ (m : Moment) (l : IsLawful m) where
   indexed_got : (hand key : ℕ) → IsIndexed (after_change m.state hand (GotNone key))
   indexed_got hand key = indexed_stripe (stripe_of m.state key) (used_up (after_got (stripe_at m.state (stripe_of m.state key)).state (writer_of m.state hand) key)) (within key) (λ other. refl)
 
-  indexed_deleted : (hand key : ℕ) → place_of (stripe_at m.state (stripe_of m.state key)).state key ≡ None → IsIndexed (after_change m.state hand (DeletedNone key))
+  indexed_deleted : (hand key : ℕ) → chunk_and_stamp (stripe_at m.state (stripe_of m.state key)).state key ≡ None → IsIndexed (after_change m.state hand (DeletedNone key))
   indexed_deleted hand key nowhere =
       let stripe = stripe_at m.state (stripe_of m.state key) in
       indexed_stripe (stripe_of m.state key) (used_up (stripe_changes.after_unlink stripe.state (writer_of m.state hand) key)) (within key)
       (λ other. at_without_entry stripe.state.index key other (l.legal.legal (stripe_of m.state key) new_stripe (within key)).rising
-      ∙ by_equal other key (λ here is. rw here (sym nowhere ∙ ap (place_of stripe.state) (sym is))) (λ isnt _. rw isnt refl))
+      ∙ by_equal other key (λ here is. rw here (sym nowhere ∙ ap (chunk_and_stamp stripe.state) (sym is))) (λ isnt _. rw isnt refl))
 
-nothing_there : (m : Moment) (hand key : ℕ) → (has_stripe m.state hand (stripe_of m.state key) && can_tell_none (stripe_at m.state (stripe_of m.state key)) key) ≡ true → place_of (stripe_at m.state (stripe_of m.state key)).state key ≡ None
+nothing_there : (m : Moment) (hand key : ℕ) → (has_stripe m.state hand (stripe_of m.state key) && can_record_miss (stripe_at m.state (stripe_of m.state key)) key) ≡ true → chunk_and_stamp (stripe_at m.state (stripe_of m.state key)).state key ≡ None
 nothing_there m hand key can =
     let stripe = stripe_at m.state (stripe_of m.state key) in
-    let tells = and_parts (has_stripe m.state hand (stripe_of m.state key)) (can_tell_none stripe key) can in
-    nowhere_from (place_of stripe.state key) (and_parts _ (is_none (place_of stripe.state key)) tells.1).1
+    let tells = and_parts (has_stripe m.state hand (stripe_of m.state key)) (can_record_miss stripe key) can in
+    nowhere_from (chunk_and_stamp stripe.state key) (and_parts _ (is_none (chunk_and_stamp stripe.state key)) tells.1).1
 
 pub indexed_changes : ChangesKeep IndexedIn
 indexed_changes m hand (Grow class) may = indexed_slabs m hand (Grow class) may
@@ -136,12 +136,12 @@ indexed_steps m hand (Join kept spent) may = may.lawful.indexed
 
 -- at first no key leads anywhere
 new_leads : (stripes key : ℕ) → leads (replicate stripes new_stripe) key ≡ None
-new_leads stripes key = ap (λ (v : ReadyStripe). place_of v.state key) (all_same new_stripe stripes (key % length (replicate stripes new_stripe)))
+new_leads stripes key = ap (λ (v : ReadyStripe). chunk_and_stamp v.state key) (all_same new_stripe stripes (key % length (replicate stripes new_stripe)))
 
 new_own : (stripes : ℕ) → AreOwn (replicate stripes new_stripe)
 new_own stripes = λ stripe key value place at there.
     let new : new_stripe ≡ value = sym (all_same new_stripe stripes stripe) ∙ get_or_from_slice_get (replicate stripes new_stripe) stripe value new_stripe at in
-    let never : None ≡ Some place = ap (λ (v : ReadyStripe). place_of v.state key) new ∙ there in absurd (cc)
+    let never : None ≡ Some place = ap (λ (v : ReadyStripe). chunk_and_stamp v.state key) new ∙ there in absurd (cc)
 
 pub indexed_first : HoldsAtFirst IndexedIn
 indexed_first table stripes hands start sound some_stripe some_hand few small =

@@ -5,11 +5,11 @@ use Rattle.mc_pages.specs.declared.slabs.pages.Grow.{Grow}
 use Rattle.mc_pages.specs.Changes.{next_page, after_grow}
 use Rattle.mc_pages.specs.Accounted.{IsAccounted}
 use Rattle.mc_core.specs.State.{State}
-use Rattle.mc_core.specs.InOrder.{IsInOrder}
+use Rattle.mc_core.specs.InOrder.{IsStateInOrder}
 use Rattle.mc_core.proofs.OfTable.{HasShape, of_table, grow_shape}
 
 -- pages and lists changed, and classes and owners are as many as before
-pub changed : (state : State) (new after : SlabState) → IsInOrder state → new ≡ after → HasShape state.slabs after → IsAccounted new → IsInOrder (record state { slabs = new })
+pub changed : (state : State) (new after : SlabState) → IsStateInOrder state → new ≡ after → HasShape state.slabs after → IsAccounted new → IsStateInOrder (record state { slabs = new })
 changed state new after kept is shape all = record {
   sound = kept.sound;
   slabs = of_table state.table state.slabs new kept.slabs (subst (λ s. HasShape state.slabs s) (sym is) shape) all;

@@ -17,13 +17,13 @@ use Rattle.mc_core.specs.declared.holding.Purpose.{Purpose}
 use Rattle.mc_core.specs.declared.holding.Purpose.TheVariants.{Item, Copy}
 use Rattle.mc_core.specs.declared.look.Look.{Look}
 use Rattle.mc_core.specs.Head.{is_linked, is_dead, is_out, is_free}
-use Rattle.mc_core.specs.Holdings.{is_of, holding_of, has_fresh}
+use Rattle.mc_core.specs.Holdings.{is_of_chunk, holding_of, has_fresh}
 use Rattle.mc_core.specs.State.{State, has_chunk, head_at, has_slabs, with_head, with_slabs, with_look, with_stripe, stripe_at, stripe_of, is_class, holdings_at}
 use Rattle.mc_core.specs.Silent.{writer_of, is_handed_out, is_listed}
-use Rattle.mc_core.specs.Locks.{looked}
-use Rattle.mc_core.specs.Chunks.{handed_out, let_go, with_tag_free, with_tag_out, new_holding, with_fresh, next_free, popped, popped_off, target_of, is_target, has_place, can_hand_out, after_drop, holds_as, is_next_uncut}
-use Rattle.mc_core.specs.Items.{unlinked, stripe_unlinked, chunk_of, is_linked_at, with_unlinked}
-use Rattle.mc_core.specs.Past.{Moment, Known, Saying, with_more, moment_stepped}
+use Rattle.mc_core.specs.Locks.{state_after_look}
+use Rattle.mc_core.specs.Chunks.{head_after_hand_out, head_after_release, with_tag_free, with_tag_out, new_holding, with_fresh, next_free, state_after_pop_of, popped_off, target_of, is_target, has_place, can_hand_out, after_drop, holds_as, is_next_uncut}
+use Rattle.mc_core.specs.Items.{head_after_unlink, stripe_unlinked, chunk_of_key, is_linked_at, with_unlinked}
+use Rattle.mc_core.specs.Past.{Moment, KnownItem, StoredItem, with_more, moment_stepped}
 use Rattle.mc_core.specs.Columns.{head_in}
 use Rattle.mc_core.specs.Knowing.{AreKnown}
 use Rattle.mc_core.specs.Indexed.{IsEntry}
@@ -37,15 +37,15 @@ use Rattle.mc_core.proofs.KnownStill.{IsApartFrom, IsNoOlder}
 use Rattle.mc_core.proofs.KnownQuiet.{nothing_learned, known_turned, apart_same, apart_less, own_less, own_fresh, IsStill, younger_handed_out, younger_let_go, younger_unlinked, younger_free, younger_out}
 
 -- the clause, of a state
-abbrev pub KnownAt : State → List (List Saying) → List (List Known) → Type 0
+abbrev pub KnownAt : State → List (List StoredItem) → List (List KnownItem) → Type 0
 KnownAt s said known = AreKnown s.table s.slabs s.heads s.words s.holdings said known
 
 -- a look changes nothing of it
-pub known_looked : (s : State) (hand : ℕ) (look : Look) (said : List (List Saying)) (known : List (List Known)) → KnownAt s said known → KnownAt (looked s hand look) said known
+pub known_looked : (s : State) (hand : ℕ) (look : Look) (said : List (List StoredItem)) (known : List (List KnownItem)) → KnownAt s said known → KnownAt (state_after_look s hand look) said known
 known_looked s hand look said known is = elim (has_slabs s hand) as (λ (b : Bool). KnownAt (if b then with_look s hand look else s) said known) [ true ↦ is | false ↦ is ]
 
 -- the entry of a key
-pub entry_of : (m : Moment) → IsLawful m → (key : ℕ) (place : ChunkId × ℕ) → chunk_of m.state key ≡ Some place → IsEntry m.state.table m.state.slabs m.state.heads m.state.words key place.1 place.0
+pub entry_of : (m : Moment) → IsLawful m → (key : ℕ) (place : ChunkId × ℕ) → chunk_of_key m.state key ≡ Some place → IsEntry m.state.table m.state.slabs m.state.heads m.state.words key place.1 place.0
 entry_of m l key place found =
     let some = l.legal.some in
     let stripe = stripe_of m.state key in
@@ -59,9 +59,9 @@ module _ (m : Moment) (hand : ℕ) where
   -- one header changes, and the order of lists
   known_header : (l : IsLawful m) (next : SlabState) (chunk : ChunkId) (head : Head) → ((page : ℕ) → class_of_page next page ≡ class_of_page m.state.slabs page) → has_chunk m.state.table chunk ≡ true →
       IsNoOlder (head_at m.state chunk) head → is_linked head.tag ≡ false → KnownAt (with_head (with_slabs m.state next) chunk head) (with_more m.past.said hand []) (with_more m.past.known hand [])
-  known_header l next chunk head same near younger unlinked =
+  known_header l next chunk head same near younger head_after_unlink =
       known_end (with_head (with_slabs m.state next) chunk head)
-      (known_turned m l next chunk head m.state.holdings same near younger (λ is. absurd (both_ways (is_linked head.tag) unlinked (ap is_linked is))) (apart_same m l) l.known.own)
+      (known_turned m l next chunk head m.state.holdings same near younger (λ is. absurd (both_ways (is_linked head.tag) head_after_unlink (ap is_linked is))) (apart_same m l) l.known.own)
 
   pub known_put_back : (chunk : ChunkId) → MayStep m hand (PutBack chunk) → KnownIn (moment_stepped m hand (PutBack chunk))
   known_put_back chunk may =
@@ -89,12 +89,12 @@ module _ (m : Moment) (hand : ℕ) where
   -- a holding is given up
   known_dropped : (l : IsLawful m) (chunk : ChunkId) (holding : Holding) → holding_of chunk (holdings_at m.state hand) ≡ Some holding → KnownAt (after_drop m.state hand chunk) (with_more m.past.said hand []) (with_more m.past.known hand [])
   known_dropped l chunk holding found =
-      let at : holding.chunk ≡ chunk = same_from_is_chunk holding.chunk chunk (found_passes (is_of chunk) (holdings_at m.state hand) holding found) in
+      let at : holding.chunk ≡ chunk = same_from_is_chunk holding.chunk chunk (found_passes (is_of_chunk chunk) (holdings_at m.state hand) holding found) in
       let near : has_chunk m.state.table chunk ≡ true = subst (λ (c : ChunkId). has_chunk m.state.table c ≡ true) at
-      (found_each (λ h. has_chunk m.state.table h.chunk ≡ true) m.state.holdings hand (is_of chunk) holding found l.held.inside) in
+      (found_each (λ h. has_chunk m.state.table h.chunk ≡ true) m.state.holdings hand (is_of_chunk chunk) holding found l.held.inside) in
       known_end (after_drop m.state hand chunk)
-      (known_turned m l m.state.slabs chunk (let_go (head_at m.state chunk)) (rows_less m.state.holdings hand (is_of chunk)) (λ page. refl) near (younger_let_go (head_at m.state chunk)) (λ is. (is, refl))
-      (apart_less m l hand (is_of chunk)) (own_less m l hand (is_of chunk)))
+      (known_turned m l m.state.slabs chunk (head_after_release (head_at m.state chunk)) (rows_less m.state.holdings hand (is_of_chunk chunk)) (λ page. refl) near (younger_let_go (head_at m.state chunk)) (λ is. (is, refl))
+      (apart_less m l hand (is_of_chunk chunk)) (own_less m l hand (is_of_chunk chunk)))
 
   known_drop : (l : IsLawful m) (chunk : ChunkId) (fresh : Bool) → holds_as fresh (holding_of chunk (holdings_at m.state hand)) ≡ true → KnownAt (after_drop m.state hand chunk) (with_more m.past.said hand []) (with_more m.past.known hand [])
   known_drop l chunk fresh can =
@@ -114,7 +114,7 @@ module _ (m : Moment) (hand : ℕ) where
     abbrev holding : Holding
     holding = new_holding (with_slabs m.state next) chunk purpose
 
-    new_apart : (k : Known) → IsStill m l k → IsApartFrom k holding
+    new_apart : (k : KnownItem) → IsStill m l k → IsApartFrom k holding
     new_apart k is fresh at issue = absurd (
         let was : k.issue ≤ (head_in m.state.table m.state.heads chunk).issue = subst (λ (c : ChunkId). k.issue ≤ (head_in m.state.table m.state.heads c).issue) (sym at) is.older in
         omega arith)
@@ -122,7 +122,7 @@ module _ (m : Moment) (hand : ℕ) where
     known_fresh : KnownAt (with_fresh (with_slabs m.state next) hand chunk purpose) (with_more m.past.said hand []) (with_more m.past.known hand [])
     known_fresh =
         known_end (with_fresh (with_slabs m.state next) hand chunk purpose)
-        (known_turned m l next chunk (handed_out (head_at m.state chunk)) (rows_more m.state.holdings hand holding) same near (younger_handed_out (head_at m.state chunk))
+        (known_turned m l next chunk (head_after_hand_out (head_at m.state chunk)) (rows_more m.state.holdings hand holding) same near (younger_handed_out (head_at m.state chunk))
         (λ is. absurd (both_ways (is_linked Unlinked) refl (ap is_linked is)))
         (λ k is. each_more m.state.holdings hand (IsApartFrom k) holding is.apart (new_apart k is)) (own_fresh m l hand holding refl))
 
@@ -134,7 +134,7 @@ module _ (m : Moment) (hand : ℕ) where
       let of_table = and_parts (has_slabs m.state hand) (is_class m.state.table class) more.0 in
       let is = IsClass_from m.state.table m.state.slabs class l.paged.of_table of_table.1 in
       let left : State = with_slabs m.state (slabs_changes.after_pop m.state.slabs class) in
-      elim (next_free m.state class) as (λ o. next_free m.state class ≡ o → can_hand_out m.state o ≡ true → KnownAt (popped left hand o) (with_more m.past.said hand []) (with_more m.past.known hand [])) [
+      elim (next_free m.state class) as (λ o. next_free m.state class ≡ o → can_hand_out m.state o ≡ true → KnownAt (state_after_pop_of left hand o) (with_more m.past.said hand []) (with_more m.past.known hand [])) [
         | None ↦ λ _ never. absurd (cc)
         | Some chunk ↦ λ first _.
             let at = first_placed m l class chunk is first in
@@ -160,12 +160,12 @@ module _ (m : Moment) (hand : ℕ) where
   pub known_unlink : (key : ℕ) → MayStep m hand (Unlink key) → KnownIn (moment_stepped m hand (Unlink key))
   known_unlink key may =
       let l = may.lawful in
-      let parts = and_parts _ (is_linked_at m.state (chunk_of m.state key)) may.allowed in
+      let parts = and_parts _ (is_linked_at m.state (chunk_of_key m.state key)) may.allowed in
       let stripe = stripe_of m.state key in
       let left : State = with_stripe m.state stripe (stripe_unlinked (stripe_at m.state stripe) (has_fresh (holdings_at m.state hand)) (writer_of m.state hand) key) in
-      elim (chunk_of m.state key) as (λ o. chunk_of m.state key ≡ o → is_linked_at m.state o ≡ true → KnownAt (with_unlinked left o) (with_more m.past.said hand []) (with_more m.past.known hand [])) [
+      elim (chunk_of_key m.state key) as (λ o. chunk_of_key m.state key ≡ o → is_linked_at m.state o ≡ true → KnownAt (with_unlinked left o) (with_more m.past.said hand []) (with_more m.past.known hand [])) [
         | None ↦ λ _ never. absurd (cc)
         | Some place ↦ λ found is.
             let entry = entry_of m l key place found in
-            known_header l m.state.slabs place.0 (unlinked (head_at m.state place.0)) (λ page. refl) entry.inside (younger_unlinked (head_at m.state place.0) entry.linked) refl
+            known_header l m.state.slabs place.0 (head_after_unlink (head_at m.state place.0)) (λ page. refl) entry.inside (younger_unlinked (head_at m.state place.0) entry.linked) refl
       ] refl parts.1

@@ -11,13 +11,13 @@ use Rattle.mc_core.specs.declared.holding.Holding.{Holding}
 use Rattle.mc_core.specs.declared.holding.Kind.{Kind}
 use Rattle.mc_core.specs.declared.holding.Kind.TheVariants.{Reference, Fresh}
 use Rattle.mc_core.specs.Head.{is_linked}
-use Rattle.mc_core.specs.Holdings.{is_fresh_kind, is_copy_of, is_copy_kind, stamp_of}
+use Rattle.mc_core.specs.Holdings.{is_fresh_kind, is_copy_of, is_copy_kind, stamp_in_words}
 use Rattle.mc_core.specs.State.{State, is_hand, has_chunk, head_at, item_at, has_slabs, has_stripe, stripe_of, stripe_at, with_head, holdings_at, looks_at}
-use Rattle.mc_core.specs.Evictions.{is_linked_unheld, condemned, key_at, has_copy, has_reason, can_lose_entry, with_told, with_bound, as_rescue}
+use Rattle.mc_core.specs.Evictions.{is_linked_unheld, head_after_condemn, key_at, has_copy, has_reason, can_lose_entry, with_eviction_call, with_bound, as_rescue}
 use Rattle.mc_core.specs.Hands as hands
-use Rattle.mc_core.specs.Past.{Moment, Known, Saying, with_more, known_by, moment_stepped, IsKnownToSome}
+use Rattle.mc_core.specs.Past.{Moment, KnownItem, StoredItem, with_more, known_by, moment_stepped, IsKnownToSome}
 use Rattle.mc_core.specs.Columns.{head_in, Each}
-use Rattle.mc_core.specs.Knowing.{IsSaid}
+use Rattle.mc_core.specs.Knowing.{WasStored}
 use Rattle.mc_core.specs.Laws.{MayStep}
 use Rattle.mc_core.specs.Lawful.{IsLawful, KnownIn}
 use Rattle.mc_core.proofs.Base.{each_map}
@@ -61,10 +61,10 @@ module _ (m : Moment) (hand : ℕ) (chunk : ChunkId) (may : MayStep m hand (Cond
   is = condemnable m hand chunk may
 
   abbrev head : Head
-  head = condemned (head_at m.state chunk)
+  head = head_after_condemn (head_at m.state chunk)
 
   abbrev told : State
-  told = with_told m.state hand chunk (key_at m.state chunk)
+  told = with_eviction_call m.state hand chunk (key_at m.state chunk)
 
   -- what the hand's copies of the chunk become
   abbrev binds : Holding → Holding
@@ -91,8 +91,8 @@ differ a b h same = both_ways (not (a == b)) (ap not (eq-eqb a b same)) h
 
 pub are_joined : (m : Moment) (hand kept spent : ℕ) → MayStep m hand (Join kept spent) → AreJoined m hand kept spent
 are_joined m hand kept spent may =
-    let idle = and_parts _ (hands.is_idle m.state spent) may.allowed in
-    let idle' = and_parts _ (hands.is_idle m.state kept) idle.0 in
+    let idle = and_parts _ (hands.is_hand_idle m.state spent) may.allowed in
+    let idle' = and_parts _ (hands.is_hand_idle m.state kept) idle.0 in
     let there = and_parts _ (is_hand m.state spent) idle'.0 in
     let apart = and_parts (hand == kept) (not (kept == spent)) there.0 in
     let same = eqb-true hand kept apart.0 in
@@ -112,20 +112,20 @@ module _ (m : Moment) (hand kept spent : ℕ) (may : MayStep m hand (Join kept s
   abbrev join : AreJoined m hand kept spent
   join = are_joined m hand kept spent may
 
-  abbrev said' : List (List Saying)
+  abbrev said' : List (List StoredItem)
   said' = joined_rows m.past.said kept spent
 
-  abbrev known' : List (List Known)
+  abbrev known' : List (List KnownItem)
   known' = joined_rows m.past.known kept spent
 
   within : (n : ℕ) → is_hand m.state n ≡ true → n < length m.state.ids
   within n there = hand_there m.state n there
 
-  said_still : (stamp : ℕ) (words : List ℕ) → IsSaid m.past.said stamp words → IsSaid said' stamp words
+  said_still : (stamp : ℕ) (words : List ℕ) → WasStored m.past.said stamp words → WasStored said' stamp words
   said_still stamp words said =
       let rows = lawful.rows.said in let is = within kept join.there in said_joined m.past.said kept spent stamp words join.apart (omega arith) said
 
-  pub known_still : (P : Known → Type 0) → IsKnownToSome m.past.known P → IsKnownToSome known' P
+  pub known_still : (P : KnownItem → Type 0) → IsKnownToSome m.past.known P → IsKnownToSome known' P
   known_still P (other, k, has, p) =
       let rows = lawful.rows.known in let is = within kept join.there in
       let there = joined_contains m.past.known kept spent other k join.apart (omega arith) has in (there.0, k, there.1, p)
@@ -143,7 +143,7 @@ module _ (m : Moment) (hand kept spent : ℕ) (may : MayStep m hand (Join kept s
               | inr apart_too ↦
                   let row : row_of known' other ≡ row_of m.past.known other =
                   row_other (with_more m.past.known kept (row_of m.past.known spent)) spent other [] apart ∙ row_other m.past.known kept other (row_of m.past.known kept ++ row_of m.past.known spent) apart_too in
-                  All-weaker (IsOwn m.past.known other) (IsOwn known' other) (λ holding own stale. let (room, has) = own stale in (room, subst (λ (r : List Known). Contains r (known_by room holding)) (sym row) has)) (row_of m.state.holdings other) (lawful.known.own other)
+                  All-weaker (IsOwn m.past.known other) (IsOwn known' other) (λ holding own stale. let (room, has) = own stale in (room, subst (λ (r : List KnownItem). Contains r (known_by room holding)) (sym row) has)) (row_of m.state.holdings other) (lawful.known.own other)
             ]
       ]
 
@@ -151,8 +151,8 @@ module _ (m : Moment) (hand kept spent : ℕ) (may : MayStep m hand (Join kept s
   known_join =
       let rows = lawful.rows.said in let in_kept = within kept join.there in let in_spent = within spent join.there_too in
       let once = λ (stamp : ℕ). once_joined m.past.said kept spent stamp join.apart (omega arith) (omega arith) (lawful.known.once stamp) in
-      let by_some = each_joined (λ k. IsSaid said' (stamp_of k.words) k.words) m.past.known kept spent
-      (each_map (λ k. IsSaid m.past.said (stamp_of k.words) k.words) (λ k. IsSaid said' (stamp_of k.words) k.words) m.past.known (λ k. said_still (stamp_of k.words) k.words) lawful.known.said_by_some) in
+      let by_some = each_joined (λ k. WasStored said' (stamp_in_words k.words) k.words) m.past.known kept spent
+      (each_map (λ k. WasStored m.past.said (stamp_in_words k.words) k.words) (λ k. WasStored said' (stamp_in_words k.words) k.words) m.past.known (λ k. said_still (stamp_in_words k.words) k.words) lawful.known.said_by_some) in
       record {
         once = once;
         agree = all_agree said' known' once by_some;

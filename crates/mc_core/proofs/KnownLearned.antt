@@ -4,12 +4,12 @@ use Rattle.mc_pages.specs.declared.ids.ChunkId.{ChunkId}
 use Rattle.std.proofs.lemmas.List.Elements.{All-weaker}
 use Rattle.mc_core.specs.declared.head.Head.{Head}
 use Rattle.mc_core.specs.declared.holding.Holding.{Holding}
-use Rattle.mc_core.specs.Holdings.{stamp_of}
-use Rattle.mc_core.specs.Past.{Moment, Known, Saying, known_by, with_more, IsKnownToSome}
+use Rattle.mc_core.specs.Holdings.{stamp_in_words}
+use Rattle.mc_core.specs.Past.{Moment, KnownItem, StoredItem, known_by, with_more, IsKnownToSome}
 use Rattle.mc_core.specs.State.{has_chunk, head_place, is_hand}
 use Rattle.mc_core.specs.Columns.{Each}
-use Rattle.mc_core.specs.Identities.{said_count}
-use Rattle.mc_core.specs.Knowing.{IsSaid, IsTrueStill, AreKnown}
+use Rattle.mc_core.specs.Identities.{stored_count}
+use Rattle.mc_core.specs.Knowing.{WasStored, IsTrueStill, AreKnown}
 use Rattle.mc_core.specs.Lawful.{IsLawful}
 use Rattle.mc_core.proofs.Base.{each_map, all_more}
 use Rattle.mc_core.proofs.Rows.{rows_more}
@@ -19,19 +19,19 @@ use Rattle.mc_core.proofs.KnownStill.{linked_turned}
 use Rattle.mc_core.proofs.KnownQuiet.{IsOwn, IsStill, all_agree}
 
 -- two items of one chunk and issue are the same
-abbrev pub AreOne : Known → Known → Type 0
+abbrev pub AreOne : KnownItem → KnownItem → Type 0
 AreOne k other = other.chunk ≡ k.chunk → other.issue ≡ k.issue → other.words ≡ k.words
 
 -- who knew something knows it still
-pub known_more : (known : List (List Known)) (hand : ℕ) (more : List Known) (P : Known → Type 0) → IsKnownToSome known P → IsKnownToSome (with_more known hand more) P
+pub known_more : (known : List (List KnownItem)) (hand : ℕ) (more : List KnownItem) (P : KnownItem → Type 0) → IsKnownToSome known P → IsKnownToSome (with_more known hand more) P
 known_more known hand more P (other, k, has, p) = (other, k, more_contains known hand other more k has, p)
 
-pub own_more : (known : List (List Known)) (hand : ℕ) (more : List Known) (other : ℕ) (row : List Holding) → All (IsOwn known other) row → All (IsOwn (with_more known hand more) other) row
+pub own_more : (known : List (List KnownItem)) (hand : ℕ) (more : List KnownItem) (other : ℕ) (row : List Holding) → All (IsOwn known other) row → All (IsOwn (with_more known hand more) other) row
 own_more known hand more other row all = All-weaker (IsOwn known other) (IsOwn (with_more known hand more) other)
     (λ holding own stale. let (room, has) = own stale in (room, more_contains known hand other more (known_by room holding) has)) row all
 
-module _ (m : Moment) (l : IsLawful m) (hand : ℕ) (there : is_hand m.state hand ≡ true) (knew : Known) where
-  abbrev known' : List (List Known)
+module _ (m : Moment) (l : IsLawful m) (hand : ℕ) (there : is_hand m.state hand ≡ true) (knew : KnownItem) where
+  abbrev known' : List (List KnownItem)
   known' = with_more m.past.known hand (knew ∷ [])
 
   known_within : hand < length m.past.known
@@ -54,23 +54,23 @@ module _ (m : Moment) (l : IsLawful m) (hand : ℕ) (there : is_hand m.state han
   own_learned rows' reference own is =
       let grown = λ (other : ℕ). own_more m.past.known hand (knew ∷ []) other (row_of rows' other) (own other) in
       rows_set (IsOwn known') rows' hand (row_of rows' hand ++ reference ∷ []) grown
-      (all_more (IsOwn known' hand) (row_of rows' hand) reference (grown hand) (λ _. (knew.room, subst (λ (k : Known). Contains (row_of known' hand) k) (sym is) newly_known)))
+      (all_more (IsOwn known' hand) (row_of rows' hand) reference (grown hand) (λ _. (knew.room, subst (λ (k : KnownItem). Contains (row_of known' hand) k) (sym is) newly_known)))
 
   -- one header changes, and the hand gets a reference to the item
-  module _ (chunk : ChunkId) (head : Head) (near : has_chunk m.state.table chunk ≡ true) (reference : Holding) (rows' : List (List Holding)) (said' : List (List Saying)) where
+  module _ (chunk : ChunkId) (head : Head) (near : has_chunk m.state.table chunk ≡ true) (reference : Holding) (rows' : List (List Holding)) (said' : List (List StoredItem)) where
     abbrev heads' : List Head
     heads' = slice_set m.state.heads (head_place m.state.table chunk) head
 
-    abbrev IsStillNow : Known → Type 0
+    abbrev IsStillNow : KnownItem → Type 0
     IsStillNow k = IsTrueStill m.state.table m.state.slabs heads' m.state.words (rows_more rows' hand reference) k
 
-    pub known_learned : ((stamp : ℕ) → said_count stamp said' ≤ 1) → ((stamp : ℕ) (words : List ℕ) → IsSaid m.past.said stamp words → IsSaid said' stamp words) → IsSaid said' (stamp_of knew.words) knew.words →
-        ((k : Known) → IsStill m l k → IsStillNow k) → IsStillNow knew → Each (AreOne knew) m.past.known → ((other : ℕ) → All (IsOwn m.past.known other) (row_of rows' other)) → known_by knew.room reference ≡ knew →
+    pub known_learned : ((stamp : ℕ) → stored_count stamp said' ≤ 1) → ((stamp : ℕ) (words : List ℕ) → WasStored m.past.said stamp words → WasStored said' stamp words) → WasStored said' (stamp_in_words knew.words) knew.words →
+        ((k : KnownItem) → IsStill m l k → IsStillNow k) → IsStillNow knew → Each (AreOne knew) m.past.known → ((other : ℕ) → All (IsOwn m.past.known other) (row_of rows' other)) → known_by knew.room reference ≡ knew →
         knew.chunk ≡ chunk → knew.issue ≡ head.issue → AreKnown m.state.table m.state.slabs heads' m.state.words (rows_more rows' hand reference) said' known'
     known_learned once more said still knew_still agrees own is at issue =
-        let by_some = each_more (λ k. IsSaid said' (stamp_of k.words) k.words) m.past.known hand (knew ∷ [])
-        (each_map (λ k. IsSaid m.past.said (stamp_of k.words) k.words) (λ k. IsSaid said' (stamp_of k.words) k.words) m.past.known (λ k was. more (stamp_of k.words) k.words was) l.known.said_by_some)
-        (all_one (λ k. IsSaid said' (stamp_of k.words) k.words) knew said) in
+        let by_some = each_more (λ k. WasStored said' (stamp_in_words k.words) k.words) m.past.known hand (knew ∷ [])
+        (each_map (λ k. WasStored m.past.said (stamp_in_words k.words) k.words) (λ k. WasStored said' (stamp_in_words k.words) k.words) m.past.known (λ k was. more (stamp_in_words k.words) k.words was) l.known.said_by_some)
+        (all_one (λ k. WasStored said' (stamp_in_words k.words) k.words) knew said) in
         record {
           once = once;
           agree = all_agree said' known' once by_some;

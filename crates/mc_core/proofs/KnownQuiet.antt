@@ -7,15 +7,15 @@ use Rattle.mc_pages.specs.SlabState.{SlabState, class_of_page}
 use Rattle.mc_core.specs.declared.head.Head.{Head}
 use Rattle.mc_core.specs.declared.head.Tag.TheVariants.{Unlinked, Linked}
 use Rattle.mc_core.specs.declared.holding.Holding.{Holding}
-use Rattle.mc_core.specs.Holdings.{is_fresh, change_each, lose, stamp_of}
-use Rattle.mc_core.specs.Past.{Moment, Known, Saying, known_by, with_more, IsKnownToSome}
+use Rattle.mc_core.specs.Holdings.{is_fresh, change_each, without_first, stamp_in_words}
+use Rattle.mc_core.specs.Past.{Moment, KnownItem, StoredItem, known_by, with_more, IsKnownToSome}
 use Rattle.mc_core.specs.State.{has_chunk, head_place}
-use Rattle.mc_core.specs.Chunks.{handed_out, let_go, with_tag_free, with_tag_out}
-use Rattle.mc_core.specs.Items.{linked, unlinked, referred}
-use Rattle.mc_core.specs.Evictions.{condemned}
+use Rattle.mc_core.specs.Chunks.{head_after_hand_out, head_after_release, with_tag_free, with_tag_out}
+use Rattle.mc_core.specs.Items.{head_after_link, head_after_unlink, head_after_refer}
+use Rattle.mc_core.specs.Evictions.{head_after_condemn}
 use Rattle.mc_core.specs.Columns.{head_in, Each, IsHandedOut}
-use Rattle.mc_core.specs.Identities.{said_count}
-use Rattle.mc_core.specs.Knowing.{IsSaid, IsTrueStill, AreKnown}
+use Rattle.mc_core.specs.Identities.{stored_count}
+use Rattle.mc_core.specs.Knowing.{WasStored, IsTrueStill, AreKnown}
 use Rattle.mc_core.specs.Lawful.{IsLawful}
 use Rattle.mc_core.proofs.Base.{each_map, all_lose, all_more}
 use Rattle.mc_core.proofs.Rows.{rows_less, rows_more, each_less}
@@ -25,56 +25,56 @@ use Rattle.mc_core.proofs.SaidOnce.{said_one}
 use Rattle.mc_core.proofs.KnownStill.{IsApartFrom, IsNoOlder, not_shown, still_turned, linked_turned}
 
 -- the hand knows the item, if the holding is a reference
-abbrev pub IsOwn : List (List Known) → ℕ → Holding → Type 0
+abbrev pub IsOwn : List (List KnownItem) → ℕ → Holding → Type 0
 IsOwn known hand holding = is_fresh holding ≡ false → (room : ℕ) × Contains (row_of known hand) (known_by room holding)
 
 -- each linked chunk is known to some hand
-abbrev pub AreLinkedKnown : Classes → List Head → List (List Known) → Type 0
+abbrev pub AreLinkedKnown : Classes → List Head → List (List KnownItem) → Type 0
 AreLinkedKnown table heads known =
     (chunk : ChunkId) → has_chunk table chunk ≡ true → (head_in table heads chunk).tag ≡ Linked → IsKnownToSome known (λ k. (k.chunk ≡ chunk) × (k.issue ≡ (head_in table heads chunk).issue))
 
 -- no step that says and learns nothing changes what was said and is known
-pub nothing_learned : (P : List (List Saying) → List (List Known) → Type 0) (said : List (List Saying)) (known : List (List Known)) (hand : ℕ) → P said known → P (with_more said hand []) (with_more known hand [])
+pub nothing_learned : (P : List (List StoredItem) → List (List KnownItem) → Type 0) (said : List (List StoredItem)) (known : List (List KnownItem)) (hand : ℕ) → P said known → P (with_more said hand []) (with_more known hand [])
 nothing_learned P said known hand p =
-    subst (λ (s : List (List Saying)). P s (with_more known hand [])) (sym (with_none said hand)) (subst (λ (k : List (List Known)). P said k) (sym (with_none known hand)) p)
+    subst (λ (s : List (List StoredItem)). P s (with_more known hand [])) (sym (with_none said hand)) (subst (λ (k : List (List KnownItem)). P said k) (sym (with_none known hand)) p)
 
 -- what is known agrees with what is said
-pub all_agree : (said : List (List Saying)) (known : List (List Known)) → ((stamp : ℕ) → said_count stamp said ≤ 1) → Each (λ k. IsSaid said (stamp_of k.words) k.words) known →
-    Each (λ k. (words : List ℕ) → IsSaid said (stamp_of k.words) words → words ≡ k.words) known
+pub all_agree : (said : List (List StoredItem)) (known : List (List KnownItem)) → ((stamp : ℕ) → stored_count stamp said ≤ 1) → Each (λ k. WasStored said (stamp_in_words k.words) k.words) known →
+    Each (λ k. (words : List ℕ) → WasStored said (stamp_in_words k.words) words → words ≡ k.words) known
 all_agree said known once each =
-    each_map (λ k. IsSaid said (stamp_of k.words) k.words) (λ k. (words : List ℕ) → IsSaid said (stamp_of k.words) words → words ≡ k.words) known
-    (λ k is words too. said_one said (stamp_of k.words) words k.words (once (stamp_of k.words)) too is) each
+    each_map (λ k. WasStored said (stamp_in_words k.words) k.words) (λ k. (words : List ℕ) → WasStored said (stamp_in_words k.words) words → words ≡ k.words) known
+    (λ k is words too. said_one said (stamp_in_words k.words) words k.words (once (stamp_in_words k.words)) too is) each
 
 module _ (m : Moment) (l : IsLawful m) where
   abbrev pub table : Classes
   table = m.state.table
 
-  abbrev pub known : List (List Known)
+  abbrev pub known : List (List KnownItem)
   known = m.past.known
 
   abbrev pub rows : List (List Holding)
   rows = m.state.holdings
 
   -- what is known is as true as before
-  abbrev pub IsStill : Known → Type 0
+  abbrev pub IsStill : KnownItem → Type 0
   IsStill k = IsTrueStill table m.state.slabs m.state.heads m.state.words rows k
 
-  pub known_quiet : (next : SlabState) (heads : List Head) (words : List ℕ) (rows' : List (List Holding)) → ((k : Known) → IsStill k → IsTrueStill table next heads words rows' k) →
+  pub known_quiet : (next : SlabState) (heads : List Head) (words : List ℕ) (rows' : List (List Holding)) → ((k : KnownItem) → IsStill k → IsTrueStill table next heads words rows' k) →
       ((hand : ℕ) → All (IsOwn known hand) (row_of rows' hand)) → AreLinkedKnown table heads known → AreKnown table next heads words rows' m.past.said known
-  known_quiet next heads words rows' still own linked = record {
+  known_quiet next heads words rows' still own head_after_link = record {
     once = l.known.once;
     agree = l.known.agree;
     said_by_some = l.known.said_by_some;
     still = each_map IsStill (IsTrueStill table next heads words rows') known still l.known.still;
     one = l.known.one;
     own = own;
-    linked = linked;
+    linked = head_after_link;
   }
 
   -- one header, the order of lists, and rows of holdings
   pub known_turned : (next : SlabState) (chunk : ChunkId) (head : Head) (rows' : List (List Holding)) → ((page : ℕ) → class_of_page next page ≡ class_of_page m.state.slabs page) → has_chunk table chunk ≡ true →
       IsNoOlder (head_in table m.state.heads chunk) head → (head.tag ≡ Linked → ((head_in table m.state.heads chunk).tag ≡ Linked) × (head.issue ≡ (head_in table m.state.heads chunk).issue)) →
-      ((k : Known) → IsStill k → Each (IsApartFrom k) rows') → ((hand : ℕ) → All (IsOwn known hand) (row_of rows' hand)) →
+      ((k : KnownItem) → IsStill k → Each (IsApartFrom k) rows') → ((hand : ℕ) → All (IsOwn known hand) (row_of rows' hand)) →
       AreKnown table next (slice_set m.state.heads (head_place table chunk) head) m.state.words rows' m.past.said known
   known_turned next chunk head rows' same near younger tag apart own =
       known_quiet next (slice_set m.state.heads (head_place table chunk) head) m.state.words rows'
@@ -85,14 +85,14 @@ module _ (m : Moment) (l : IsLawful m) where
       subst (λ n. IsKnownToSome known (λ k. (k.chunk ≡ chunk) × (k.issue ≡ n))) (sym was.1) (l.known.linked chunk near was.0)))
 
   -- the holdings may stay, or one go, or one come that is fresh
-  pub apart_same : (k : Known) → IsStill k → Each (IsApartFrom k) rows
+  pub apart_same : (k : KnownItem) → IsStill k → Each (IsApartFrom k) rows
   apart_same k is = is.apart
 
-  pub apart_less : (hand : ℕ) (test : Holding → Bool) (k : Known) → IsStill k → Each (IsApartFrom k) (rows_less rows hand test)
+  pub apart_less : (hand : ℕ) (test : Holding → Bool) (k : KnownItem) → IsStill k → Each (IsApartFrom k) (rows_less rows hand test)
   apart_less hand test k is = each_less rows hand (IsApartFrom k) test is.apart
 
   pub own_less : (hand : ℕ) (test : Holding → Bool) (other : ℕ) → All (IsOwn known other) (row_of (rows_less rows hand test) other)
-  own_less hand test = rows_set (IsOwn known) rows hand (lose test (row_of rows hand)) l.known.own (all_lose (IsOwn known hand) test (row_of rows hand) (l.known.own hand))
+  own_less hand test = rows_set (IsOwn known) rows hand (without_first test (row_of rows hand)) l.known.own (all_lose (IsOwn known hand) test (row_of rows hand) (l.known.own hand))
 
   -- some holdings are changed, and are fresh then
   pub own_changed : (hand : ℕ) (test : Holding → Bool) (change : Holding → Holding) → ((holding : Holding) → test holding ≡ true → is_fresh (change holding) ≡ true) →
@@ -110,22 +110,22 @@ module _ (m : Moment) (l : IsLawful m) where
   own_fresh hand holding fresh = own_added rows hand holding l.known.own fresh
 
 -- headers that show nothing new
-pub younger_handed_out : (old : Head) → IsNoOlder old (handed_out old)
+pub younger_handed_out : (old : Head) → IsNoOlder old (head_after_hand_out old)
 younger_handed_out old = record { issue = omega arith; shows = λ issue most out. absurd (let same = out.1 in omega arith) }
 
-pub younger_let_go : (old : Head) → IsNoOlder old (let_go old)
+pub younger_let_go : (old : Head) → IsNoOlder old (head_after_release old)
 younger_let_go old = record { issue = omega arith; shows = λ issue most out. out }
 
-pub younger_referred : (old : Head) → IsNoOlder old (referred old)
+pub younger_referred : (old : Head) → IsNoOlder old (head_after_refer old)
 younger_referred old = record { issue = omega arith; shows = λ issue most out. out }
 
-pub younger_unlinked : (old : Head) → old.tag ≡ Linked → IsNoOlder old (unlinked old)
+pub younger_unlinked : (old : Head) → old.tag ≡ Linked → IsNoOlder old (head_after_unlink old)
 younger_unlinked old was = record { issue = omega arith; shows = λ issue most out. (inr was, out.1) }
 
-pub younger_condemned : (old : Head) → old.tag ≡ Linked → IsNoOlder old (condemned old)
+pub younger_condemned : (old : Head) → old.tag ≡ Linked → IsNoOlder old (head_after_condemn old)
 younger_condemned old was = record { issue = omega arith; shows = λ issue most out. (inr was, out.1) }
 
-pub younger_linked : (old : Head) → old.tag ≡ Unlinked → IsNoOlder old (linked old)
+pub younger_linked : (old : Head) → old.tag ≡ Unlinked → IsNoOlder old (head_after_link old)
 younger_linked old was = record { issue = omega arith; shows = λ issue most out. (inl was, out.1) }
 
 pub younger_free : (old : Head) → IsNoOlder old (with_tag_free old)

@@ -14,9 +14,9 @@ use Rattle.mc_core.specs.Silent.{slabs_after}
 use Rattle.mc_core.specs.Run.{after_step}
 use Rattle.mc_core.specs.Past.{Moment, first_moment}
 use Rattle.mc_core.specs.Columns.{Each}
-use Rattle.mc_core.specs.Identities.{said_count}
-use Rattle.mc_core.specs.Knowing.{IsSaid, IsTrueStill}
-use Rattle.mc_core.specs.Holdings.{stamp_of}
+use Rattle.mc_core.specs.Identities.{stored_count}
+use Rattle.mc_core.specs.Knowing.{WasStored, IsTrueStill}
+use Rattle.mc_core.specs.Holdings.{stamp_in_words}
 use Rattle.mc_core.specs.declared.holding.Holding.{Holding}
 use Rattle.mc_core.specs.Laws.{ChangesKeep, StepsKeep, StaysOfClass, HoldsAtFirst}
 use Rattle.mc_core.specs.Lawful.{IsLawful, KnownIn}
@@ -87,7 +87,7 @@ read_replicate (suc n) (suc i) x = read_replicate n i x
 pub each_none : {X : Type 0} (P : X → Type 0) (hands : ℕ) → Each P (replicate hands [])
 each_none P hands = All-replicate (All P) hands [] (All-nil P)
 
-none_said : (stamp hands : ℕ) → said_count stamp (replicate hands []) ≡ 0
+none_said : (stamp hands : ℕ) → stored_count stamp (replicate hands []) ≡ 0
 none_said stamp zero = refl
 none_said stamp (suc hands) = let rest = none_said stamp hands in omega arith
 
@@ -96,8 +96,8 @@ known_first table stripes hands start sound some one most small =
     let m = first_moment table stripes hands start in
     record {
       once = λ stamp. let none = none_said stamp hands in omega arith;
-      agree = each_none (λ k. (words : List ℕ) → IsSaid m.past.said (stamp_of k.words) words → words ≡ k.words) hands;
-      said_by_some = each_none (λ k. IsSaid m.past.said (stamp_of k.words) k.words) hands;
+      agree = each_none (λ k. (words : List ℕ) → WasStored m.past.said (stamp_in_words k.words) words → words ≡ k.words) hands;
+      said_by_some = each_none (λ k. WasStored m.past.said (stamp_in_words k.words) k.words) hands;
       still = each_none (IsTrueStill table m.state.slabs m.state.heads m.state.words m.state.holdings) hands;
       one = each_none (λ k. Each (AreOne k) m.past.known) hands;
       own = λ hand. subst (λ (row : List Holding). All (IsOwn m.past.known hand) row) (sym (read_replicate hands hand [])) (All-nil (IsOwn m.past.known hand));

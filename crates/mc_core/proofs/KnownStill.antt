@@ -11,7 +11,7 @@ use Rattle.mc_core.specs.declared.head.Tag.{Tag}
 use Rattle.mc_core.specs.declared.head.Tag.TheVariants.{Out, Free, Unlinked, Linked}
 use Rattle.mc_core.specs.declared.holding.Holding.{Holding}
 use Rattle.mc_core.specs.Holdings.{is_fresh, all_known}
-use Rattle.mc_core.specs.Past.{Known, IsKnownToSome}
+use Rattle.mc_core.specs.Past.{KnownItem, IsKnownToSome}
 use Rattle.mc_core.specs.State.{room_in, has_chunk, head_place, most_of}
 use Rattle.mc_core.specs.Columns.{head_in, Shows, Each, IsHandedOut}
 use Rattle.mc_core.specs.Knowing.{IsTrueStill}
@@ -19,7 +19,7 @@ use Rattle.mc_core.proofs.Base.{head_written, head_other}
 use Rattle.mc_core.proofs.ShownItems.{shows_class}
 
 -- the holding isn't a fresh one of the known chunk and issue
-abbrev pub IsApartFrom : Known → Holding → Type 0
+abbrev pub IsApartFrom : KnownItem → Holding → Type 0
 IsApartFrom k holding = is_fresh holding ≡ true → holding.chunk ≡ k.chunk → holding.issue ≡ k.issue → ⊥
 
 -- the new header has no lower issue, and shows no item of an older issue that the old one didn't show
@@ -50,7 +50,7 @@ module _ (table : Classes) (heads : List Head) (chunk : ChunkId) (head : Head) (
   ]
 
   -- what is known stays true
-  pub still_turned : (slabs next : SlabState) (words : List ℕ) (rows rows' : List (List Holding)) (k : Known) → IsNoOlder old head → class_of_page next k.chunk.page ≡ class_of_page slabs k.chunk.page → Each (IsApartFrom k) rows' →
+  pub still_turned : (slabs next : SlabState) (words : List ℕ) (rows rows' : List (List Holding)) (k : KnownItem) → IsNoOlder old head → class_of_page next k.chunk.page ≡ class_of_page slabs k.chunk.page → Each (IsApartFrom k) rows' →
       IsTrueStill table slabs heads words rows k → IsTrueStill table next now words rows' k
   still_turned slabs next words rows rows' k younger same apart true_so_far = record {
     inside = true_so_far.inside;
@@ -75,7 +75,7 @@ module _ (table : Classes) (heads : List Head) (chunk : ChunkId) (head : Head) (
       still_shows out = shows_class table slabs next words k.chunk (all_known k.words) same (true_so_far.shows out)
 
   -- each linked chunk is known to some hand
-  pub linked_turned : (known known' : List (List Known)) → ((P : Known → Type 0) → IsKnownToSome known P → IsKnownToSome known' P)
+  pub linked_turned : (known known' : List (List KnownItem)) → ((P : KnownItem → Type 0) → IsKnownToSome known P → IsKnownToSome known' P)
       → ((other : ChunkId) → has_chunk table other ≡ true → (head_in table heads other).tag ≡ Linked → IsKnownToSome known (λ k. (k.chunk ≡ other) × (k.issue ≡ (head_in table heads other).issue)))
       → (head.tag ≡ Linked → IsKnownToSome known' (λ k. (k.chunk ≡ chunk) × (k.issue ≡ head.issue)))
       → (other : ChunkId) → has_chunk table other ≡ true → (head_in table now other).tag ≡ Linked → IsKnownToSome known' (λ k. (k.chunk ≡ other) × (k.issue ≡ (head_in table now other).issue))
@@ -85,7 +85,7 @@ module _ (table : Classes) (heads : List Head) (chunk : ChunkId) (head : Head) (
       (λ _ linked. more (λ k. (k.chunk ≡ other) × (k.issue ≡ (head_in table heads other).issue)) (were other near linked))
 
 -- the headers stay
-pub still_listed : (table : Classes) (slabs next : SlabState) (heads : List Head) (words : List ℕ) (rows rows' : List (List Holding)) (k : Known) →
+pub still_listed : (table : Classes) (slabs next : SlabState) (heads : List Head) (words : List ℕ) (rows rows' : List (List Holding)) (k : KnownItem) →
     (IsHandedOut (head_in table heads k.chunk) k.issue → class_of_page next k.chunk.page ≡ class_of_page slabs k.chunk.page) → Each (IsApartFrom k) rows' →
     IsTrueStill table slabs heads words rows k → IsTrueStill table next heads words rows' k
 still_listed table slabs next heads words rows rows' k same apart so_far = record {

@@ -4,10 +4,10 @@ use Rattle.std.proofs.lemmas.Bool.{and_parts}
 use Rattle.mc_core.specs.declared.event.Change.{Change}
 use Rattle.mc_core.specs.declared.event.Event.{Event}
 use Rattle.mc_core.specs.declared.ids.Ids.{Ids}
-use Rattle.mc_core.specs.State.{State, gone, is_hand}
+use Rattle.mc_core.specs.State.{State, no_ids, is_hand}
 use Rattle.mc_core.specs.Silent.{allows_change, after_change, allows_changes, after_changes}
 use Rattle.mc_core.specs.Past.{Moment, moment_changed, moment_changes, moment_after, first_moment}
-use Rattle.mc_core.specs.Run.{allows_step, after_step, is_allowed, after, play_from}
+use Rattle.mc_core.specs.Run.{allows_step, after_step, is_allowed, state_after_event, play_from}
 use Rattle.mc_core.specs.Lawful.{IsLawful}
 use Rattle.mc_core.specs.Laws.{MayChange, MayStep, ChangesKeep, StepsKeep, EventsKeep, HoldsAtFirst, moment_at_end, IsRun, ArePlayed, AreLawful}
 use Rattle.mc_core.proofs.FirstHands.{hands_first, numbered_first, told_first}
@@ -88,7 +88,7 @@ pub changes_state : (m : Moment) (hand : ℕ) (changes : List Change) → (momen
 changes_state m hand [] = refl
 changes_state m hand (change ∷ changes) = changes_state (moment_changed m hand change) hand changes
 
-pub state_after : (m : Moment) (event : Event) → (moment_after m event).state ≡ after m.state event
+pub state_after : (m : Moment) (event : Event) → (moment_after m event).state ≡ state_after_event m.state event
 state_after m event = ap (λ (s : State). after_step s event.hand event.step) (changes_state m event.hand event.before)
 
 -- the changes before a step keep the law
@@ -98,7 +98,7 @@ lawful_all m hand [] l there h = (l, there)
 lawful_all m hand (change ∷ changes) l there h =
     let parts = and_parts (allows_change m.state hand change) (allows_changes (after_change m.state hand change) hand changes) h in
     let may : MayChange m hand change = record { lawful = l; there = there; allowed = parts.0 } in
-    let still : is_hand (after_change m.state hand change) hand ≡ true = ap (λ (ids : List Ids). is_some (slice_index_or ids hand gone).number) (ids_change m.state hand change) ∙ there in
+    let still : is_hand (after_change m.state hand change) hand ≡ true = ap (λ (ids : List Ids). is_some (slice_index_or ids hand no_ids).number) (ids_change m.state hand change) ∙ there in
     lawful_all (moment_changed m hand change) hand changes (lawful_changes m hand change may) still parts.1
 
 -- an event is allowed as its changes and then its step are
@@ -132,7 +132,7 @@ played_from place m [] state e = (tt, same_state m.state state e)
     same_state : (a b : State) → ◌≡◌ {A = Result State ℕ} (Ok a) (Ok b) → a ≡ b
     same_state a b e = cc
 played_from place m (event ∷ events) state e =
-    elim (is_allowed m.state event) as (λ b. is_allowed m.state event ≡ b → cond b (play_from (place + 1) (after m.state event) events) (Err place) ≡ Ok state → ((is_allowed m.state event ≡ true) × IsRun (moment_after m event) events) × ((moment_at_end (moment_after m event) events).state ≡ state)) [
+    elim (is_allowed m.state event) as (λ b. is_allowed m.state event ≡ b → cond b (play_from (place + 1) (state_after_event m.state event) events) (Err place) ≡ Ok state → ((is_allowed m.state event ≡ true) × IsRun (moment_after m event) events) × ((moment_at_end (moment_after m event) events).state ≡ state)) [
       | true ↦ λ is played.
           let rest = played_from (place + 1) (moment_after m event) events state (ap (λ (s : State). play_from (place + 1) s events) (state_after m event) ∙ played) in
           ((is, rest.0), rest.1)

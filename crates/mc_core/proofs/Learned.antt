@@ -5,8 +5,8 @@ use Rattle.mc_pages.specs.Accounted.{truth}
 use Rattle.mc_core.specs.declared.event.Step.{Step}
 use Rattle.mc_core.specs.declared.event.Step.TheVariants as step
 use Rattle.mc_core.specs.State.{State, number_at}
-use Rattle.mc_core.specs.Past.{Past, Own, learned, learned_alone, own_after, told, with_calls}
-use Rattle.mc_core.specs.Identities.{owns, owners}
+use Rattle.mc_core.specs.Past.{Past, Own, past_after_step, learned_alone, own_after, calls_with_new, with_calls}
+use Rattle.mc_core.specs.Identities.{count_in_hand, count_in_hands}
 use Rattle.mc_core.proofs.MoreRows.{row_of}
 
 abbrev pub is_join : Step → Bool
@@ -14,7 +14,7 @@ is_join (step.Join kept spent) = true
 is_join other = false
 
 -- but for a join, the stepping hand alone learns
-pub learned_is : (before now : State) (past : Past) (hand : ℕ) (step : Step) → is_join step ≡ false → learned before now past hand step ≡ learned_alone before now past hand step
+pub learned_is : (before now : State) (past : Past) (hand : ℕ) (step : Step) → is_join step ≡ false → past_after_step before now past hand step ≡ learned_alone before now past hand step
 learned_is before now past hand step.TakeSlabs h = refl
 learned_is before now past hand (step.TakeStripe stripe) h = refl
 learned_is before now past hand step.MissSlabs h = refl
@@ -43,7 +43,7 @@ learned_is before now past hand (step.Join kept spent) h = absurd (cc)
 abbrev pub numbers_of : List Own → List ℕ
 numbers_of row = map (λ (own : Own). own.number) row
 
-owns_is : (number : ℕ) (row : List Own) → owns number row ≡ count_by (λ n. n == number) (numbers_of row)
+owns_is : (number : ℕ) (row : List Own) → count_in_hand number row ≡ count_by (λ n. n == number) (numbers_of row)
 owns_is number [] = refl
 owns_is number (own ∷ row) =
     sum_by-cons (λ (o : Own). truth (o.number == number)) own row
@@ -56,7 +56,7 @@ SameNumbers before now = map numbers_of now ≡ map numbers_of before
 number_stays : (before now : State) (number : Option ℕ) (own : Own) → (own_after before now number own).number ≡ own.number
 number_stays before now None own = refl
 number_stays before now (Some number) own =
-    elim (own.number == number) as (λ b. (cond b (record own { calls = told before now 0 own.calls }) own).number ≡ own.number) [ true ↦ refl | false ↦ refl ]
+    elim (own.number == number) as (λ b. (cond b (record own { calls = calls_with_new before now 0 own.calls }) own).number ≡ own.number) [ true ↦ refl | false ↦ refl ]
 
 row_stays : (before now : State) (number : Option ℕ) (row : List Own) → numbers_of (map (own_after before now number) row) ≡ numbers_of row
 row_stays before now number [] = refl
@@ -79,11 +79,11 @@ same_row (x ∷ before) [] hand e = absurd (cc)
 same_row (x ∷ before) (y ∷ now) zero e = ap (λ (rows : List (List ℕ)). slice_index_or rows 0 []) e
 same_row (x ∷ before) (y ∷ now) (suc hand) e = same_row before now hand (ap (drop 1) e)
 
-pub owns_same : (before now : List (List Own)) (hand number : ℕ) → SameNumbers before now → owns number (row_of now hand) ≡ owns number (row_of before hand)
+pub owns_same : (before now : List (List Own)) (hand number : ℕ) → SameNumbers before now → count_in_hand number (row_of now hand) ≡ count_in_hand number (row_of before hand)
 owns_same before now hand number e =
     owns_is number (row_of now hand) ∙ (ap (count_by (λ n. n == number)) (same_row before now hand e) ∙ sym (owns_is number (row_of before hand)))
 
-pub owners_same : (before now : List (List Own)) (number : ℕ) → SameNumbers before now → owners number now ≡ owners number before
+pub owners_same : (before now : List (List Own)) (number : ℕ) → SameNumbers before now → count_in_hands number now ≡ count_in_hands number before
 owners_same [] [] number e = refl
 owners_same [] (y ∷ now) number e = absurd (cc)
 owners_same (x ∷ before) [] number e = absurd (cc)

@@ -13,7 +13,7 @@ use Rattle.mc_core.specs.State.{State, number_at, has_stripe, stripe_at}
 use Rattle.mc_core.specs.Locks.{lock_word}
 use Rattle.mc_core.specs.Run.{after_step}
 use Rattle.mc_core.specs.Indexed.{AreLegal}
-use Rattle.mc_core.specs.Past.{Moment, Saying}
+use Rattle.mc_core.specs.Past.{Moment, StoredItem}
 use Rattle.mc_core.specs.Lawful.{LegalIn}
 use Rattle.mc_core.specs.Laws.{MayStep, ChangesKeep, StepsKeep, HoldsAtFirst}
 use Rattle.mc_core.proofs.StripesKept.{legal_locked}
@@ -21,7 +21,7 @@ use Rattle.mc_core.proofs.Tellings.{tells_legal}
 use Rattle.mc_core.proofs.ToldBy.{MayTell, told_by_change, told_by_step}
 use Rattle.mc_core.proofs.Own.{is_plain, own_step, own_change}
 
-legal_told : (state : State) (now : List ReadyStripe) (locks : List ℕ) (hand : ℕ) (said : List Saying) → AreLegal state.stripes state.stripe_locks → locks ≡ state.stripe_locks → MayTell state now hand said → AreLegal now locks
+legal_told : (state : State) (now : List ReadyStripe) (locks : List ℕ) (hand : ℕ) (said : List StoredItem) → AreLegal state.stripes state.stripe_locks → locks ≡ state.stripe_locks → MayTell state now hand said → AreLegal now locks
 legal_told state now locks hand said l same (inl quiet) = subst (λ (ls : List ℕ). AreLegal now ls) (sym same) (subst (λ (xs : List ReadyStripe). AreLegal xs state.stripe_locks) (sym quiet.0) l)
 legal_told state now locks hand said l same (inr told) = subst (λ (ls : List ℕ). AreLegal now ls) (sym same) (tells_legal state now hand said l told)
 

@@ -6,8 +6,8 @@ use Rattle.std.proofs.lemmas.Bool.{cases_Bool, and_parts, and_from}
 use Rattle.mc_classes.specs.Classes.{Classes, per_page_of}
 use Rattle.mc_pages.specs.declared.ids.ChunkId.{ChunkId}
 use Rattle.mc_pages.specs.declared.ids.Moving.{Moving}
-use Rattle.mc_pages.specs.ClassState.{ClassState, is_chunk, times, new_class}
-use Rattle.mc_pages.specs.SlabState.{SlabState, IsClass, class_at}
+use Rattle.mc_pages.specs.ClassState.{ClassState, is_chunk, times_in, new_class}
+use Rattle.mc_pages.specs.SlabState.{SlabState, HasClass, class_at}
 use Rattle.mc_pages.specs.Accounted.{places_in, is_moving, is_of_class, cut_count, is_cleared, IsAccounted}
 use Rattle.mc_pages.proofs.Chunks.{is_chunk-same, same_from_is_chunk, times_from_Contains, Contains_from_slice_get, times-tail}
 use Rattle.mc_core.specs.Silent.{is_among, is_listed}
@@ -35,7 +35,7 @@ place_among (c ∷ chunks) chunk h = elim (cases_Bool (is_chunk c chunk)) [
 pub Contains_from_among : (chunks : List ChunkId) (chunk : ChunkId) → is_among chunks chunk ≡ true → Contains chunks chunk
 Contains_from_among chunks chunk h = let found = place_among chunks chunk h in Contains_from_slice_get chunk chunks found.0 found.1
 
-pub times_from_among : (chunks : List ChunkId) (chunk : ChunkId) → is_among chunks chunk ≡ true → 1 ≤ times chunk chunks
+pub times_from_among : (chunks : List ChunkId) (chunk : ChunkId) → is_among chunks chunk ≡ true → 1 ≤ times_in chunk chunks
 times_from_among chunks chunk h = times_from_Contains chunk chunks (Contains_from_among chunks chunk h)
 
 or_right : (a b : Bool) → b ≡ true → (a || b) ≡ true
@@ -50,8 +50,8 @@ or_parts false b P h left right = right h
 pub places_from_listed : (slabs : SlabState) (class : ℕ) (chunk : ChunkId) → is_listed slabs class chunk ≡ true → 1 ≤ places_in slabs class chunk
 places_from_listed slabs class chunk h =
     or_parts (is_among (class_at slabs class).free chunk) (is_among (class_at slabs class).order chunk) (1 ≤ places_in slabs class chunk) h
-    (λ free. let some : 1 ≤ times chunk (class_at slabs class).free = times_from_among (class_at slabs class).free chunk free in omega arith)
-    (λ out. let some : 1 ≤ times chunk (class_at slabs class).order = times_from_among (class_at slabs class).order chunk out in omega arith)
+    (λ free. let some : 1 ≤ times_in chunk (class_at slabs class).free = times_from_among (class_at slabs class).free chunk free in omega arith)
+    (λ out. let some : 1 ≤ times_in chunk (class_at slabs class).order = times_from_among (class_at slabs class).order chunk out in omega arith)
 
 -- the page of the move that runs
 pub page_of_move : (moving : Option Moving) (page : ℕ) → option_map_or (λ (move : Moving). move.page == page) moving false ≡ true → option_map (λ (move : Moving). move.page) moving ≡ Some page
@@ -70,7 +70,7 @@ source_of_move table slabs move is runs =
     (of_move.src.0, omega (arith, of_move.src.1, count))
 
 -- a class has as many chunks a page as the table says
-pub per_page_is : (table : Classes) (slabs : SlabState) (class : ℕ) → IsOfTable table slabs → IsClass slabs class → (class_at slabs class).per_page ≡ per_page_of table class
+pub per_page_is : (table : Classes) (slabs : SlabState) (class : ℕ) → IsOfTable table slabs → HasClass slabs class → (class_at slabs class).per_page ≡ per_page_of table class
 per_page_is table slabs class is of =
     let per_page = λ (c : ClassState). c.per_page in
     let chunks = λ (size : ℕ). table.page / size in
@@ -80,7 +80,7 @@ per_page_is table slabs class is of =
     ∙ sym (read_map chunks table.sizes (class - 1) 0 (omega (arith, of.0, of.1, count)))
 
 -- a class of the table
-pub IsClass_from : (table : Classes) (slabs : SlabState) (class : ℕ) → IsOfTable table slabs → is_class table class ≡ true → IsClass slabs class
+pub IsClass_from : (table : Classes) (slabs : SlabState) (class : ℕ) → IsOfTable table slabs → is_class table class ≡ true → HasClass slabs class
 IsClass_from table slabs class of h =
     let parts = and_parts (nat_le 1 class) (nat_le class (length table.sizes)) h in
     let low : 1 ≤ class = leb-true 1 class parts.0 in
@@ -93,7 +93,7 @@ or_none true b h = absurd (cc)
 or_none false b h = (refl, h)
 
 -- where no chunk of the page is in a list, none of them has a place
-pub none_of_page : (chunks : List ChunkId) (chunk : ChunkId) → list_any (λ (c : ChunkId). c.page == chunk.page) chunks ≡ false → times chunk chunks ≡ 0
+pub none_of_page : (chunks : List ChunkId) (chunk : ChunkId) → list_any (λ (c : ChunkId). c.page == chunk.page) chunks ≡ false → times_in chunk chunks ≡ 0
 none_of_page [] chunk h = refl
 none_of_page (c ∷ chunks) chunk h =
     let parts = or_none (c.page == chunk.page) (list_any (λ (c : ChunkId). c.page == chunk.page) chunks) h in
@@ -101,7 +101,7 @@ none_of_page (c ∷ chunks) chunk h =
     times-tail chunk c chunks other ∙ none_of_page chunks chunk parts.1
 
 -- a chunk that isn't among these has no place
-pub none_among : (chunks : List ChunkId) (chunk : ChunkId) → is_among chunks chunk ≡ false → times chunk chunks ≡ 0
+pub none_among : (chunks : List ChunkId) (chunk : ChunkId) → is_among chunks chunk ≡ false → times_in chunk chunks ≡ 0
 none_among [] chunk h = refl
 none_among (c ∷ chunks) chunk h =
     let parts = or_none (is_chunk c chunk) (is_among chunks chunk) h in

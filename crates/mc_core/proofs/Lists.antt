@@ -8,7 +8,7 @@ use Rattle.std.proofs.Math.Seq.{take-append_seam}
 use Rattle.std.proofs.lemmas.List.{replicate-append-replicate, set-get_or}
 use Rattle.std.proofs.lemmas.List.FromFn.{map-range_with_len_more}
 use Rattle.mc_core.specs.declared.holding.Holding.{Holding}
-use Rattle.mc_core.specs.Holdings.{lose, Words, all_known}
+use Rattle.mc_core.specs.Holdings.{without_first, Words, all_known}
 
 pub replicate_more : {X : Type 0} (n : ℕ) (x : X) → replicate (n + 1) x ≡ replicate n x ++ x ∷ []
 replicate_more n x = sym (replicate-append-replicate n 1 x)
@@ -34,17 +34,17 @@ take_all (y ∷ ys) zero e = absurd (cc)
 take_all (y ∷ ys) (suc n) e = ap (λ zs. y ∷ zs) (take_all ys n e)
 
 -- the list without the first holding that passes is the list with its first place removed
-lose_place : (test : Holding → Bool) (holdings : List Holding) → remove holdings (position_or_len test holdings) ≡ lose test holdings
+lose_place : (test : Holding → Bool) (holdings : List Holding) → remove holdings (position_or_len test holdings) ≡ without_first test holdings
 lose_place test [] = refl
 lose_place test (holding ∷ holdings) =
-    elim (test holding) as (λ b. remove (holding ∷ holdings) (cond (not b) (1 + position_or_len test holdings) 0) ≡ cond b holdings (holding ∷ lose test holdings))
+    elim (test holding) as (λ b. remove (holding ∷ holdings) (cond (not b) (1 + position_or_len test holdings) 0) ≡ cond b holdings (holding ∷ without_first test holdings))
     [ true ↦ refl | false ↦ rw one-add (ap (λ hs. holding ∷ hs) (lose_place test holdings)) ]
 
 -- where none passes, none is lost
-lose_none : (test : Holding → Bool) (holdings : List Holding) → find test holdings ≡ None → lose test holdings ≡ holdings
+lose_none : (test : Holding → Bool) (holdings : List Holding) → find test holdings ≡ None → without_first test holdings ≡ holdings
 lose_none test [] e = refl
 lose_none test (holding ∷ holdings) e =
-    elim (test holding) as (λ b. cond b (Some holding) (find test holdings) ≡ None → cond b holdings (holding ∷ lose test holdings) ≡ holding ∷ holdings)
+    elim (test holding) as (λ b. cond b (Some holding) (find test holdings) ≡ None → cond b holdings (holding ∷ without_first test holdings) ≡ holding ∷ holdings)
     [ true ↦ λ none. absurd (cc) | false ↦ λ none. ap (λ hs. holding ∷ hs) (lose_none test holdings none) ] e
 
 some_none : {X : Type 0} {x : X} → Some x ≡ None → ⊥
@@ -61,7 +61,7 @@ past_end first count e = elim (cases_lt first count) [
   | inr above ↦ above
 ]
 
-pub lost_at : (test : Holding → Bool) (holdings : List Holding) (place : ℕ) → position test holdings ≡ Some place → lose test holdings ≡ remove holdings place
+pub lost_at : (test : Holding → Bool) (holdings : List Holding) (place : ℕ) → position test holdings ≡ Some place → without_first test holdings ≡ remove holdings place
 lost_at test holdings place e =
     let first : position_or_len test holdings ≡ place = first_place (nat_lt (position_or_len test holdings) (length holdings)) (position_or_len test holdings) place e in
     sym (lose_place test holdings) ∙ ap (remove holdings) first
@@ -75,7 +75,7 @@ pub found_nowhere : (test : Holding → Bool) (holdings : List Holding) → posi
 found_nowhere test holdings e =
     find_at test holdings ∙ slice_get_past holdings (position_or_len test holdings) (past_end (position_or_len test holdings) (length holdings) e)
 
-pub lost_nowhere : (test : Holding → Bool) (holdings : List Holding) → position test holdings ≡ None → lose test holdings ≡ holdings
+pub lost_nowhere : (test : Holding → Bool) (holdings : List Holding) → position test holdings ≡ None → without_first test holdings ≡ holdings
 lost_nowhere test holdings e = lose_none test holdings (found_nowhere test holdings e)
 
 -- what stands at a place

@@ -17,7 +17,7 @@ use Rattle.mc_core.specs.declared.head.Tag.TheVariants.{Out}
 use Rattle.mc_core.specs.Head.{never_cut, uncut_from}
 use Rattle.mc_core.specs.State.{new_state, most_of}
 use Rattle.mc_core.specs.Chunks.{most_issue}
-use Rattle.mc_core.specs.InOrder.{IsInOrder}
+use Rattle.mc_core.specs.InOrder.{IsStateInOrder}
 
 per_pages : (page : ℕ) (sizes : List ℕ) → map (λ (c : ClassState). c.per_page) (map (λ (size : ℕ). new_class size (page / size)) sizes) ≡ map (λ (size : ℕ). page / size) sizes
 per_pages page [] = refl
@@ -39,7 +39,7 @@ pub first_heads : (count place start : ℕ) → start ≤ most_issue → IsFirst
 first_heads count place start small =
     keeps_either IsFirst count place (uncut_from start) never_cut (record { out = refl; none = refl; fits = omega (arith, small) }) (record { out = refl; none = refl; fits = omega arith })
 
-pub new_in_order : (table : Classes) (stripes hands start : ℕ) → IsSound table → 1 ≤ stripes → start ≤ most_issue → IsAccounted (fresh_slabs table) → IsInOrder (new_state table stripes hands start)
+pub new_in_order : (table : Classes) (stripes hands start : ℕ) → IsSound table → 1 ≤ stripes → start ≤ most_issue → IsAccounted (fresh_slabs table) → IsStateInOrder (new_state table stripes hands start)
 new_in_order table stripes hands start sound some small all = record {
   sound = sound;
   slabs = record { page = refl; limit = refl; per_page = per_pages table.page table.sizes; owners = length-replicate {A = Owner} (arena_pages_of table) Untouched; accounted = all };

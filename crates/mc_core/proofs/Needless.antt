@@ -6,8 +6,8 @@ use Rattle.std.proofs.lemmas.List.Elements.{All-head, All-tail}
 use Rattle.std.proofs.lemmas.List.Sums.{count_by-le-length}
 use Rattle.mc_pages.specs.declared.ids.ChunkId.{ChunkId}
 use Rattle.mc_pages.specs.declared.ids.Moving.{Moving}
-use Rattle.mc_pages.specs.ClassState.{times}
-use Rattle.mc_pages.specs.SlabState.{SlabState, IsClass, class_at, class_of_page, class_of_owner}
+use Rattle.mc_pages.specs.ClassState.{times_in}
+use Rattle.mc_pages.specs.SlabState.{SlabState, HasClass, class_at, class_of_page, class_of_owner}
 use Rattle.mc_pages.specs.Ledger.{owner_at}
 use Rattle.mc_pages.specs.Accounted.{truth, is_of_class, is_cut, cut_count}
 use Rattle.mc_pages.proofs.Chunks.{same_from_is_chunk}
@@ -16,12 +16,12 @@ use Rattle.mc_core.specs.declared.head.Tag.{Tag}
 use Rattle.mc_core.specs.declared.head.Tag.TheVariants.{Out, Free, Unlinked, Linked}
 use Rattle.mc_core.specs.declared.holding.Holding.{Holding}
 use Rattle.mc_core.specs.Head.{is_free, is_unlinked, is_linked, is_dead}
-use Rattle.mc_core.specs.Holdings.{is_of, is_fresh, holding_of}
+use Rattle.mc_core.specs.Holdings.{is_of_chunk, is_fresh, holding_of}
 use Rattle.mc_core.specs.State.{is_class, has_chunk, head_at, holdings_at}
 use Rattle.mc_core.specs.Silent.{is_among, is_handed_out, is_listed}
 use Rattle.mc_core.specs.Chunks.{next_free, is_target, target_of, most_holdings}
-use Rattle.mc_core.specs.Items.{can_count, chunk_of}
-use Rattle.mc_core.specs.Columns.{head_in, holders}
+use Rattle.mc_core.specs.Items.{can_count, chunk_of_key}
+use Rattle.mc_core.specs.Columns.{head_in, holder_count}
 use Rattle.mc_core.specs.Places.{is_cut_there}
 use Rattle.mc_core.specs.Past.{Moment}
 use Rattle.mc_core.specs.Lawful.{IsLawful}
@@ -33,12 +33,12 @@ use Rattle.mc_core.proofs.Holders.{found_each, found_passes}
 use Rattle.mc_core.proofs.Entered.{entry_of, tag_free, tag_unlinked}
 
 -- so many hands hold a chunk at most
-holders_most : (chunk : ChunkId) (rows : List (List Holding)) → All (λ row. length row ≤ most_holdings) rows → holders chunk rows ≤ length rows * most_holdings
+holders_most : (chunk : ChunkId) (rows : List (List Holding)) → All (λ row. length row ≤ most_holdings) rows → holder_count chunk rows ≤ length rows * most_holdings
 holders_most chunk [] most = omega arith
 holders_most chunk (row ∷ rows) most =
     let here : length row ≤ most_holdings = All-head (λ (r : List Holding). length r ≤ most_holdings) row rows most in
     let rest = holders_most chunk rows (All-tail (λ (r : List Holding). length r ≤ most_holdings) row rows most) in
-    let few = count_by-le-length (is_of chunk) row in
+    let few = count_by-le-length (is_of_chunk chunk) row in
     omega (arith, here, rest, few)
 
 truth_most : (b : Bool) → truth b ≤ 1
@@ -49,7 +49,7 @@ not_below_itself : (n : ℕ) → nat_lt n n ≡ true → ⊥
 not_below_itself n h = let below = ltb-true n n h in omega (arith, below)
 
 -- a chunk that has a place in the list stands in it
-among_from_times : (chunks : List ChunkId) (chunk : ChunkId) → times chunk chunks ≡ 1 → is_among chunks chunk ≡ true
+among_from_times : (chunks : List ChunkId) (chunk : ChunkId) → times_in chunk chunks ≡ 1 → is_among chunks chunk ≡ true
 among_from_times chunks chunk one = elim (cases_Bool (is_among chunks chunk)) [
   | inl is ↦ is
   | inr isnt ↦ let none = none_among chunks chunk isnt in absurd (omega arith)
@@ -87,14 +87,14 @@ module _ (m : Moment) (l : IsLawful m) where
       (near_placed m l chunk at.1, tag_free (head_at m.state chunk).tag at.2)
 
   -- the class of a moving page
-  source_of : (moving : Option Moving) (page : ℕ) → slabs.moving ≡ moving → option_map_or (λ (move : Moving). move.page == page) moving false ≡ true → IsClass slabs (class_of_page slabs page)
+  source_of : (moving : Option Moving) (page : ℕ) → slabs.moving ≡ moving → option_map_or (λ (move : Moving). move.page == page) moving false ≡ true → HasClass slabs (class_of_page slabs page)
   source_of None page is h = absurd (cc)
   source_of (Some move) page is h =
       let of_move = l.paged.of_table.accounted.move move is in
       let same : class_of_page slabs page ≡ move.src = ap (class_of_page slabs) (sym (eqb-true move.page page h)) ∙ ap class_of_owner of_move.owner in
-      subst (IsClass slabs) (sym same) of_move.src
+      subst (HasClass slabs) (sym same) of_move.src
 
-  pub source_is : (page : ℕ) → is_on_the_move slabs page ≡ true → IsClass slabs (class_of_page slabs page)
+  pub source_is : (page : ℕ) → is_on_the_move slabs page ≡ true → HasClass slabs (class_of_page slabs page)
   source_is page moves = source_of slabs.moving page refl moves
 
   target : (page : ℕ) (chunk : ChunkId) → is_on_the_move slabs page ≡ true → target_of m.state.table m.state.heads slabs page ≡ Some chunk →
@@ -146,15 +146,15 @@ module _ (m : Moment) (l : IsLawful m) where
       let near = near_in m l chunk cutting.owned cutting.within in
       (near, l.placed.elsewhere chunk near (uncut_yet chunk is))
 
-  entry : (key : ℕ) (place : ChunkId × ℕ) → chunk_of m.state key ≡ Some place → (has_chunk m.state.table place.0 ≡ true) × ((head_at m.state place.0).tag ≡ Linked)
+  entry : (key : ℕ) (place : ChunkId × ℕ) → chunk_of_key m.state key ≡ Some place → (has_chunk m.state.table place.0 ≡ true) × ((head_at m.state place.0).tag ≡ Linked)
   entry key place found = let is = entry_of m l key place found in (is.inside, is.linked)
 
   fresh : (hand : ℕ) (chunk : ChunkId) (holding : Holding) → holding_of chunk (holdings_at m.state hand) ≡ Some holding → is_fresh holding ≡ true →
       (has_chunk m.state.table chunk ≡ true) × ((head_at m.state chunk).tag ≡ Unlinked)
   fresh hand chunk holding found is =
-      let same = same_from_is_chunk holding.chunk chunk (found_passes (is_of chunk) (holdings_at m.state hand) holding found) in
-      let near = found_each (λ h. has_chunk m.state.table h.chunk ≡ true) m.state.holdings hand (is_of chunk) holding found l.held.inside in
-      let alone = found_each (λ h. is_fresh h ≡ true → ((head_in m.state.table m.state.heads h.chunk).tag ≡ Unlinked) × (holders h.chunk m.state.holdings ≡ 1)) m.state.holdings hand (is_of chunk) holding found l.held.alone in (
+      let same = same_from_is_chunk holding.chunk chunk (found_passes (is_of_chunk chunk) (holdings_at m.state hand) holding found) in
+      let near = found_each (λ h. has_chunk m.state.table h.chunk ≡ true) m.state.holdings hand (is_of_chunk chunk) holding found l.held.inside in
+      let alone = found_each (λ h. is_fresh h ≡ true → ((head_in m.state.table m.state.heads h.chunk).tag ≡ Unlinked) × (holder_count h.chunk m.state.holdings ≡ 1)) m.state.holdings hand (is_of_chunk chunk) holding found l.held.alone in (
         subst (λ c. has_chunk m.state.table c ≡ true) same near,
         subst (λ c. (head_in m.state.table m.state.heads c).tag ≡ Unlinked) same (alone is).0,
       )

@@ -12,8 +12,8 @@ use Rattle.mc_core.proofs.Learned.{is_join}
 use Rattle.mc_core.proofs.SameSlabs.{table_stays}
 use Rattle.mc_core.proofs.SeenHolder.{one_holder, held_is}
 use Rattle.mc_core.proofs.StripesKept.{held_word}
-use Rattle.mc_core.specs.Views.{row_at, held_slabs, held_stripe}
-use Rattle.mc_core.specs.Frame.{AreGuarded}
+use Rattle.mc_core.specs.Views.{hand_row, held_slabs, held_stripe}
+use Rattle.mc_core.specs.Frame.{ChangesUnderLocks}
 use Rattle.mc_core.proofs.Guards.{guards_step, guards_change}
 use Rattle.mc_core.proofs.Frames.{row_stays, row_stays_changed, table_change}
 
@@ -24,7 +24,7 @@ pub record IsNext (m now : Moment) (id : ℕ) : Type 0 where
   pub count : length now.state.ids ≡ length m.state.ids
   pub stripe_count : length now.state.stripes ≡ length m.state.stripes
   pub number : number_at now.state id ≡ number_at m.state id
-  pub rows : (other : ℕ) → other ≢ id → row_at now other ≡ row_at m other
+  pub rows : (other : ℕ) → other ≢ id → hand_row now other ≡ hand_row m other
   pub slabs : (other : ℕ) → other ≢ id → held_slabs now.state other ≡ held_slabs m.state other
   pub stripes : (other i : ℕ) → other ≢ id → held_stripe now.state other i ≡ held_stripe m.state other i
 
@@ -71,8 +71,8 @@ held_same true c x y e same = ap (λ d. if d then Some y else None) e ∙ ap Som
 held_same false c x y e same = ap (λ d. if d then Some y else None) e
 
 -- from what is the hand's own, and from what locks guard
-module _ (m now : Moment) (id : ℕ) (l : IsLawful m) (lawful : IsLawful now) (table : now.state.table ≡ m.state.table) (own : IsOwn m.state now.state id) (guards : AreGuarded m.state now.state id)
-    (rows : (other : ℕ) → other ≢ id → row_at now other ≡ row_at m other) where
+module _ (m now : Moment) (id : ℕ) (l : IsLawful m) (lawful : IsLawful now) (table : now.state.table ≡ m.state.table) (own : IsOwn m.state now.state id) (guards : ChangesUnderLocks m.state now.state id)
+    (rows : (other : ℕ) → other ≢ id → hand_row now other ≡ hand_row m other) where
   same_slabs : (other : ℕ) → other ≢ id → held_slabs now.state other ≡ held_slabs m.state other
   same_slabs other apart =
       held_same (has_slabs m.state other) (has_slabs now.state other) m.state.slabs now.state.slabs (ap₂ is_held_by own.slabs_lock (own.numbers other))

@@ -4,8 +4,8 @@ use Rattle.std.proofs.lemmas.List.Elements.{All-nil, All-cons, All-head, All-tai
 use Rattle.mc_core.specs.declared.event.Step.{Step}
 use Rattle.mc_core.specs.declared.ids.Ids.{Ids}
 use Rattle.mc_core.specs.State.{is_hand}
-use Rattle.mc_core.specs.Past.{Past, Moment, Own, Saying, Known, learned_alone, sayings_of, with_more, with_calls, moment_stepped}
-use Rattle.mc_core.specs.Identities.{owns, number_in, AreCountedTo, AreNumbered}
+use Rattle.mc_core.specs.Past.{Past, Moment, Own, StoredItem, KnownItem, learned_alone, items_stored_by_step, with_more, with_calls, moment_stepped}
+use Rattle.mc_core.specs.Identities.{count_in_hand, number_in, AreCountedTo, AreNumbered}
 use Rattle.mc_core.specs.Lawful.{NumberedIn}
 use Rattle.mc_core.specs.Laws.{ChangesKeep}
 use Rattle.mc_core.specs.Silent.{after_change}
@@ -37,14 +37,14 @@ there_apart ids hand other there none same = absurd (some_none (number_in ids ha
     some_none (Some n) is e = absurd (cc)
 
 -- calls come in, and something may be known; nothing is said
-pub numbered_quiet : (ids : List Ids) (mine mine' : List (List Own)) (said : List (List Saying)) (known known' : List (List Known)) → SameNumbers mine mine' → AreNumbered ids mine said known
+pub numbered_quiet : (ids : List Ids) (mine mine' : List (List Own)) (said : List (List StoredItem)) (known known' : List (List KnownItem)) → SameNumbers mine mine' → AreNumbered ids mine said known
     → ((other : ℕ) → number_in ids other ≡ None → row_of known' other ≡ row_of known other) → AreNumbered ids mine' said known'
 numbered_quiet ids mine mine' said known known' same l knows = record {
   apart = λ number. subst (λ n. n ≤ 1) (sym (owners_same mine mine' number same)) (l.apart number);
   own = λ hand number is. owns_same mine mine' hand number same ∙ l.own hand number is;
   stamps = l.stamps;
   gapless = λ hand. all_numbers (λ number. (most : ℕ) × AreCountedTo most number (row_of said hand)) (row_of mine hand) (row_of mine' hand) (same_row mine mine' hand same) (l.gapless hand);
-  of_own = λ hand. All-weaker (λ (s : Saying). owns (s.stamp / 2 ^ 48) (row_of mine hand) ≡ 1) (λ (s : Saying). owns (s.stamp / 2 ^ 48) (row_of mine' hand) ≡ 1)
+  of_own = λ hand. All-weaker (λ (s : StoredItem). count_in_hand (s.stamp / 2 ^ 48) (row_of mine hand) ≡ 1) (λ (s : StoredItem). count_in_hand (s.stamp / 2 ^ 48) (row_of mine' hand) ≡ 1)
       (λ s one. owns_same mine mine' hand (s.stamp / 2 ^ 48) same ∙ one) (row_of said hand) (l.of_own hand);
   nothing = λ hand none. let old = l.nothing hand none in
       (no_numbers (row_of mine' hand) (same_row mine mine' hand same ∙ ap numbers_of old.0), old.1, knows hand none ∙ old.2);
@@ -58,13 +58,13 @@ numbered_changes m hand change may =
     (numbered_quiet m.state.ids m.past.mine mine m.past.said m.past.known m.past.known (same_numbers m.state now m.past hand) may.lawful.numbered (λ other none. refl))
 
 -- a step that says nothing
-pub numbered_unsaid : (m : Moment) (hand : ℕ) (next : Step) → is_join next ≡ false → (after_step m.state hand next).ids ≡ m.state.ids → sayings_of m.state hand next ≡ [] → is_hand m.state hand ≡ true → NumberedIn m → NumberedIn (moment_stepped m hand next)
+pub numbered_unsaid : (m : Moment) (hand : ℕ) (next : Step) → is_join next ≡ false → (after_step m.state hand next).ids ≡ m.state.ids → items_stored_by_step m.state hand next ≡ [] → is_hand m.state hand ≡ true → NumberedIn m → NumberedIn (moment_stepped m hand next)
 numbered_unsaid m hand next alone same unsaid there l =
     let now = after_step m.state hand next in
     let past = learned_alone m.state now m.past hand next in
     let said : past.said ≡ m.past.said = ap (with_more m.past.said hand) unsaid ∙ with_none m.past.said hand in
     subst (λ (p : Past). AreNumbered now.ids p.mine p.said p.known) (sym (learned_is m.state now m.past hand next alone))
     (subst (λ (ids : List Ids). AreNumbered ids past.mine past.said past.known) (sym same)
-    (subst (λ (s : List (List Saying)). AreNumbered m.state.ids past.mine s past.known) (sym said)
+    (subst (λ (s : List (List StoredItem)). AreNumbered m.state.ids past.mine s past.known) (sym said)
     (numbered_quiet m.state.ids m.past.mine past.mine m.past.said m.past.known past.known (same_numbers m.state now m.past hand) l
     (λ other none. row_other m.past.known hand other _ (there_apart m.state.ids hand other there none)))))

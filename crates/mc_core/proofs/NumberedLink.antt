@@ -5,20 +5,20 @@ use Rattle.std.proofs.lemmas.List.Elements.{All-push, All-weaker}
 use Rattle.std.proofs.lemmas.List.Sums.{sum_by-append}
 use Rattle.mc_pages.specs.Accounted.{truth}
 use Rattle.mc_core.specs.declared.ids.Ids.{Ids}
-use Rattle.mc_core.specs.State.{gone}
-use Rattle.mc_core.specs.Items.{most_stamps, is_next_stamp, stamped}
-use Rattle.mc_core.specs.Past.{Own, Saying, Known, with_more}
-use Rattle.mc_core.specs.Identities.{owns, number_in, stamps_in, said_times, AreCountedTo, AreNumbered}
+use Rattle.mc_core.specs.State.{no_ids}
+use Rattle.mc_core.specs.Items.{most_stamps, is_next_stamp, ids_after_stamp}
+use Rattle.mc_core.specs.Past.{Own, StoredItem, KnownItem, with_more}
+use Rattle.mc_core.specs.Identities.{count_in_hand, number_in, stamps_given, stored_times, AreCountedTo, AreNumbered}
 use Rattle.mc_core.proofs.LinkKinds.{next_parts}
 use Rattle.mc_core.proofs.MoreRows.{row_of, row_same, row_other}
 
 -- one more saying counts for its stamp
-pub times_push : (stamp : ℕ) (row : List Saying) (s : Saying) → said_times stamp (row ++ s ∷ []) ≡ said_times stamp row + truth (s.stamp == stamp)
-times_push stamp row s = sum_by-append (λ (x : Saying). truth (x.stamp == stamp)) row (s ∷ []) ∙ ap (λ n. said_times stamp row + n) (zero-add _)
+pub times_push : (stamp : ℕ) (row : List StoredItem) (s : StoredItem) → stored_times stamp (row ++ s ∷ []) ≡ stored_times stamp row + truth (s.stamp == stamp)
+times_push stamp row s = sum_by-append (λ (x : StoredItem). truth (x.stamp == stamp)) row (s ∷ []) ∙ ap (λ n. stored_times stamp row + n) (zero-add _)
 
 -- a count further
-counted_further : (number most count : ℕ) (row : List Saying) (s : Saying) → s.stamp ≡ number * 2 ^ 48 + (most + 1) → count < 2 ^ 48 → said_times (number * 2 ^ 48 + count) row ≡ truth (nat_le 1 count && nat_le count most)
-    → said_times (number * 2 ^ 48 + count) (row ++ s ∷ []) ≡ truth (nat_le 1 count && nat_le count (most + 1))
+counted_further : (number most count : ℕ) (row : List StoredItem) (s : StoredItem) → s.stamp ≡ number * 2 ^ 48 + (most + 1) → count < 2 ^ 48 → stored_times (number * 2 ^ 48 + count) row ≡ truth (nat_le 1 count && nat_le count most)
+    → stored_times (number * 2 ^ 48 + count) (row ++ s ∷ []) ≡ truth (nat_le 1 count && nat_le count (most + 1))
 counted_further number most count row s is small old =
     let push = times_push (number * 2 ^ 48 + count) row s in
     elim (cases_eq count (most + 1)) [
@@ -52,10 +52,10 @@ counted_further number most count row s is small old =
         ]
 
 -- a saying of another number doesn't count
-counted_else : (number count : ℕ) (row : List Saying) (s : Saying) → s.stamp / 2 ^ 48 ≢ number → count < 2 ^ 48 → said_times (number * 2 ^ 48 + count) (row ++ s ∷ []) ≡ said_times (number * 2 ^ 48 + count) row
+counted_else : (number count : ℕ) (row : List StoredItem) (s : StoredItem) → s.stamp / 2 ^ 48 ≢ number → count < 2 ^ 48 → stored_times (number * 2 ^ 48 + count) (row ++ s ∷ []) ≡ stored_times (number * 2 ^ 48 + count) row
 counted_else number count row s apart small =
     times_push (number * 2 ^ 48 + count) row s
-    ∙ ap (λ n. said_times (number * 2 ^ 48 + count) row + n) (ap truth (ne_eqb s.stamp (number * 2 ^ 48 + count) (λ e. apart (omega (arith, e)))))
+    ∙ ap (λ n. stored_times (number * 2 ^ 48 + count) row + n) (ap truth (ne_eqb s.stamp (number * 2 ^ 48 + count) (λ e. apart (omega (arith, e)))))
     ∙ add-zero _
 
 some_same : (a b : ℕ) → ◌≡◌ {A = Option ℕ} (Some a) (Some b) → a ≡ b
@@ -65,21 +65,21 @@ some_none : (o : Option ℕ) (n : ℕ) → o ≡ Some n → o ≡ None → ⊥
 some_none None n is none = absurd (cc)
 some_none (Some x) n is none = absurd (cc)
 
-module _ (ids : List Ids) (mine : List (List Own)) (said : List (List Saying)) (known known' : List (List Known)) (hand : ℕ) (s : Saying) (l : AreNumbered ids mine said known)
-    (next : is_next_stamp (slice_index_or ids hand gone) s.stamp ≡ true) (within : hand < length ids) (said_rows : hand < length said) (knows : (other : ℕ) → other ≢ hand → row_of known' other ≡ row_of known other) where
+module _ (ids : List Ids) (mine : List (List Own)) (said : List (List StoredItem)) (known known' : List (List KnownItem)) (hand : ℕ) (s : StoredItem) (l : AreNumbered ids mine said known)
+    (next : is_next_stamp (slice_index_or ids hand no_ids) s.stamp ≡ true) (within : hand < length ids) (said_rows : hand < length said) (knows : (other : ℕ) → other ≢ hand → row_of known' other ≡ row_of known other) where
   abbrev number : ℕ
   number = s.stamp / 2 ^ 48
 
   abbrev ids' : List Ids
-  ids' = slice_set ids hand (stamped (slice_index_or ids hand gone))
+  ids' = slice_set ids hand (ids_after_stamp (slice_index_or ids hand no_ids))
 
-  abbrev said' : List (List Saying)
+  abbrev said' : List (List StoredItem)
   said' = with_more said hand (s ∷ [])
 
-  parts : (stamps_in ids hand < most_stamps) × (number_in ids hand ≡ Some number) × (s.stamp % 2 ^ 48 ≡ stamps_in ids hand + 1)
-  parts = next_parts (slice_index_or ids hand gone) s.stamp next
+  parts : (stamps_given ids hand < most_stamps) × (number_in ids hand ≡ Some number) × (s.stamp % 2 ^ 48 ≡ stamps_given ids hand + 1)
+  parts = next_parts (slice_index_or ids hand no_ids) s.stamp next
 
-  stamp_is : s.stamp ≡ number * 2 ^ 48 + (stamps_in ids hand + 1)
+  stamp_is : s.stamp ≡ number * 2 ^ 48 + (stamps_given ids hand + 1)
   stamp_is = let last = parts.2 in omega arith
 
   here : row_of said' hand ≡ row_of said hand ++ s ∷ []
@@ -90,21 +90,21 @@ module _ (ids : List Ids) (mine : List (List Own)) (said : List (List Saying)) (
 
   numbers : (other : ℕ) → number_in ids' other ≡ number_in ids other
   numbers other = elim (cases_eq other hand) [
-    | inl same ↦ subst (λ h. number_in ids' h ≡ number_in ids h) (sym same) (ap (λ (i : Ids). i.number) (get_or-set_same ids hand (stamped (slice_index_or ids hand gone)) gone within))
-    | inr apart ↦ ap (λ (i : Ids). i.number) (get_or-set_other ids hand other (stamped (slice_index_or ids hand gone)) gone apart)
+    | inl same ↦ subst (λ h. number_in ids' h ≡ number_in ids h) (sym same) (ap (λ (i : Ids). i.number) (get_or-set_same ids hand (ids_after_stamp (slice_index_or ids hand no_ids)) no_ids within))
+    | inr apart ↦ ap (λ (i : Ids). i.number) (get_or-set_other ids hand other (ids_after_stamp (slice_index_or ids hand no_ids)) no_ids apart)
   ]
 
   -- the counts of the hand's own number
-  own_stamps : AreCountedTo (stamps_in ids' hand) number (row_of said' hand)
+  own_stamps : AreCountedTo (stamps_given ids' hand) number (row_of said' hand)
   own_stamps count small =
-      let stamps : stamps_in ids' hand ≡ stamps_in ids hand + 1 = ap (λ (i : Ids). i.stamps) (get_or-set_same ids hand (stamped (slice_index_or ids hand gone)) gone within) in
-      rw (here, stamps) (counted_further number (stamps_in ids hand) count (row_of said hand) s stamp_is small (l.stamps hand number parts.1 count small))
+      let stamps : stamps_given ids' hand ≡ stamps_given ids hand + 1 = ap (λ (i : Ids). i.stamps) (get_or-set_same ids hand (ids_after_stamp (slice_index_or ids hand no_ids)) no_ids within) in
+      rw (here, stamps) (counted_further number (stamps_given ids hand) count (row_of said hand) s stamp_is small (l.stamps hand number parts.1 count small))
 
   -- the counts of a number in a row
   in_row : (other : Own) → ((most : ℕ) × AreCountedTo most other.number (row_of said hand)) → (most : ℕ) × AreCountedTo most other.number (row_of said' hand)
   in_row other (most, counted) = elim (cases_eq (s.stamp / 2 ^ 48) other.number) [
-    | inl same ↦ (stamps_in ids' hand, subst (λ n. AreCountedTo (stamps_in ids' hand) n (row_of said' hand)) same own_stamps)
-    | inr apart ↦ (most, λ count small. ap (said_times (other.number * 2 ^ 48 + count)) here ∙ counted_else other.number count (row_of said hand) s apart small ∙ counted count small)
+    | inl same ↦ (stamps_given ids' hand, subst (λ n. AreCountedTo (stamps_given ids' hand) n (row_of said' hand)) same own_stamps)
+    | inr apart ↦ (most, λ count small. ap (stored_times (other.number * 2 ^ 48 + count)) here ∙ counted_else other.number count (row_of said hand) s apart small ∙ counted count small)
   ]
 
   pub numbered_said : AreNumbered ids' mine said' known'
@@ -115,21 +115,21 @@ module _ (ids : List Ids) (mine : List (List Own)) (said : List (List Saying)) (
       | inl same ↦
           let at_hand : number_in ids hand ≡ Some n = ap (number_in ids) (sym same) ∙ (sym (numbers other) ∙ is) in
           let n_is : number ≡ n = some_same number n (sym parts.1 ∙ at_hand) in
-          subst (λ h. AreCountedTo (stamps_in ids' h) n (row_of said' h)) (sym same) (subst (λ k. AreCountedTo (stamps_in ids' hand) k (row_of said' hand)) n_is own_stamps)
+          subst (λ h. AreCountedTo (stamps_given ids' h) n (row_of said' h)) (sym same) (subst (λ k. AreCountedTo (stamps_given ids' hand) k (row_of said' hand)) n_is own_stamps)
       | inr apart ↦
-          let stamps : stamps_in ids' other ≡ stamps_in ids other = ap (λ (i : Ids). i.stamps) (get_or-set_other ids hand other (stamped (slice_index_or ids hand gone)) gone apart) in
+          let stamps : stamps_given ids' other ≡ stamps_given ids other = ap (λ (i : Ids). i.stamps) (get_or-set_other ids hand other (ids_after_stamp (slice_index_or ids hand no_ids)) no_ids apart) in
           λ count small. rw (else other apart, stamps) (l.stamps other n (sym (numbers other) ∙ is) count small)
     ];
     gapless = λ other. elim (cases_eq other hand) [
       | inl same ↦ subst (λ h. All (λ (own : Own). (most : ℕ) × AreCountedTo most own.number (row_of said' h)) (row_of mine h)) (sym same)
           (All-weaker (λ (own : Own). (most : ℕ) × AreCountedTo most own.number (row_of said hand)) (λ (own : Own). (most : ℕ) × AreCountedTo most own.number (row_of said' hand)) in_row (row_of mine hand) (l.gapless hand))
-      | inr apart ↦ subst (λ (row : List Saying). All (λ (own : Own). (most : ℕ) × AreCountedTo most own.number row) (row_of mine other)) (sym (else other apart)) (l.gapless other)
+      | inr apart ↦ subst (λ (row : List StoredItem). All (λ (own : Own). (most : ℕ) × AreCountedTo most own.number row) (row_of mine other)) (sym (else other apart)) (l.gapless other)
     ];
     of_own = λ other. elim (cases_eq other hand) [
-      | inl same ↦ subst (λ h. All (λ (x : Saying). owns (x.stamp / 2 ^ 48) (row_of mine h) ≡ 1) (row_of said' h)) (sym same)
-          (subst (All (λ (x : Saying). owns (x.stamp / 2 ^ 48) (row_of mine hand) ≡ 1)) (sym here)
-          (All-push (λ (x : Saying). owns (x.stamp / 2 ^ 48) (row_of mine hand) ≡ 1) (row_of said hand) s (l.of_own hand) (l.own hand number parts.1)))
-      | inr apart ↦ subst (All (λ (x : Saying). owns (x.stamp / 2 ^ 48) (row_of mine other) ≡ 1)) (sym (else other apart)) (l.of_own other)
+      | inl same ↦ subst (λ h. All (λ (x : StoredItem). count_in_hand (x.stamp / 2 ^ 48) (row_of mine h) ≡ 1) (row_of said' h)) (sym same)
+          (subst (All (λ (x : StoredItem). count_in_hand (x.stamp / 2 ^ 48) (row_of mine hand) ≡ 1)) (sym here)
+          (All-push (λ (x : StoredItem). count_in_hand (x.stamp / 2 ^ 48) (row_of mine hand) ≡ 1) (row_of said hand) s (l.of_own hand) (l.own hand number parts.1)))
+      | inr apart ↦ subst (All (λ (x : StoredItem). count_in_hand (x.stamp / 2 ^ 48) (row_of mine other) ≡ 1)) (sym (else other apart)) (l.of_own other)
     ];
     nothing = λ other none.
         let old = l.nothing other (sym (numbers other) ∙ none) in

@@ -7,11 +7,11 @@ use Rattle.mc_core.specs.declared.event.Step.{Step}
 use Rattle.mc_core.specs.declared.event.Step.TheVariants as step
 use Rattle.mc_core.specs.declared.ids.Ids.{Ids}
 use Rattle.mc_core.specs.declared.holding.Holding.{Holding}
-use Rattle.mc_core.specs.Holdings.{stamp_in, item_in, holding_of, numbers, words_of}
-use Rattle.mc_core.specs.State.{gone, is_hand, ids_at, holdings_at}
+use Rattle.mc_core.specs.Holdings.{stamp_in, words_of_item, holding_of, numbers_of_known, holding_words}
+use Rattle.mc_core.specs.State.{no_ids, is_hand, ids_at, holdings_at}
 use Rattle.mc_core.specs.Hands as hands
-use Rattle.mc_core.specs.Items.{stamped}
-use Rattle.mc_core.specs.Past.{Moment, Saying, learned_alone, sayings_of, with_more, moment_stepped}
+use Rattle.mc_core.specs.Items.{ids_after_stamp}
+use Rattle.mc_core.specs.Past.{Moment, StoredItem, learned_alone, items_stored_by_step, with_more, moment_stepped}
 use Rattle.mc_core.specs.Identities.{number_in, AreNumbered}
 use Rattle.mc_core.specs.Lawful.{NumberedIn}
 use Rattle.mc_core.specs.Laws.{MayStep, StepsKeep}
@@ -28,24 +28,24 @@ use Rattle.mc_core.proofs.NumberedJoin.{numbered_joined}
 pub hand_within : (ids : List Ids) (hand : ℕ) → is_some (number_in ids hand) ≡ true → hand < length ids
 hand_within ids hand there = elim (cases_lt hand (length ids)) [
   | inl within ↦ within
-  | inr past ↦ absurd (false≢true (sym (ap (λ (i : Ids). is_some i.number) (get_or_past ids hand gone past)) ∙ there))
+  | inr past ↦ absurd (false≢true (sym (ap (λ (i : Ids). is_some i.number) (get_or_past ids hand no_ids past)) ∙ there))
 ]
 
-quiet : (m : Moment) (hand : ℕ) (next : Step) → is_join next ≡ false → leaves_ids next ≡ true → sayings_of m.state hand next ≡ [] → MayStep m hand next → NumberedIn (moment_stepped m hand next)
+quiet : (m : Moment) (hand : ℕ) (next : Step) → is_join next ≡ false → leaves_ids next ≡ true → items_stored_by_step m.state hand next ≡ [] → MayStep m hand next → NumberedIn (moment_stepped m hand next)
 quiet m hand next alone same unsaid may = numbered_unsaid m hand next alone (ids_step m.state hand next same) unsaid may.there may.lawful.numbered
 
 -- what is so after calls came in is so with the new stamp, too
 stored : (m : Moment) (hand : ℕ) (chunk : ChunkId) (holding : Holding) → MayStep m hand (step.Link chunk)
-    → IsStored m.state hand chunk holding (after_step m.state hand (step.Link chunk)) (sayings_of m.state hand (step.Link chunk)) → NumberedIn (moment_stepped m hand (step.Link chunk))
+    → IsStored m.state hand chunk holding (after_step m.state hand (step.Link chunk)) (items_stored_by_step m.state hand (step.Link chunk)) → NumberedIn (moment_stepped m hand (step.Link chunk))
 stored m hand chunk holding may is =
     let now = after_step m.state hand (step.Link chunk) in
     let past = learned_alone m.state now m.past hand (step.Link chunk) in
-    let s : Saying = record { stamp = stamp_in (words_of holding); words = numbers (item_in (words_of holding)) } in
+    let s : StoredItem = record { stamp = stamp_in (holding_words holding); words = numbers_of_known (words_of_item (holding_words holding)) } in
     let within = hand_within m.state.ids hand may.there in
     let told : AreNumbered m.state.ids past.mine m.past.said m.past.known =
     numbered_quiet m.state.ids m.past.mine past.mine m.past.said m.past.known m.past.known (same_numbers m.state now m.past hand) may.lawful.numbered (λ other none. refl) in
     subst (λ (ids : List Ids). AreNumbered ids past.mine past.said past.known) (sym is.ids)
-    (subst (λ (more : List Saying). AreNumbered (slice_set m.state.ids hand (stamped (ids_at m.state hand))) past.mine (with_more m.past.said hand more) past.known) (sym is.says)
+    (subst (λ (more : List StoredItem). AreNumbered (slice_set m.state.ids hand (ids_after_stamp (ids_at m.state hand))) past.mine (with_more m.past.said hand more) past.known) (sym is.says)
     (numbered_said m.state.ids past.mine m.past.said m.past.known past.known hand s told is.next within (omega (arith, within, may.lawful.rows.said))
     (λ other apart. row_other m.past.known hand other _ apart)))
 
@@ -60,8 +60,8 @@ linked m hand chunk may =
 -- two hands that may be joined are apart, and are there
 pub join_facts : (m : Moment) (hand kept spent : ℕ) → MayStep m hand (step.Join kept spent) → (kept ≢ spent) × (kept < length m.state.ids) × (spent < length m.state.ids) × (is_some (number_in m.state.ids kept) ≡ true) × (is_some (number_in m.state.ids spent) ≡ true)
 join_facts m hand kept spent may =
-    let parts = and_parts (hand == kept && not (kept == spent) && is_hand m.state spent && hands.is_idle m.state kept) (hands.is_idle m.state spent) may.allowed in
-    let first = and_parts (hand == kept && not (kept == spent) && is_hand m.state spent) (hands.is_idle m.state kept) parts.0 in
+    let parts = and_parts (hand == kept && not (kept == spent) && is_hand m.state spent && hands.is_hand_idle m.state kept) (hands.is_hand_idle m.state spent) may.allowed in
+    let first = and_parts (hand == kept && not (kept == spent) && is_hand m.state spent) (hands.is_hand_idle m.state kept) parts.0 in
     let second = and_parts (hand == kept && not (kept == spent)) (is_hand m.state spent) first.0 in
     let third = and_parts (hand == kept) (not (kept == spent)) second.0 in
     let there : is_some (number_in m.state.ids kept) ≡ true = subst (λ h. is_some (number_in m.state.ids h) ≡ true) (eqb-true hand kept third.0) may.there in

@@ -5,11 +5,11 @@ use Rattle.mc_classes.specs.Classes.{Classes}
 use Rattle.mc_pages.specs.declared.ids.ChunkId.{ChunkId}
 use Rattle.mc_pages.specs.declared.ids.Moving.{Moving}
 use Rattle.mc_pages.specs.declared.moves.Found.{Found}
-use Rattle.mc_pages.specs.ClassState.{ClassState, new_class, handed_out, popped, with_page, without_page, put_back, touched, replaced, cleared, evicted, with_cut}
+use Rattle.mc_pages.specs.ClassState.{ClassState, new_class, class_after_hand_out, class_after_pop, with_page, without_page, put_back, class_after_touch, class_after_replacement, class_after_clear, class_after_eviction, with_cut}
 use Rattle.mc_pages.specs.SlabState.{SlabState, class_at, class_of_page, class_of_chunk}
 use Rattle.mc_pages.specs.Accounted.{IsAccounted}
 use Rattle.mc_pages.specs.Changes.{with_class, with_given, after_pop, after_back, after_touch, after_replace, after_clear, after_cut, after_evicted, after_grow, after_grant, after_take}
-use Rattle.mc_pages.specs.Moves.{released, after_begin, after_finish, after_passed, after_wrap, first_page}
+use Rattle.mc_pages.specs.Moves.{after_page_release, after_begin, after_finish, after_passed, after_wrap, first_page}
 use Rattle.mc_core.specs.InOrder.{IsOfTable}
 
 -- a write that leaves what f makes of the entry
@@ -37,27 +37,27 @@ pub class_shape : (slabs : SlabState) (class : ℕ) (state : ClassState) → sta
 class_shape slabs class state e =
     record { page = refl; limit = refl; counts = same_map (λ (c : ClassState). c.per_page) slabs.classes (class - 1) state (new_class 0 0) e; owners = refl }
 
-handed_out-per_page : (class : ClassState) (free : List ChunkId) → (handed_out class free).per_page ≡ class.per_page
+handed_out-per_page : (class : ClassState) (free : List ChunkId) → (class_after_hand_out class free).per_page ≡ class.per_page
 handed_out-per_page class [] = refl
 handed_out-per_page class (chunk ∷ free) = refl
 
 pub pop_shape : (slabs : SlabState) (class : ℕ) → HasShape slabs (after_pop slabs class)
-pop_shape slabs class = class_shape slabs class (popped (class_at slabs class)) (handed_out-per_page (class_at slabs class) (class_at slabs class).free)
+pop_shape slabs class = class_shape slabs class (class_after_pop (class_at slabs class)) (handed_out-per_page (class_at slabs class) (class_at slabs class).free)
 
 pub back_shape : (slabs : SlabState) (chunk : ChunkId) → HasShape slabs (after_back slabs chunk)
 back_shape slabs chunk = class_shape slabs (class_of_page slabs chunk.page) (put_back (class_of_chunk slabs chunk) chunk) refl
 
 pub touch_shape : (slabs : SlabState) (chunk : ChunkId) → HasShape slabs (after_touch slabs chunk)
-touch_shape slabs chunk = class_shape slabs (class_of_page slabs chunk.page) (touched (class_of_chunk slabs chunk) chunk) refl
+touch_shape slabs chunk = class_shape slabs (class_of_page slabs chunk.page) (class_after_touch (class_of_chunk slabs chunk) chunk) refl
 
 pub replace_shape : (slabs : SlabState) (new old : ChunkId) → HasShape slabs (after_replace slabs new old)
-replace_shape slabs new old = class_shape slabs (class_of_page slabs old.page) (replaced (class_of_chunk slabs old) new old) refl
+replace_shape slabs new old = class_shape slabs (class_of_page slabs old.page) (class_after_replacement (class_of_chunk slabs old) new old) refl
 
 pub clear_shape : (slabs : SlabState) (chunk : ChunkId) → HasShape slabs (after_clear slabs chunk)
-clear_shape slabs chunk = class_shape slabs (class_of_page slabs chunk.page) (cleared (class_of_chunk slabs chunk) chunk) refl
+clear_shape slabs chunk = class_shape slabs (class_of_page slabs chunk.page) (class_after_clear (class_of_chunk slabs chunk) chunk) refl
 
 pub evicted_shape : (slabs : SlabState) (class : ℕ) → HasShape slabs (after_evicted slabs class)
-evicted_shape slabs class = class_shape slabs class (evicted (class_at slabs class)) refl
+evicted_shape slabs class = class_shape slabs class (class_after_eviction (class_at slabs class)) refl
 
 pub cut_shape : (slabs : SlabState) (chunk : ChunkId) → HasShape slabs (after_cut slabs chunk)
 cut_shape slabs chunk =
@@ -79,17 +79,17 @@ grow_shape slabs class page = grow_shape_if slabs class page (nat_lt 0 (length s
 pub begin_shape : (slabs : SlabState) (src : Option ℕ) (dst source : ℕ) → HasShape slabs (after_begin slabs src source dst)
 begin_shape slabs src dst source = record { page = refl; limit = refl; counts = refl; owners = length-set slabs.owners (first_page slabs source) _ }
 
-released_shape : (slabs : SlabState) (page src : ℕ) → HasShape slabs (released slabs page src)
+released_shape : (slabs : SlabState) (page src : ℕ) → HasShape slabs (after_page_release slabs page src)
 released_shape slabs page src =
     let of_class = class_shape slabs src (without_page (class_at slabs src) page) refl in
     record { page = refl; limit = refl; counts = of_class.counts; owners = length-set slabs.owners page _ }
 
 arrived_shape : (slabs : SlabState) (move : Moving) (pooled : Bool) →
-    HasShape slabs (cond pooled (released slabs move.page move.src) (record (with_given (released slabs move.page move.src) move.dst move.page) { pool = slabs.pool }))
+    HasShape slabs (cond pooled (after_page_release slabs move.page move.src) (record (with_given (after_page_release slabs move.page move.src) move.dst move.page) { pool = slabs.pool }))
 arrived_shape slabs move true = released_shape slabs move.page move.src
 arrived_shape slabs move false =
     let gone = released_shape slabs move.page move.src in
-    let given = given_shape (released slabs move.page move.src) move.dst move.page in
+    let given = given_shape (after_page_release slabs move.page move.src) move.dst move.page in
     record { page = refl; limit = refl; counts = given.counts ∙ gone.counts; owners = given.owners ∙ gone.owners }
 
 pub finish_shape : (slabs : SlabState) (move : Option Moving) → HasShape slabs (after_finish slabs move)

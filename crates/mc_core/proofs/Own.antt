@@ -15,14 +15,14 @@ use Rattle.mc_core.specs.declared.holding.Holding.{Holding}
 use Rattle.mc_core.specs.declared.holding.Kind.{Kind}
 use Rattle.mc_core.specs.declared.holding.Kind.TheVariants.{Reference, Fresh}
 use Rattle.mc_core.specs.declared.holding.Purpose.TheVariants.{Item, Copy, Rescue}
-use Rattle.mc_core.specs.Holdings.{lose, change_each, is_of, is_copy_of, holding_of}
-use Rattle.mc_core.specs.State.{State, gone, number_at, item_at, has_slabs, holdings_at, looks_at, with_head, with_word, with_slabs, with_stripe, with_ids, with_holding, without_holding, with_looks, with_look}
+use Rattle.mc_core.specs.Holdings.{without_first, change_each, is_of_chunk, is_copy_of, holding_of}
+use Rattle.mc_core.specs.State.{State, no_ids, number_at, item_at, has_slabs, holdings_at, looks_at, with_head, with_word, with_slabs, with_stripe, with_ids, with_holding, without_holding, with_looks, with_look}
 use Rattle.mc_core.specs.Silent.{after_change}
-use Rattle.mc_core.specs.Locks.{looked}
+use Rattle.mc_core.specs.Locks.{state_after_look}
 use Rattle.mc_core.specs.Evictions.{as_rescue}
-use Rattle.mc_core.specs.Chunks.{popped, popped_off, filled, target_of, next_free, new_holding, handed_out, after_fill, let_go, with_tag_free, with_tag_out}
+use Rattle.mc_core.specs.Chunks.{state_after_pop_of, popped_off, holding_with_word, target_of, next_free, new_holding, head_after_hand_out, after_fill, head_after_release, with_tag_free, with_tag_out}
 use Rattle.mc_core.specs.Chunks as chunks
-use Rattle.mc_core.specs.Items.{told_link, after_link_of, referred_to, with_got, with_unlinked, chunk_of}
+use Rattle.mc_core.specs.Items.{recorded_link, after_link_of, referred_to, with_got, with_unlinked, chunk_of_key}
 use Rattle.mc_core.specs.Run.{after_step}
 
 pub record IsOwn (before now : State) (hand : ℕ) : Type 0 where
@@ -136,16 +136,16 @@ own_more : (s : State) (hand : ℕ) (holding : Holding) → IsOwn s (with_holdin
 own_more s hand holding = own_row s hand (holdings_at s hand ++ holding ∷ [])
 
 own_less : (s : State) (hand : ℕ) (test : Holding → Bool) → IsOwn s (without_holding s hand test) hand
-own_less s hand test = own_row s hand (lose test (holdings_at s hand))
+own_less s hand test = own_row s hand (without_first test (holdings_at s hand))
 
 own_look : (s : State) (hand : ℕ) (look : Look) → IsOwn s (with_look s hand look) hand
 own_look s hand look = own_looks s hand (looks_at s hand ++ look ∷ [])
 
-own_looked : (s : State) (hand : ℕ) (look : Look) → IsOwn s (looked s hand look) hand
+own_looked : (s : State) (hand : ℕ) (look : Look) → IsOwn s (state_after_look s hand look) hand
 own_looked s hand look = elim (has_slabs s hand) as (λ b. IsOwn s (cond b (with_look s hand look) s) hand) [ true ↦ own_look s hand look | false ↦ own_same s hand ]
 
 -- a written number that is the old one
-number_set : (ids : List Ids) (hand other : ℕ) (i : Ids) → i.number ≡ (slice_index_or ids hand gone).number → (slice_index_or (slice_set ids hand i) other gone).number ≡ (slice_index_or ids other gone).number
+number_set : (ids : List Ids) (hand other : ℕ) (i : Ids) → i.number ≡ (slice_index_or ids hand no_ids).number → (slice_index_or (slice_set ids hand i) other no_ids).number ≡ (slice_index_or ids other no_ids).number
 number_set [] hand other i same = refl
 number_set (x ∷ ids) zero zero i same = same
 number_set (x ∷ ids) zero (suc other) i same = refl
@@ -170,7 +170,7 @@ own_ids s hand ids same = record {
 own_fresh : (s : State) (hand : ℕ) (chunk : ChunkId) (head : Head) (holding : Holding) → IsOwn s (with_holding (with_head s chunk head) hand holding) hand
 own_fresh s hand chunk head holding = own_then (own_head s hand chunk head) (own_more (with_head s chunk head) hand holding)
 
-own_popped : (s : State) (hand : ℕ) (chunk : Option ChunkId) → IsOwn s (popped s hand chunk) hand
+own_popped : (s : State) (hand : ℕ) (chunk : Option ChunkId) → IsOwn s (state_after_pop_of s hand chunk) hand
 own_popped s hand None = own_same s hand
 own_popped s hand (Some chunk) = own_then (own_fresh s hand chunk _ _) (own_look _ hand _)
 
@@ -178,7 +178,7 @@ own_popped_off : (s : State) (hand : ℕ) (old : ChunkId) (chunk : Option ChunkI
 own_popped_off s hand old None = own_same s hand
 own_popped_off s hand old (Some chunk) = own_then (own_slabs s hand _) (own_then (own_fresh _ hand chunk _ _) (own_look _ hand _))
 
-own_told : (s : State) (hand : ℕ) (holding : Holding) (kind : Kind) → IsOwn s (told_link s hand holding kind) hand
+own_told : (s : State) (hand : ℕ) (holding : Holding) (kind : Kind) → IsOwn s (recorded_link s hand holding kind) hand
 own_told s hand holding (Reference own) = own_then (own_stripe s hand _ _) (own_ids _ hand _ refl)
 own_told s hand holding (Fresh Item own) = own_then (own_stripe s hand _ _) (own_ids _ hand _ refl)
 own_told s hand holding (Fresh (Copy old) own) = own_then (own_stripe s hand _ _) (own_ids _ hand _ refl)
@@ -222,12 +222,12 @@ own_step s hand (step.GiveStripe stripe) h = absurd (cc)
 own_step s hand (step.Head chunk) h = own_looked s hand _
 own_step s hand (Pop class) h = own_then (own_slabs s hand _) (own_popped _ hand (next_free s class))
 own_step s hand (PopOff old) h = own_popped_off s hand old (target_of s.table s.heads s.slabs old.page)
-own_step s hand (Fill chunk place word) h = own_then (own_row s hand (change_each (is_of chunk) (filled place word) (holdings_at s hand))) (own_word _ hand chunk place word)
+own_step s hand (Fill chunk place word) h = own_then (own_row s hand (change_each (is_of_chunk chunk) (holding_with_word place word) (holdings_at s hand))) (own_word _ hand chunk place word)
 own_step s hand (Word chunk place) h = own_same s hand
 own_step s hand (WordHeld chunk place) h = own_look s hand _
-own_step s hand (Link chunk) h = own_then (own_less s hand (is_of chunk)) (own_linked _ hand chunk (holding_of chunk (holdings_at s hand)))
-own_step s hand (Refer key) h = own_then (own_stripe s hand _ _) (own_referred (with_got s hand key) hand (chunk_of s key))
-own_step s hand (Unlink key) h = own_then (own_stripe s hand _ _) (own_unlinked _ hand (chunk_of s key))
+own_step s hand (Link chunk) h = own_then (own_less s hand (is_of_chunk chunk)) (own_linked _ hand chunk (holding_of chunk (holdings_at s hand)))
+own_step s hand (Refer key) h = own_then (own_stripe s hand _ _) (own_referred (with_got s hand key) hand (chunk_of_key s key))
+own_step s hand (Unlink key) h = own_then (own_stripe s hand _ _) (own_unlinked _ hand (chunk_of_key s key))
 own_step s hand (Release chunk) h = own_dropped s hand chunk
 own_step s hand (Discard chunk) h = own_dropped s hand chunk
 own_step s hand (Condemn chunk) h =

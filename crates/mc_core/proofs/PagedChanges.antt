@@ -6,17 +6,17 @@ use Rattle.mc_pages.specs.declared.ids.ChunkId.{ChunkId}
 use Rattle.mc_pages.specs.declared.ids.Moving.{Moving}
 use Rattle.mc_pages.specs.declared.moves.Found.{Found}
 use Rattle.mc_pages.specs.declared.moves.Reassign.{Reassign}
-use Rattle.mc_pages.specs.SlabState.{SlabState, IsClass, class_of_chunk}
+use Rattle.mc_pages.specs.SlabState.{SlabState, HasClass, class_of_chunk}
 use Rattle.mc_pages.specs.Answer.{answer_of}
 use Rattle.mc_pages.specs.Changes.{next_page, after_grant, after_grow, after_touch, after_trim, after_evicted}
 use Rattle.mc_pages.specs.Moves.{after_finish, after_passed, after_wrap}
-use Rattle.mc_pages.specs.InOrder.{IsInOrder}
+use Rattle.mc_pages.specs.InOrder.{AreSlabsInOrder}
 use Rattle.mc_pages.proofs.Kept.{IsInOrder-after_grant, IsInOrder-after_take, IsInOrder-after_begin, IsInOrder-after_touch, IsInOrder-after_evicted, IsInOrder-after_passed, IsInOrder-after_wrap, IsInOrder-automove, IsInOrder-after_trim, IsInOrder-finished}
 use Rattle.mc_pages.proofs.RoomyGrow.{next_pooled, next_granted, grow_takes, grow_grants}
 use Rattle.mc_core.specs.declared.event.Change.{Change}
 use Rattle.mc_core.specs.declared.event.Change.TheVariants.{Grow, BeginMove, FinishMove, Touch, SetAutomove, TrimLedger, Passed, Wrap, Evicted, OfStripe, GotNone, DeletedNone}
 use Rattle.mc_core.specs.State.{is_class, number_at, has_slabs, is_held_by}
-use Rattle.mc_core.specs.Silent.{is_handed_out, none_half_cut, can_finish, can_pass, can_wrap, run_of, grown, begun, can_change_slabs, slabs_after}
+use Rattle.mc_core.specs.Silent.{is_handed_out, none_half_cut, can_finish, can_pass, can_wrap, run_of, after_growth, after_reassign, can_change_slabs, slabs_after}
 use Rattle.mc_core.specs.Places.{ArePaged}
 use Rattle.mc_core.specs.Past.{Moment}
 use Rattle.mc_core.specs.Lawful.{PagedIn}
@@ -37,7 +37,7 @@ whole_is (Some chunk) h = absurd (cc)
 -- pages and lists after a change
 pub record StayPaged (old new : SlabState) : Type 0 where
   pub shape : HasShape old new
-  pub order : (granted : ℕ) × IsInOrder new granted
+  pub order : (granted : ℕ) × AreSlabsInOrder new granted
 
 -- under the lock a page may be half cut
 pub paged_from : (table : Classes) (old new : SlabState) (lock : ℕ) → ArePaged table old lock → StayPaged old new → (lock ≡ 0 → ⊥) → ArePaged table new lock
@@ -51,19 +51,19 @@ module _ (table : Classes) (slabs : SlabState) (lock : ℕ) (paged : ArePaged ta
   stays : StayPaged slabs slabs
   stays = record { shape = record { page = refl; limit = refl; counts = refl; owners = refl }; order = paged.order }
 
-  grow_order : (class page : ℕ) → IsClass slabs class → slabs.uncut ≡ None → next_page slabs class ≡ Some page → (granted : ℕ) × IsInOrder (after_grow slabs class page) granted
+  grow_order : (class page : ℕ) → HasClass slabs class → slabs.uncut ≡ None → next_page slabs class ≡ Some page → (granted : ℕ) × AreSlabsInOrder (after_grow slabs class page) granted
   grow_order class page is whole next =
       let granted = paged.order.0 in let kept = paged.order.1 in
       elim (cases_lt 0 (length slabs.pool)) [
-        | inl some ↦ (granted, subst (λ (s : SlabState). IsInOrder s granted) (sym (grow_takes slabs class page some)) (IsInOrder-after_take slabs granted class page kept is whole (next_pooled slabs class page some next)))
+        | inl some ↦ (granted, subst (λ (s : SlabState). AreSlabsInOrder s granted) (sym (grow_takes slabs class page some)) (IsInOrder-after_take slabs granted class page kept is whole (next_pooled slabs class page some next)))
         | inr none ↦
             let empty : length slabs.pool ≡ 0 = omega arith in
             let first = next_granted slabs granted class page kept is empty next in
             let grants = IsInOrder-after_grant slabs granted class kept is whole first.1 first.2 in
-            (granted + 1, subst (λ (s : SlabState). IsInOrder s (granted + 1)) (sym (grow_grants slabs class page empty)) (subst (λ p. IsInOrder (after_grant slabs class p) (granted + 1)) (sym first.0) grants))
+            (granted + 1, subst (λ (s : SlabState). AreSlabsInOrder s (granted + 1)) (sym (grow_grants slabs class page empty)) (subst (λ p. AreSlabsInOrder (after_grant slabs class p) (granted + 1)) (sym first.0) grants))
       ]
 
-  grown_paged : (class : ℕ) (next : Option ℕ) → next_page slabs class ≡ next → is_class table class ≡ true → none_half_cut slabs ≡ true → StayPaged slabs (grown slabs class next)
+  grown_paged : (class : ℕ) (next : Option ℕ) → next_page slabs class ≡ next → is_class table class ≡ true → none_half_cut slabs ≡ true → StayPaged slabs (after_growth slabs class next)
   grown_paged class None is named whole = stays
   grown_paged class (Some page) is named whole =
       let class_is = IsClass_from table slabs class paged.of_table named in
@@ -72,7 +72,7 @@ module _ (table : Classes) (slabs : SlabState) (lock : ℕ) (paged : ArePaged ta
         order = grow_order class page class_is (whole_is slabs.uncut whole) is;
       }
 
-  begun_paged : (src : Option ℕ) (dst : ℕ) (answer : Result ℕ Reassign) → answer_of slabs src dst ≡ answer → StayPaged slabs (begun slabs src dst answer)
+  begun_paged : (src : Option ℕ) (dst : ℕ) (answer : Result ℕ Reassign) → answer_of slabs src dst ≡ answer → StayPaged slabs (after_reassign slabs src dst answer)
   begun_paged src dst (Err refusal) is = stays
   begun_paged src dst (Ok source) is = record {
     shape = begin_shape slabs src dst source;

@@ -16,11 +16,11 @@ use Rattle.mc_pages.specs.Pages.{is_on_the_move}
 use Rattle.mc_core.specs.declared.event.Step.{Step}
 use Rattle.mc_core.specs.declared.event.Step.TheVariants.{TakeSlabs, TakeStripe, MissSlabs, MissStripe, GiveSlabs, GiveStripe, Pop, PopOff, Fill, Word, WordHeld, Link, Refer, Unlink, Release, Discard, Condemn, PutBack, Clear, Cut, Again, Join}
 use Rattle.mc_core.specs.declared.event.Step.TheVariants as step
-use Rattle.mc_core.specs.Holdings.{is_of, holding_of}
+use Rattle.mc_core.specs.Holdings.{is_of_chunk, holding_of}
 use Rattle.mc_core.specs.State.{State, is_class, number_at, has_slabs, with_slabs, holdings_at, without_holding}
 use Rattle.mc_core.specs.Silent.{is_handed_out, is_listed, none_half_cut}
-use Rattle.mc_core.specs.Chunks.{next_free, is_target, target_of, is_next_uncut, popped_off, can_pop, after_pop, can_pop_off, after_pop_off, can_put_back, after_put_back, can_clear, after_clear, can_cut, after_cut}
-use Rattle.mc_core.specs.Items.{with_got, chunk_of}
+use Rattle.mc_core.specs.Chunks.{next_free, is_target, target_of, is_next_uncut, popped_off, can_pop, state_after_pop, can_pop_off, after_pop_off, can_put_back, after_put_back, can_clear, state_after_clear, can_cut, state_after_cut}
+use Rattle.mc_core.specs.Items.{with_got, chunk_of_key}
 use Rattle.mc_core.specs.Run.{after_step}
 use Rattle.mc_core.specs.Places.{ArePaged}
 use Rattle.mc_core.specs.Lawful.{PagedIn}
@@ -105,11 +105,11 @@ popped_off_paged state hand old (Some chunk) is was held out =
     (replaced_paged state.table state.slabs state.slabs_lock was chunk old (target_free state old.page chunk is) out) refl
 
 module _ (state : State) (hand : ℕ) (was : Paged (pages_part state)) where
-  pop_paged : (class : ℕ) → can_pop state hand class ≡ true → Paged (pages_part (after_pop state hand class))
+  pop_paged : (class : ℕ) → can_pop state hand class ≡ true → Paged (pages_part (state_after_pop state hand class))
   pop_paged class can =
       let slabs = slabs_changes.after_pop state.slabs class in
       let tests = pop_tests state hand class (next_free state class) can in
-      paged_with state hand slabs (after_pop state hand class) was tests.0 (popped_paged state.table state.slabs state.slabs_lock was class tests.1)
+      paged_with state hand slabs (state_after_pop state hand class) was tests.0 (popped_paged state.table state.slabs state.slabs_lock was class tests.1)
       (popped_keeps pages_part (with_slabs state slabs) hand (next_free state class) (λ chunk. refl))
 
   pop_off_paged : (old : ChunkId) → can_pop_off state hand old ≡ true → Paged (pages_part (after_pop_off state hand old))
@@ -120,15 +120,15 @@ module _ (state : State) (hand : ℕ) (was : Paged (pages_part state)) where
       let tests = put_back_tests state hand chunk can in
       paged_with state hand (slabs_changes.after_back state.slabs chunk) (after_put_back state hand chunk) was tests.0 (back_paged state.table state.slabs state.slabs_lock was chunk tests.3) refl
 
-  clear_paged : (chunk : ChunkId) → can_clear state hand chunk ≡ true → Paged (pages_part (after_clear state hand chunk))
+  clear_paged : (chunk : ChunkId) → can_clear state hand chunk ≡ true → Paged (pages_part (state_after_clear state hand chunk))
   clear_paged chunk can =
       let tests = clear_tests state hand chunk can in
-      paged_with state hand (slabs_changes.after_clear state.slabs chunk) (after_clear state hand chunk) was tests.0 (cleared_paged state.table state.slabs state.slabs_lock was chunk tests.2 tests.3) refl
+      paged_with state hand (slabs_changes.after_clear state.slabs chunk) (state_after_clear state hand chunk) was tests.0 (cleared_paged state.table state.slabs state.slabs_lock was chunk tests.2 tests.3) refl
 
-  cut_step_paged : (chunk : ChunkId) → can_cut state hand chunk ≡ true → Paged (pages_part (after_cut state hand chunk))
+  cut_step_paged : (chunk : ChunkId) → can_cut state hand chunk ≡ true → Paged (pages_part (state_after_cut state hand chunk))
   cut_step_paged chunk can =
       let tests = cut_tests state hand chunk can in
-      paged_with state hand (slabs_changes.after_cut state.slabs chunk) (after_cut state hand chunk) was tests.0 (cut_paged state.table state.slabs state.slabs_lock was chunk tests.2) refl
+      paged_with state hand (slabs_changes.after_cut state.slabs chunk) (state_after_cut state hand chunk) was tests.0 (cut_paged state.table state.slabs state.slabs_lock was chunk tests.2) refl
 
   -- the lock's word changes, and no page is half cut
   relocked : (lock : ℕ) → state.slabs.uncut ≡ None → ArePaged state.table state.slabs lock
@@ -158,12 +158,12 @@ paged_steps moment hand (Word chunk place) may = may.lawful.paged
 paged_steps moment hand (WordHeld chunk place) may = may.lawful.paged
 paged_steps moment hand (Link chunk) may =
     let state = moment.state in
-    let left : State = without_holding state hand (is_of chunk) in
+    let left : State = without_holding state hand (is_of_chunk chunk) in
     passes state hand (Link chunk) may.lawful.paged
     (linked_keeps pages_part left hand chunk (holding_of chunk (holdings_at state hand)) (λ holding. told_link_keeps pages_part left hand holding holding.kind refl refl))
 paged_steps moment hand (Refer key) may =
-    let state = moment.state in passes state hand (Refer key) may.lawful.paged (referred_keeps pages_part (with_got state hand key) hand (chunk_of state key) (λ chunk. refl))
-paged_steps moment hand (Unlink key) may = let state = moment.state in passes state hand (Unlink key) may.lawful.paged (unlinked_keeps pages_part _ (chunk_of state key) (λ chunk. refl))
+    let state = moment.state in passes state hand (Refer key) may.lawful.paged (referred_keeps pages_part (with_got state hand key) hand (chunk_of_key state key) (λ chunk. refl))
+paged_steps moment hand (Unlink key) may = let state = moment.state in passes state hand (Unlink key) may.lawful.paged (unlinked_keeps pages_part _ (chunk_of_key state key) (λ chunk. refl))
 paged_steps moment hand (Release chunk) may = may.lawful.paged
 paged_steps moment hand (Discard chunk) may = may.lawful.paged
 paged_steps moment hand (Condemn chunk) may =

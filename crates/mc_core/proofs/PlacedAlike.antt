@@ -4,8 +4,8 @@ use Rattle.std.proofs.lemmas.Bool.{cases_Bool, both_ways}
 use Rattle.mc_classes.specs.Classes.{Classes}
 use Rattle.mc_pages.specs.declared.ids.ChunkId.{ChunkId}
 use Rattle.mc_pages.specs.Ledger.{owner_at}
-use Rattle.mc_pages.specs.ClassState.{times}
-use Rattle.mc_pages.specs.SlabState.{SlabState, IsClass, class_at, class_of_page}
+use Rattle.mc_pages.specs.ClassState.{times_in}
+use Rattle.mc_pages.specs.SlabState.{SlabState, HasClass, class_at, class_of_page}
 use Rattle.mc_pages.specs.Accounted.{truth, is_cut, is_moving, IsAccounted}
 use Rattle.mc_core.specs.declared.head.Head.{Head}
 use Rattle.mc_core.specs.declared.head.Tag.{Tag}
@@ -66,12 +66,12 @@ placed_alike table slabs heads now alike placed =
 -- the lists have the chunks that they had, and what isn't cut any more is in none
 pub record AreListed (slabs now : SlabState) : Type 0 where
   pub classes : length now.classes ≡ length slabs.classes
-  pub free : (class : ℕ) (chunk : ChunkId) → IsClass slabs class → times chunk (class_at now class).free ≡ times chunk (class_at slabs class).free
-  pub order : (class : ℕ) (chunk : ChunkId) → IsClass slabs class → times chunk (class_at now class).order ≡ times chunk (class_at slabs class).order
-  pub cut : (class : ℕ) (chunk : ChunkId) → IsClass slabs class →
+  pub free : (class : ℕ) (chunk : ChunkId) → HasClass slabs class → times_in chunk (class_at now class).free ≡ times_in chunk (class_at slabs class).free
+  pub order : (class : ℕ) (chunk : ChunkId) → HasClass slabs class → times_in chunk (class_at now class).order ≡ times_in chunk (class_at slabs class).order
+  pub cut : (class : ℕ) (chunk : ChunkId) → HasClass slabs class →
       (is_cut now class chunk ≡ is_cut slabs class chunk)
-      ⊎ ((is_cut now class chunk ≡ false) × ((times chunk (class_at slabs class).free ≡ 0) × (times chunk (class_at slabs class).order ≡ 0)))
-  pub moving : (class : ℕ) (chunk : ChunkId) → IsClass slabs class → is_cut now class chunk ≡ true → is_moving (owner_at slabs.owners chunk.page) ≡ true → is_moving (owner_at now.owners chunk.page) ≡ true
+      ⊎ ((is_cut now class chunk ≡ false) × ((times_in chunk (class_at slabs class).free ≡ 0) × (times_in chunk (class_at slabs class).order ≡ 0)))
+  pub moving : (class : ℕ) (chunk : ChunkId) → HasClass slabs class → is_cut now class chunk ≡ true → is_moving (owner_at slabs.owners chunk.page) ≡ true → is_moving (owner_at now.owners chunk.page) ≡ true
 
 truth_none : (b : Bool) → truth b ≡ 0 → b ≡ false
 truth_none true h = absurd (omega arith)
@@ -81,10 +81,10 @@ and_none : (a b : Bool) → a ≡ true → truth (a && b) ≡ 0 → b ≡ false
 and_none a b h none = truth_none b (sym (ap (λ (x : Bool). truth (x && b)) h) ∙ none)
 
 module _ (table : Classes) (slabs now : SlabState) (heads : List Head) (all : IsAccounted slabs) (placed : ArePlaced table slabs heads) (listed : AreListed slabs now) where
-  was_class : (class : ℕ) → IsClass now class → IsClass slabs class
+  was_class : (class : ℕ) → HasClass now class → HasClass slabs class
   was_class class is = let same = listed.classes in (is.0, omega (arith, is.1, same))
 
-  free_listed : (class : ℕ) (chunk : ChunkId) → IsClass slabs class → times chunk (class_at now class).free ≡ truth (is_cut now class chunk && is_free (head_in table heads chunk).tag)
+  free_listed : (class : ℕ) (chunk : ChunkId) → HasClass slabs class → times_in chunk (class_at now class).free ≡ truth (is_cut now class chunk && is_free (head_in table heads chunk).tag)
   free_listed class chunk is =
       let free = is_free (head_in table heads chunk).tag in
       elim (listed.cut class chunk is) [
@@ -92,7 +92,7 @@ module _ (table : Classes) (slabs now : SlabState) (heads : List Head) (all : Is
         | inr gone ↦ listed.free class chunk is ∙ gone.1.0 ∙ sym (ap (λ b. truth (b && free)) gone.0)
       ]
 
-  order_listed : (class : ℕ) (chunk : ChunkId) → IsClass slabs class → times chunk (class_at now class).order ≡ truth (is_cut now class chunk && is_in_hand (head_in table heads chunk).tag)
+  order_listed : (class : ℕ) (chunk : ChunkId) → HasClass slabs class → times_in chunk (class_at now class).order ≡ truth (is_cut now class chunk && is_in_hand (head_in table heads chunk).tag)
   order_listed class chunk is =
       let hand = is_in_hand (head_in table heads chunk).tag in
       elim (listed.cut class chunk is) [
@@ -100,7 +100,7 @@ module _ (table : Classes) (slabs now : SlabState) (heads : List Head) (all : Is
         | inr gone ↦ listed.order class chunk is ∙ gone.1.1 ∙ sym (ap (λ b. truth (b && hand)) gone.0)
       ]
 
-  cleared_listed : (class : ℕ) (chunk : ChunkId) → IsClass slabs class → is_cut now class chunk ≡ true → (head_in table heads chunk).tag ≡ Out → is_moving (owner_at now.owners chunk.page) ≡ true
+  cleared_listed : (class : ℕ) (chunk : ChunkId) → HasClass slabs class → is_cut now class chunk ≡ true → (head_in table heads chunk).tag ≡ Out → is_moving (owner_at now.owners chunk.page) ≡ true
   cleared_listed class chunk is cut out = elim (listed.cut class chunk is) [
     | inl same ↦ listed.moving class chunk is cut (placed.cleared class chunk is (sym same ∙ cut) out)
     | inr gone ↦ absurd (both_ways _ gone.0 cut)

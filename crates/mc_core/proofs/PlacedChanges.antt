@@ -10,13 +10,13 @@ use Rattle.mc_pages.specs.declared.ledger.Owner.TheVariants as owner
 use Rattle.mc_pages.specs.declared.ledger.Entry.{Entry}
 use Rattle.mc_pages.specs.declared.moves.Reassign.{Reassign}
 use Rattle.mc_pages.specs.Ledger.{owner_at}
-use Rattle.mc_pages.specs.ClassState.{ClassState, times, without, touched, evicted, with_page, without_page}
-use Rattle.mc_pages.specs.SlabState.{SlabState, IsClass, class_at, class_of_owner, class_of_page, class_of_chunk}
+use Rattle.mc_pages.specs.ClassState.{ClassState, times_in, without, class_after_touch, class_after_eviction, with_page, without_page}
+use Rattle.mc_pages.specs.SlabState.{SlabState, HasClass, class_at, class_of_owner, class_of_page, class_of_chunk}
 use Rattle.mc_pages.specs.Answer.{answer_of}
 use Rattle.mc_pages.specs.Changes.{with_class, with_given, next_page, after_take, after_grant, after_grow, after_touch, after_trim}
-use Rattle.mc_pages.specs.Moves.{first_page, released, finished, after_finish}
+use Rattle.mc_pages.specs.Moves.{first_page, after_page_release, after_move_end, after_finish}
 use Rattle.mc_pages.specs.Accounted.{is_of_class, is_moving, is_cut, cut_count, IsMove}
-use Rattle.mc_pages.specs.InOrder.{IsInOrder}
+use Rattle.mc_pages.specs.InOrder.{AreSlabsInOrder}
 use Rattle.mc_pages.proofs.Chunks.{times-push, times-without, times_from_Contains}
 use Rattle.mc_pages.proofs.HandedOut.{IsClass-handed_out}
 use Rattle.mc_pages.proofs.OneClass.{length-with_class, class_at-with_class_kept}
@@ -28,7 +28,7 @@ use Rattle.mc_pages.proofs.RoomyGrow.{next_within}
 use Rattle.mc_core.specs.declared.event.Change.{Change}
 use Rattle.mc_core.specs.declared.event.Change.TheVariants.{Grow, BeginMove, FinishMove, Touch, SetAutomove, TrimLedger, Passed, Wrap, Evicted, OfStripe, GotNone, DeletedNone}
 use Rattle.mc_core.specs.State.{is_class, has_slabs}
-use Rattle.mc_core.specs.Silent.{is_handed_out, none_half_cut, has_page, can_finish, grown, begun, can_change_slabs, slabs_after}
+use Rattle.mc_core.specs.Silent.{is_handed_out, none_half_cut, has_page, can_finish, after_growth, after_reassign, can_change_slabs, slabs_after}
 use Rattle.mc_core.specs.Places.{ArePaged, ArePlaced}
 use Rattle.mc_core.specs.Past.{Moment}
 use Rattle.mc_core.specs.Lawful.{IsLawful, PlacedIn}
@@ -52,13 +52,13 @@ trimmed_listed : (slabs : SlabState) → AreListed slabs (after_trim slabs)
 trimmed_listed slabs = let all = same_listed slabs in record { classes = all.classes; free = all.free; order = all.order; cut = all.cut; moving = all.moving }
 
 -- one class changes, and each chunk stands in its lists as often
-listed_with_class : (slabs : SlabState) (class : ℕ) (state : ClassState) → IsClass slabs class → state.per_page ≡ (class_at slabs class).per_page →
-    ((chunk : ChunkId) → times chunk state.free ≡ times chunk (class_at slabs class).free) → ((chunk : ChunkId) → times chunk state.order ≡ times chunk (class_at slabs class).order) →
+listed_with_class : (slabs : SlabState) (class : ℕ) (state : ClassState) → HasClass slabs class → state.per_page ≡ (class_at slabs class).per_page →
+    ((chunk : ChunkId) → times_in chunk state.free ≡ times_in chunk (class_at slabs class).free) → ((chunk : ChunkId) → times_in chunk state.order ≡ times_in chunk (class_at slabs class).order) →
     AreListed slabs (with_class slabs class state)
 listed_with_class slabs class state is size free order = record {
   classes = length-with_class slabs class state;
-  free = λ other chunk here. class_at-with_class_kept (λ c. times chunk c.free) slabs class other state is here.0 (free chunk);
-  order = λ other chunk here. class_at-with_class_kept (λ c. times chunk c.order) slabs class other state is here.0 (order chunk);
+  free = λ other chunk here. class_at-with_class_kept (λ c. times_in chunk c.free) slabs class other state is here.0 (free chunk);
+  order = λ other chunk here. class_at-with_class_kept (λ c. times_in chunk c.order) slabs class other state is here.0 (order chunk);
   cut = λ other chunk here. inl (is_cut-kept slabs (with_class slabs class state) other chunk refl refl (class_at-with_class_kept (λ c. c.per_page) slabs class other state is here.0 size));
   moving = λ other chunk here cut moves. moves;
 }
@@ -67,7 +67,7 @@ listed_with_class slabs class state is size free order = record {
 listed_again : (a b c : SlabState) → AreListed a b → AreListed b c → AreListed a c
 listed_again a b c first second =
     let same = first.classes in
-    let between : (class : ℕ) → IsClass a class → IsClass b class = λ class is. (is.0, omega (arith, is.1, same)) in
+    let between : (class : ℕ) → HasClass a class → HasClass b class = λ class is. (is.0, omega (arith, is.1, same)) in
     record {
       classes = second.classes ∙ same;
       free = λ class chunk is. second.free class chunk (between class is) ∙ first.free class chunk is;
@@ -85,18 +85,18 @@ listed_again a b c first second =
     }
 
 -- a chunk that goes to the back of its order stands there as often
-touched_times : (chunk other : ChunkId) (order : List ChunkId) → 1 ≤ times chunk order → times other (without chunk order ++ chunk ∷ []) ≡ times other order
+touched_times : (chunk other : ChunkId) (order : List ChunkId) → 1 ≤ times_in chunk order → times_in other (without chunk order ++ chunk ∷ []) ≡ times_in other order
 touched_times chunk other order some = omega (arith, times-push other chunk (without chunk order), times-without other chunk order some)
 
-module _ (slabs : SlabState) (granted : ℕ) (kept : IsInOrder slabs granted) where
+module _ (slabs : SlabState) (granted : ℕ) (kept : AreSlabsInOrder slabs granted) where
   touch_listed : (chunk : ChunkId) → is_handed_out slabs chunk ≡ true → AreListed slabs (after_touch slabs chunk)
   touch_listed chunk out =
       let own = class_of_chunk slabs chunk in
       let handed = Contains_from_among own.order chunk out in
-      listed_with_class slabs (class_of_page slabs chunk.page) (touched own chunk) (IsClass-handed_out slabs chunk kept.accounted handed) refl (λ other. refl)
+      listed_with_class slabs (class_of_page slabs chunk.page) (class_after_touch own chunk) (IsClass-handed_out slabs chunk kept.accounted handed) refl (λ other. refl)
       (λ other. touched_times chunk other own.order (times_from_Contains chunk own.order handed))
 
-  begin_listed : (src : Option ℕ) (dst : ℕ) (answer : Result ℕ Reassign) → answer_of slabs src dst ≡ answer → AreListed slabs (begun slabs src dst answer)
+  begin_listed : (src : Option ℕ) (dst : ℕ) (answer : Result ℕ Reassign) → answer_of slabs src dst ≡ answer → AreListed slabs (after_reassign slabs src dst answer)
   begin_listed src dst (Err refusal) is = same_listed slabs
   begin_listed src dst (Ok source) is =
       let page = first_page slabs source in
@@ -119,11 +119,11 @@ no_class : (class : ℕ) (owner : Owner) → (owner ≡ Untouched) ⊎ (owner �
 no_class class owner (inl is) = (ap (is_of_class class) is, ap is_moving is)
 no_class class owner (inr is) = (ap (is_of_class class) is, ap is_moving is)
 
-module _ (slabs : SlabState) (class page : ℕ) (is : IsClass slabs class) (within : page < length slabs.owners) (free : (owner_at slabs.owners page ≡ Untouched) ⊎ (owner_at slabs.owners page ≡ Pool)) (whole : slabs.uncut ≡ None) where
+module _ (slabs : SlabState) (class page : ℕ) (is : HasClass slabs class) (within : page < length slabs.owners) (free : (owner_at slabs.owners page ≡ Untouched) ⊎ (owner_at slabs.owners page ≡ Pool)) (whole : slabs.uncut ≡ None) where
   abbrev given : SlabState
   given = with_given slabs class page
 
-  given_size : (other : ℕ) → IsClass slabs other → (class_at given other).per_page ≡ (class_at slabs other).per_page
+  given_size : (other : ℕ) → HasClass slabs other → (class_at given other).per_page ≡ (class_at slabs other).per_page
   given_size other here = class_at-with_class_kept (λ c. c.per_page) slabs class other (with_page (class_at slabs class) page) is here.0 refl
 
   -- nothing of the page was cut, and nothing is
@@ -136,7 +136,7 @@ module _ (slabs : SlabState) (class page : ℕ) (is : IsClass slabs class) (with
   before_uncut : (other : ℕ) (chunk : ChunkId) → chunk.page ≡ page → is_cut slabs other chunk ≡ false
   before_uncut other chunk same = and_left _ _ (ap (λ p. is_of_class other (owner_at slabs.owners p)) same ∙ (no_class other (owner_at slabs.owners page) free).0)
 
-  given_elsewhere : (other : ℕ) (chunk : ChunkId) → IsClass slabs other → chunk.page ≢ page → is_cut given other chunk ≡ is_cut slabs other chunk
+  given_elsewhere : (other : ℕ) (chunk : ChunkId) → HasClass slabs other → chunk.page ≢ page → is_cut given other chunk ≡ is_cut slabs other chunk
   given_elsewhere other chunk here apart =
       let new = (class_at given other).per_page in
       let old = (class_at slabs other).per_page in
@@ -149,8 +149,8 @@ module _ (slabs : SlabState) (class page : ℕ) (is : IsClass slabs class) (with
   given_listed : AreListed slabs given
   given_listed = record {
     classes = length-with_class slabs class (with_page (class_at slabs class) page);
-    free = λ other chunk here. class_at-with_class_kept (λ c. times chunk c.free) slabs class other (with_page (class_at slabs class) page) is here.0 refl;
-    order = λ other chunk here. class_at-with_class_kept (λ c. times chunk c.order) slabs class other (with_page (class_at slabs class) page) is here.0 refl;
+    free = λ other chunk here. class_at-with_class_kept (λ c. times_in chunk c.free) slabs class other (with_page (class_at slabs class) page) is here.0 refl;
+    order = λ other chunk here. class_at-with_class_kept (λ c. times_in chunk c.order) slabs class other (with_page (class_at slabs class) page) is here.0 refl;
     cut = λ other chunk here. elim (cases_eq chunk.page page) [
       | inl same ↦ inl (given_uncut other chunk same ∙ sym (before_uncut other chunk same))
       | inr apart ↦ inl (given_elsewhere other chunk here apart)
@@ -172,7 +172,7 @@ grow_listed slabs class page listed =
       | false ↦ given_pooled slabs (with_given slabs class page) _ _ slabs.moved listed
     ]
 
-grown_listed : (table : Classes) (slabs : SlabState) (lock : ℕ) (class : ℕ) (next : Option ℕ) → ArePaged table slabs lock → next_page slabs class ≡ next → is_class table class ≡ true → none_half_cut slabs ≡ true → AreListed slabs (grown slabs class next)
+grown_listed : (table : Classes) (slabs : SlabState) (lock : ℕ) (class : ℕ) (next : Option ℕ) → ArePaged table slabs lock → next_page slabs class ≡ next → is_class table class ≡ true → none_half_cut slabs ≡ true → AreListed slabs (after_growth slabs class next)
 grown_listed table slabs lock class None paged is named whole = same_listed slabs
 grown_listed table slabs lock class (Some page) paged is named whole =
     let granted = paged.order.0 in let kept = paged.order.1 in
@@ -182,24 +182,24 @@ grown_listed table slabs lock class (Some page) paged is named whole =
 
 module _ (slabs : SlabState) (move : Moving) (moves : IsMove slabs move) (can : can_finish slabs (Some move) ≡ true) where
   abbrev gone : SlabState
-  gone = released slabs move.page move.src
+  gone = after_page_release slabs move.page move.src
 
   -- no chunk of the page is in a list
-  none_listed : (class : ℕ) (chunk : ChunkId) → chunk.page ≡ move.page → is_cut slabs class chunk ≡ true → (times chunk (class_at slabs class).free ≡ 0) × (times chunk (class_at slabs class).order ≡ 0)
+  none_listed : (class : ℕ) (chunk : ChunkId) → chunk.page ≡ move.page → is_cut slabs class chunk ≡ true → (times_in chunk (class_at slabs class).free ≡ 0) × (times_in chunk (class_at slabs class).order ≡ 0)
   none_listed class chunk same cut =
       let of : is_of_class class (owner_at slabs.owners chunk.page) ≡ true = (and_parts _ _ cut).0 in
       let own : move.src ≡ class = sym (ap (λ p. class_of_page slabs p) same ∙ ap class_of_owner moves.owner) ∙ class_of_owner-is_of_class class (owner_at slabs.owners chunk.page) of in
       let tests = finish_tests slabs move can in
       let free = none_of_page (class_at slabs move.src).free chunk (subst (λ p. has_page (class_at slabs move.src).free p ≡ false) (sym same) tests.0) in
       let order = none_of_page (class_at slabs move.src).order chunk (subst (λ p. has_page (class_at slabs move.src).order p ≡ false) (sym same) tests.1) in
-      subst (λ n. (times chunk (class_at slabs n).free ≡ 0) × (times chunk (class_at slabs n).order ≡ 0)) own (free, order)
+      subst (λ n. (times_in chunk (class_at slabs n).free ≡ 0) × (times_in chunk (class_at slabs n).order ≡ 0)) own (free, order)
 
   released_uncut : (class : ℕ) (chunk : ChunkId) → chunk.page ≡ move.page → is_cut gone class chunk ≡ false
   released_uncut class chunk same =
       let owner = owner_at-set_same slabs.owners move.page Pool (within_from_IsMove slabs move moves) in
       and_left _ _ (ap (λ p. is_of_class class (owner_at (set slabs.owners move.page Pool) p)) same ∙ ap (is_of_class class) owner)
 
-  released_elsewhere : (class : ℕ) (chunk : ChunkId) → IsClass slabs class → chunk.page ≢ move.page → is_cut gone class chunk ≡ is_cut slabs class chunk
+  released_elsewhere : (class : ℕ) (chunk : ChunkId) → HasClass slabs class → chunk.page ≢ move.page → is_cut gone class chunk ≡ is_cut slabs class chunk
   released_elsewhere class chunk here apart =
       let size = class_at-with_class_kept (λ c. c.per_page) slabs move.src class (without_page (class_at slabs move.src) move.page) moves.src here.0 refl in
       ap₂ (λ (o : Owner) (n : ℕ). is_of_class class o && nat_lt chunk.index (cut_count slabs.uncut chunk.page n)) (owner_at-set_other slabs.owners move.page chunk.page Pool apart) size
@@ -208,8 +208,8 @@ module _ (slabs : SlabState) (move : Moving) (moves : IsMove slabs move) (can : 
   released_listed : AreListed slabs gone
   released_listed = record {
     classes = length-with_class slabs move.src (without_page (class_at slabs move.src) move.page);
-    free = λ class chunk here. class_at-with_class_kept (λ c. times chunk c.free) slabs move.src class (without_page (class_at slabs move.src) move.page) moves.src here.0 refl;
-    order = λ class chunk here. class_at-with_class_kept (λ c. times chunk c.order) slabs move.src class (without_page (class_at slabs move.src) move.page) moves.src here.0 refl;
+    free = λ class chunk here. class_at-with_class_kept (λ c. times_in chunk c.free) slabs move.src class (without_page (class_at slabs move.src) move.page) moves.src here.0 refl;
+    order = λ class chunk here. class_at-with_class_kept (λ c. times_in chunk c.order) slabs move.src class (without_page (class_at slabs move.src) move.page) moves.src here.0 refl;
     cut = λ class chunk here. elim (cases_eq chunk.page move.page) [
       | inr apart ↦ inl (released_elsewhere class chunk here apart)
       | inl same ↦ elim (cases_Bool (is_cut slabs class chunk)) [
@@ -230,16 +230,16 @@ module _ (slabs : SlabState) (move : Moving) (moves : IsMove slabs move) (can : 
       let within = within_from_IsMove slabs move moves in
       let count = length-with_class slabs move.src (without_page (class_at slabs move.src) move.page) in
       let some = eqb-false move.dst 0 to in
-      let is : IsClass gone move.dst = (omega arith, (let most = moves.dst in omega arith)) in
+      let is : HasClass gone move.dst = (omega arith, (let most = moves.dst in omega arith)) in
       let inside : move.page < length gone.owners = omega (arith, within, length-set slabs.owners move.page Pool) in
       let whole : slabs.uncut ≡ None = whole_is slabs.uncut (and_parts _ _ can).0 in
       let joined = given_listed gone move.dst move.page is inside (inr (owner_at-set_same slabs.owners move.page Pool within)) whole in
       given_pooled slabs (with_given gone move.dst move.page) slabs.pool slabs.ledger slabs.moved (listed_again slabs gone (with_given gone move.dst move.page) released_listed joined)
 
-  ended_listed : AreListed slabs (finished slabs move)
+  ended_listed : AreListed slabs (after_move_end slabs move)
   ended_listed = let there = arrived_listed (move.dst == 0) refl in given_pooled slabs (arrived_if slabs move (move.dst == 0)) _ _ _ there
 
-finish_listed : (slabs : SlabState) (granted : ℕ) (moving : Option Moving) → IsInOrder slabs granted → slabs.moving ≡ moving → can_finish slabs moving ≡ true → AreListed slabs (after_finish slabs moving)
+finish_listed : (slabs : SlabState) (granted : ℕ) (moving : Option Moving) → AreSlabsInOrder slabs granted → slabs.moving ≡ moving → can_finish slabs moving ≡ true → AreListed slabs (after_finish slabs moving)
 finish_listed slabs granted None kept is can = same_listed slabs
 finish_listed slabs granted (Some move) kept is can = ended_listed slabs move (kept.accounted.move move is) can
 
@@ -257,7 +257,7 @@ slabs_listed table slabs lock paged TrimLedger can = trimmed_listed slabs
 slabs_listed table slabs lock paged (Passed found) can = let now : SlabState = slabs_after slabs (Passed found) in numbered_listed slabs now.moving now.rescues now.evictions_nomem now.busy now.automove
 slabs_listed table slabs lock paged Wrap can = let now : SlabState = slabs_after slabs Wrap in numbered_listed slabs now.moving now.rescues now.evictions_nomem now.busy now.automove
 slabs_listed table slabs lock paged (Evicted class) can =
-    listed_with_class slabs class (evicted (class_at slabs class)) (IsClass_from table slabs class paged.of_table can) refl (λ chunk. refl) (λ chunk. refl)
+    listed_with_class slabs class (class_after_eviction (class_at slabs class)) (IsClass_from table slabs class paged.of_table can) refl (λ chunk. refl) (λ chunk. refl)
 slabs_listed table slabs lock paged (OfStripe stripe how) can = absurd (cc)
 slabs_listed table slabs lock paged (GotNone key) can = absurd (cc)
 slabs_listed table slabs lock paged (DeletedNone key) can = absurd (cc)

@@ -3,8 +3,8 @@ use Rattle.std.proofs.Common.{◌≡◌, ◌≢◌, ℕ, ◌+◌, ◌<◌, ◌�
 use Rattle.std.proofs.lemmas.Bool.{and_parts, and_from, and_left, and_right, cases_eq, cases_lt, both_ways, false_from_ne_true}
 use Rattle.mc_pages.specs.declared.ids.ChunkId.{ChunkId}
 use Rattle.mc_pages.specs.Ledger.{owner_at}
-use Rattle.mc_pages.specs.ClassState.{ClassState, is_chunk, times, without, put_back, replaced, cleared, with_cut}
-use Rattle.mc_pages.specs.SlabState.{SlabState, IsClass, class_at, class_of_page}
+use Rattle.mc_pages.specs.ClassState.{ClassState, is_chunk, times_in, without, put_back, class_after_replacement, class_after_clear, with_cut}
+use Rattle.mc_pages.specs.SlabState.{SlabState, HasClass, class_at, class_of_page}
 use Rattle.mc_pages.specs.Changes.{with_class, next_uncut}
 use Rattle.mc_pages.specs.Accounted.{truth, is_of_class, is_moving, is_cut, cut_count}
 use Rattle.mc_pages.specs.InOrder.{IsBeingCut}
@@ -39,24 +39,24 @@ in_hand_not_free Unlinked h = refl
 in_hand_not_free Linked h = refl
 
 -- a list without one of its chunks
-without_it : (chunk : ChunkId) (chunks : List ChunkId) → times chunk chunks ≤ 1 → times chunk (without chunk chunks) ≡ 0
-without_it chunk chunks once = elim (cases_lt (times chunk chunks) 1) [
-  | inl absent ↦ ap (times chunk) (without-absent chunk chunks (omega arith)) ∙ omega arith
+without_it : (chunk : ChunkId) (chunks : List ChunkId) → times_in chunk chunks ≤ 1 → times_in chunk (without chunk chunks) ≡ 0
+without_it chunk chunks once = elim (cases_lt (times_in chunk chunks) 1) [
+  | inl absent ↦ ap (times_in chunk) (without-absent chunk chunks (omega arith)) ∙ omega arith
   | inr there ↦ let one : truth (is_chunk chunk chunk) ≡ 1 = ap truth (is_chunk-same chunk) in omega (arith, times-without chunk chunk chunks there, one)
 ]
 
 -- has the others as often
-without_others : (chunk other : ChunkId) (chunks : List ChunkId) → is_chunk chunk other ≡ false → times other (without chunk chunks) ≡ times other chunks
-without_others chunk other chunks apart = elim (cases_lt (times chunk chunks) 1) [
-  | inl absent ↦ ap (times other) (without-absent chunk chunks (omega arith))
+without_others : (chunk other : ChunkId) (chunks : List ChunkId) → is_chunk chunk other ≡ false → times_in other (without chunk chunks) ≡ times_in other chunks
+without_others chunk other chunks apart = elim (cases_lt (times_in chunk chunks) 1) [
+  | inl absent ↦ ap (times_in other) (without-absent chunk chunks (omega arith))
   | inr there ↦ let none : truth (is_chunk chunk other) ≡ 0 = ap truth apart in omega (arith, times-without other chunk chunks there, none)
 ]
 
 -- a list with one more chunk at its head
-more_others : (chunk other : ChunkId) (chunks : List ChunkId) → is_chunk chunk other ≡ false → times other (chunk ∷ chunks) ≡ times other chunks
+more_others : (chunk other : ChunkId) (chunks : List ChunkId) → is_chunk chunk other ≡ false → times_in other (chunk ∷ chunks) ≡ times_in other chunks
 more_others chunk other chunks apart = let none : truth (is_chunk chunk other) ≡ 0 = ap truth apart in omega (arith, times-cons other chunk chunks, none)
 
-more_it : (chunk : ChunkId) (chunks : List ChunkId) → times chunk (chunk ∷ chunks) ≡ times chunk chunks + 1
+more_it : (chunk : ChunkId) (chunks : List ChunkId) → times_in chunk (chunk ∷ chunks) ≡ times_in chunk chunks + 1
 more_it chunk chunks = let one : truth (is_chunk chunk chunk) ≡ 1 = ap truth (is_chunk-same chunk) in omega (arith, times-cons chunk chunk chunks, one)
 
 -- what the next free chunk says of the list
@@ -65,7 +65,7 @@ first_is [] chunk h = absurd (cc)
 first_is (c ∷ rest) chunk h = let same : c ≡ chunk = (cc) in (rest, ap (λ (x : ChunkId). x ∷ rest) same)
 
 -- each chunk is cut as before where the uncut one stays
-same_cuts : (slabs : SlabState) (class : ℕ) (state : ClassState) → IsClass slabs class → state.per_page ≡ (class_at slabs class).per_page → (c : ℕ) (other : ChunkId) → IsClass slabs c →
+same_cuts : (slabs : SlabState) (class : ℕ) (state : ClassState) → HasClass slabs class → state.per_page ≡ (class_at slabs class).per_page → (c : ℕ) (other : ChunkId) → HasClass slabs c →
     is_cut (relisted slabs class state slabs.uncut) c other ≡ is_cut slabs c other
 same_cuts slabs class state is size c other here =
     is_cut-kept slabs (with_class slabs class state) c other refl refl (class_at-with_class_kept (λ s. s.per_page) slabs class c state is here.0 size)
@@ -74,11 +74,11 @@ module _ (table : Classes) (slabs : SlabState) (heads : List Head) (placed : Are
   abbrev tag_of_chunk : ChunkId → Tag
   tag_of_chunk chunk = (head_in table heads chunk).tag
 
-  module _ (class : ℕ) (chunk : ChunkId) (is : IsClass slabs class) (here : has_chunk table chunk ≡ true) (cut : is_cut slabs class chunk ≡ true) where
-    free_count : (b : Bool) → is_free (tag_of_chunk chunk) ≡ b → times chunk (class_at slabs class).free ≡ truth b
+  module _ (class : ℕ) (chunk : ChunkId) (is : HasClass slabs class) (here : has_chunk table chunk ≡ true) (cut : is_cut slabs class chunk ≡ true) where
+    free_count : (b : Bool) → is_free (tag_of_chunk chunk) ≡ b → times_in chunk (class_at slabs class).free ≡ truth b
     free_count b e = placed.free class chunk is ∙ ap₂ (λ x y. truth (x && y)) cut e
 
-    order_count : (b : Bool) → is_in_hand (tag_of_chunk chunk) ≡ b → times chunk (class_at slabs class).order ≡ truth b
+    order_count : (b : Bool) → is_in_hand (tag_of_chunk chunk) ≡ b → times_in chunk (class_at slabs class).order ≡ truth b
     order_count b e = placed.order class chunk is ∙ ap₂ (λ x y. truth (x && y)) cut e
 
     of_class : is_of_class class (owner_at slabs.owners chunk.page) ≡ true
@@ -96,22 +96,22 @@ module _ (table : Classes) (slabs : SlabState) (heads : List Head) (placed : Are
           is = is;
           own = of_class;
           size = refl;
-          free = λ other apart. sym (more_others chunk other rest apart) ∙ sym (ap (times other) split);
+          free = λ other apart. sym (more_others chunk other rest apart) ∙ sym (ap (times_in other) split);
           order = λ other apart. let none : truth (is_chunk chunk other) ≡ 0 = ap truth apart in omega (arith, times-push other chunk was.order, none);
           cut = λ c other there apart. same_cuts slabs class state is refl c other there;
           now_cut = same_cuts slabs class state is refl class chunk is ∙ cut;
           now_free =
-              let list : times chunk was.free ≡ times chunk (chunk ∷ rest) = ap (times chunk) split in
-              let count : times chunk was.free ≡ 1 = free_count true free in omega (arith, list, count, more_it chunk rest);
-          now_order = let none : times chunk was.order ≡ 0 = order_count false (free_not_in_hand (tag_of_chunk chunk) free) in omega (arith, times-push chunk chunk was.order, one, none);
+              let list : times_in chunk was.free ≡ times_in chunk (chunk ∷ rest) = ap (times_in chunk) split in
+              let count : times_in chunk was.free ≡ 1 = free_count true free in omega (arith, list, count, more_it chunk rest);
+          now_order = let none : times_in chunk was.order ≡ 0 = order_count false (free_not_in_hand (tag_of_chunk chunk) free) in omega (arith, times-push chunk chunk was.order, one, none);
           moving = λ out. absurd (let no : ◌≡◌ {A = Tag} Unlinked Out = out in cc);
         }
 
     -- a free chunk takes the place of a handed-out one
-    pub replace_lists : (old : ChunkId) → 1 ≤ times old (class_at slabs class).order → is_free (tag_of_chunk chunk) ≡ true → Changes table slabs class (replaced (class_at slabs class) chunk old) slabs.uncut chunk Unlinked
+    pub replace_lists : (old : ChunkId) → 1 ≤ times_in old (class_at slabs class).order → is_free (tag_of_chunk chunk) ≡ true → Changes table slabs class (class_after_replacement (class_at slabs class) chunk old) slabs.uncut chunk Unlinked
     replace_lists old handed free =
         let was = class_at slabs class in
-        let state : ClassState = replaced was chunk old in
+        let state : ClassState = class_after_replacement was chunk old in
         let one : truth (is_chunk chunk chunk) ≡ 1 = ap truth (is_chunk-same chunk) in
         record {
           here = here;
@@ -122,8 +122,8 @@ module _ (table : Classes) (slabs : SlabState) (heads : List Head) (placed : Are
           order = λ other apart. let none : truth (is_chunk chunk other) ≡ 0 = ap truth apart in omega (arith, times-with_before other chunk old was.order handed, none);
           cut = λ c other there apart. same_cuts slabs class state is refl c other there;
           now_cut = same_cuts slabs class state is refl class chunk is ∙ cut;
-          now_free = let count : times chunk was.free ≡ 1 = free_count true free in without_it chunk was.free (omega arith);
-          now_order = let none : times chunk was.order ≡ 0 = order_count false (free_not_in_hand (tag_of_chunk chunk) free) in omega (arith, times-with_before chunk chunk old was.order handed, one, none);
+          now_free = let count : times_in chunk was.free ≡ 1 = free_count true free in without_it chunk was.free (omega arith);
+          now_order = let none : times_in chunk was.order ≡ 0 = order_count false (free_not_in_hand (tag_of_chunk chunk) free) in omega (arith, times-with_before chunk chunk old was.order handed, one, none);
           moving = λ out. absurd (let no : ◌≡◌ {A = Tag} Unlinked Out = out in cc);
         }
 
@@ -141,16 +141,16 @@ module _ (table : Classes) (slabs : SlabState) (heads : List Head) (placed : Are
           order = λ other apart. without_others chunk other was.order apart;
           cut = λ c other there apart. same_cuts slabs class state is refl c other there;
           now_cut = same_cuts slabs class state is refl class chunk is ∙ cut;
-          now_free = let none : times chunk was.free ≡ 0 = free_count false (in_hand_not_free (tag_of_chunk chunk) out) in omega (arith, more_it chunk was.free, none);
-          now_order = let count : times chunk was.order ≡ 1 = order_count true out in without_it chunk was.order (omega arith);
+          now_free = let none : times_in chunk was.free ≡ 0 = free_count false (in_hand_not_free (tag_of_chunk chunk) out) in omega (arith, more_it chunk was.free, none);
+          now_order = let count : times_in chunk was.order ≡ 1 = order_count true out in without_it chunk was.order (omega arith);
           moving = λ none. absurd (let no : ◌≡◌ {A = Tag} Free Out = none in cc);
         }
 
     -- a chunk of the moving page leaves its list
-    pub clear_lists : is_moving (owner_at slabs.owners chunk.page) ≡ true → Changes table slabs class (cleared (class_at slabs class) chunk) slabs.uncut chunk Out
+    pub clear_lists : is_moving (owner_at slabs.owners chunk.page) ≡ true → Changes table slabs class (class_after_clear (class_at slabs class) chunk) slabs.uncut chunk Out
     clear_lists moves =
         let was = class_at slabs class in
-        let state : ClassState = cleared was chunk in
+        let state : ClassState = class_after_clear was chunk in
         record {
           here = here;
           is = is;
@@ -231,7 +231,7 @@ module _ (table : Classes) (slabs : SlabState) (heads : List Head) (placed : Are
       let count : cut_count slabs.uncut chunk.page was.per_page ≡ chunk.index = ap (λ (o : Option ChunkId). cut_count o chunk.page was.per_page) next ∙ uncut_here chunk was.per_page in
       and_right _ _ (ap (nat_lt chunk.index) count ∙ le-ltb chunk.index chunk.index (omega arith))
 
-  own_size : (c : ℕ) → IsClass slabs c → (class_at with_next c).per_page ≡ (class_at slabs c).per_page
+  own_size : (c : ℕ) → HasClass slabs c → (class_at with_next c).per_page ≡ (class_at slabs c).per_page
   own_size c there = class_at-with_class_kept (λ s. s.per_page) slabs own c (with_cut was chunk) on.owned there.0 refl
 
   -- of another class no chunk of the page is cut
@@ -239,7 +239,7 @@ module _ (table : Classes) (slabs : SlabState) (heads : List Head) (placed : Are
   cut_of_other c other differs same =
       false_from_ne_true _ (λ of. differs (sym (class_of_owner-is_of_class c (owner_at slabs.owners other.page) of) ∙ ap (λ p. class_of_page slabs p) same))
 
-  others_cut : (c : ℕ) (other : ChunkId) → IsClass slabs c → is_chunk chunk other ≡ false → is_cut with_next c other ≡ is_cut slabs c other
+  others_cut : (c : ℕ) (other : ChunkId) → HasClass slabs c → is_chunk chunk other ≡ false → is_cut with_next c other ≡ is_cut slabs c other
   others_cut c other there apart =
       let of = is_of_class c (owner_at slabs.owners other.page) in
       let size = own_size c there in
@@ -274,7 +274,7 @@ module _ (table : Classes) (slabs : SlabState) (heads : List Head) (placed : Are
         let count : cut_count (next_uncut was.per_page chunk) chunk.page (class_at with_next own).per_page ≡ chunk.index + 1 =
         ap (cut_count (next_uncut was.per_page chunk) chunk.page) size ∙ cut_here chunk was.per_page on.within in
         and_from _ _ of_own (ap (nat_lt chunk.index) count ∙ lt-ltb chunk.index (chunk.index + 1) (omega arith));
-    now_free = let none : times chunk was.free ≡ 0 = placed.free own chunk on.owned ∙ ap truth (and_left _ _ not_cut) in omega (arith, more_it chunk was.free, none);
+    now_free = let none : times_in chunk was.free ≡ 0 = placed.free own chunk on.owned ∙ ap truth (and_left _ _ not_cut) in omega (arith, more_it chunk was.free, none);
     now_order = placed.order own chunk on.owned ∙ ap truth (and_left _ _ not_cut);
     moving = λ out. absurd (let no : ◌≡◌ {A = Tag} Free Out = out in cc);
   }

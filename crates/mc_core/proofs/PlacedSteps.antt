@@ -7,8 +7,8 @@ use Rattle.mc_pages.specs.declared.ids.ChunkId.{ChunkId}
 use Rattle.mc_pages.specs.declared.ids.Moving.{Moving}
 use Rattle.mc_pages.specs.declared.ledger.Owner.TheVariants.{Untouched}
 use Rattle.mc_pages.specs.Ledger.{owner_at}
-use Rattle.mc_pages.specs.ClassState.{ClassState, new_class, times, first_free, handed_out as class_handed_out, popped as class_popped, put_back, replaced, cleared, with_cut}
-use Rattle.mc_pages.specs.SlabState.{SlabState, IsClass, class_at, class_of_page, fresh_slabs}
+use Rattle.mc_pages.specs.ClassState.{ClassState, new_class, times_in, first_free, class_after_hand_out as class_handed_out, class_after_pop as class_popped, put_back, class_after_replacement, class_after_clear, with_cut}
+use Rattle.mc_pages.specs.SlabState.{SlabState, HasClass, class_at, class_of_page, fresh_slabs}
 use Rattle.mc_pages.specs.Changes as slabs_changes
 use Rattle.mc_pages.specs.Accounted.{truth, is_of_class, is_moving, is_cut, places_in, IsAccounted}
 use Rattle.mc_pages.proofs.HandedOut.{IsClass-handed_out, IsClass-placed}
@@ -19,14 +19,14 @@ use Rattle.mc_core.specs.declared.head.Tag.TheVariants.{Out, Free, Unlinked, Lin
 use Rattle.mc_core.specs.Head.{never_cut, is_free, is_out, is_unlinked, is_linked, is_dead}
 use Rattle.mc_core.specs.State.{State, is_class, has_chunk, head_place, most_of, head_at, has_slabs, with_slabs, item_at, holdings_at, without_holding}
 use Rattle.mc_core.specs.Silent.{is_handed_out, is_listed}
-use Rattle.mc_core.specs.Chunks.{has_place, can_hand_out, next_free, is_target, target_of, is_next_uncut, handed_out, let_go, with_tag_free, with_tag_out, popped, popped_off, can_put_back, after_put_back, can_clear, after_clear, can_cut, after_cut}
+use Rattle.mc_core.specs.Chunks.{has_place, can_hand_out, next_free, is_target, target_of, is_next_uncut, head_after_hand_out, head_after_release, with_tag_free, with_tag_out, state_after_pop_of, popped_off, can_put_back, after_put_back, can_clear, state_after_clear, can_cut, state_after_cut}
 use Rattle.mc_core.specs.declared.event.Step.{Step}
 use Rattle.mc_core.specs.declared.event.Step.TheVariants.{TakeSlabs, TakeStripe, MissSlabs, MissStripe, GiveSlabs, GiveStripe, Pop, PopOff, Fill, Word, WordHeld, Link, Refer, Unlink, Release, Discard, Condemn, PutBack, Clear, Cut, Again, Join}
 use Rattle.mc_core.specs.declared.event.Step.TheVariants as step
 use Rattle.mc_core.specs.declared.holding.Holding.{Holding}
-use Rattle.mc_core.specs.Holdings.{is_of, holding_of, is_complete, words_of}
-use Rattle.mc_core.specs.Items.{linked, with_told_link, can_tell_link, can_count, can_link_holding, after_link_of, with_got, referred, referred_to, chunk_of, unlinked, with_unlinked, is_linked_at, can_look_up, can_lift}
-use Rattle.mc_core.specs.Evictions.{is_linked_unheld, condemned, with_told, with_bound, key_at}
+use Rattle.mc_core.specs.Holdings.{is_of_chunk, holding_of, is_complete, holding_words}
+use Rattle.mc_core.specs.Items.{head_after_link, with_recorded_link, can_record_link, can_count, can_link_holding, after_link_of, with_got, head_after_refer, referred_to, chunk_of_key, head_after_unlink, with_unlinked, is_linked_at, can_look_up, can_lift}
+use Rattle.mc_core.specs.Evictions.{is_linked_unheld, head_after_condemn, with_eviction_call, with_bound, key_at}
 use Rattle.mc_core.specs.Run.{after_step}
 use Rattle.mc_core.specs.Columns.{head_in}
 use Rattle.mc_core.specs.Places.{ArePlaced}
@@ -72,7 +72,7 @@ module _ (m : Moment) (l : IsLawful m) where
   abbrev heads : List Head
   heads = m.state.heads
 
-  near : (c : ℕ) (other : ChunkId) → IsClass slabs c → is_cut slabs c other ≡ true → has_chunk table other ≡ true
+  near : (c : ℕ) (other : ChunkId) → HasClass slabs c → is_cut slabs c other ≡ true → has_chunk table other ≡ true
   near c other is cut = near_placed m l other (placed_in m l c other is cut).1
 
   -- a header is written, and its chunk changes its list
@@ -80,7 +80,7 @@ module _ (m : Moment) (l : IsLawful m) where
       ArePlaced table (record (slabs_changes.with_class slabs class state) { uncut = uncut }) (slice_set heads (head_place table chunk) head)
   written class state uncut chunk head change = placed_written table slabs heads class state uncut chunk head l.paged.order.1.accounted l.placed l.sized.headers near change
 
-  popped_placed : (class : ℕ) (chunk : ChunkId) (head : Head) → head.tag ≡ Unlinked → IsClass slabs class → first_free (class_at slabs class) ≡ Some chunk →
+  popped_placed : (class : ℕ) (chunk : ChunkId) (head : Head) → head.tag ≡ Unlinked → HasClass slabs class → first_free (class_at slabs class) ≡ Some chunk →
       ArePlaced table (slabs_changes.after_pop slabs class) (slice_set heads (head_place table chunk) head)
   popped_placed class chunk head tag is first =
       let at = first_placed m l class chunk is first in
@@ -100,10 +100,10 @@ module _ (m : Moment) (l : IsLawful m) where
       let at = found_placed m l class chunk (is_target m.state.table m.state.heads old.page) is found in
       let cut : is_cut slabs class chunk ≡ true = subst (λ n. is_cut slabs n chunk ≡ true) at.0 at.1.cut in
       let lists = replace_lists table slabs heads l.placed class chunk is (near class chunk is cut) cut old (times_from_among state.order old out) at.2 in
-      written class (replaced state chunk old) slabs.uncut chunk head (subst (λ t. Changes table slabs class (replaced state chunk old) slabs.uncut chunk t) (sym tag) lists)
+      written class (class_after_replacement state chunk old) slabs.uncut chunk head (subst (λ t. Changes table slabs class (class_after_replacement state chunk old) slabs.uncut chunk t) (sym tag) lists)
 
   -- a chunk that is in a list was cut
-  cut_from_places : (class : ℕ) (chunk : ChunkId) → IsClass slabs class → 1 ≤ places_in slabs class chunk → is_cut slabs class chunk ≡ true
+  cut_from_places : (class : ℕ) (chunk : ChunkId) → HasClass slabs class → 1 ≤ places_in slabs class chunk → is_cut slabs class chunk ≡ true
   cut_from_places class chunk is some = elim (cases_Bool (is_cut slabs class chunk)) [
     | inl cut ↦ cut
     | inr uncut ↦ absurd (omega (arith, l.placed.free class chunk is ∙ ap truth (and_left _ _ uncut), l.placed.order class chunk is ∙ ap truth (and_left _ _ uncut), some))
@@ -115,7 +115,7 @@ module _ (m : Moment) (l : IsLawful m) where
       let class = class_of_page slabs chunk.page in
       let state = class_at slabs class in
       let is = IsClass-handed_out slabs chunk l.paged.order.1.accounted (Contains_from_among state.order chunk out) in
-      let some : 1 ≤ times chunk state.order = times_from_among state.order chunk out in
+      let some : 1 ≤ times_in chunk state.order = times_from_among state.order chunk out in
       let cut = cut_from_places class chunk is (omega arith) in
       let lists = back_lists table slabs heads l.placed class chunk is here cut (dead_in_hand (head_in table heads chunk) dead) in
       written class (put_back state chunk) slabs.uncut chunk head (subst (λ t. Changes table slabs class (put_back state chunk) slabs.uncut chunk t) (sym tag) lists)
@@ -129,7 +129,7 @@ module _ (m : Moment) (l : IsLawful m) where
       let some = places_from_listed slabs class chunk listed in
       let is = IsClass-placed slabs chunk all some in
       let lists = clear_lists table slabs heads l.placed class chunk is here (cut_from_places class chunk is some) (page_moves slabs slabs.moving chunk.page all refl moves) in
-      written class (cleared state chunk) slabs.uncut chunk head (subst (λ t. Changes table slabs class (cleared state chunk) slabs.uncut chunk t) (sym tag) lists)
+      written class (class_after_clear state chunk) slabs.uncut chunk head (subst (λ t. Changes table slabs class (class_after_clear state chunk) slabs.uncut chunk t) (sym tag) lists)
 
   cut_placed : (chunk : ChunkId) (head : Head) → head.tag ≡ Free → has_chunk table chunk ≡ true → is_next_uncut slabs chunk ≡ true →
       ArePlaced table (slabs_changes.after_cut slabs chunk) (slice_set heads (head_place table chunk) head)
@@ -172,29 +172,29 @@ handed_out_kind head h = kind head.tag h
     kind Unlinked h = refl
     kind Linked h = refl
 
-link_alike : (state : State) (hand : ℕ) (chunk : ChunkId) (found : Option Holding) → can_link_holding state hand chunk found ≡ true → AreAlike state.heads (after_link_of (without_holding state hand (is_of chunk)) hand chunk found).heads
+link_alike : (state : State) (hand : ℕ) (chunk : ChunkId) (found : Option Holding) → can_link_holding state hand chunk found ≡ true → AreAlike state.heads (after_link_of (without_holding state hand (is_of_chunk chunk)) hand chunk found).heads
 link_alike state hand chunk None can = same_alike state.heads state.heads refl
 link_alike state hand chunk (Some holding) can =
-    let left : State = without_holding state hand (is_of chunk) in
+    let left : State = without_holding state hand (is_of_chunk chunk) in
     let told = told_link_keeps headers_part left hand holding holding.kind refl refl in
-    let first = and_parts (is_complete (words_of holding) && can_tell_link state hand holding && is_unlinked (head_at state chunk).tag) (can_count (head_at state chunk)) can in
-    let second = and_parts (is_complete (words_of holding) && can_tell_link state hand holding) (is_unlinked (head_at state chunk).tag) first.0 in
-    written_alike state (with_told_link left hand holding) chunk (linked (head_at state chunk)) told (sym (handed_out_kind (head_at state chunk) (or_left _ _ second.1)))
+    let first = and_parts (is_complete (holding_words holding) && can_record_link state hand holding && is_unlinked (head_at state chunk).tag) (can_count (head_at state chunk)) can in
+    let second = and_parts (is_complete (holding_words holding) && can_record_link state hand holding) (is_unlinked (head_at state chunk).tag) first.0 in
+    written_alike state (with_recorded_link left hand holding) chunk (head_after_link (head_at state chunk)) told (sym (handed_out_kind (head_at state chunk) (or_left _ _ second.1)))
 
 refer_alike : (state : State) (hand key : ℕ) (place : Option (ChunkId × ℕ)) → AreAlike state.heads (referred_to (with_got state hand key) hand place).heads
 refer_alike state hand key None = same_alike state.heads state.heads refl
-refer_alike state hand key (Some place) = written_alike state (with_got state hand key) place.0 (referred (head_at state place.0)) refl refl
+refer_alike state hand key (Some place) = written_alike state (with_got state hand key) place.0 (head_after_refer (head_at state place.0)) refl refl
 
 unlink_alike : (state before : State) (place : Option (ChunkId × ℕ)) → headers_part before ≡ headers_part state → is_linked_at state place ≡ true → AreAlike state.heads (with_unlinked before place).heads
 unlink_alike state before None same can = absurd (cc)
 unlink_alike state before (Some place) same can =
     let head : head_at before place.0 ≡ head_at state place.0 = ap (λ (p : Classes × List Head). get_or p.1 (head_place p.0 place.0) never_cut) same in
-    subst (λ h. AreAlike state.heads (slice_set before.heads (head_place before.table place.0) (unlinked h))) (sym head)
-    (written_alike state before place.0 (unlinked (head_at state place.0)) same (sym (handed_out_kind (head_at state place.0) (or_right _ _ can))))
+    subst (λ h. AreAlike state.heads (slice_set before.heads (head_place before.table place.0) (head_after_unlink h))) (sym head)
+    (written_alike state before place.0 (head_after_unlink (head_at state place.0)) same (sym (handed_out_kind (head_at state place.0) (or_right _ _ can))))
 
-condemn_alike : (state before : State) (chunk : ChunkId) → headers_part before ≡ headers_part state → is_linked_unheld (head_at state chunk) ≡ true → AreAlike state.heads (slice_set before.heads (head_place before.table chunk) (condemned (head_at state chunk)))
+condemn_alike : (state before : State) (chunk : ChunkId) → headers_part before ≡ headers_part state → is_linked_unheld (head_at state chunk) ≡ true → AreAlike state.heads (slice_set before.heads (head_place before.table chunk) (head_after_condemn (head_at state chunk)))
 condemn_alike state before chunk same idle =
-    written_alike state before chunk (condemned (head_at state chunk)) same
+    written_alike state before chunk (head_after_condemn (head_at state chunk)) same
     (sym (handed_out_kind (head_at state chunk) (or_right _ _ (and_parts (is_linked (head_at state chunk).tag) ((head_at state chunk).count == 1) idle).0)))
 
 -- a step that leaves pages and lists, and what is free or out
@@ -208,23 +208,23 @@ module _ (m : Moment) (l : IsLawful m) (hand : ℕ) where
   state = m.state
 
   pop_placed : (class : ℕ) (next : Option ChunkId) → next_free state class ≡ next → (has_slabs state hand && is_class state.table class && has_place state hand && can_hand_out state next) ≡ true →
-      Placed (frame (popped (with_slabs state (slabs_changes.after_pop state.slabs class)) hand next)) (popped (with_slabs state (slabs_changes.after_pop state.slabs class)) hand next).heads
+      Placed (frame (state_after_pop_of (with_slabs state (slabs_changes.after_pop state.slabs class)) hand next)) (state_after_pop_of (with_slabs state (slabs_changes.after_pop state.slabs class)) hand next).heads
   pop_placed class None is can = absurd (false≢true (pop_tests state hand class None can).2)
   pop_placed class (Some chunk) is can =
-      popped_placed m l class chunk (handed_out (head_at state chunk)) refl (IsClass_from state.table state.slabs class l.paged.of_table (pop_tests state hand class (Some chunk) can).1) is
+      popped_placed m l class chunk (head_after_hand_out (head_at state chunk)) refl (IsClass_from state.table state.slabs class l.paged.of_table (pop_tests state hand class (Some chunk) can).1) is
 
   pop_off_placed : (old : ChunkId) (next : Option ChunkId) → target_of state.table state.heads state.slabs old.page ≡ next →
       (has_slabs state hand && is_on_the_move state.slabs old.page && is_handed_out state.slabs old && has_place state hand && can_hand_out state next) ≡ true → Placed (frame (popped_off state hand old next)) (popped_off state hand old next).heads
   pop_off_placed old None is can = l.placed
-  pop_off_placed old (Some chunk) is can = replaced_placed m l old chunk (handed_out (head_at state chunk)) refl (pop_off_tests state hand old (Some chunk) can).2 is
+  pop_off_placed old (Some chunk) is can = replaced_placed m l old chunk (head_after_hand_out (head_at state chunk)) refl (pop_off_tests state hand old (Some chunk) can).2 is
 
   put_back_placed : (chunk : ChunkId) → can_put_back state hand chunk ≡ true → Placed (frame (after_put_back state hand chunk)) (after_put_back state hand chunk).heads
   put_back_placed chunk can = let tests = put_back_tests state hand chunk can in back_placed m l chunk (with_tag_free (head_at state chunk)) refl tests.1 tests.2 tests.3
 
-  clear_step_placed : (chunk : ChunkId) → can_clear state hand chunk ≡ true → Placed (frame (after_clear state hand chunk)) (after_clear state hand chunk).heads
+  clear_step_placed : (chunk : ChunkId) → can_clear state hand chunk ≡ true → Placed (frame (state_after_clear state hand chunk)) (state_after_clear state hand chunk).heads
   clear_step_placed chunk can = let tests = clear_tests state hand chunk can in clear_placed m l chunk (with_tag_out (head_at state chunk)) refl tests.1 tests.2 tests.3
 
-  cut_step_placed : (chunk : ChunkId) → can_cut state hand chunk ≡ true → Placed (frame (after_cut state hand chunk)) (after_cut state hand chunk).heads
+  cut_step_placed : (chunk : ChunkId) → can_cut state hand chunk ≡ true → Placed (frame (state_after_cut state hand chunk)) (state_after_cut state hand chunk).heads
   cut_step_placed chunk can = let tests = cut_tests state hand chunk can in cut_placed m l chunk (with_tag_free (head_at state chunk)) refl tests.1 tests.2
 
   fill_frame : (chunk : ChunkId) (place word : ℕ) → (frame (after_step state hand (Fill chunk place word)) ≡ frame state) × ((after_step state hand (Fill chunk place word)).heads ≡ state.heads)
@@ -252,28 +252,28 @@ placed_steps moment hand (Word chunk place) may = may.lawful.placed
 placed_steps moment hand (WordHeld chunk place) may = may.lawful.placed
 placed_steps moment hand (Link chunk) may =
     let state = moment.state in
-    let left : State = without_holding state hand (is_of chunk) in
+    let left : State = without_holding state hand (is_of_chunk chunk) in
     let found = holding_of chunk (holdings_at state hand) in
     passes state hand (Link chunk) may.lawful.placed (linked_keeps frame left hand chunk found (λ holding. told_link_keeps frame left hand holding holding.kind refl refl)) (link_alike state hand chunk found may.allowed)
 placed_steps moment hand (Refer key) may =
     let state = moment.state in
-    passes state hand (Refer key) may.lawful.placed (referred_keeps frame (with_got state hand key) hand (chunk_of state key) (λ chunk. refl)) (refer_alike state hand key (chunk_of state key))
+    passes state hand (Refer key) may.lawful.placed (referred_keeps frame (with_got state hand key) hand (chunk_of_key state key) (λ chunk. refl)) (refer_alike state hand key (chunk_of_key state key))
 placed_steps moment hand (Unlink key) may =
     let state = moment.state in
-    let parts = and_parts (can_look_up state hand key && can_lift state hand key) (is_linked_at state (chunk_of state key)) may.allowed in
-    passes state hand (Unlink key) may.lawful.placed (unlinked_keeps frame _ (chunk_of state key) (λ chunk. refl)) (unlink_alike state _ (chunk_of state key) refl parts.1)
-placed_steps moment hand (Release chunk) may = let state = moment.state in passes state hand (Release chunk) may.lawful.placed refl (written_alike state state chunk (let_go (head_at state chunk)) refl refl)
-placed_steps moment hand (Discard chunk) may = let state = moment.state in passes state hand (Discard chunk) may.lawful.placed refl (written_alike state state chunk (let_go (head_at state chunk)) refl refl)
+    let parts = and_parts (can_look_up state hand key && can_lift state hand key) (is_linked_at state (chunk_of_key state key)) may.allowed in
+    passes state hand (Unlink key) may.lawful.placed (unlinked_keeps frame _ (chunk_of_key state key) (λ chunk. refl)) (unlink_alike state _ (chunk_of_key state key) refl parts.1)
+placed_steps moment hand (Release chunk) may = let state = moment.state in passes state hand (Release chunk) may.lawful.placed refl (written_alike state state chunk (head_after_release (head_at state chunk)) refl refl)
+placed_steps moment hand (Discard chunk) may = let state = moment.state in passes state hand (Discard chunk) may.lawful.placed refl (written_alike state state chunk (head_after_release (head_at state chunk)) refl refl)
 placed_steps moment hand (Condemn chunk) may =
     let state = moment.state in
-    let told : State = with_told state hand chunk (key_at state chunk) in
+    let told : State = with_eviction_call state hand chunk (key_at state chunk) in
     let before : State = with_bound told hand chunk (item_at state chunk) in
     passes state hand (Condemn chunk) may.lawful.placed refl
     (condemn_alike state before chunk refl (condemn_tests state hand chunk may.allowed).2)
 placed_steps moment hand (PutBack chunk) may = put_back_placed moment may.lawful hand chunk may.allowed
 placed_steps moment hand (Clear chunk) may = clear_step_placed moment may.lawful hand chunk may.allowed
 placed_steps moment hand (Cut page index) may = cut_step_placed moment may.lawful hand (record { page = page; index = index }) may.allowed
-placed_steps moment hand (Again chunk issue) may = let state = moment.state in passes state hand (Again chunk issue) may.lawful.placed refl (written_alike state state chunk (referred (head_at state chunk)) refl refl)
+placed_steps moment hand (Again chunk issue) may = let state = moment.state in passes state hand (Again chunk issue) may.lawful.placed refl (written_alike state state chunk (head_after_refer (head_at state chunk)) refl refl)
 placed_steps moment hand (Join kept spent) may = may.lawful.placed
 
 read_replicate : {X : Type 0} (n i : ℕ) (x : X) → get_or (replicate n x) i x ≡ x
@@ -282,7 +282,7 @@ read_replicate (suc n) zero x = refl
 read_replicate (suc n) (suc i) x = read_replicate n i x
 
 -- no class has a chunk yet
-no_chunks : (page : ℕ) (sizes : List ℕ) (i : ℕ) (chunk : ChunkId) → let class : ClassState = get_or (map (λ (size : ℕ). new_class size (page / size)) sizes) i (new_class 0 0) in (times chunk class.free ≡ 0) × (times chunk class.order ≡ 0)
+no_chunks : (page : ℕ) (sizes : List ℕ) (i : ℕ) (chunk : ChunkId) → let class : ClassState = get_or (map (λ (size : ℕ). new_class size (page / size)) sizes) i (new_class 0 0) in (times_in chunk class.free ≡ 0) × (times_in chunk class.order ≡ 0)
 no_chunks page [] i chunk = (refl, refl)
 no_chunks page (size ∷ sizes) zero chunk = (refl, refl)
 no_chunks page (size ∷ sizes) (suc i) chunk = no_chunks page sizes i chunk

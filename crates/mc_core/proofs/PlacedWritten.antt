@@ -4,8 +4,8 @@ use Rattle.std.proofs.lemmas.Bool.{and_left, cases_Bool, cases_eq, both_ways, fa
 use Rattle.mc_classes.specs.Classes.{Classes, arena_pages_of}
 use Rattle.mc_pages.specs.declared.ids.ChunkId.{ChunkId}
 use Rattle.mc_pages.specs.Ledger.{owner_at}
-use Rattle.mc_pages.specs.ClassState.{ClassState, is_chunk, times}
-use Rattle.mc_pages.specs.SlabState.{SlabState, IsClass, class_at, class_of_page}
+use Rattle.mc_pages.specs.ClassState.{ClassState, is_chunk, times_in}
+use Rattle.mc_pages.specs.SlabState.{SlabState, HasClass, class_at, class_of_page}
 use Rattle.mc_pages.specs.Changes.{with_class}
 use Rattle.mc_pages.specs.Accounted.{truth, is_of_class, is_moving, is_cut, IsAccounted}
 use Rattle.mc_pages.proofs.Chunks.{same_from_is_chunk}
@@ -28,15 +28,15 @@ relisted slabs class state uncut = record (with_class slabs class state) { uncut
 -- a chunk of the class gets this tag, and changes its list as the tag says; all others stay in theirs
 pub record Changes (table : Classes) (slabs : SlabState) (class : ℕ) (state : ClassState) (uncut : Option ChunkId) (chunk : ChunkId) (tag : Tag) : Type 0 where
   pub here : has_chunk table chunk ≡ true
-  pub is : IsClass slabs class
+  pub is : HasClass slabs class
   pub own : is_of_class class (owner_at slabs.owners chunk.page) ≡ true
   pub size : state.per_page ≡ (class_at slabs class).per_page
-  pub free : (other : ChunkId) → is_chunk chunk other ≡ false → times other state.free ≡ times other (class_at slabs class).free
-  pub order : (other : ChunkId) → is_chunk chunk other ≡ false → times other state.order ≡ times other (class_at slabs class).order
-  pub cut : (c : ℕ) (other : ChunkId) → IsClass slabs c → is_chunk chunk other ≡ false → is_cut (relisted slabs class state uncut) c other ≡ is_cut slabs c other
+  pub free : (other : ChunkId) → is_chunk chunk other ≡ false → times_in other state.free ≡ times_in other (class_at slabs class).free
+  pub order : (other : ChunkId) → is_chunk chunk other ≡ false → times_in other state.order ≡ times_in other (class_at slabs class).order
+  pub cut : (c : ℕ) (other : ChunkId) → HasClass slabs c → is_chunk chunk other ≡ false → is_cut (relisted slabs class state uncut) c other ≡ is_cut slabs c other
   pub now_cut : is_cut (relisted slabs class state uncut) class chunk ≡ true
-  pub now_free : times chunk state.free ≡ truth (is_free tag)
-  pub now_order : times chunk state.order ≡ truth (is_in_hand tag)
+  pub now_free : times_in chunk state.free ≡ truth (is_free tag)
+  pub now_order : times_in chunk state.order ≡ truth (is_in_hand tag)
   pub moving : tag ≡ Out → is_moving (owner_at slabs.owners chunk.page) ≡ true
 
 same_truth : (cut a b : Bool) → (cut ≡ true → a ≡ b) → truth (cut && a) ≡ truth (cut && b)
@@ -47,7 +47,7 @@ module _ (table : Classes) (slabs : SlabState) (heads : List Head) (class : ℕ)
     (all : IsAccounted slabs)
     (placed : ArePlaced table slabs heads)
     (long : length heads ≡ arena_pages_of table * most_of table)
-    (near : (c : ℕ) (other : ChunkId) → IsClass slabs c → is_cut slabs c other ≡ true → has_chunk table other ≡ true)
+    (near : (c : ℕ) (other : ChunkId) → HasClass slabs c → is_cut slabs c other ≡ true → has_chunk table other ≡ true)
     (change : Changes table slabs class state uncut chunk head.tag) where
   abbrev now : SlabState
   now = relisted slabs class state uncut
@@ -55,7 +55,7 @@ module _ (table : Classes) (slabs : SlabState) (heads : List Head) (class : ℕ)
   abbrev written : List Head
   written = slice_set heads (head_place table chunk) head
 
-  was_class : (c : ℕ) → IsClass now c → IsClass slabs c
+  was_class : (c : ℕ) → HasClass now c → HasClass slabs c
   was_class c is = (is.0, omega (arith, is.1, length-with_class slabs class state))
 
   tag_here : (head_in table written chunk).tag ≡ head.tag
@@ -71,37 +71,37 @@ module _ (table : Classes) (slabs : SlabState) (heads : List Head) (class : ℕ)
       differs (sym (class_of_owner-is_of_class c (owner_at slabs.owners chunk.page) of) ∙ class_of_owner-is_of_class class (owner_at slabs.owners chunk.page) change.own))
 
   module _ (test : Tag → Bool) (part : ClassState → List ChunkId)
-      (was : (c : ℕ) (other : ChunkId) → IsClass slabs c → times other (part (class_at slabs c)) ≡ truth (is_cut slabs c other && test (head_in table heads other).tag))
-      (others : (other : ChunkId) → is_chunk chunk other ≡ false → times other (part state) ≡ times other (part (class_at slabs class)))
-      (mine : times chunk (part state) ≡ truth (test head.tag)) where
+      (was : (c : ℕ) (other : ChunkId) → HasClass slabs c → times_in other (part (class_at slabs c)) ≡ truth (is_cut slabs c other && test (head_in table heads other).tag))
+      (others : (other : ChunkId) → is_chunk chunk other ≡ false → times_in other (part state) ≡ times_in other (part (class_at slabs class)))
+      (mine : times_in chunk (part state) ≡ truth (test head.tag)) where
     -- the chunk in the lists of its class, and of another
-    times_here : (c : ℕ) → IsClass slabs c → times chunk (part (class_at now c)) ≡ truth (is_cut now c chunk && test (head_in table written chunk).tag)
+    times_here : (c : ℕ) → HasClass slabs c → times_in chunk (part (class_at now c)) ≡ truth (is_cut now c chunk && test (head_in table written chunk).tag)
     times_here c is = elim (cases_eq c class) [
       | inl same ↦
-          let list : times chunk (part (class_at now class)) ≡ times chunk (part state) = ap (λ s. times chunk (part s)) (class_at-with_class_same slabs class state change.is) in
+          let list : times_in chunk (part (class_at now class)) ≡ times_in chunk (part state) = ap (λ s. times_in chunk (part s)) (class_at-with_class_same slabs class state change.is) in
           let goal = ap₂ (λ (cut : Bool) (tag : Tag). truth (cut && test tag)) change.now_cut tag_here in
-          subst (λ n. times chunk (part (class_at now n)) ≡ truth (is_cut now n chunk && test (head_in table written chunk).tag)) (sym same) (list ∙ mine ∙ sym goal)
+          subst (λ n. times_in chunk (part (class_at now n)) ≡ truth (is_cut now n chunk && test (head_in table written chunk).tag)) (sym same) (list ∙ mine ∙ sym goal)
       | inr differs ↦
-          let list : times chunk (part (class_at now c)) ≡ times chunk (part (class_at slabs c)) = ap (λ s. times chunk (part s)) (class_at-with_class_other slabs class c state change.is.0 is.0 differs) in
+          let list : times_in chunk (part (class_at now c)) ≡ times_in chunk (part (class_at slabs c)) = ap (λ s. times_in chunk (part s)) (class_at-with_class_other slabs class c state change.is.0 is.0 differs) in
           let before : is_cut slabs c chunk ≡ false = and_left _ _ (not_other c differs) in
           let after : is_cut now c chunk ≡ false = and_left _ _ (not_other c differs) in
           list ∙ was c chunk is ∙ ap (λ b. truth (b && test (head_in table heads chunk).tag)) before ∙ sym (ap (λ b. truth (b && test (head_in table written chunk).tag)) after)
     ]
 
     -- any other chunk
-    times_else : (c : ℕ) (other : ChunkId) → IsClass slabs c → is_chunk chunk other ≡ false → times other (part (class_at now c)) ≡ truth (is_cut now c other && test (head_in table written other).tag)
+    times_else : (c : ℕ) (other : ChunkId) → HasClass slabs c → is_chunk chunk other ≡ false → times_in other (part (class_at now c)) ≡ truth (is_cut now c other && test (head_in table written other).tag)
     times_else c other is apart =
-        let list : times other (part (class_at now c)) ≡ times other (part (class_at slabs c)) = class_at-with_class_kept (λ s. times other (part s)) slabs class c state change.is is.0 (others other apart) in
+        let list : times_in other (part (class_at now c)) ≡ times_in other (part (class_at slabs c)) = class_at-with_class_kept (λ s. times_in other (part s)) slabs class c state change.is is.0 (others other apart) in
         let tags = same_truth (is_cut slabs c other) (test (head_in table heads other).tag) (test (head_in table written other).tag) (λ cut. sym (ap test (tag_else other (near c other is cut) apart))) in
         list ∙ was c other is ∙ tags ∙ sym (ap (λ b. truth (b && test (head_in table written other).tag)) (change.cut c other is apart))
 
-    times_now : (c : ℕ) (other : ChunkId) → IsClass now c → times other (part (class_at now c)) ≡ truth (is_cut now c other && test (head_in table written other).tag)
+    times_now : (c : ℕ) (other : ChunkId) → HasClass now c → times_in other (part (class_at now c)) ≡ truth (is_cut now c other && test (head_in table written other).tag)
     times_now c other is = elim (cases_Bool (is_chunk chunk other)) [
-      | inl same ↦ subst (λ (x : ChunkId). times x (part (class_at now c)) ≡ truth (is_cut now c x && test (head_in table written x).tag)) (same_from_is_chunk chunk other same) (times_here c (was_class c is))
+      | inl same ↦ subst (λ (x : ChunkId). times_in x (part (class_at now c)) ≡ truth (is_cut now c x && test (head_in table written x).tag)) (same_from_is_chunk chunk other same) (times_here c (was_class c is))
       | inr apart ↦ times_else c other (was_class c is) apart
     ]
 
-  cleared_now : (c : ℕ) (other : ChunkId) → IsClass now c → is_cut now c other ≡ true → (head_in table written other).tag ≡ Out → is_moving (owner_at slabs.owners other.page) ≡ true
+  cleared_now : (c : ℕ) (other : ChunkId) → HasClass now c → is_cut now c other ≡ true → (head_in table written other).tag ≡ Out → is_moving (owner_at slabs.owners other.page) ≡ true
   cleared_now c other is cut out = elim (cases_Bool (is_chunk chunk other)) [
     | inl same ↦
         let one = same_from_is_chunk chunk other same in

@@ -6,11 +6,11 @@ use Rattle.std.proofs.lemmas.Bool.{and_parts, or_cases, both_ways, cases_lt, ltb
 use Rattle.std.proofs.lemmas.List.Elements.{All-nil, All-cons, All-weaker, All-contains}
 use Rattle.mc_pages.specs.declared.ids.ChunkId.{ChunkId}
 use Rattle.mc_pages.specs.declared.ids.Moving.{Moving}
-use Rattle.mc_pages.specs.InOrder.{IsInOrder}
+use Rattle.mc_pages.specs.InOrder.{AreSlabsInOrder}
 use Rattle.mc_pages.specs.Changes.{next_page}
 use Rattle.mc_pages.specs.ClassState.{is_chunk, first_free}
 use Rattle.mc_pages.specs.Ledger.{ordinary_count, owner_at}
-use Rattle.mc_pages.specs.SlabState.{SlabState, class_at, class_of_page, class_of_chunk, IsClass}
+use Rattle.mc_pages.specs.SlabState.{SlabState, class_at, class_of_page, class_of_chunk, HasClass}
 use Rattle.mc_pages.proofs.Owners.{is_of_class-class_of_owner}
 use Rattle.mc_pages.proofs.RoomyGrow.{next_none}
 use Rattle.mc_pages.proofs.Chunks.{same_from_is_chunk}
@@ -33,14 +33,14 @@ use Rattle.mc_core.specs.Evictions.{has_copy, none_dead, must_leave, lacks_room,
 use Rattle.mc_core.specs.Knowing.{IsRescue}
 use Rattle.mc_core.specs.Past.{Moment}
 use Rattle.mc_core.specs.Lawful.{IsLawful}
-use Rattle.mc_core.specs.Reasons.{takes, sees, WasFoundAlive, IsSwept, Moves, HasNoneOff, IsOutOfRoom, HasCopyOff, MustGo, CondemnsAreReasoned}
+use Rattle.mc_core.specs.Reasons.{is_taking_look, is_look_at, WasFoundAlive, IsSwept, Moves, HasNoneOff, IsOutOfRoom, HasCopyOff, MustGo, CondemnsAreReasoned}
 use Rattle.mc_core.proofs.Base.{each_row}
 use Rattle.mc_core.proofs.KnownCondemned.{condemnable}
 use Rattle.mc_core.proofs.RescuedSteps.{copy_is}
 
 -- neither a taking nor a look at the chunk
 abbrev IsQuiet : ChunkId → Look → Type 0
-IsQuiet chunk look = (takes look ≡ false) × (sees chunk look ≡ false)
+IsQuiet chunk look = (is_taking_look look ≡ false) × (is_look_at chunk look ≡ false)
 
 dead_is : (head : Head) → head.tag ≡ Unlinked → head.count ≡ 0 → is_dead head ≡ true
 dead_is head tag count = ap₂ (λ (t : Tag) n. is_unlinked t && (n == 0)) tag count
@@ -128,14 +128,14 @@ none_is None is = refl
 none_is (Some x) is = absurd (cc)
 
 -- where no page is to be had for the class of a page, or for the first where it has none
-none_left : (slabs : SlabState) (granted page : ℕ) → IsInOrder slabs granted → next_page slabs (class_of_page slabs page) ≡ None → (slabs.pool ≡ []) × (slabs.limit / slabs.page ≤ ordinary_count slabs.ledger) × (1 ≤ length (class_at slabs (class_of_page slabs page)).pages)
+none_left : (slabs : SlabState) (granted page : ℕ) → AreSlabsInOrder slabs granted → next_page slabs (class_of_page slabs page) ≡ None → (slabs.pool ≡ []) × (slabs.limit / slabs.page ≤ ordinary_count slabs.ledger) × (1 ≤ length (class_at slabs (class_of_page slabs page)).pages)
 none_left slabs granted page kept none =
     let class = class_of_page slabs page in
     elim (cases_lt 0 class) [
       | inl some ↦ next_none slabs granted class kept (kept.accounted.owned class page (is_of_class-class_of_owner class (owner_at slabs.owners page) some refl)) none
       | inr nothing ↦
           let at : class ≡ 0 = omega (arith, nothing) in
-          let first : IsClass slabs 1 = (omega arith, omega (arith, kept.accounted.cursor.0, kept.accounted.cursor.1)) in
+          let first : HasClass slabs 1 = (omega arith, omega (arith, kept.accounted.cursor.0, kept.accounted.cursor.1)) in
           let is = next_none slabs granted 1 kept first (subst (λ (n : ℕ). next_page slabs n ≡ None) at none) in
           (is.0, is.1, subst (λ (n : ℕ). 1 ≤ length (class_at slabs n).pages) (sym at) is.2)
     ]

@@ -12,7 +12,7 @@ use Rattle.mc_core.specs.Head.{is_free, is_out, is_linked}
 use Rattle.mc_core.specs.Holdings.{is_fresh}
 use Rattle.mc_core.specs.State.{has_chunk, head_place, head_at, room_in, word_at, is_hand, holdings_at, item_at}
 use Rattle.mc_core.specs.Chunks.{has_place, most_holdings}
-use Rattle.mc_core.specs.Items.{can_count, referred, new_reference, with_reference, chunk_of, can_look_up, can_refer, can_refer_to, with_got, referred_to, after_refer, can_again, has_place_unlocked}
+use Rattle.mc_core.specs.Items.{can_count, head_after_refer, new_reference, with_reference, chunk_of_key, can_look_up, can_refer, can_refer_to, with_got, referred_to, after_refer, can_again, has_place_unlocked}
 use Rattle.mc_core.specs.Columns.{head_in, Each}
 use Rattle.mc_core.specs.Past.{Moment}
 use Rattle.mc_core.specs.Lawful.{IsLawful}
@@ -56,7 +56,7 @@ module _ (m : Moment) (l : IsLawful m) (hand : ℕ) (there : is_hand m.state han
     abbrev now : List (List Holding)
     now = rows_more rows hand holding
 
-    turn : Turn m.state.table m.state.heads rows now chunk (referred old)
+    turn : Turn m.state.table m.state.heads rows now chunk (head_after_refer old)
     turn = record {
       long = l.sized.headers;
       near = near;
@@ -67,16 +67,16 @@ module _ (m : Moment) (l : IsLawful m) (hand : ℕ) (there : is_hand m.state han
     }
 
     abbrev heads' : List Head
-    heads' = slice_set m.state.heads (head_place m.state.table chunk) (referred old)
+    heads' = slice_set m.state.heads (head_place m.state.table chunk) (head_after_refer old)
 
     pub referred_tallied : IsTallied (with_reference m.state hand chunk)
     referred_tallied =
-        let kept = turn_each m.state.table m.state.heads rows now chunk (referred old) turn m.state.slabs m.state.slabs m.state.words (λ page. refl) rows
+        let kept = turn_each m.state.table m.state.heads rows now chunk (head_after_refer old) turn m.state.slabs m.state.slabs m.state.words (λ page. refl) rows
         (λ i row inside j other on is. (refl, linked_stale chunk linked i row inside j other on is))
         (each_so m.state.table m.state.slabs m.state.heads m.state.words rows l.held) in
-        let new = turn_more m.state.table m.state.heads rows now chunk (referred old) turn m.state.slabs m.state.slabs m.state.words (λ page. refl) holding refl refl
+        let new = turn_more m.state.table m.state.heads rows now chunk (head_after_refer old) turn m.state.slabs m.state.slabs m.state.words (λ page. refl) holding refl refl
         (item_shows m.state chunk fit) ((λ fresh. absurd (cc)), λ stale. known_whole (item_at m.state chunk) (item_whole m.state chunk fit).0) (λ fresh. absurd (cc)) in (
-          turn_counted m.state.table m.state.heads rows now chunk (referred old) turn l.counted,
+          turn_counted m.state.table m.state.heads rows now chunk (head_after_refer old) turn l.counted,
           held_from_so m.state.table m.state.slabs heads' m.state.words now
               (each_more rows hand (IsSo m.state.table m.state.slabs heads' m.state.words now) holding kept new)
               (most_more rows hand holding room l.held.most),
@@ -84,10 +84,10 @@ module _ (m : Moment) (l : IsLawful m) (hand : ℕ) (there : is_hand m.state han
 
   pub refer_tallied : (key : ℕ) → can_refer m.state hand key ≡ true → IsTallied (after_refer m.state hand key)
   refer_tallied key can =
-      let parts = and_parts _ (can_refer_to m.state (chunk_of m.state key)) can in
+      let parts = and_parts _ (can_refer_to m.state (chunk_of_key m.state key)) can in
       let more = and_parts (can_look_up m.state hand key) (has_place m.state hand) parts.0 in
       let room = ltb-true (length (holdings_at m.state hand)) most_holdings more.1 in
-      elim (chunk_of m.state key) as (λ o. chunk_of m.state key ≡ o → can_refer_to m.state o ≡ true → IsTallied (referred_to (with_got m.state hand key) hand o)) [
+      elim (chunk_of_key m.state key) as (λ o. chunk_of_key m.state key ≡ o → can_refer_to m.state o ≡ true → IsTallied (referred_to (with_got m.state hand key) hand o)) [
         | None ↦ λ _ never. absurd (cc)
         | Some place ↦ λ found may.
             let entry = entry_of m l key place found in

@@ -15,16 +15,16 @@ use Rattle.mc_core.specs.declared.holding.Kind.TheVariants.{Reference, Fresh}
 use Rattle.mc_core.specs.declared.holding.Purpose.TheVariants.{Item, Copy, Rescue}
 use Rattle.mc_core.specs.declared.look.Look.{Look}
 use Rattle.mc_core.specs.declared.look.Look.TheVariants.{Saw, SawStripe}
-use Rattle.mc_core.specs.Holdings.{Words, is_of, is_copy_of, is_copy_kind, holding_of, stamp_of, length_of}
+use Rattle.mc_core.specs.Holdings.{Words, is_of_chunk, is_copy_of, is_copy_kind, holding_of, stamp_in_words, length_of_item}
 use Rattle.mc_core.specs.State.{State, has_slabs, head_at, item_at, holdings_at, with_slabs, with_look, with_head, with_holding, without_holding}
-use Rattle.mc_core.specs.Locks.{looked}
-use Rattle.mc_core.specs.Chunks.{next_free, popped, is_target, target_of, most_issue, popped_off, filled, filled_kind}
-use Rattle.mc_core.specs.Items.{chunk_of, after_link_of, told_link, with_got, referred_to, with_unlinked, linked, as_reference}
+use Rattle.mc_core.specs.Locks.{state_after_look}
+use Rattle.mc_core.specs.Chunks.{next_free, state_after_pop_of, is_target, target_of, most_issue, popped_off, holding_with_word, filled_kind}
+use Rattle.mc_core.specs.Items.{chunk_of_key, after_link_of, recorded_link, with_got, referred_to, with_unlinked, head_after_link, as_reference}
 use Rattle.mc_core.specs.Evictions.{as_rescue}
 use Rattle.mc_core.specs.Run.{after_step}
-use Rattle.mc_core.specs.Past.{Moment, Saying, with_more, said_by, first_moment}
+use Rattle.mc_core.specs.Past.{Moment, StoredItem, with_more, item_stored_by_link, first_moment}
 use Rattle.mc_core.specs.Columns.{Each}
-use Rattle.mc_core.specs.Knowing.{IsSaid, IsRescue}
+use Rattle.mc_core.specs.Knowing.{WasStored, IsRescue}
 use Rattle.mc_core.specs.Laws.{MayStep, ChangesKeep, StepsKeep, HoldsAtFirst}
 use Rattle.mc_core.specs.Lawful.{RescuedIn}
 use Rattle.mc_core.proofs.Base.{each_map, found_has}
@@ -39,20 +39,20 @@ use Rattle.mc_core.proofs.KnownSteps.{each_none}
 use Rattle.mc_core.proofs.KnownQuiet.{IsStill}
 
 -- what was said is said still
-rescue_still : (said said' : List (List Saying)) → ((stamp : ℕ) (words : List ℕ) → IsSaid said stamp words → IsSaid said' stamp words) → (chunk : ChunkId) (kind : Kind) → IsRescue said chunk kind → IsRescue said' chunk kind
+rescue_still : (said said' : List (List StoredItem)) → ((stamp : ℕ) (words : List ℕ) → WasStored said stamp words → WasStored said' stamp words) → (chunk : ChunkId) (kind : Kind) → IsRescue said chunk kind → IsRescue said' chunk kind
 rescue_still said said' more chunk (Reference own) is = tt
 rescue_still said said' more chunk (Fresh Item own) is = tt
 rescue_still said said' more chunk (Fresh (Copy old) own) is = is
-rescue_still said said' more chunk (Fresh (Rescue old item) own) is = (is.0, more (stamp_of item) item is.1, is.2)
+rescue_still said said' more chunk (Fresh (Rescue old item) own) is = (is.0, more (stamp_in_words item) item is.1, is.2)
 
-filled_rescue : (said : List (List Saying)) (place word : ℕ) (chunk : ChunkId) (kind : Kind) → IsRescue said chunk kind → IsRescue said chunk (filled_kind place word kind)
+filled_rescue : (said : List (List StoredItem)) (place word : ℕ) (chunk : ChunkId) (kind : Kind) → IsRescue said chunk kind → IsRescue said chunk (filled_kind place word kind)
 filled_rescue said place word chunk (Reference own) is = tt
 filled_rescue said place word chunk (Fresh Item own) is = tt
 filled_rescue said place word chunk (Fresh (Copy old) own) is = is
 filled_rescue said place word chunk (Fresh (Rescue old item) own) is = is
 
 -- a copy is off the page of the chunk that it is to be a copy of
-pub copy_is : (said : List (List Saying)) (chunk old : ChunkId) (kind : Kind) → is_copy_kind old kind ≡ true → IsRescue said chunk kind
+pub copy_is : (said : List (List StoredItem)) (chunk old : ChunkId) (kind : Kind) → is_copy_kind old kind ≡ true → IsRescue said chunk kind
     → ((own : Words) × (kind ≡ Fresh (Copy old) own)) × (chunk.page ≢ old.page)
 copy_is said chunk old (Reference own) is off = absurd (cc)
 copy_is said chunk old (Fresh Item own) is off = absurd (cc)
@@ -68,25 +68,25 @@ target_off s page chunk found =
     let off = (and_parts (not (chunk.page == page)) (nat_lt (head_at s chunk).issue most_issue) passes).0 in
     λ same. both_ways (not (chunk.page == page)) (ap not (eq-eqb chunk.page page same)) off
 
-abbrev IsSaidRescue : List (List Saying) → Holding → Type 0
+abbrev IsSaidRescue : List (List StoredItem) → Holding → Type 0
 IsSaidRescue said holding = IsRescue said holding.chunk holding.kind
 
-abbrev AreRescued : List (List Holding) → List (List Saying) → Type 0
+abbrev AreRescued : List (List Holding) → List (List StoredItem) → Type 0
 AreRescued rows said = Each (IsSaidRescue said) rows
 
-rescued_more : (rows : List (List Holding)) (said : List (List Saying)) (hand : ℕ) (more : List Saying) → AreRescued rows said → AreRescued rows (with_more said hand more)
+rescued_more : (rows : List (List Holding)) (said : List (List StoredItem)) (hand : ℕ) (more : List StoredItem) → AreRescued rows said → AreRescued rows (with_more said hand more)
 rescued_more rows said hand more =
     each_map (IsSaidRescue said) (IsSaidRescue (with_more said hand more)) rows (λ holding. rescue_still said (with_more said hand more) (λ stamp words. said_more said hand more stamp words) holding.chunk holding.kind)
 
 module _ (m : Moment) (hand : ℕ) where
   -- what is left of rows and sayings
-  abbrev Ends : State → List Saying → Type 0
+  abbrev Ends : State → List StoredItem → Type 0
   Ends s more = AreRescued s.holdings (with_more m.past.said hand more)
 
-  ends : (s : State) (more : List Saying) → AreRescued s.holdings m.past.said → Ends s more
+  ends : (s : State) (more : List StoredItem) → AreRescued s.holdings m.past.said → Ends s more
   ends s more is = rescued_more s.holdings m.past.said hand more is
 
-  looked_rescued : (look : Look) → AreRescued m.state.holdings m.past.said → AreRescued (looked m.state hand look).holdings m.past.said
+  looked_rescued : (look : Look) → AreRescued m.state.holdings m.past.said → AreRescued (state_after_look m.state hand look).holdings m.past.said
   looked_rescued look is = elim (has_slabs m.state hand) as (λ (b : Bool). AreRescued (if b then with_look m.state hand look else m.state).holdings m.past.said) [ true ↦ is | false ↦ is ]
 
   module _ (is : AreRescued m.state.holdings m.past.said) where
@@ -100,7 +100,7 @@ module _ (m : Moment) (hand : ℕ) where
     one_more : (holding : Holding) → IsRescue m.past.said holding.chunk holding.kind → AreRescued (rows_more m.state.holdings hand holding) m.past.said
     one_more holding new = each_more m.state.holdings hand (IsSaidRescue m.past.said) holding is new
 
-    popped_rescued : (class : ℕ) (next : Option ChunkId) → AreRescued (popped (with_slabs m.state (slabs_changes.after_pop m.state.slabs class)) hand next).holdings m.past.said
+    popped_rescued : (class : ℕ) (next : Option ChunkId) → AreRescued (state_after_pop_of (with_slabs m.state (slabs_changes.after_pop m.state.slabs class)) hand next).holdings m.past.said
     popped_rescued class None = is
     popped_rescued class (Some chunk) = one_more _ tt
 
@@ -108,17 +108,17 @@ module _ (m : Moment) (hand : ℕ) where
     popped_off_rescued old None found = is
     popped_off_rescued old (Some chunk) found = one_more _ (target_off m.state old.page chunk found)
 
-    filled_rescued : (chunk : ChunkId) (place word : ℕ) → AreRescued (rows_changed m.state.holdings hand (is_of chunk) (filled place word)) m.past.said
-    filled_rescued chunk place word = each_changed (is_of chunk) (filled place word) m.state.holdings hand (IsSaidRescue m.past.said) (IsSaidRescue m.past.said) (λ h rescue. rescue) (λ h _ rescue. filled_rescue m.past.said place word h.chunk h.kind rescue) is
+    filled_rescued : (chunk : ChunkId) (place word : ℕ) → AreRescued (rows_changed m.state.holdings hand (is_of_chunk chunk) (holding_with_word place word)) m.past.said
+    filled_rescued chunk place word = each_changed (is_of_chunk chunk) (holding_with_word place word) m.state.holdings hand (IsSaidRescue m.past.said) (IsSaidRescue m.past.said) (λ h rescue. rescue) (λ h _ rescue. filled_rescue m.past.said place word h.chunk h.kind rescue) is
 
-    linked_kind : (chunk : ChunkId) (holding : Holding) (kind : Kind) → AreRescued (with_holding (with_head (told_link (without_holding m.state hand (is_of chunk)) hand holding kind) chunk (linked (head_at m.state chunk))) hand (as_reference holding)).holdings m.past.said
-    linked_kind chunk holding (Reference own) = one_other (is_of chunk) (as_reference holding) tt
-    linked_kind chunk holding (Fresh Item own) = one_other (is_of chunk) (as_reference holding) tt
-    linked_kind chunk holding (Fresh (Copy old) own) = one_other (is_of chunk) (as_reference holding) tt
-    linked_kind chunk holding (Fresh (Rescue old item) own) = one_other (is_of chunk) (as_reference holding) tt
+    linked_kind : (chunk : ChunkId) (holding : Holding) (kind : Kind) → AreRescued (with_holding (with_head (recorded_link (without_holding m.state hand (is_of_chunk chunk)) hand holding kind) chunk (head_after_link (head_at m.state chunk))) hand (as_reference holding)).holdings m.past.said
+    linked_kind chunk holding (Reference own) = one_other (is_of_chunk chunk) (as_reference holding) tt
+    linked_kind chunk holding (Fresh Item own) = one_other (is_of_chunk chunk) (as_reference holding) tt
+    linked_kind chunk holding (Fresh (Copy old) own) = one_other (is_of_chunk chunk) (as_reference holding) tt
+    linked_kind chunk holding (Fresh (Rescue old item) own) = one_other (is_of_chunk chunk) (as_reference holding) tt
 
-    linked_rescued : (chunk : ChunkId) (found : Option Holding) → AreRescued (after_link_of (without_holding m.state hand (is_of chunk)) hand chunk found).holdings m.past.said
-    linked_rescued chunk None = one_less (is_of chunk)
+    linked_rescued : (chunk : ChunkId) (found : Option Holding) → AreRescued (after_link_of (without_holding m.state hand (is_of_chunk chunk)) hand chunk found).holdings m.past.said
+    linked_rescued chunk None = one_less (is_of_chunk chunk)
     linked_rescued chunk (Some holding) = linked_kind chunk holding holding.kind
 
     referred_rescued : (key : ℕ) (place : Option (ChunkId × ℕ)) → AreRescued (referred_to (with_got m.state hand key) hand place).holdings m.past.said
@@ -134,9 +134,9 @@ module _ (m : Moment) (hand : ℕ) where
   condemned_rescued chunk may =
       let l = may.lawful in
       let is = condemnable m hand chunk may in
-      let whole = item_has m l chunk is.near is.linked (λ k. length k.words ≡ length_of k.words)
-      (each_map (IsStill m l) (λ k. length k.words ≡ length_of k.words) m.past.known (λ k still. still.whole) l.known.still) in
-      let said = item_has m l chunk is.near is.linked (λ k. IsSaid m.past.said (stamp_of k.words) k.words) l.known.said_by_some in
+      let whole = item_has m l chunk is.near is.linked (λ k. length k.words ≡ length_of_item k.words)
+      (each_map (IsStill m l) (λ k. length k.words ≡ length_of_item k.words) m.past.known (λ k still. still.whole) l.known.still) in
+      let said = item_has m l chunk is.near is.linked (λ k. WasStored m.past.said (stamp_in_words k.words) k.words) l.known.said_by_some in
       each_changed (is_copy_of chunk) (as_rescue chunk (item_at m.state chunk)) m.state.holdings hand (IsSaidRescue m.past.said) (IsSaidRescue m.past.said) (λ h rescue. rescue)
       (λ h copy rescue. (whole, said, (copy_is m.past.said h.chunk chunk h.kind copy rescue).1)) l.rescued
 
@@ -176,11 +176,11 @@ rescued_steps m hand (Fill chunk place word) may =
 rescued_steps m hand (Word chunk place) may = ends m hand m.state [] may.lawful.rescued
 rescued_steps m hand (WordHeld chunk place) may = ends m hand m.state [] may.lawful.rescued
 rescued_steps m hand (Link chunk) may =
-    ends m hand (after_step m.state hand (Link chunk)) (said_by (holding_of chunk (holdings_at m.state hand))) (linked_rescued m hand may.lawful.rescued chunk (holding_of chunk (holdings_at m.state hand)))
-rescued_steps m hand (Refer key) may = ends m hand (after_step m.state hand (Refer key)) [] (referred_rescued m hand may.lawful.rescued key (chunk_of m.state key))
-rescued_steps m hand (Unlink key) may = ends m hand (after_step m.state hand (Unlink key)) [] (unlinked_rescued m hand may.lawful.rescued _ (chunk_of m.state key) may.lawful.rescued)
-rescued_steps m hand (Release chunk) may = ends m hand (after_step m.state hand (Release chunk)) [] (one_less m hand may.lawful.rescued (is_of chunk))
-rescued_steps m hand (Discard chunk) may = ends m hand (after_step m.state hand (Discard chunk)) [] (one_less m hand may.lawful.rescued (is_of chunk))
+    ends m hand (after_step m.state hand (Link chunk)) (item_stored_by_link (holding_of chunk (holdings_at m.state hand))) (linked_rescued m hand may.lawful.rescued chunk (holding_of chunk (holdings_at m.state hand)))
+rescued_steps m hand (Refer key) may = ends m hand (after_step m.state hand (Refer key)) [] (referred_rescued m hand may.lawful.rescued key (chunk_of_key m.state key))
+rescued_steps m hand (Unlink key) may = ends m hand (after_step m.state hand (Unlink key)) [] (unlinked_rescued m hand may.lawful.rescued _ (chunk_of_key m.state key) may.lawful.rescued)
+rescued_steps m hand (Release chunk) may = ends m hand (after_step m.state hand (Release chunk)) [] (one_less m hand may.lawful.rescued (is_of_chunk chunk))
+rescued_steps m hand (Discard chunk) may = ends m hand (after_step m.state hand (Discard chunk)) [] (one_less m hand may.lawful.rescued (is_of_chunk chunk))
 rescued_steps m hand (Condemn chunk) may = ends m hand (after_step m.state hand (Condemn chunk)) [] (condemned_rescued m hand chunk may)
 rescued_steps m hand (PutBack chunk) may = ends m hand m.state [] may.lawful.rescued
 rescued_steps m hand (Clear chunk) may = ends m hand m.state [] may.lawful.rescued

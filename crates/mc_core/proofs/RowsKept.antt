@@ -9,7 +9,7 @@ use Rattle.mc_stripe.specs.StripeState.{new_stripe}
 use Rattle.mc_core.specs.declared.ids.Ids.{Ids}
 use Rattle.mc_core.specs.declared.event.Step.{Step}
 use Rattle.mc_core.specs.declared.event.Step.TheVariants as step
-use Rattle.mc_core.specs.State.{State, gone, number_at, new_state}
+use Rattle.mc_core.specs.State.{State, no_ids, number_at, new_state}
 use Rattle.mc_core.specs.Past.{Moment, seen_after, longer_each, learned_alone, moment_stepped}
 use Rattle.mc_core.specs.Identities.{HaveRows, number_in}
 use Rattle.mc_core.specs.Lawful.{RowsIn}
@@ -87,14 +87,14 @@ rows_alone m hand step l same = let long = same.long in record {
 }
 
 -- a hand that is there after a join is another than the spent one, and was there
-there_before : (ids : List Ids) (spent other : ℕ) (number : Option ℕ) → number_in (slice_set ids spent gone) other ≡ number → is_some number ≡ true → (other ≢ spent) × (is_some (number_in ids other) ≡ true)
+there_before : (ids : List Ids) (spent other : ℕ) (number : Option ℕ) → number_in (slice_set ids spent no_ids) other ≡ number → is_some number ≡ true → (other ≢ spent) × (is_some (number_in ids other) ≡ true)
 there_before ids spent other None is there = absurd (cc)
 there_before ids spent other (Some number) is there = let was = gone_set ids spent other number is in (was.0, ap is_some was.1)
 
 rows_joined : (m : Moment) (hand kept spent : ℕ) → MayStep m hand (step.Join kept spent) → RowsIn (moment_stepped m hand (step.Join kept spent))
 rows_joined m hand kept spent may =
     let l = may.lawful.rows in
-    let long = length-set m.state.ids spent gone in
+    let long = length-set m.state.ids spent no_ids in
     let facts = join_facts m hand kept spent may in
     let in_kept = l.histories kept facts.3 in
     let in_spent = l.histories spent facts.4 in
@@ -108,7 +108,7 @@ rows_joined m hand kept spent may =
       said = length-set _ spent _ ∙ length-set m.past.said kept _ ∙ l.said ∙ sym long;
       known = length-set _ spent _ ∙ length-set m.past.known kept _ ∙ l.known ∙ sym long;
       histories = λ other there.
-          let was = there_before m.state.ids spent other (number_in (slice_set m.state.ids spent gone) other) refl there in
+          let was = there_before m.state.ids spent other (number_in (slice_set m.state.ids spent no_ids) other) refl there in
           ap length (row_other put spent other [] was.0)
           ∙ seen_kept m.state.ids m.past.seen (length m.state.stripes) kept both l.histories
           (λ _. longer_long (row_of m.past.seen kept) (row_of m.past.seen spent) (in_kept ∙ sym in_spent) ∙ in_kept) other was.1;
@@ -133,7 +133,7 @@ rows_first table stripes hands start sound _ _ _ _ =
       known = length-replicate hands _ ∙ sym named;
       histories = λ hand there. elim (cases_lt hand hands) [
         | inl within ↦ ap length (get_or-replicate hands hand (replicate stripes []) [] within) ∙ (length-replicate stripes [] ∙ sym (length-replicate stripes new_stripe))
-        | inr past ↦ absurd (false≢true (sym (ap (λ (i : Ids). is_some i.number) (get_or_past (new_state table stripes hands start).ids hand gone (omega (arith, past, named)))) ∙ there))
+        | inr past ↦ absurd (false≢true (sym (ap (λ (i : Ids). is_some i.number) (get_or_past (new_state table stripes hands start).ids hand no_ids (omega (arith, past, named)))) ∙ there))
       ];
     }
 

@@ -10,13 +10,13 @@ use Rattle.mc_pages.specs.declared.ledger.Owner.TheVariants.{Untouched, Pool, Cl
 use Rattle.mc_pages.specs.declared.ledger.Owner.TheVariants as owner
 use Rattle.mc_pages.specs.declared.moves.Reassign.{Reassign}
 use Rattle.mc_pages.specs.Ledger.{owner_at}
-use Rattle.mc_pages.specs.ClassState.{times}
-use Rattle.mc_pages.specs.SlabState.{SlabState, IsClass, class_at, class_of_owner, class_of_page}
+use Rattle.mc_pages.specs.ClassState.{times_in}
+use Rattle.mc_pages.specs.SlabState.{SlabState, HasClass, class_at, class_of_owner, class_of_page}
 use Rattle.mc_pages.specs.Answer.{answer_of}
 use Rattle.mc_pages.specs.Changes.{after_take, after_grant, after_grow, next_page, with_given}
-use Rattle.mc_pages.specs.Moves.{first_page, released, finished, after_finish}
+use Rattle.mc_pages.specs.Moves.{first_page, after_page_release, after_move_end, after_finish}
 use Rattle.mc_pages.specs.Accounted.{truth, is_of_class, is_cut, IsMove, IsAccounted}
-use Rattle.mc_pages.specs.InOrder.{IsInOrder}
+use Rattle.mc_pages.specs.InOrder.{AreSlabsInOrder}
 use Rattle.mc_pages.proofs.Owners.{owner_at-set_other, class_of_owner-is_of_class}
 use Rattle.mc_pages.proofs.Placed.{ArePlaced_from}
 use Rattle.mc_pages.proofs.BegunMove.{Class-from_still, still_at_rest}
@@ -33,7 +33,7 @@ use Rattle.mc_core.specs.declared.event.Change.{Change}
 use Rattle.mc_core.specs.declared.event.Change.TheVariants.{Grow, BeginMove, FinishMove, Touch, SetAutomove, TrimLedger, Passed, Wrap, Evicted, OfStripe, GotNone, DeletedNone}
 use Rattle.mc_core.specs.Head.{is_free, is_out}
 use Rattle.mc_core.specs.State.{State, has_chunk, has_slabs}
-use Rattle.mc_core.specs.Silent.{has_page, has_listed, none_half_cut, can_finish, grown, begun, after_change}
+use Rattle.mc_core.specs.Silent.{has_page, has_listed, none_half_cut, can_finish, after_growth, after_reassign, after_change}
 use Rattle.mc_core.specs.Columns.{head_in, IsHandedOut}
 use Rattle.mc_core.specs.Past.{Moment}
 use Rattle.mc_core.specs.Places.{ArePlaced, is_cut_there}
@@ -57,7 +57,7 @@ pub not_in_hand : (tag : Tag) → tag ≡ Out → is_in_hand tag ≡ true → �
 not_in_hand tag is h = both_ways (is_in_hand tag) (ap is_in_hand is) h
 
 -- what was cut for the class of its page was cut for one of the classes
-pub cut_there : (slabs : SlabState) (chunk : ChunkId) → IsAccounted slabs → is_cut_there slabs chunk ≡ true → IsClass slabs (class_of_page slabs chunk.page)
+pub cut_there : (slabs : SlabState) (chunk : ChunkId) → IsAccounted slabs → is_cut_there slabs chunk ≡ true → HasClass slabs (class_of_page slabs chunk.page)
 cut_there slabs chunk all h = all.owned (class_of_page slabs chunk.page) chunk.page (and_parts _ _ h).0
 
 -- what was cut for a class was cut for that of its page
@@ -75,7 +75,7 @@ module _ (table : Classes) (slabs : SlabState) (heads : List Head) (placed : Are
   ]
 
 -- the first page of a class that has one is its page
-first_page_of_class : (slabs : SlabState) (class : ℕ) → IsAccounted slabs → IsClass slabs class → 1 ≤ length (class_at slabs class).pages → is_of_class class (owner_at slabs.owners (first_page slabs class)) ≡ true
+first_page_of_class : (slabs : SlabState) (class : ℕ) → IsAccounted slabs → HasClass slabs class → 1 ≤ length (class_at slabs class).pages → is_of_class class (owner_at slabs.owners (first_page slabs class)) ≡ true
 first_page_of_class slabs class all is some =
     let page = first_page slabs class in
     let pages = (class_at slabs class).pages in
@@ -87,20 +87,20 @@ first_page_of_class slabs class all is some =
     ]
 
 -- the page that begins to move is one of its source's, and stands still
-pub first_page_owner : (slabs : SlabState) (granted : ℕ) (src : Option ℕ) (source dst : ℕ) → IsInOrder slabs granted → answer_of slabs src dst ≡ Ok source → owner_at slabs.owners (first_page slabs source) ≡ Class source
+pub first_page_owner : (slabs : SlabState) (granted : ℕ) (src : Option ℕ) (source dst : ℕ) → AreSlabsInOrder slabs granted → answer_of slabs src dst ≡ Ok source → owner_at slabs.owners (first_page slabs source) ≡ Class source
 first_page_owner slabs granted src source dst kept answer =
     let told = source_is slabs src source dst answer in
     let some : 1 ≤ length (class_at slabs source).pages = omega (arith, told.1) in
     Class-from_still source (owner_at slabs.owners (first_page slabs source)) (first_page_of_class slabs source kept.accounted told.0 some)
     (still_at_rest slabs (ArePlaced_from slabs kept.accounted) told.4 (first_page slabs source))
 
-pub first_page_there : (slabs : SlabState) (granted : ℕ) (src : Option ℕ) (source dst : ℕ) → IsInOrder slabs granted → answer_of slabs src dst ≡ Ok source → first_page slabs source < length slabs.owners
+pub first_page_there : (slabs : SlabState) (granted : ℕ) (src : Option ℕ) (source dst : ℕ) → AreSlabsInOrder slabs granted → answer_of slabs src dst ≡ Ok source → first_page slabs source < length slabs.owners
 first_page_there slabs granted src source dst kept answer =
     let told = source_is slabs src source dst answer in first_page_within slabs granted source kept told.0 (omega (arith, told.1))
 
 -- a page that begins to move is its class's still
-pub begun_pages : (slabs : SlabState) (granted : ℕ) (src : Option ℕ) (dst : ℕ) (answer : Result ℕ Reassign) → IsInOrder slabs granted → answer_of slabs src dst ≡ answer →
-    (page : ℕ) → class_of_page (begun slabs src dst answer) page ≡ class_of_page slabs page
+pub begun_pages : (slabs : SlabState) (granted : ℕ) (src : Option ℕ) (dst : ℕ) (answer : Result ℕ Reassign) → AreSlabsInOrder slabs granted → answer_of slabs src dst ≡ answer →
+    (page : ℕ) → class_of_page (after_reassign slabs src dst answer) page ≡ class_of_page slabs page
 begun_pages slabs granted src dst (Err refusal) kept is page = refl
 begun_pages slabs granted src dst (Ok source) kept is page =
     owner-set_alike class_of_owner slabs.owners (first_page slabs source) page (owner.Moving source dst) (first_page_there slabs granted src source dst kept is)
@@ -130,13 +130,13 @@ grown_pages slabs class page other apart =
 
 -- where the page arrived: in the pool, or in a class
 abbrev pub arrived_if : SlabState → Moving → Bool → SlabState
-arrived_if slabs move pooled = if pooled then released slabs move.page move.src else record (with_given (released slabs move.page move.src) move.dst move.page) { pool = slabs.pool }
+arrived_if slabs move pooled = if pooled then after_page_release slabs move.page move.src else record (with_given (after_page_release slabs move.page move.src) move.dst move.page) { pool = slabs.pool }
 
 -- the owners after a move ended: those of other pages are as they were
-pub finished_other : (slabs : SlabState) (move : Moving) (other : ℕ) → other ≢ move.page → owner_at (finished slabs move).owners other ≡ owner_at slabs.owners other
+pub finished_other : (slabs : SlabState) (move : Moving) (other : ℕ) → other ≢ move.page → owner_at (after_move_end slabs move).owners other ≡ owner_at slabs.owners other
 finished_other slabs move other apart =
     let gone = owner_at-set_other slabs.owners move.page other Pool apart in
-    let given = owner_at-set_other (released slabs move.page move.src).owners move.page other (Class move.dst) apart in
+    let given = owner_at-set_other (after_page_release slabs move.page move.src).owners move.page other (Class move.dst) apart in
     elim (move.dst == 0) as (λ (b : Bool). owner_at (arrived_if slabs move b).owners other ≡ owner_at slabs.owners other) [ true ↦ gone | false ↦ given ∙ gone ]
 
 -- where no chunk of the moving page is in a list, none of them is handed out
@@ -145,8 +145,8 @@ pub none_handed_out : (table : Classes) (slabs : SlabState) (heads : List Head) 
 none_handed_out table slabs heads move chunk placed is none on here out =
     let own : class_of_page slabs chunk.page ≡ move.src = ap (λ p. class_of_page slabs p) on ∙ ap class_of_owner is.owner in
     let cut : is_cut slabs move.src chunk ≡ true = subst (λ n. is_cut slabs n chunk ≡ true) own (cut_of_handed_out table slabs heads placed chunk here out) in
-    let some : times chunk (class_at slabs move.src).order ≡ 1 = placed.order move.src chunk is.src ∙ ap truth (and_from _ _ cut out) in
-    let absent : times chunk (class_at slabs move.src).order ≡ 0 = none_of_page (class_at slabs move.src).order chunk (subst (λ p. has_page (class_at slabs move.src).order p ≡ false) (sym on) none) in
+    let some : times_in chunk (class_at slabs move.src).order ≡ 1 = placed.order move.src chunk is.src ∙ ap truth (and_from _ _ cut out) in
+    let absent : times_in chunk (class_at slabs move.src).order ≡ 0 = none_of_page (class_at slabs move.src).order chunk (subst (λ p. has_page (class_at slabs move.src).order p ≡ false) (sym on) none) in
     omega arith
 
 -- what a move that may end asks
@@ -160,8 +160,8 @@ abbrev StaysIn : State → SlabState → Type 0
 StaysIn state now = (chunk : ChunkId) (issue : ℕ) → has_chunk state.table chunk ≡ true → IsHandedOut (head_in state.table state.heads chunk) issue →
     class_of_page now chunk.page ≡ class_of_page state.slabs chunk.page
 
-module _ (state : State) (granted : ℕ) (kept : IsInOrder state.slabs granted) (placed : ArePlaced state.table state.slabs state.heads) where
-  grown_stay : (class : ℕ) (next : Option ℕ) → next_page state.slabs class ≡ next → StaysIn state (grown state.slabs class next)
+module _ (state : State) (granted : ℕ) (kept : AreSlabsInOrder state.slabs granted) (placed : ArePlaced state.table state.slabs state.heads) where
+  grown_stay : (class : ℕ) (next : Option ℕ) → next_page state.slabs class ≡ next → StaysIn state (after_growth state.slabs class next)
   grown_stay class None is chunk issue here out = refl
   grown_stay class (Some page) is chunk issue here out = elim (cases_eq chunk.page page) [
     | inl same ↦

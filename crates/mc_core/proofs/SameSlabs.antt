@@ -9,20 +9,20 @@ use Rattle.mc_core.specs.declared.look.Look.{Look}
 use Rattle.mc_core.specs.declared.event.Step.{Step}
 use Rattle.mc_core.specs.declared.event.Step.TheVariants.{TakeSlabs, TakeStripe, MissSlabs, MissStripe, GiveSlabs, GiveStripe, Pop, PopOff, Fill, Word, WordHeld, Link, Refer, Unlink, Release, Discard, Condemn, PutBack, Clear, Cut, Again, Join}
 use Rattle.mc_core.specs.declared.event.Step.TheVariants as step
-use Rattle.mc_core.specs.Holdings.{is_of, holding_of}
+use Rattle.mc_core.specs.Holdings.{is_of_chunk, holding_of}
 use Rattle.mc_core.specs.State.{State, has_slabs, with_look, with_head, with_slabs, head_at, holdings_at, without_holding}
-use Rattle.mc_core.specs.Locks.{looked}
-use Rattle.mc_core.specs.Chunks.{popped, popped_off, next_free, target_of}
-use Rattle.mc_core.specs.Items.{told_link, with_rescued, with_set, after_link_of, with_got, referred_to, with_reference, with_unlinked, unlinked, chunk_of}
+use Rattle.mc_core.specs.Locks.{state_after_look}
+use Rattle.mc_core.specs.Chunks.{state_after_pop_of, popped_off, next_free, target_of}
+use Rattle.mc_core.specs.Items.{recorded_link, with_rescued, with_set, after_link_of, with_got, referred_to, with_reference, with_unlinked, head_after_unlink, chunk_of_key}
 use Rattle.mc_core.specs.Run.{after_step}
 use Rattle.mc_pages.specs.Changes as slabs_changes
 
 -- a part of the state that no branch changes stays, whichever is taken; the facts on branches are mostly refl
 module _ {T : Type 0} (part : State → T) where
-  pub looked_keeps : (state : State) (hand : ℕ) (look : Look) → part (with_look state hand look) ≡ part state → part (looked state hand look) ≡ part state
+  pub looked_keeps : (state : State) (hand : ℕ) (look : Look) → part (with_look state hand look) ≡ part state → part (state_after_look state hand look) ≡ part state
   looked_keeps state hand look keeps = elim (has_slabs state hand) as (λ (b : Bool). part (if b then with_look state hand look else state) ≡ part state) [ true ↦ keeps | false ↦ refl ]
 
-  pub popped_keeps : (state : State) (hand : ℕ) (next : Option ChunkId) → ((chunk : ChunkId) → part (popped state hand (Some chunk)) ≡ part state) → part (popped state hand next) ≡ part state
+  pub popped_keeps : (state : State) (hand : ℕ) (next : Option ChunkId) → ((chunk : ChunkId) → part (state_after_pop_of state hand (Some chunk)) ≡ part state) → part (state_after_pop_of state hand next) ≡ part state
   popped_keeps state hand None keeps = refl
   popped_keeps state hand (Some chunk) keeps = keeps chunk
 
@@ -30,7 +30,7 @@ module _ {T : Type 0} (part : State → T) where
   popped_off_keeps state hand old None keeps = refl
   popped_off_keeps state hand old (Some chunk) keeps = keeps chunk
 
-  pub told_link_keeps : (state : State) (hand : ℕ) (holding : Holding) (kind : Kind) → part (with_rescued state hand holding) ≡ part state → part (with_set state hand holding) ≡ part state → part (told_link state hand holding kind) ≡ part state
+  pub told_link_keeps : (state : State) (hand : ℕ) (holding : Holding) (kind : Kind) → part (with_rescued state hand holding) ≡ part state → part (with_set state hand holding) ≡ part state → part (recorded_link state hand holding kind) ≡ part state
   told_link_keeps state hand holding (Reference own) rescued set = set
   told_link_keeps state hand holding (Fresh Item own) rescued set = set
   told_link_keeps state hand holding (Fresh (Copy old) own) rescued set = set
@@ -44,7 +44,7 @@ module _ {T : Type 0} (part : State → T) where
   referred_keeps state hand None keeps = refl
   referred_keeps state hand (Some place) keeps = keeps place.0
 
-  pub unlinked_keeps : (state : State) (place : Option (ChunkId × ℕ)) → ((chunk : ChunkId) → part (with_head state chunk (unlinked (head_at state chunk))) ≡ part state) → part (with_unlinked state place) ≡ part state
+  pub unlinked_keeps : (state : State) (place : Option (ChunkId × ℕ)) → ((chunk : ChunkId) → part (with_head state chunk (head_after_unlink (head_at state chunk))) ≡ part state) → part (with_unlinked state place) ≡ part state
   unlinked_keeps state None keeps = refl
   unlinked_keeps state (Some place) keeps = keeps place.0
 
@@ -63,10 +63,10 @@ table_stays state hand (Fill chunk place word) = refl
 table_stays state hand (Word chunk place) = refl
 table_stays state hand (WordHeld chunk place) = refl
 table_stays state hand (Link chunk) =
-    let left : State = without_holding state hand (is_of chunk) in
+    let left : State = without_holding state hand (is_of_chunk chunk) in
     linked_keeps (λ s. s.table) left hand chunk (holding_of chunk (holdings_at state hand)) (λ holding. told_link_keeps (λ s. s.table) left hand holding holding.kind refl refl)
-table_stays state hand (Refer key) = referred_keeps (λ s. s.table) (with_got state hand key) hand (chunk_of state key) (λ chunk. refl)
-table_stays state hand (Unlink key) = unlinked_keeps (λ s. s.table) _ (chunk_of state key) (λ chunk. refl)
+table_stays state hand (Refer key) = referred_keeps (λ s. s.table) (with_got state hand key) hand (chunk_of_key state key) (λ chunk. refl)
+table_stays state hand (Unlink key) = unlinked_keeps (λ s. s.table) _ (chunk_of_key state key) (λ chunk. refl)
 table_stays state hand (Release chunk) = refl
 table_stays state hand (Discard chunk) = refl
 table_stays state hand (Condemn chunk) = refl
@@ -91,10 +91,10 @@ owners_stay state hand (Fill chunk place word) = refl
 owners_stay state hand (Word chunk place) = refl
 owners_stay state hand (WordHeld chunk place) = refl
 owners_stay state hand (Link chunk) =
-    let left : State = without_holding state hand (is_of chunk) in
+    let left : State = without_holding state hand (is_of_chunk chunk) in
     linked_keeps (λ s. s.slabs.owners) left hand chunk (holding_of chunk (holdings_at state hand)) (λ holding. told_link_keeps (λ s. s.slabs.owners) left hand holding holding.kind refl refl)
-owners_stay state hand (Refer key) = referred_keeps (λ s. s.slabs.owners) (with_got state hand key) hand (chunk_of state key) (λ chunk. refl)
-owners_stay state hand (Unlink key) = unlinked_keeps (λ s. s.slabs.owners) _ (chunk_of state key) (λ chunk. refl)
+owners_stay state hand (Refer key) = referred_keeps (λ s. s.slabs.owners) (with_got state hand key) hand (chunk_of_key state key) (λ chunk. refl)
+owners_stay state hand (Unlink key) = unlinked_keeps (λ s. s.slabs.owners) _ (chunk_of_key state key) (λ chunk. refl)
 owners_stay state hand (Release chunk) = refl
 owners_stay state hand (Discard chunk) = refl
 owners_stay state hand (Condemn chunk) = refl

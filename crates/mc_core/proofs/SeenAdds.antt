@@ -15,11 +15,11 @@ use Rattle.mc_core.specs.declared.look.Look.{Look}
 use Rattle.mc_core.specs.declared.look.Look.TheVariants.{Saw, SawStripe, Read, Popped, PoppedOff, Condemned, PutBack, Cleared, Cut, Changed}
 use Rattle.mc_core.specs.Head.{is_linked}
 use Rattle.mc_core.specs.Looks.{stays_linked, was_linked}
-use Rattle.mc_core.specs.Past.{Known, IsKnownToSome}
+use Rattle.mc_core.specs.Past.{KnownItem, IsKnownToSome}
 use Rattle.mc_core.specs.Silent.{slabs_after}
 use Rattle.mc_core.specs.State.{room_in, has_chunk, head_place, most_of, page_words}
 use Rattle.mc_core.specs.Columns.{head_in, place_in, IsHandedOut}
-use Rattle.mc_core.specs.Seen.{newer, last_head, linked_issue, last_read, told_by_look, IsStill, IsReadStill, AreSeen}
+use Rattle.mc_core.specs.Seen.{newer, last_head, linked_issue, last_read, slabs_after_look, IsStill, IsReadStill, AreSeen}
 use Rattle.mc_core.proofs.KnownStill.{head_now}
 use Rattle.mc_core.proofs.KnownReferences.{linked_tag}
 use Rattle.mc_core.proofs.KnownQuiet.{AreLinkedKnown}
@@ -70,7 +70,7 @@ read_moved : (table : Classes) (slabs next : SlabState) (words : List ℕ) (look
 read_moved table slabs next words looks chunk place word same read =
     (ap (λ class. slice_index words (chunk.page * page_words table + chunk.index * room_in table class + place)) same ∙ read.same, subst (λ class. place < room_in table class) (sym same) read.within)
 
-module _ (table : Classes) (slabs : SlabState) (heads : List Head) (words : List ℕ) (known : List (List Known)) (looks : List Look) where
+module _ (table : Classes) (slabs : SlabState) (heads : List Head) (words : List ℕ) (known : List (List KnownItem)) (looks : List Look) where
   -- the issue with which a chunk is linked stays
   issue_stays : (chunk : ChunkId) (place word : ℕ) (issue : Option ℕ) → issue ≡ fold (linked_issue chunk) None looks → IsReadStill table slabs words looks chunk place word → is_some issue ≡ true
   issue_stays chunk place word issue same read = ap is_some same ∙ read.linked
@@ -155,7 +155,7 @@ module _ (table : Classes) (slabs : SlabState) (heads : List Head) (words : List
 
   -- a header is written, and the look says so
   module _ (next : SlabState) (chunk : ChunkId) (head : Head) (look : Look) (sized : length heads ≡ arena_pages_of table * most_of table) (near : has_chunk table chunk ≡ true)
-      (classes : (page : ℕ) → class_of_page next page ≡ class_of_page slabs page) (told : told_by_look slabs look ≡ next)
+      (classes : (page : ℕ) → class_of_page next page ≡ class_of_page slabs page) (told : slabs_after_look slabs look ≡ next)
       (headed : (other : ChunkId) (before : Option Head) → last_head other before look ≡ newer other chunk head before) where
     abbrev heads' : List Head
     heads' = slice_set heads (head_place table chunk) head

@@ -9,9 +9,9 @@ use Rattle.mc_core.specs.declared.head.Tag.{Tag}
 use Rattle.mc_core.specs.declared.head.Tag.TheVariants.{Out, Free, Unlinked, Linked}
 use Rattle.mc_core.specs.declared.look.Look.{Look}
 use Rattle.mc_core.specs.Head.{is_out, is_free, is_unlinked}
-use Rattle.mc_core.specs.Chunks.{let_go}
-use Rattle.mc_core.specs.Items.{linked, unlinked, referred}
-use Rattle.mc_core.specs.Past.{Moment, Known, Hold, no_hold, with_more}
+use Rattle.mc_core.specs.Chunks.{head_after_release}
+use Rattle.mc_core.specs.Items.{head_after_link, head_after_unlink, head_after_refer}
+use Rattle.mc_core.specs.Past.{Moment, KnownItem, Hold, no_hold, with_more}
 use Rattle.mc_core.specs.State.{State, is_held_by, has_slabs, number_at, is_hand, has_chunk, head_place, looks_at}
 use Rattle.mc_core.specs.Columns.{head_in, IsHandedOut}
 use Rattle.mc_core.specs.Seen.{AreSeen}
@@ -55,23 +55,23 @@ linked_not Free count is h = absurd (cc)
 linked_not Unlinked count is h = absurd (cc)
 linked_not Linked count is h = absurd (cc)
 
-pub put_linked : (old : Head) → old.tag ≡ Unlinked → 1 ≤ old.count → StaysPut old (linked old)
+pub put_linked : (old : Head) → old.tag ≡ Unlinked → 1 ≤ old.count → StaysPut old (head_after_link old)
 put_linked old is some = record { shut = λ shut. absurd (shut_not old.tag old.count (inl is) some shut); out = λ issue out. (inr refl, out.1) }
 
-pub put_referred : (old : Head) → old.tag ≡ Linked → StaysPut old (referred old)
+pub put_referred : (old : Head) → old.tag ≡ Linked → StaysPut old (head_after_refer old)
 put_referred old is = record { shut = λ shut. absurd (linked_not old.tag old.count is shut); out = λ issue out. out }
 
-pub put_unlinked : (old : Head) → old.tag ≡ Linked → StaysPut old (unlinked old)
+pub put_unlinked : (old : Head) → old.tag ≡ Linked → StaysPut old (head_after_unlink old)
 put_unlinked old is = record { shut = λ shut. absurd (linked_not old.tag old.count is shut); out = λ issue out. (inl refl, out.1) }
 
-pub put_let_go : (old : Head) (issue : ℕ) → IsHandedOut old issue → 1 ≤ old.count → StaysPut old (let_go old)
+pub put_let_go : (old : Head) (issue : ℕ) → IsHandedOut old issue → 1 ≤ old.count → StaysPut old (head_after_release old)
 put_let_go old issue is some = record { shut = λ shut. absurd (shut_not old.tag old.count is.0 some shut); out = λ issue out. out }
 
 module _ (m : Moment) (l : IsLawful m) where
   abbrev table : Classes
   table = m.state.table
 
-  abbrev known : List (List Known)
+  abbrev known : List (List KnownItem)
   known = m.past.known
 
   -- pages and lists as the hand found them
@@ -86,14 +86,14 @@ module _ (m : Moment) (l : IsLawful m) where
   found_same hand h = ap (λ holds. found_by holds h) (sym (set-get_or m.past.holds hand no_hold))
 
   -- a step that appends no look to the looks of the lock's holder
-  pub seen_quiet : (hand : ℕ) (more : List Known) (heads' : List Head) (words' : List ℕ) → LeavesSeen table m.state.slabs m.state.heads heads' m.state.words words' known (with_more known hand more) →
+  pub seen_quiet : (hand : ℕ) (more : List KnownItem) (heads' : List Head) (words' : List ℕ) → LeavesSeen table m.state.slabs m.state.heads heads' m.state.words words' known (with_more known hand more) →
       (h : ℕ) → has_slabs m.state h ≡ true → AreSeen table m.state.slabs heads' words' (with_more known hand more) (found_by (same_holds hand) h) (looks_at m.state h)
   seen_quiet hand more heads' words' leaves h has =
       subst (λ found. AreSeen table m.state.slabs heads' words' (with_more known hand more) found (looks_at m.state h)) (found_same hand h)
       (seen_left table m.state.slabs (found_by m.past.holds h) m.state.heads heads' m.state.words words' known (with_more known hand more) (looks_at m.state h) leaves (l.seen h has))
 
   -- neither headers nor words change
-  pub leaves_same : (hand : ℕ) (more : List Known) → LeavesSeen table m.state.slabs m.state.heads m.state.heads m.state.words m.state.words known (with_more known hand more)
+  pub leaves_same : (hand : ℕ) (more : List KnownItem) → LeavesSeen table m.state.slabs m.state.heads m.state.heads m.state.words m.state.words known (with_more known hand more)
   leaves_same hand more = record {
     headers = λ chunk near. put_same (head_in table m.state.heads chunk);
     items = λ chunk issue. known_more known hand more (λ k. (k.chunk ≡ chunk) × (k.issue ≡ issue));
@@ -101,7 +101,7 @@ module _ (m : Moment) (l : IsLawful m) where
   }
 
   -- one header changes
-  pub leaves_turned : (hand : ℕ) (more : List Known) (chunk : ChunkId) (head : Head) → has_chunk table chunk ≡ true → StaysPut (head_in table m.state.heads chunk) head →
+  pub leaves_turned : (hand : ℕ) (more : List KnownItem) (chunk : ChunkId) (head : Head) → has_chunk table chunk ≡ true → StaysPut (head_in table m.state.heads chunk) head →
       LeavesSeen table m.state.slabs m.state.heads (slice_set m.state.heads (head_place table chunk) head) m.state.words m.state.words known (with_more known hand more)
   leaves_turned hand more chunk head near put = record {
     headers = λ other near'. head_now table m.state.heads chunk head l.sized.headers near (λ h. StaysPut (head_in table m.state.heads other) h) other near'

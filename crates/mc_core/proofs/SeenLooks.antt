@@ -10,10 +10,10 @@ use Rattle.mc_core.specs.declared.head.Tag.{Tag}
 use Rattle.mc_core.specs.declared.head.Tag.TheVariants.{Out, Free, Unlinked, Linked}
 use Rattle.mc_core.specs.declared.look.Look.{Look}
 use Rattle.mc_core.specs.Head.{is_free, is_out, is_dead, is_unlinked}
-use Rattle.mc_core.specs.Past.{Known, IsKnownToSome}
+use Rattle.mc_core.specs.Past.{KnownItem, IsKnownToSome}
 use Rattle.mc_core.specs.State.{room_in, has_chunk}
 use Rattle.mc_core.specs.Columns.{head_in, place_in, IsHandedOut}
-use Rattle.mc_core.specs.Seen.{last_head, linked_issue, last_read, told_by_look, IsStill, IsReadStill, AreSeen}
+use Rattle.mc_core.specs.Seen.{last_head, linked_issue, last_read, slabs_after_look, IsStill, IsReadStill, AreSeen}
 
 -- nobody holds it, and no key leads to it
 abbrev pub is_shut : Head → Bool
@@ -48,17 +48,17 @@ some_is None h = absurd (cc)
 some_is (Some x) h = (x, refl)
 
 -- the chunk is handed out with the issue number, and somebody knows its item
-abbrev pub IsLinkedStill : Classes → List Head → List (List Known) → ChunkId → ℕ → Type 0
+abbrev pub IsLinkedStill : Classes → List Head → List (List KnownItem) → ChunkId → ℕ → Type 0
 IsLinkedStill table heads known chunk issue = IsHandedOut (head_in table heads chunk) issue × IsKnownToSome known (λ k. (k.chunk ≡ chunk) × (k.issue ≡ issue))
 
 -- a step leaves what may have been seen
-pub record LeavesSeen (table : Classes) (slabs : SlabState) (heads heads' : List Head) (words words' : List ℕ) (known known' : List (List Known)) : Type 0 where
+pub record LeavesSeen (table : Classes) (slabs : SlabState) (heads heads' : List Head) (words words' : List ℕ) (known known' : List (List KnownItem)) : Type 0 where
   pub headers : (chunk : ChunkId) → has_chunk table chunk ≡ true → StaysPut (head_in table heads chunk) (head_in table heads' chunk)
   pub items : (chunk : ChunkId) (issue : ℕ) → IsKnownToSome known (λ k. (k.chunk ≡ chunk) × (k.issue ≡ issue)) → IsKnownToSome known' (λ k. (k.chunk ≡ chunk) × (k.issue ≡ issue))
   pub data_words : (chunk : ChunkId) (place issue : ℕ) → has_chunk table chunk ≡ true → IsLinkedStill table heads known chunk issue → place < room_in table (class_of_page slabs chunk.page) →
       slice_index words' (place_in table slabs chunk place) ≡ slice_index words (place_in table slabs chunk place)
 
-pub seen_left : (table : Classes) (slabs found : SlabState) (heads heads' : List Head) (words words' : List ℕ) (known known' : List (List Known)) (looks : List Look) →
+pub seen_left : (table : Classes) (slabs found : SlabState) (heads heads' : List Head) (words words' : List ℕ) (known known' : List (List KnownItem)) (looks : List Look) →
     LeavesSeen table slabs heads heads' words words' known known' → AreSeen table slabs heads words known found looks → AreSeen table slabs heads' words' known' found looks
 seen_left table slabs found heads heads' words words' known known' looks leaves seen = record {
   last_heads = λ chunk head near last. still_put (head_in table heads chunk) (head_in table heads' chunk) head (leaves.headers chunk near) (seen.last_heads chunk head near last);
@@ -73,8 +73,8 @@ seen_left table slabs found heads heads' words words' known known' looks leaves 
 }
 
 -- one more look: what follows from it and from all before
-pub record AddsLook (table : Classes) (slabs slabs' : SlabState) (heads heads' : List Head) (words : List ℕ) (known : List (List Known)) (looks : List Look) (look : Look) : Type 0 where
-  pub told : told_by_look slabs look ≡ slabs'
+pub record AddsLook (table : Classes) (slabs slabs' : SlabState) (heads heads' : List Head) (words : List ℕ) (known : List (List KnownItem)) (looks : List Look) (look : Look) : Type 0 where
+  pub told : slabs_after_look slabs look ≡ slabs'
   pub headers : (chunk : ChunkId) (before : Option Head) (seen : Head) → has_chunk table chunk ≡ true → ((head : Head) → before ≡ Some head → IsStill (head_in table heads chunk) head) →
       last_head chunk before look ≡ Some seen → IsStill (head_in table heads' chunk) seen
   pub linked : (chunk : ChunkId) (before : Option ℕ) (issue : ℕ) → has_chunk table chunk ≡ true → ((i : ℕ) → before ≡ Some i → IsLinkedStill table heads known chunk i) →
@@ -84,7 +84,7 @@ pub record AddsLook (table : Classes) (slabs slabs' : SlabState) (heads heads' :
       ((w : ℕ) → before ≡ Some w → IsReadStill table slabs words looks chunk place w) → last_read chunk place before look ≡ Some word →
       (slice_index words (place_in table slabs' chunk place) ≡ word) × (place < room_in table (class_of_page slabs' chunk.page)) × (is_some (linked_issue chunk issue look) ≡ true)
 
-pub seen_added : (table : Classes) (slabs slabs' found : SlabState) (heads heads' : List Head) (words : List ℕ) (known : List (List Known)) (looks : List Look) (look : Look) →
+pub seen_added : (table : Classes) (slabs slabs' found : SlabState) (heads heads' : List Head) (words : List ℕ) (known : List (List KnownItem)) (looks : List Look) (look : Look) →
     AddsLook table slabs slabs' heads heads' words known looks look → AreSeen table slabs heads words known found looks → AreSeen table slabs' heads' words known found (looks ++ look ∷ [])
 seen_added table slabs slabs' found heads heads' words known looks look adds seen = record {
   last_heads = λ chunk head near last.
@@ -95,5 +95,5 @@ seen_added table slabs slabs' found heads heads' words known looks look adds see
       let read = adds.reads chunk place (fold (last_read chunk place) None looks) (fold (linked_issue chunk) None looks) word near refl (λ w before. seen.read_words chunk place w near before)
       (sym (fold_push (last_read chunk place) None looks look) ∙ last) in
       record { same = read.0; within = read.1; linked = ap is_some (fold_push (linked_issue chunk) None looks look) ∙ read.2 };
-  told = fold_push told_by_look found looks look ∙ (ap (λ s. told_by_look s look) seen.told ∙ adds.told);
+  told = fold_push slabs_after_look found looks look ∙ (ap (λ s. slabs_after_look s look) seen.told ∙ adds.told);
 }

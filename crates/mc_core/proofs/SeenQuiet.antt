@@ -11,13 +11,13 @@ use Rattle.mc_core.specs.declared.holding.Kind.{Kind}
 use Rattle.mc_core.specs.declared.holding.Kind.TheVariants.{Reference, Fresh}
 use Rattle.mc_core.specs.declared.holding.Purpose.TheVariants.{Item, Copy, Rescue}
 use Rattle.mc_core.specs.Head.{is_linked, is_unlinked}
-use Rattle.mc_core.specs.Holdings.{is_of, has_fresh, holding_of}
-use Rattle.mc_core.specs.Chunks.{can_fill_in, holds_as, let_go, after_drop}
-use Rattle.mc_core.specs.Items.{linked, unlinked, referred, stripe_unlinked, chunk_of, is_linked_at, with_unlinked, with_got, can_refer_to, referred_to, with_reference, has_place_unlocked, can_count, told_link, as_reference, after_link_of, can_link_holding}
+use Rattle.mc_core.specs.Holdings.{is_of_chunk, has_fresh, holding_of}
+use Rattle.mc_core.specs.Chunks.{can_fill_in, holds_as, head_after_release, after_drop}
+use Rattle.mc_core.specs.Items.{head_after_link, head_after_unlink, head_after_refer, stripe_unlinked, chunk_of_key, is_linked_at, with_unlinked, with_got, can_refer_to, referred_to, with_reference, has_place_unlocked, can_count, recorded_link, as_reference, after_link_of, can_link_holding}
 use Rattle.mc_core.specs.Silent.{writer_of}
-use Rattle.mc_core.specs.State.{State, room_at, has_slabs, has_chunk, head_at, head_place, looks_at, holdings_at, with_head, with_holding, with_stripe, without_holding, stripe_of, stripe_at}
+use Rattle.mc_core.specs.State.{State, chunk_room, has_slabs, has_chunk, head_at, head_place, looks_at, holdings_at, with_head, with_holding, with_stripe, without_holding, stripe_of, stripe_at}
 use Rattle.mc_core.specs.Run.{after_step}
-use Rattle.mc_core.specs.Past.{Moment, Known, no_hold, with_more, known_of_holding, known_of_place, moment_stepped}
+use Rattle.mc_core.specs.Past.{Moment, KnownItem, no_hold, with_more, known_of_holding, known_of_place, moment_stepped}
 use Rattle.mc_core.specs.Columns.{head_in, place_in, IsHandedOut}
 use Rattle.mc_core.specs.Seen.{AreSeen}
 use Rattle.mc_core.specs.Laws.{MayStep}
@@ -38,10 +38,10 @@ use Rattle.mc_core.proofs.SeenHolder.{has_before, same_holds, seen_quiet, leaves
 -- a held chunk's header counts its holder
 module _ (m : Moment) (l : IsLawful m) (hand : ℕ) (chunk : ChunkId) (holding : Holding) (found : holding_of chunk (holdings_at m.state hand) ≡ Some holding) where
   held_at : holding.chunk ≡ chunk
-  held_at = same_from_is_chunk holding.chunk chunk (found_passes (is_of chunk) (holdings_at m.state hand) holding found)
+  held_at = same_from_is_chunk holding.chunk chunk (found_passes (is_of_chunk chunk) (holdings_at m.state hand) holding found)
 
   held_is_out : IsOut m l holding
-  held_is_out = found_all (IsOut m l) (is_of chunk) (holdings_at m.state hand) holding found (held_out m l hand)
+  held_is_out = found_all (IsOut m l) (is_of_chunk chunk) (holdings_at m.state hand) holding found (held_out m l hand)
 
   pub held_near : has_chunk m.state.table chunk ≡ true
   held_near = subst (λ (c : ChunkId). has_chunk m.state.table c ≡ true) held_at held_is_out.0
@@ -57,11 +57,11 @@ module _ (m : Moment) (l : IsLawful m) (hand : ℕ) (chunk : ChunkId) (holding :
 
 module _ (m : Moment) (hand : ℕ) (l : IsLawful m) where
   -- what a hand with the lock saw, after a step that gives this state and teaches this
-  abbrev pub SeenBy : List Known → State → ℕ → Type 0
+  abbrev pub SeenBy : List KnownItem → State → ℕ → Type 0
   SeenBy more s h = AreSeen s.table s.slabs s.heads s.words (with_more m.past.known hand more) (slice_index_or (same_holds m l hand) h no_hold).found (looks_at s h)
 
   -- one header changes
-  turned : (more : List Known) (chunk : ChunkId) (head : Head) → has_chunk m.state.table chunk ≡ true → StaysPut (head_at m.state chunk) head → (h : ℕ) → has_slabs m.state h ≡ true → SeenBy more (with_head m.state chunk head) h
+  turned : (more : List KnownItem) (chunk : ChunkId) (head : Head) → has_chunk m.state.table chunk ≡ true → StaysPut (head_at m.state chunk) head → (h : ℕ) → has_slabs m.state h ≡ true → SeenBy more (with_head m.state chunk head) h
   turned more chunk head near put h has =
       seen_quiet m l hand more (slice_set m.state.heads (head_place m.state.table chunk) head) m.state.words (leaves_turned m l hand more chunk head near put) h has
 
@@ -102,7 +102,7 @@ module _ (m : Moment) (hand : ℕ) where
       elim (holding_of chunk (holdings_at m.state hand)) as (λ o. holding_of chunk (holdings_at m.state hand) ≡ o → holds_as fresh o ≡ true → SeenBy m hand l [] (after_drop m.state hand chunk) h) [
         | None ↦ λ _ never. absurd (cc)
         | Some holding ↦ λ found _.
-            turned m hand l [] chunk (let_go (head_at m.state chunk)) (held_near m l hand chunk holding found)
+            turned m hand l [] chunk (head_after_release (head_at m.state chunk)) (held_near m l hand chunk holding found)
             (put_let_go (head_at m.state chunk) holding.issue (held_handed_out m l hand chunk holding found) (held_count m l hand chunk holding found)) h has
       ] refl can
 
@@ -118,27 +118,27 @@ module _ (m : Moment) (hand : ℕ) where
       let before = has_before m.state (after_step m.state hand (Unlink key)) hand h (own_step m.state hand (Unlink key) refl) has in
       let stripe = stripe_of m.state key in
       let left : State = with_stripe m.state stripe (stripe_unlinked (stripe_at m.state stripe) (has_fresh (holdings_at m.state hand)) (writer_of m.state hand) key) in
-      elim (chunk_of m.state key) as (λ o. chunk_of m.state key ≡ o → is_linked_at m.state o ≡ true → SeenBy m hand l [] (with_unlinked left o) h) [
+      elim (chunk_of_key m.state key) as (λ o. chunk_of_key m.state key ≡ o → is_linked_at m.state o ≡ true → SeenBy m hand l [] (with_unlinked left o) h) [
         | None ↦ λ _ never. absurd (cc)
         | Some place ↦ λ found _.
             let entry = entry_of m l key place found in
-            turned m hand l [] place.0 (unlinked (head_at m.state place.0)) entry.inside (put_unlinked (head_at m.state place.0) entry.linked) h before
-      ] refl (and_parts _ (is_linked_at m.state (chunk_of m.state key)) may.allowed).1
+            turned m hand l [] place.0 (head_after_unlink (head_at m.state place.0)) entry.inside (put_unlinked (head_at m.state place.0) entry.linked) h before
+      ] refl (and_parts _ (is_linked_at m.state (chunk_of_key m.state key)) may.allowed).1
 
   -- a linked chunk gets a holder more
-  seen_referred : (l : IsLawful m) (chunk : ChunkId) (more : List Known) → has_chunk m.state.table chunk ≡ true → (head_at m.state chunk).tag ≡ Linked → (h : ℕ) → has_slabs m.state h ≡ true → SeenBy m hand l more (with_reference m.state hand chunk) h
-  seen_referred l chunk more near linked h has = turned m hand l more chunk (referred (head_at m.state chunk)) near (put_referred (head_at m.state chunk) linked) h has
+  seen_referred : (l : IsLawful m) (chunk : ChunkId) (more : List KnownItem) → has_chunk m.state.table chunk ≡ true → (head_at m.state chunk).tag ≡ Linked → (h : ℕ) → has_slabs m.state h ≡ true → SeenBy m hand l more (with_reference m.state hand chunk) h
+  seen_referred l chunk more near head_after_link h has = turned m hand l more chunk (head_after_refer (head_at m.state chunk)) near (put_referred (head_at m.state chunk) head_after_link) h has
 
   pub seen_refer : (key : ℕ) → MayStep m hand (Refer key) → SeenIn (moment_stepped m hand (Refer key))
   seen_refer key may h has =
       let l = may.lawful in
       let before = has_before m.state (after_step m.state hand (Refer key)) hand h (own_step m.state hand (Refer key) refl) has in
-      elim (chunk_of m.state key) as (λ o. chunk_of m.state key ≡ o → can_refer_to m.state o ≡ true → SeenBy m hand l (known_of_place m.state o) (referred_to (with_got m.state hand key) hand o) h) [
+      elim (chunk_of_key m.state key) as (λ o. chunk_of_key m.state key ≡ o → can_refer_to m.state o ≡ true → SeenBy m hand l (known_of_place m.state o) (referred_to (with_got m.state hand key) hand o) h) [
         | None ↦ λ _ never. absurd (cc)
         | Some place ↦ λ found _.
             let entry = entry_of m l key place found in
             seen_referred l place.0 (known_of_place m.state (Some place)) entry.inside entry.linked h before
-      ] refl (and_parts _ (can_refer_to m.state (chunk_of m.state key)) may.allowed).1
+      ] refl (and_parts _ (can_refer_to m.state (chunk_of_key m.state key)) may.allowed).1
 
   pub seen_again : (chunk : ChunkId) (issue : ℕ) → MayStep m hand (Again chunk issue) → SeenIn (moment_stepped m hand (Again chunk issue))
   seen_again chunk issue may h has =
@@ -149,12 +149,12 @@ module _ (m : Moment) (hand : ℕ) where
       seen_referred may.lawful chunk _ near (linked_tag (head_at m.state chunk).tag tag.1) h has
 
   -- a fresh chunk is linked
-  seen_linked : (l : IsLawful m) (chunk : ChunkId) (holding : Holding) → holding_of chunk (holdings_at m.state hand) ≡ Some holding → is_unlinked (head_at m.state chunk).tag ≡ true → (more : List Known) (h : ℕ) → has_slabs m.state h ≡ true →
-      (kind : Kind) → SeenBy m hand l more (with_holding (with_head (told_link (without_holding m.state hand (is_of chunk)) hand holding kind) chunk (linked (head_at m.state chunk))) hand (as_reference holding)) h
+  seen_linked : (l : IsLawful m) (chunk : ChunkId) (holding : Holding) → holding_of chunk (holdings_at m.state hand) ≡ Some holding → is_unlinked (head_at m.state chunk).tag ≡ true → (more : List KnownItem) (h : ℕ) → has_slabs m.state h ≡ true →
+      (kind : Kind) → SeenBy m hand l more (with_holding (with_head (recorded_link (without_holding m.state hand (is_of_chunk chunk)) hand holding kind) chunk (head_after_link (head_at m.state chunk))) hand (as_reference holding)) h
   seen_linked l chunk holding found tag more h has kind =
       let put = put_linked (head_at m.state chunk) (unlinked_tag (head_at m.state chunk).tag tag) (held_count m l hand chunk holding found) in
-      let is = turned m hand l more chunk (linked (head_at m.state chunk)) (held_near m l hand chunk holding found) put h has in
-      elim kind as (λ kind. SeenBy m hand l more (with_holding (with_head (told_link (without_holding m.state hand (is_of chunk)) hand holding kind) chunk (linked (head_at m.state chunk))) hand (as_reference holding)) h) [
+      let is = turned m hand l more chunk (head_after_link (head_at m.state chunk)) (held_near m l hand chunk holding found) put h has in
+      elim kind as (λ kind. SeenBy m hand l more (with_holding (with_head (recorded_link (without_holding m.state hand (is_of_chunk chunk)) hand holding kind) chunk (head_after_link (head_at m.state chunk))) hand (as_reference holding)) h) [
         | Reference own ↦ is
         | Fresh Item own ↦ is
         | Fresh (Copy old) own ↦ is
@@ -166,12 +166,12 @@ module _ (m : Moment) (hand : ℕ) where
       let l = may.lawful in
       let before = has_before m.state (after_step m.state hand (Link chunk)) hand h (own_step m.state hand (Link chunk) refl) has in
       elim (holding_of chunk (holdings_at m.state hand)) as (λ o. holding_of chunk (holdings_at m.state hand) ≡ o → can_link_holding m.state hand chunk o ≡ true →
-      SeenBy m hand l (known_of_holding (room_at m.state chunk) o) (after_link_of (without_holding m.state hand (is_of chunk)) hand chunk o) h) [
+      SeenBy m hand l (known_of_holding (chunk_room m.state chunk) o) (after_link_of (without_holding m.state hand (is_of_chunk chunk)) hand chunk o) h) [
         | None ↦ λ _ never. absurd (cc)
         | Some holding ↦ λ found can.
             let parts = and_parts _ (can_count (head_at m.state chunk)) can in
             let tag = and_parts _ (is_unlinked (head_at m.state chunk).tag) parts.0 in
-            seen_linked l chunk holding found tag.1 (known_of_holding (room_at m.state chunk) (Some holding)) h before holding.kind
+            seen_linked l chunk holding found tag.1 (known_of_holding (chunk_room m.state chunk) (Some holding)) h before holding.kind
       ] refl may.allowed
 
   -- nothing of it changes

@@ -5,11 +5,11 @@ use Rattle.mc_core.specs.declared.event.Change.{Change}
 use Rattle.mc_core.specs.declared.event.Change.TheVariants.{Grow, BeginMove, FinishMove, Touch, SetAutomove, TrimLedger, Passed, Wrap, Evicted, OfStripe, GotNone, DeletedNone}
 use Rattle.mc_core.specs.declared.event.Step.{Step}
 use Rattle.mc_core.specs.declared.event.Step.TheVariants as step
-use Rattle.mc_core.specs.Holdings.{is_of, holding_of}
+use Rattle.mc_core.specs.Holdings.{is_of_chunk, holding_of}
 use Rattle.mc_core.specs.State.{State, stripe_of, with_slabs, holdings_at, without_holding}
 use Rattle.mc_core.specs.Silent.{after_change}
 use Rattle.mc_core.specs.Chunks.{next_free, target_of}
-use Rattle.mc_core.specs.Items.{with_got, chunk_of}
+use Rattle.mc_core.specs.Items.{with_got, chunk_of_key}
 use Rattle.mc_core.specs.Past.{history_at, seen_after, longer_each}
 use Rattle.mc_core.specs.Run.{after_step}
 use Rattle.mc_core.proofs.SameSlabs.{looked_keeps, popped_keeps, popped_off_keeps, told_link_keeps, linked_keeps, referred_keeps, unlinked_keeps}
@@ -47,11 +47,11 @@ step_long state hand (step.Fill chunk place word) = refl
 step_long state hand (step.Word chunk place) = refl
 step_long state hand (step.WordHeld chunk place) = refl
 step_long state hand (step.Link chunk) =
-    let left : State = without_holding state hand (is_of chunk) in
+    let left : State = without_holding state hand (is_of_chunk chunk) in
     linked_keeps count left hand chunk (holding_of chunk (holdings_at state hand))
     (λ holding. told_link_keeps count left hand holding holding.kind (length-set _ _ _) (length-set _ _ _))
-step_long state hand (step.Refer key) = referred_keeps count (with_got state hand key) hand (chunk_of state key) (λ chunk. refl) ∙ length-set state.stripes (stripe_of state key) _
-step_long state hand (step.Unlink key) = unlinked_keeps count _ (chunk_of state key) (λ chunk. refl) ∙ length-set state.stripes (stripe_of state key) _
+step_long state hand (step.Refer key) = referred_keeps count (with_got state hand key) hand (chunk_of_key state key) (λ chunk. refl) ∙ length-set state.stripes (stripe_of state key) _
+step_long state hand (step.Unlink key) = unlinked_keeps count _ (chunk_of_key state key) (λ chunk. refl) ∙ length-set state.stripes (stripe_of state key) _
 step_long state hand (step.Release chunk) = refl
 step_long state hand (step.Discard chunk) = refl
 step_long state hand (step.Condemn chunk) = length-set state.stripes _ _

@@ -11,7 +11,7 @@ use Rattle.mc_core.specs.declared.ids.Ids.{Ids}
 use Rattle.mc_core.specs.declared.look.Look.TheVariants.{Changed}
 use Rattle.mc_core.specs.Locks.{lock_word}
 use Rattle.mc_core.specs.Silent.{slabs_after}
-use Rattle.mc_core.specs.State.{gone, is_held_by, has_slabs, is_hand, number_at, looks_at, stripe_at, with_slabs, with_look}
+use Rattle.mc_core.specs.State.{no_ids, is_held_by, has_slabs, is_hand, number_at, looks_at, stripe_at, with_slabs, with_look}
 use Rattle.mc_core.specs.Past.{Moment, Hold, begin_hold, end_hold, no_hold, with_more, moment_stepped, first_moment}
 use Rattle.mc_core.specs.Seen.{AreSeen}
 use Rattle.mc_core.specs.Laws.{MayStep, ChangesKeep, StepsKeep, StaysOfClass, HoldsAtFirst}
@@ -89,18 +89,18 @@ module _ (m : Moment) (hand : ℕ) where
 
   module _ (kept spent : ℕ) (may : MayStep m hand (Join kept spent)) where
     abbrev ids' : List Ids
-    ids' = slice_set m.state.ids spent gone
+    ids' = slice_set m.state.ids spent no_ids
 
     -- the spent hand has no lock, and other hands have the lock that they had
-    joined_has : (h : ℕ) → is_held_by m.state.slabs_lock (slice_index_or ids' h gone).number ≡ true → (h ≢ spent) × (has_slabs m.state h ≡ true)
+    joined_has : (h : ℕ) → is_held_by m.state.slabs_lock (slice_index_or ids' h no_ids).number ≡ true → (h ≢ spent) × (has_slabs m.state h ≡ true)
     joined_has h has =
         elim (cases_eq h spent) [
           | inl same ↦ absurd (
               let is = hand_there m.state spent (are_joined m hand kept spent may).there_too in
-              let none : slice_index_or ids' h gone ≡ gone = subst (λ n. slice_index_or ids' n gone ≡ gone) (sym same) (get_or-set_same m.state.ids spent gone gone is) in
+              let none : slice_index_or ids' h no_ids ≡ no_ids = subst (λ n. slice_index_or ids' n no_ids ≡ no_ids) (sym same) (get_or-set_same m.state.ids spent no_ids no_ids is) in
               let held : is_held_by m.state.slabs_lock None ≡ true = subst (λ (i : Ids). is_held_by m.state.slabs_lock i.number ≡ true) none has in both_ways _ refl held)
           | inr apart ↦
-              (apart, subst (λ (i : Ids). is_held_by m.state.slabs_lock i.number ≡ true) (get_or-set_other m.state.ids spent h gone gone apart) has)
+              (apart, subst (λ (i : Ids). is_held_by m.state.slabs_lock i.number ≡ true) (get_or-set_other m.state.ids spent h no_ids no_ids apart) has)
         ]
 
     seen_join : SeenIn (moment_stepped m hand (Join kept spent))

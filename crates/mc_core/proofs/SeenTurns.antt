@@ -17,14 +17,14 @@ use Rattle.mc_core.specs.declared.look.Look.TheVariants as look
 use Rattle.mc_core.specs.Head.{is_out, is_free, is_dead}
 use Rattle.mc_core.specs.Looks.{was_linked}
 use Rattle.mc_core.specs.Silent.{is_handed_out, is_listed}
-use Rattle.mc_core.specs.Locks.{looked}
-use Rattle.mc_core.specs.Chunks.{handed_out, with_tag_free, with_tag_out, next_free, popped, target_of, is_target, popped_off, has_place, can_hand_out, is_next_uncut}
-use Rattle.mc_core.specs.Evictions.{condemned}
-use Rattle.mc_core.specs.State.{has_slabs, is_hand, has_chunk, is_class, head_at, head_place, room_at, looks_at, with_slabs, with_head, with_look}
+use Rattle.mc_core.specs.Locks.{state_after_look}
+use Rattle.mc_core.specs.Chunks.{head_after_hand_out, with_tag_free, with_tag_out, next_free, state_after_pop_of, target_of, is_target, popped_off, has_place, can_hand_out, is_next_uncut}
+use Rattle.mc_core.specs.Evictions.{head_after_condemn}
+use Rattle.mc_core.specs.State.{has_slabs, is_hand, has_chunk, is_class, head_at, head_place, chunk_room, looks_at, with_slabs, with_head, with_look}
 use Rattle.mc_core.specs.Run.{after_step}
 use Rattle.mc_core.specs.Past.{Moment, moment_stepped}
 use Rattle.mc_core.specs.Columns.{IsHandedOut}
-use Rattle.mc_core.specs.Seen.{newer, last_head, linked_issue, last_read, told_by_look}
+use Rattle.mc_core.specs.Seen.{newer, last_head, linked_issue, last_read, slabs_after_look}
 use Rattle.mc_core.specs.Laws.{MayStep}
 use Rattle.mc_core.specs.Lawful.{IsLawful, SeenIn}
 use Rattle.mc_core.proofs.Listed.{IsClass_from, Contains_from_among}
@@ -106,15 +106,15 @@ module _ (m : Moment) (hand : ℕ) where
   pub seen_word_held : (chunk : ChunkId) (place : ℕ) → MayStep m hand (WordHeld chunk place) → SeenIn (moment_stepped m hand (WordHeld chunk place))
   seen_word_held chunk place may h has =
       let l = may.lawful in
-      let parts = and_parts _ (nat_lt place (room_at m.state chunk)) may.allowed in
+      let parts = and_parts _ (nat_lt place (chunk_room m.state chunk)) may.allowed in
       let linked = and_parts _ (was_linked (looks_at m.state hand) chunk) parts.0 in
       let both = and_parts (has_slabs m.state hand) (has_chunk m.state.table chunk) linked.0 in
       looks_more m hand l may.there both.0 m.state.slabs m.state.heads _
-      (adds_read m.state.table m.state.slabs m.state.heads m.state.words m.past.known (looks_at m.state hand) chunk place linked.1 (ltb-true place (room_at m.state chunk) parts.1)) h has
+      (adds_read m.state.table m.state.slabs m.state.heads m.state.words m.past.known (looks_at m.state hand) chunk place linked.1 (ltb-true place (chunk_room m.state chunk) parts.1)) h has
 
   -- a look counts under the lock alone
   seen_looked : (l : IsLawful m) → is_hand m.state hand ≡ true → (seen : Look) → AddsLook m.state.table m.state.slabs m.state.slabs m.state.heads m.state.heads m.state.words m.past.known (looks_at m.state hand) seen →
-      (h : ℕ) → has_slabs m.state h ≡ true → SeenBy m hand l [] (looked m.state hand seen) h
+      (h : ℕ) → has_slabs m.state h ≡ true → SeenBy m hand l [] (state_after_look m.state hand seen) h
   seen_looked l there seen adds h has =
       elim (has_slabs m.state hand) as (λ b. has_slabs m.state hand ≡ b → SeenBy m hand l [] (if b then with_look m.state hand seen else m.state) h) [
         | true ↦ λ mine. looks_more m hand l there mine m.state.slabs m.state.heads seen adds h has
@@ -135,13 +135,13 @@ module _ (m : Moment) (hand : ℕ) where
 
   -- a free chunk is handed out
   adds_handed_out : (l : IsLawful m) (next : SlabState) (chunk : ChunkId) (seen : Look) → has_chunk m.state.table chunk ≡ true → is_free (head_at m.state chunk).tag ≡ true →
-      ((page : ℕ) → class_of_page next page ≡ class_of_page m.state.slabs page) → told_by_look m.state.slabs seen ≡ next →
-      ((other : ChunkId) (before : Option Head) → last_head other before seen ≡ newer other chunk (handed_out (head_at m.state chunk)) before) →
+      ((page : ℕ) → class_of_page next page ≡ class_of_page m.state.slabs page) → slabs_after_look m.state.slabs seen ≡ next →
+      ((other : ChunkId) (before : Option Head) → last_head other before seen ≡ newer other chunk (head_after_hand_out (head_at m.state chunk)) before) →
       ((other : ChunkId) (before : Option ℕ) → linked_issue other before seen ≡ before) → ((other : ChunkId) (place : ℕ) (before : Option ℕ) → last_read other place before seen ≡ before) →
-      AddsLook m.state.table m.state.slabs next m.state.heads (slice_set m.state.heads (head_place m.state.table chunk) (handed_out (head_at m.state chunk))) m.state.words m.past.known (looks_at m.state hand) seen
+      AddsLook m.state.table m.state.slabs next m.state.heads (slice_set m.state.heads (head_place m.state.table chunk) (head_after_hand_out (head_at m.state chunk))) m.state.words m.past.known (looks_at m.state hand) seen
   adds_handed_out l next chunk seen near free same told headed link read =
-      adds_turned m.state.table m.state.slabs m.state.heads m.state.words m.past.known (looks_at m.state hand) next chunk (handed_out (head_at m.state chunk)) seen l.sized.headers near same told headed link read
-      (λ issue out. not_shown (head_at m.state chunk) issue (IsHandedOut (handed_out (head_at m.state chunk)) issue) (inl (free_tag (head_at m.state chunk).tag free)) out)
+      adds_turned m.state.table m.state.slabs m.state.heads m.state.words m.past.known (looks_at m.state hand) next chunk (head_after_hand_out (head_at m.state chunk)) seen l.sized.headers near same told headed link read
+      (λ issue out. not_shown (head_at m.state chunk) issue (IsHandedOut (head_after_hand_out (head_at m.state chunk)) issue) (inl (free_tag (head_at m.state chunk).tag free)) out)
 
   pub seen_pop : (class : ℕ) → MayStep m hand (Pop class) → SeenIn (moment_stepped m hand (Pop class))
   seen_pop class may h has =
@@ -152,11 +152,11 @@ module _ (m : Moment) (hand : ℕ) where
       let both = and_parts (has_slabs m.state hand) (is_class m.state.table class) more.0 in
       let is = IsClass_from m.state.table m.state.slabs class l.paged.of_table both.1 in
       let next = slabs_changes.after_pop m.state.slabs class in
-      elim (next_free m.state class) as (λ o. next_free m.state class ≡ o → can_hand_out m.state o ≡ true → SeenBy m hand l [] (popped (with_slabs m.state (slabs_changes.after_pop m.state.slabs class)) hand o) h) [
+      elim (next_free m.state class) as (λ o. next_free m.state class ≡ o → can_hand_out m.state o ≡ true → SeenBy m hand l [] (state_after_pop_of (with_slabs m.state (slabs_changes.after_pop m.state.slabs class)) hand o) h) [
         | None ↦ λ _ never. absurd (cc)
         | Some chunk ↦ λ first _.
             let at = first_placed m l class chunk is first in
-            let head = handed_out (head_at m.state chunk) in
+            let head = head_after_hand_out (head_at m.state chunk) in
             turns m hand l may.there both.0 next chunk head (look.Popped chunk head)
             (adds_handed_out l next chunk (look.Popped chunk head) (near_placed m l chunk at.1) at.2 (λ page. refl) (ap (λ n. slabs_changes.after_pop m.state.slabs n) at.0)
             (λ other before. refl) (λ other before. refl) (λ other place before. refl)) h before
@@ -176,7 +176,7 @@ module _ (m : Moment) (hand : ℕ) where
         | None ↦ λ _ never. absurd (cc)
         | Some chunk ↦ λ found _.
             let at = found_placed m l class chunk (is_target m.state.table m.state.heads old.page) is found in
-            let head = handed_out (head_at m.state chunk) in
+            let head = head_after_hand_out (head_at m.state chunk) in
             let next = slabs_changes.after_replace m.state.slabs chunk old in
             turns m hand l may.there mine next chunk head (look.PoppedOff chunk old head)
             (adds_handed_out l next chunk (look.PoppedOff chunk old head) (near_placed m l chunk at.1) at.2 (λ page. refl) refl (λ other before. refl) (λ other before. refl) (λ other place before. refl)) h before
@@ -188,7 +188,7 @@ module _ (m : Moment) (hand : ℕ) where
       let l = may.lawful in
       let before = has_before m.state (after_step m.state hand (Condemn chunk)) hand h (own_step m.state hand (Condemn chunk) refl) has in
       let is = condemnable m hand chunk may in
-      let head = condemned (head_at m.state chunk) in
+      let head = head_after_condemn (head_at m.state chunk) in
       turns m hand l may.there is.slabs m.state.slabs chunk head (look.Condemned chunk head)
       (adds_turned m.state.table m.state.slabs m.state.heads m.state.words m.past.known (looks_at m.state hand) m.state.slabs chunk head (look.Condemned chunk head) l.sized.headers is.near (λ page. refl) refl
       (λ other before. refl) (λ other before. refl) (λ other place before. refl) (λ issue out. (inl refl, out.1))) h before

@@ -8,10 +8,10 @@ use Rattle.mc_core.specs.declared.event.Step.{Step}
 use Rattle.mc_core.specs.declared.event.Step.TheVariants.{TakeSlabs, TakeStripe, MissSlabs, MissStripe, GiveSlabs, GiveStripe, Pop, PopOff, Fill, Word, WordHeld, Link, Refer, Unlink, Release, Discard, Condemn, PutBack, Clear, Cut, Again, Join}
 use Rattle.mc_core.specs.declared.event.Step.TheVariants as step
 use Rattle.mc_core.specs.Head.{uncut_from}
-use Rattle.mc_core.specs.Holdings.{is_of, holding_of}
+use Rattle.mc_core.specs.Holdings.{is_of_chunk, holding_of}
 use Rattle.mc_core.specs.State.{State, most_of, page_words, with_slabs, holdings_at, without_holding}
 use Rattle.mc_core.specs.Chunks.{next_free, target_of}
-use Rattle.mc_core.specs.Items.{with_got, chunk_of}
+use Rattle.mc_core.specs.Items.{with_got, chunk_of_key}
 use Rattle.mc_core.specs.Run.{after_step}
 use Rattle.mc_core.specs.Lawful.{SizedIn}
 use Rattle.mc_core.specs.Laws.{ChangesKeep, StepsKeep, HoldsAtFirst}
@@ -36,11 +36,11 @@ heads_stay state hand (Fill chunk place word) = refl
 heads_stay state hand (Word chunk place) = refl
 heads_stay state hand (WordHeld chunk place) = refl
 heads_stay state hand (Link chunk) =
-    let left : State = without_holding state hand (is_of chunk) in
+    let left : State = without_holding state hand (is_of_chunk chunk) in
     linked_keeps head_count left hand chunk (holding_of chunk (holdings_at state hand))
     (λ holding. length-set _ _ _ ∙ told_link_keeps head_count left hand holding holding.kind refl refl)
-heads_stay state hand (Refer key) = referred_keeps head_count (with_got state hand key) hand (chunk_of state key) (λ chunk. length-set state.heads _ _)
-heads_stay state hand (Unlink key) = unlinked_keeps head_count _ (chunk_of state key) (λ chunk. length-set state.heads _ _)
+heads_stay state hand (Refer key) = referred_keeps head_count (with_got state hand key) hand (chunk_of_key state key) (λ chunk. length-set state.heads _ _)
+heads_stay state hand (Unlink key) = unlinked_keeps head_count _ (chunk_of_key state key) (λ chunk. length-set state.heads _ _)
 heads_stay state hand (Release chunk) = length-set state.heads _ _
 heads_stay state hand (Discard chunk) = length-set state.heads _ _
 heads_stay state hand (Condemn chunk) = length-set _ _ _
@@ -68,10 +68,10 @@ words_stay state hand (Fill chunk place word) = length-set _ _ _
 words_stay state hand (Word chunk place) = refl
 words_stay state hand (WordHeld chunk place) = refl
 words_stay state hand (Link chunk) =
-    let left : State = without_holding state hand (is_of chunk) in
+    let left : State = without_holding state hand (is_of_chunk chunk) in
     linked_keeps word_count left hand chunk (holding_of chunk (holdings_at state hand)) (λ holding. told_link_keeps word_count left hand holding holding.kind refl refl)
-words_stay state hand (Refer key) = referred_keeps word_count (with_got state hand key) hand (chunk_of state key) (λ chunk. refl)
-words_stay state hand (Unlink key) = unlinked_keeps word_count _ (chunk_of state key) (λ chunk. refl)
+words_stay state hand (Refer key) = referred_keeps word_count (with_got state hand key) hand (chunk_of_key state key) (λ chunk. refl)
+words_stay state hand (Unlink key) = unlinked_keeps word_count _ (chunk_of_key state key) (λ chunk. refl)
 words_stay state hand (Release chunk) = refl
 words_stay state hand (Discard chunk) = refl
 words_stay state hand (Condemn chunk) = refl

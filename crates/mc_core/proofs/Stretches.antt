@@ -17,15 +17,15 @@ use Rattle.mc_core.specs.declared.event.Step.TheVariants as step
 use Rattle.mc_core.specs.declared.ids.Ids.{Ids}
 use Rattle.mc_core.specs.declared.holding.Holding.{Holding}
 use Rattle.mc_core.specs.Holdings.{is_fresh, holding_of}
-use Rattle.mc_core.specs.State.{State, gone, is_hand, has_chunk, room_in, room_at, page_words, word_place, holdings_at}
+use Rattle.mc_core.specs.State.{State, no_ids, is_hand, has_chunk, room_in, chunk_room, page_words, word_place, holdings_at}
 use Rattle.mc_core.specs.Silent.{allows_change, after_change, allows_changes, after_changes}
 use Rattle.mc_core.specs.Chunks.{can_fill_in}
 use Rattle.mc_core.specs.Columns.{head_in, IsHandedOut}
-use Rattle.mc_core.specs.Past.{Past, Moment, Known, known_by, moment_changed, moment_changes, moment_stepped, moment_after, known_of}
+use Rattle.mc_core.specs.Past.{Past, Moment, KnownItem, known_by, moment_changed, moment_changes, moment_stepped, moment_after, known_of}
 use Rattle.mc_core.specs.Run.{is_allowed, after_step, allows_step}
 use Rattle.mc_core.specs.Lawful.{IsLawful}
 use Rattle.mc_core.specs.Laws.{MayChange, MayStep, moment_at_end}
-use Rattle.mc_core.specs.Stretch.{Holds, KeepsHolding, fills, fills_chunk, HasSameWords, StaysKept, StretchesKeep}
+use Rattle.mc_core.specs.Stretch.{HoldsChunk, KeepsHolding, is_fill_of, fills_chunk, HasSameWords, StaysKept, StretchesKeep}
 use Rattle.mc_core.specs.Knowing.{IsTrueStill}
 use Rattle.mc_core.proofs.Base.{IsPlaced, placed_at, IsOut, held_out, each_row}
 use Rattle.mc_core.proofs.HandsKept.{ids_change}
@@ -105,7 +105,7 @@ pub record IsSteady (before now : State) (chunk : ChunkId) : Type 0 where
 steady_then : {a b c : State} {chunk : ChunkId} → IsSteady a b chunk → IsSteady b c chunk → IsSteady a c chunk
 steady_then p q = record { table = q.table ∙ p.table; class = q.class ∙ p.class }
 
-same_room : (before now : State) (chunk : ChunkId) → IsSteady before now chunk → room_at now chunk ≡ room_at before chunk
+same_room : (before now : State) (chunk : ChunkId) → IsSteady before now chunk → chunk_room now chunk ≡ chunk_room before chunk
 same_room before now chunk s = ap₂ room_in s.table s.class
 
 same_place : (before now : State) (chunk : ChunkId) (at : ℕ) → IsSteady before now chunk → word_place now chunk at ≡ word_place before chunk at
@@ -114,7 +114,7 @@ same_place before now chunk at s =
 
 -- words of the list that are the same at the chunk's places
 same_words : (before now : State) (chunk : ChunkId) → IsSteady before now chunk
-    → ((at : ℕ) → at < room_at before chunk → slice_index now.words (word_place before chunk at) ≡ slice_index before.words (word_place before chunk at)) → HasSameWords before now chunk
+    → ((at : ℕ) → at < chunk_room before chunk → slice_index now.words (word_place before chunk at) ≡ slice_index before.words (word_place before chunk at)) → HasSameWords before now chunk
 same_words before now chunk s words at on = ap (slice_index now.words) (same_place before now chunk at s) ∙ words at on
 
 words_then : (a b c : State) (chunk : ChunkId) → IsSteady a b chunk → HasSameWords a b chunk → HasSameWords b c chunk → HasSameWords a c chunk
@@ -122,17 +122,17 @@ words_then a b c chunk s p q at on = q at (subst (λ n. at < n) (sym (same_room 
 
 module _ (hand : ℕ) (chunk : ChunkId) (issue : ℕ) where
   -- the chunk of what is held
-  out_of : (m : Moment) → IsLawful m → Holds m hand chunk issue → (has_chunk m.state.table chunk ≡ true) × IsHandedOut (head_in m.state.table m.state.heads chunk) issue
+  out_of : (m : Moment) → IsLawful m → HoldsChunk m hand chunk issue → (has_chunk m.state.table chunk ≡ true) × IsHandedOut (head_in m.state.table m.state.heads chunk) issue
   out_of m l held =
       let out = All-contains (IsOut m l) (holdings_at m.state hand) held.holding (held_out m l hand) held.among in
       let there : has_chunk m.state.table chunk ≡ true = subst (λ (c : ChunkId). has_chunk m.state.table c ≡ true) held.same_chunk out.0 in
       (there, subst (λ (c : ChunkId). IsHandedOut (head_in m.state.table m.state.heads c) issue) held.same_chunk (subst (λ i. IsHandedOut (head_in m.state.table m.state.heads held.holding.chunk) i) held.same_issue out.1))
 
-  placed_of : (m : Moment) → IsLawful m → Holds m hand chunk issue → IsPlaced m.state.slabs chunk
+  placed_of : (m : Moment) → IsLawful m → HoldsChunk m hand chunk issue → IsPlaced m.state.slabs chunk
   placed_of m l held = let out = out_of m l held in (placed_at m l chunk issue out.0 out.1).0
 
   -- a silent change
-  held_changed : (m : Moment) (who : ℕ) (change : Change) → Holds m hand chunk issue → Holds (moment_changed m who change) hand chunk issue
+  held_changed : (m : Moment) (who : ℕ) (change : Change) → HoldsChunk m hand chunk issue → HoldsChunk (moment_changed m who change) hand chunk issue
   held_changed m who change held = record {
     holding = held.holding;
     among = subst (λ (rows : List (List Holding)). Contains (slice_index_or rows hand []) held.holding) (sym (change_leaves m.state who change).holdings) held.among;
@@ -140,7 +140,7 @@ module _ (hand : ℕ) (chunk : ChunkId) (issue : ℕ) where
     same_issue = held.same_issue;
   }
 
-  change_steady : (m : Moment) (who : ℕ) (change : Change) → MayChange m who change → Holds m hand chunk issue → IsSteady m.state (after_change m.state who change) chunk × HasSameWords m.state (after_change m.state who change) chunk
+  change_steady : (m : Moment) (who : ℕ) (change : Change) → MayChange m who change → HoldsChunk m hand chunk issue → IsSteady m.state (after_change m.state who change) chunk × HasSameWords m.state (after_change m.state who change) chunk
   change_steady m who change may held =
       let out = out_of m may.lawful held in
       let leaves = change_leaves m.state who change in
@@ -148,13 +148,13 @@ module _ (hand : ℕ) (chunk : ChunkId) (issue : ℕ) where
       (steady, same_words m.state (after_change m.state who change) chunk steady (λ at on. ap (λ (words : List ℕ). slice_index words (word_place m.state chunk at)) leaves.words))
 
   -- the changes before a step
-  changes_steady : (m : Moment) (who : ℕ) (changes : List Change) → IsLawful m → is_hand m.state who ≡ true → allows_changes m.state who changes ≡ true → Holds m hand chunk issue
+  changes_steady : (m : Moment) (who : ℕ) (changes : List Change) → IsLawful m → is_hand m.state who ≡ true → allows_changes m.state who changes ≡ true → HoldsChunk m hand chunk issue
       → IsSteady m.state (moment_changes m who changes).state chunk × HasSameWords m.state (moment_changes m who changes).state chunk × ((moment_changes m who changes).state.holdings ≡ m.state.holdings) × ((moment_changes m who changes).past.known ≡ m.past.known)
   changes_steady m who [] l there allowed held = (record { table = refl; class = refl }, (λ at on. refl), refl, refl)
   changes_steady m who (change ∷ changes) l there allowed held =
       let parts = and_parts (allows_change m.state who change) (allows_changes (after_change m.state who change) who changes) allowed in
       let may : MayChange m who change = record { lawful = l; there = there; allowed = parts.0 } in
-      let still : is_hand (after_change m.state who change) who ≡ true = ap (λ (ids : List Ids). is_some (slice_index_or ids who gone).number) (ids_change m.state who change) ∙ there in
+      let still : is_hand (after_change m.state who change) who ≡ true = ap (λ (ids : List Ids). is_some (slice_index_or ids who no_ids).number) (ids_change m.state who change) ∙ there in
       let first = change_steady m who change may held in
       let rest = changes_steady (moment_changed m who change) who changes (lawful_changes m who change may) still parts.1 (held_changed m who change held) in
       (steady_then first.0 rest.0, words_then m.state (after_change m.state who change) (moment_changes m who (change ∷ changes)).state chunk first.0 first.1 rest.1, rest.2 ∙ (change_leaves m.state who change).holdings, rest.3)
@@ -163,7 +163,7 @@ module _ (hand : ℕ) (chunk : ChunkId) (issue : ℕ) where
   step_steady m who next = record { table = table_stays m.state who next; class = ap (λ (owners : List Owner). class_of_owner (owner_at owners chunk.page)) (owners_stay m.state who next) }
 
   -- a step that fills no word of the chunk
-  step_same : (m : Moment) (who : ℕ) (next : Step) → MayStep m who next → Holds m hand chunk issue → (fills_chunk chunk next ≡ true → ⊥) → HasSameWords m.state (after_step m.state who next) chunk
+  step_same : (m : Moment) (who : ℕ) (next : Step) → MayStep m who next → HoldsChunk m hand chunk issue → (fills_chunk chunk next ≡ true → ⊥) → HasSameWords m.state (after_step m.state who next) chunk
   step_same m who next may held other =
       same_words m.state (after_step m.state who next) chunk (step_steady m who next) (λ at on. elim (fill_or next) [
         | inl none ↦ ap (λ (words : List ℕ). slice_index words (word_place m.state chunk at)) (step_words m.state who next none)
@@ -178,7 +178,7 @@ module _ (hand : ℕ) (chunk : ChunkId) (issue : ℕ) where
       ])
 
   -- who fills the chunk is the hand, and has no reference to it
-  filled_by : (m : Moment) (who : ℕ) (next : Step) → MayStep m who next → (held : Holds m hand chunk issue) → fills_chunk chunk next ≡ true → (hand ≡ who) × (is_fresh held.holding ≡ false → ⊥)
+  filled_by : (m : Moment) (who : ℕ) (next : Step) → MayStep m who next → (held : HoldsChunk m hand chunk issue) → fills_chunk chunk next ≡ true → (hand ≡ who) × (is_fresh held.holding ≡ false → ⊥)
   filled_by m who next may held fill = elim (fill_or next) [
     | inl none ↦ absurd (no_fill chunk next none fill)
     | inr (filled, place, word, is) ↦
@@ -198,14 +198,14 @@ module _ (hand : ℕ) (chunk : ChunkId) (issue : ℕ) where
       let parts = and_parts (is_hand m.state event.hand) (allows_changes m.state event.hand event.before && allows_step (after_changes m.state event.hand event.before) event.hand event.step) h in
       (parts.0, (and_parts (allows_changes m.state event.hand event.before) (allows_step (after_changes m.state event.hand event.before) event.hand event.step) parts.1).0)
 
-  event_steady : (m : Moment) (event : Event) → IsLawful m → is_allowed m.state event ≡ true → (held : Holds m hand chunk issue) →
-      IsSteady m.state (moment_after m event).state chunk × ((fills hand chunk event ≡ false) ⊎ (is_fresh held.holding ≡ false) → HasSameWords m.state (moment_after m event).state chunk)
+  event_steady : (m : Moment) (event : Event) → IsLawful m → is_allowed m.state event ≡ true → (held : HoldsChunk m hand chunk issue) →
+      IsSteady m.state (moment_after m event).state chunk × ((is_fill_of hand chunk event ≡ false) ⊎ (is_fresh held.holding ≡ false) → HasSameWords m.state (moment_after m event).state chunk)
   event_steady m event l allowed held =
       let ready = moment_changes m event.hand event.before in
       let parts = event_parts m event allowed in
       let before = changes_steady m event.hand event.before l parts.0 parts.1 held in
       let may = may_step m event l allowed in
-      let held' : Holds ready hand chunk issue = record {
+      let held' : HoldsChunk ready hand chunk issue = record {
         holding = held.holding;
         among = subst (λ (rows : List (List Holding)). Contains (slice_index_or rows hand []) held.holding) (sym before.2) held.among;
         same_chunk = held.same_chunk;
@@ -224,13 +224,13 @@ module _ (hand : ℕ) (chunk : ChunkId) (issue : ℕ) where
       )
 
   -- what was known to a hand is known to some hand
-  known_persists : (m : Moment) (event : Event) → IsLawful m → is_allowed m.state event ≡ true → Holds m hand chunk issue → (k : Known) → Contains (row_of m.past.known hand) k → (other : ℕ) × Contains (row_of (moment_after m event).past.known other) k
+  known_persists : (m : Moment) (event : Event) → IsLawful m → is_allowed m.state event ≡ true → HoldsChunk m hand chunk issue → (k : KnownItem) → Contains (row_of m.past.known hand) k → (other : ℕ) × Contains (row_of (moment_after m event).past.known other) k
   known_persists m event l allowed held k among =
       let ready = moment_changes m event.hand event.before in
       let parts = event_parts m event allowed in
       let before = changes_steady m event.hand event.before l parts.0 parts.1 held in
       let may = may_step m event l allowed in
-      let among' : Contains (row_of ready.past.known hand) k = subst (λ (rows : List (List Known)). Contains (row_of rows hand) k) (sym before.3) among in
+      let among' : Contains (row_of ready.past.known hand) k = subst (λ (rows : List (List KnownItem)). Contains (row_of rows hand) k) (sym before.3) among in
       elim (by_join ready.state event.hand event.step) [
         | inl (alone, _) ↦ (
           hand,
@@ -244,19 +244,19 @@ module _ (hand : ℕ) (chunk : ChunkId) (issue : ℕ) where
       ]
 
   -- a reference stays one
-  stays_stale : (m : Moment) (event : Event) → IsLawful m → is_allowed m.state event ≡ true → (held : Holds m hand chunk issue) (now : Holds (moment_after m event) hand chunk issue) → is_fresh held.holding ≡ false → is_fresh now.holding ≡ false
+  stays_stale : (m : Moment) (event : Event) → IsLawful m → is_allowed m.state event ≡ true → (held : HoldsChunk m hand chunk issue) (now : HoldsChunk (moment_after m event) hand chunk issue) → is_fresh held.holding ≡ false → is_fresh now.holding ≡ false
   stays_stale m event l allowed held now stale =
       let after = moment_after m event in
       let l' = lawful_events m event l allowed in
       let own = All-contains (λ (h : Holding). is_fresh h ≡ false → (room : ℕ) × Contains (row_of m.past.known hand) (known_by room h)) (holdings_at m.state hand) held.holding (l.known.own hand) held.among stale in
-      let k : Known = known_by own.0 held.holding in
+      let k : KnownItem = known_by own.0 held.holding in
       let there = known_persists m event l allowed held k own.1 in
       let still = each_contained (IsTrueStill after.state.table after.state.slabs after.state.heads after.state.words after.state.holdings) after.past.known there.0 k l'.known.still there.1 in
       let Apart = λ (h : Holding). is_fresh h ≡ true → h.chunk ≡ k.chunk → h.issue ≡ k.issue → ⊥ in
       let apart = All-contains Apart (holdings_at after.state hand) now.holding (each_row Apart after.state.holdings hand still.apart) now.among in
       not_so (is_fresh now.holding) (λ fresh. apart fresh (now.same_chunk ∙ sym held.same_chunk) (now.same_issue ∙ sym held.same_issue))
 
-  first_held : (m : Moment) (events : List Event) → KeepsHolding m hand chunk issue events → Holds m hand chunk issue
+  first_held : (m : Moment) (events : List Event) → KeepsHolding m hand chunk issue events → HoldsChunk m hand chunk issue
   first_held m [] keeps = keeps
   first_held m (event ∷ events) keeps = keeps.0
 
@@ -279,8 +279,8 @@ module _ (hand : ℕ) (chunk : ChunkId) (issue : ℕ) where
         owned = rest.owned;
         same_class = rest.same_class ∙ first.0.class;
         unfilled = λ none.
-            let parts = and_parts (not (fills hand chunk event)) (list_all (λ e. not (fills hand chunk e)) events) none in
-            words_then m.state after.state end.state chunk first.0 (first.1 (inl (not_true (fills hand chunk event) parts.0))) (rest.unfilled parts.1);
+            let parts = and_parts (not (is_fill_of hand chunk event)) (list_all (λ e. not (is_fill_of hand chunk e)) events) none in
+            words_then m.state after.state end.state chunk first.0 (first.1 (inl (not_true (is_fill_of hand chunk event) parts.0))) (rest.unfilled parts.1);
         referred = λ held stale.
             let own = event_steady m event l keeps.1 held in
             words_then m.state after.state end.state chunk own.0 (own.1 (inr stale)) (rest.referred next (stays_stale m event l keeps.1 held next stale));

@@ -15,8 +15,8 @@ use Rattle.mc_core.specs.Head.{uncut_from}
 use Rattle.mc_core.specs.State.{State, most_of, head_place, room_in, has_slabs, with_look, new_state}
 use Rattle.mc_core.specs.Silent.{after_change}
 use Rattle.mc_core.specs.Run.{after_step}
-use Rattle.mc_core.specs.Columns.{Each, holders, link_of}
-use Rattle.mc_core.specs.Counts.{AreHeld, IsSized}
+use Rattle.mc_core.specs.Columns.{Each, holder_count, link_count}
+use Rattle.mc_core.specs.Counts.{AreHeld, IsHoldingSized}
 use Rattle.mc_core.specs.Past.{Moment}
 use Rattle.mc_core.specs.Lawful.{IsLawful, CountedIn, HeldIn}
 use Rattle.mc_core.specs.Laws.{MayChange, MayStep, ChangesKeep, StepsKeep, HoldsAtFirst}
@@ -31,7 +31,7 @@ use Rattle.mc_core.proofs.Referring.{refer_tallied, again_tallied}
 use Rattle.mc_core.proofs.Dropping.{drop_tallied, unlink_tallied, condemn_tallied}
 use Rattle.mc_core.proofs.Closing.{put_back_tallied, clear_tallied, cut_tallied}
 use Rattle.mc_core.proofs.Made.{first_heads}
-use Rattle.mc_core.specs.Holdings.{words_of}
+use Rattle.mc_core.specs.Holdings.{holding_words}
 use Rattle.mc_core.specs.Chunks.{most_holdings}
 
 pub counted_changes : ChangesKeep CountedIn
@@ -60,8 +60,8 @@ held_moved m l next same =
     moved holding out so = record {
       inside = so.inside;
       issue = so.issue;
-      shows = shows_moved m.state.table m.state.slabs next m.state.words holding.chunk (words_of holding) (same holding out) so.shows;
-      sized = subst (λ class. IsSized (room_in m.state.table class) holding) (sym (same holding out)) so.sized;
+      shows = shows_moved m.state.table m.state.slabs next m.state.words holding.chunk (holding_words holding) (same holding out) so.shows;
+      sized = subst (λ class. IsHoldingSized (room_in m.state.table class) holding) (sym (same holding out)) so.sized;
       alone = so.alone;
     }
 
@@ -125,7 +125,7 @@ all_same x zero place = refl
 all_same x (suc n) zero = refl
 all_same x (suc n) (suc place) = all_same x n place
 
-none_held : (chunk : ChunkId) (hands : ℕ) → holders chunk (replicate hands []) ≡ 0
+none_held : (chunk : ChunkId) (hands : ℕ) → holder_count chunk (replicate hands []) ≡ 0
 none_held chunk zero = refl
 none_held chunk (suc hands) = let rest = none_held chunk hands in omega arith
 
@@ -136,7 +136,7 @@ pub counted_first : HoldsAtFirst CountedIn
 counted_first table stripes hands start sound some_stripe some_hand few small =
     let at = λ (chunk : ChunkId). first_heads (arena_pages_of table * most_of table) (head_place table chunk) start small in
     record {
-      counted = λ chunk near. let none = none_held chunk hands in (at chunk).none ∙ omega (arith, none, ap link_of (at chunk).out);
+      counted = λ chunk near. let none = none_held chunk hands in (at chunk).none ∙ omega (arith, none, ap link_count (at chunk).out);
       shut = λ chunk near shut. (at chunk).none;
       issued = λ chunk near. (at chunk).fits;
     }

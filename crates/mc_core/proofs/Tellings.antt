@@ -8,7 +8,7 @@ use Rattle.std.proofs.lemmas.Bool.{false≢true}
 use Rattle.mc_pages.specs.declared.ids.ChunkId.{ChunkId}
 use Rattle.mc_stripe.specs.declared.history.Call.{Call}
 use Rattle.mc_stripe.specs.declared.history.Call.TheVariants.{Set, Get, Delete, Evict, Rescue}
-use Rattle.mc_stripe.specs.StripeState.{StripeState, ReadyStripe, new_stripe, key_aside, place_of, stamp_of}
+use Rattle.mc_stripe.specs.StripeState.{StripeState, ReadyStripe, new_stripe, key_aside, chunk_and_stamp, stamp_of_key}
 use Rattle.mc_stripe.specs.Changes.{after_got, after_lift, after_evict, after_rescue, used_up}
 use Rattle.mc_stripe.specs.Changes as stripe_changes
 use Rattle.mc_stripe.specs.Legal.{IsLegal}
@@ -18,12 +18,12 @@ use Rattle.mc_core.specs.declared.event.StripeChange.TheVariants.{Reserve, Reser
 use Rattle.mc_core.specs.State.{State, has_stripe, stripe_of, stripe_at, number_at}
 use Rattle.mc_core.specs.Silent.{is_aside, writer_of, stripe_after}
 use Rattle.mc_core.specs.Indexed.{AreLegal}
-use Rattle.mc_core.specs.Past.{Saying}
-use Rattle.mc_core.specs.Identities.{said_times}
+use Rattle.mc_core.specs.Past.{StoredItem}
+use Rattle.mc_core.specs.Identities.{stored_times}
 use Rattle.mc_core.specs.Histories.{hand_of, is_set_of, IsSetIn}
 use Rattle.mc_core.proofs.StripesKept.{held_word, stripe_within, legal_written}
 
-pub record Tells (state : State) (now : List ReadyStripe) (hand : ℕ) (said : List Saying) : Type 0 where
+pub record Tells (state : State) (now : List ReadyStripe) (hand : ℕ) (said : List StoredItem) : Type 0 where
   pub at : ℕ
   pub value : ReadyStripe
   pub stripes : now ≡ slice_set state.stripes at value
@@ -35,14 +35,14 @@ pub record Tells (state : State) (now : List ReadyStripe) (hand : ℕ) (said : L
   pub grown : value.state.history ≡ (stripe_at state at).state.history ++ more
   pub own : All (λ call. hand_of call ≡ writer_of state hand) more
   pub sets : All (IsSetIn (length state.stripes) at) more
-  pub stores : (stamp : ℕ) → count_by (is_set_of stamp) more ≡ said_times stamp said
+  pub stores : (stamp : ℕ) → count_by (is_set_of stamp) more ≡ stored_times stamp said
 
 -- one set counts as one saying
-stored_one : (hand key stamp other : ℕ) (words : List ℕ) → count_by (is_set_of other) (Set hand key stamp ∷ []) ≡ said_times other (record { stamp = stamp; words = words } ∷ [])
+stored_one : (hand key stamp other : ℕ) (words : List ℕ) → count_by (is_set_of other) (Set hand key stamp ∷ []) ≡ stored_times other (record { stamp = stamp; words = words } ∷ [])
 stored_one hand key stamp other words = refl
 
 -- what is told keeps the stripes legal
-pub tells_legal : (state : State) (now : List ReadyStripe) (hand : ℕ) (said : List Saying) → AreLegal state.stripes state.stripe_locks → Tells state now hand said → AreLegal now state.stripe_locks
+pub tells_legal : (state : State) (now : List ReadyStripe) (hand : ℕ) (said : List StoredItem) → AreLegal state.stripes state.stripe_locks → Tells state now hand said → AreLegal now state.stripe_locks
 tells_legal state now hand said l t =
     subst (λ (xs : List ReadyStripe). AreLegal xs state.stripe_locks) (sym t.stripes) (legal_written state.stripes state.stripe_locks t.at t.value l t.legal t.held t.aside)
 
@@ -106,7 +106,7 @@ module _ (state : State) (hand : ℕ) (l : AreLegal state.stripes state.stripe_l
     held = held;
     legal = IsLegal-after_got old (writer_of state hand) key legal (other_aside (key_aside old) key apart);
     aside = was_aside;
-    more = Get (writer_of state hand) key (stamp_of old key) ∷ [];
+    more = Get (writer_of state hand) key (stamp_of_key old key) ∷ [];
     grown = refl;
     own = All-cons (λ call. hand_of call ≡ writer_of state hand) _ [] refl (All-nil (λ call. hand_of call ≡ writer_of state hand));
     sets = All-cons (IsSetIn (length state.stripes) at) _ [] tt (All-nil (IsSetIn (length state.stripes) at));
@@ -123,7 +123,7 @@ module _ (state : State) (hand : ℕ) (l : AreLegal state.stripes state.stripe_l
     held = held;
     legal = IsLegal-after_unlink old (writer_of state hand) key legal (other_aside (key_aside old) key apart);
     aside = was_aside;
-    more = Delete (writer_of state hand) key (is_some (place_of old key)) ∷ [];
+    more = Delete (writer_of state hand) key (is_some (chunk_and_stamp old key)) ∷ [];
     grown = refl;
     own = All-cons (λ call. hand_of call ≡ writer_of state hand) _ [] refl (All-nil (λ call. hand_of call ≡ writer_of state hand));
     sets = All-cons (IsSetIn (length state.stripes) at) _ [] tt (All-nil (IsSetIn (length state.stripes) at));
@@ -131,7 +131,7 @@ module _ (state : State) (hand : ℕ) (l : AreLegal state.stripes state.stripe_l
   }
 
   -- its item was evicted
-  pub tells_evicted : (key : ℕ) → is_some (place_of old key) ≡ true → Tells state (slice_set state.stripes at (used_up (after_evict old (writer_of state hand) key))) hand []
+  pub tells_evicted : (key : ℕ) → is_some (chunk_and_stamp old key) ≡ true → Tells state (slice_set state.stripes at (used_up (after_evict old (writer_of state hand) key))) hand []
   tells_evicted key there = record {
     at = at;
     value = used_up (after_evict old (writer_of state hand) key);
@@ -152,7 +152,7 @@ module _ (state : State) (hand : ℕ) (l : AreLegal state.stripes state.stripe_l
   lifted_of key (Some place) entry is = let same : (key, place) ≡ entry = cc in ap (λ (e : ℕ × (ChunkId × ℕ)). e.0) (sym same)
 
   -- its entry was put aside
-  pub tells_lifted : (key : ℕ) (room entry : Bool) → stripe_of state key ≡ at → is_some (place_of old key) ≡ true → old.aside ≡ None → Tells state (slice_set state.stripes at (record { state = after_lift old key; ready = room; entry = entry })) hand []
+  pub tells_lifted : (key : ℕ) (room entry : Bool) → stripe_of state key ≡ at → is_some (chunk_and_stamp old key) ≡ true → old.aside ≡ None → Tells state (slice_set state.stripes at (record { state = after_lift old key; ready = room; entry = entry })) hand []
   tells_lifted key room entry here there none = record {
     at = at;
     value = record { state = after_lift old key; ready = room; entry = entry };
@@ -160,7 +160,7 @@ module _ (state : State) (hand : ℕ) (l : AreLegal state.stripes state.stripe_l
     within = within;
     held = held;
     legal = IsLegal-after_lift old key legal there none;
-    aside = λ entry is. ap (λ (k : ℕ). k % length state.stripes) (lifted_of key (place_of old key) entry is) ∙ here;
+    aside = λ entry is. ap (λ (k : ℕ). k % length state.stripes) (lifted_of key (chunk_and_stamp old key) entry is) ∙ here;
     more = [];
     grown = sym (append-nil old.history);
     own = All-nil (λ call. hand_of call ≡ writer_of state hand);

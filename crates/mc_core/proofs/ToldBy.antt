@@ -4,7 +4,7 @@ use Rattle.std.specs.Option.{option_map, option_map_or, option_eq}
 use Rattle.std.proofs.lemmas.Bool.{and_parts}
 use Rattle.mc_pages.specs.declared.ids.ChunkId.{ChunkId}
 use Rattle.mc_pages.specs.ClassState.{is_chunk}
-use Rattle.mc_stripe.specs.StripeState.{ReadyStripe, can_store, place_of}
+use Rattle.mc_stripe.specs.StripeState.{ReadyStripe, can_store, chunk_and_stamp}
 use Rattle.mc_core.specs.declared.event.Change.{Change}
 use Rattle.mc_core.specs.declared.event.Change.TheVariants.{Grow, BeginMove, FinishMove, Touch, SetAutomove, TrimLedger, Passed, Wrap, Evicted, OfStripe, GotNone, DeletedNone}
 use Rattle.mc_core.specs.declared.event.Step.{Step}
@@ -17,21 +17,21 @@ use Rattle.mc_core.specs.declared.holding.Purpose.TheVariants.{Item, Copy, Rescu
 use Rattle.mc_core.specs.declared.ids.Ids.{Ids}
 use Rattle.mc_core.specs.declared.look.Look.{Look}
 use Rattle.mc_core.specs.Head.{is_unlinked}
-use Rattle.mc_core.specs.Holdings.{key_in, stamp_in, item_in, is_complete, is_of, has_fresh, holding_of, numbers, words_of}
+use Rattle.mc_core.specs.Holdings.{known_key, stamp_in, words_of_item, is_complete, is_of_chunk, has_fresh, holding_of, numbers_of_known, holding_words}
 use Rattle.mc_core.specs.State.{State, has_chunk, head_at, ids_at, has_slabs, has_stripe, stripe_of, stripe_at, with_stripe, without_holding, holdings_at, with_look, looks_at}
-use Rattle.mc_core.specs.Silent.{is_aside, can_tell_none, writer_of, allows_change, after_change}
-use Rattle.mc_core.specs.Locks.{looked}
-use Rattle.mc_core.specs.Chunks.{popped, popped_off, target_of, next_free, has_place}
-use Rattle.mc_core.specs.Items.{most_stamps, suits, can_link_key, can_tell_link, can_link_holding, is_entry_aside, is_none_else_aside, is_next_stamp, are_same, can_count, told_link, after_link_of, referred_to, with_got, with_unlinked, can_look_up, can_refer_to, can_lift, is_linked_at, chunk_of, stripe_unlinked}
+use Rattle.mc_core.specs.Silent.{is_aside, can_record_miss, writer_of, allows_change, after_change}
+use Rattle.mc_core.specs.Locks.{state_after_look}
+use Rattle.mc_core.specs.Chunks.{state_after_pop_of, popped_off, target_of, next_free, has_place}
+use Rattle.mc_core.specs.Items.{most_stamps, is_allowed_for, can_link_key, can_record_link, can_link_holding, is_entry_aside, is_none_else_aside, is_next_stamp, are_same, can_count, recorded_link, after_link_of, referred_to, with_got, with_unlinked, can_look_up, can_refer_to, can_lift, is_linked_at, chunk_of_key, stripe_unlinked}
 use Rattle.mc_core.specs.Items as items
-use Rattle.mc_core.specs.Evictions.{is_linked_unheld, can_lose_entry, has_copy, has_reason, key_at, with_bound, with_told, stripe_condemned}
+use Rattle.mc_core.specs.Evictions.{is_linked_unheld, can_lose_entry, has_copy, has_reason, key_at, with_bound, with_eviction_call, stripe_condemned}
 use Rattle.mc_core.specs.Evictions as evictions
 use Rattle.mc_core.specs.Run.{allows_step, after_step}
-use Rattle.mc_core.specs.Past.{Saying, saying_of, said_by, sayings_of}
+use Rattle.mc_core.specs.Past.{StoredItem, stored_item_of, item_stored_by_link, items_stored_by_step}
 use Rattle.mc_core.specs.Indexed.{AreLegal}
 use Rattle.mc_core.proofs.Tellings.{Tells, tells_change, tells_got, tells_deleted, tells_evicted, tells_lifted, tells_set, tells_rescued}
 
-abbrev pub MayTell : State → List ReadyStripe → ℕ → List Saying → Type 0
+abbrev pub MayTell : State → List ReadyStripe → ℕ → List StoredItem → Type 0
 MayTell state now hand said = ((now ≡ state.stripes) × (said ≡ [])) ⊎ Tells state now hand said
 
 not_true : (b : Bool) → not b ≡ true → b ≡ false
@@ -68,12 +68,12 @@ own_stamp ids stamp h =
     number_is (Some n) is = sym (eqb-true n (stamp / 2 ^ 48) is)
 
 module _ (state : State) (hand : ℕ) (l : AreLegal state.stripes state.stripe_locks) where
-  none_told : (key : ℕ) → (has_stripe state hand (stripe_of state key) && can_tell_none (stripe_at state (stripe_of state key)) key) ≡ true →
+  none_told : (key : ℕ) → (has_stripe state hand (stripe_of state key) && can_record_miss (stripe_at state (stripe_of state key)) key) ≡ true →
       (has_stripe state hand (stripe_of state key) ≡ true) × (is_aside (stripe_at state (stripe_of state key)).state key ≡ false)
   none_told key h =
       let stripe = stripe_at state (stripe_of state key) in
-      let parts = and_parts (has_stripe state hand (stripe_of state key)) (can_tell_none stripe key) h in
-      let told = and_parts (stripe.ready && not (is_aside stripe.state key)) (is_none (place_of stripe.state key)) parts.1 in
+      let parts = and_parts (has_stripe state hand (stripe_of state key)) (can_record_miss stripe key) h in
+      let told = and_parts (stripe.ready && not (is_aside stripe.state key)) (is_none (chunk_and_stamp stripe.state key)) parts.1 in
       (parts.0, not_true _ (and_parts stripe.ready (not (is_aside stripe.state key)) told.0).1)
 
   pub told_by_change : (change : Change) → allows_change state hand change ≡ true → MayTell state (after_change state hand change).stripes hand []
@@ -110,26 +110,26 @@ module _ (state : State) (hand : ℕ) (l : AreLegal state.stripes state.stripe_l
 
   told_by_refer : (key : ℕ) → items.can_refer state hand key ≡ true → MayTell state (items.after_refer state hand key).stripes hand []
   told_by_refer key h =
-      let parts = and_parts (can_look_up state hand key && has_place state hand) (can_refer_to state (chunk_of state key)) h in
+      let parts = and_parts (can_look_up state hand key && has_place state hand) (can_refer_to state (chunk_of_key state key)) h in
       let ready = ready_for key (and_parts (can_look_up state hand key) (has_place state hand) parts.0).0 in
-      renamed _ _ (referred_stripes (with_got state hand key) (chunk_of state key)) (inr (tells_got state hand l (stripe_of state key) ready.0 key ready.1))
+      renamed _ _ (referred_stripes (with_got state hand key) (chunk_of_key state key)) (inr (tells_got state hand l (stripe_of state key) ready.0 key ready.1))
 
   linked_there : (place : Option (ChunkId × ℕ)) → is_linked_at state place ≡ true → is_some place ≡ true
   linked_there None h = absurd (cc)
   linked_there (Some place) h = refl
 
-  told_by_unlink : (key : ℕ) → items.can_unlink state hand key ≡ true → MayTell state (items.after_unlink state hand key).stripes hand []
+  told_by_unlink : (key : ℕ) → items.can_unlink state hand key ≡ true → MayTell state (items.state_after_unlink state hand key).stripes hand []
   told_by_unlink key h =
       let at = stripe_of state key in
       let stripe = stripe_at state at in
       let lifts = has_fresh (holdings_at state hand) in
-      let parts = and_parts (can_look_up state hand key && can_lift state hand key) (is_linked_at state (chunk_of state key)) h in
+      let parts = and_parts (can_look_up state hand key && can_lift state hand key) (is_linked_at state (chunk_of_key state key)) h in
       let both = and_parts (can_look_up state hand key) (can_lift state hand key) parts.0 in
       let ready = ready_for key both.0 in
       let now = λ (b : Bool). slice_set state.stripes at (stripe_unlinked stripe b (writer_of state hand) key) in
-      renamed _ (now lifts) (unlinked_stripes (with_stripe state at (stripe_unlinked stripe lifts (writer_of state hand) key)) (chunk_of state key))
+      renamed _ (now lifts) (unlinked_stripes (with_stripe state at (stripe_unlinked stripe lifts (writer_of state hand) key)) (chunk_of_key state key))
       (elim lifts as (λ b. (not b || is_none stripe.state.aside) ≡ true → MayTell state (now b) hand []) [
-        | true ↦ λ none. inr (tells_lifted state hand l at ready.0 key stripe.ready stripe.entry refl (linked_there (chunk_of state key) parts.1) (none_is stripe.state.aside none))
+        | true ↦ λ none. inr (tells_lifted state hand l at ready.0 key stripe.ready stripe.entry refl (linked_there (chunk_of_key state key) parts.1) (none_is stripe.state.aside none))
         | false ↦ λ _. inr (tells_deleted state hand l at ready.0 key ready.1)
       ] both.1)
 
@@ -143,8 +143,8 @@ module _ (state : State) (hand : ℕ) (l : AreLegal state.stripes state.stripe_l
       let parts = and_parts (free && has_stripe state hand at && can_lose_entry stripe key rescues) (has_reason state.table state.heads state.slabs (looks_at state hand) (holdings_at state hand) chunk) h in
       let taken = and_parts (free && has_stripe state hand at) (can_lose_entry stripe key rescues) parts.0 in
       let has = (and_parts free (has_stripe state hand at) taken.0).1 in
-      let away = and_parts (stripe.ready && is_some (place_of stripe.state key)) (not rescues || is_none stripe.state.aside) taken.1 in
-      let there = (and_parts stripe.ready (is_some (place_of stripe.state key)) away.0).1 in
+      let away = and_parts (stripe.ready && is_some (chunk_and_stamp stripe.state key)) (not rescues || is_none stripe.state.aside) taken.1 in
+      let there = (and_parts stripe.ready (is_some (chunk_and_stamp stripe.state key)) away.0).1 in
       let now = λ (b : Bool). slice_set state.stripes at (stripe_condemned stripe b (writer_of state hand) key) in
       elim rescues as (λ b. (not b || is_none stripe.state.aside) ≡ true → MayTell state (now b) hand []) [
         | true ↦ λ none. inr (tells_lifted state hand l at has key stripe.ready stripe.entry refl there (none_is stripe.state.aside none))
@@ -153,38 +153,38 @@ module _ (state : State) (hand : ℕ) (l : AreLegal state.stripes state.stripe_l
 
   module _ (chunk : ChunkId) where
     abbrev without : State
-    without = without_holding state hand (is_of chunk)
+    without = without_holding state hand (is_of_chunk chunk)
 
-    told_by_kind : (holding : Holding) (kind : Kind) → has_stripe state hand (stripe_of state (key_in (words_of holding))) ≡ true → suits state hand (words_of holding) kind ≡ true →
-        MayTell state (told_link without hand holding kind).stripes hand (saying_of kind (words_of holding))
+    told_by_kind : (holding : Holding) (kind : Kind) → has_stripe state hand (stripe_of state (known_key (holding_words holding))) ≡ true → is_allowed_for state hand (holding_words holding) kind ≡ true →
+        MayTell state (recorded_link without hand holding kind).stripes hand (stored_item_of kind (holding_words holding))
     told_by_kind holding (Reference own) has h = absurd (cc)
     told_by_kind holding (Fresh Item own) has h =
-        let key = key_in (words_of holding) in
-        let parts = and_parts (is_next_stamp (ids_at state hand) (stamp_in (words_of holding))) (is_none_else_aside (stripe_at state (stripe_of state key)).state key) h in
-        inr (tells_set state hand l (stripe_of state key) has key holding.chunk (stamp_in (words_of holding)) (numbers (item_in (words_of holding))) refl (own_stamp (ids_at state hand) (stamp_in (words_of holding)) parts.0) (of_key (stripe_at state (stripe_of state key)).state.aside key parts.1))
+        let key = known_key (holding_words holding) in
+        let parts = and_parts (is_next_stamp (ids_at state hand) (stamp_in (holding_words holding))) (is_none_else_aside (stripe_at state (stripe_of state key)).state key) h in
+        inr (tells_set state hand l (stripe_of state key) has key holding.chunk (stamp_in (holding_words holding)) (numbers_of_known (words_of_item (holding_words holding))) refl (own_stamp (ids_at state hand) (stamp_in (holding_words holding)) parts.0) (of_key (stripe_at state (stripe_of state key)).state.aside key parts.1))
     told_by_kind holding (Fresh (Copy old) own) has h =
-        let key = key_in (words_of holding) in
-        let parts = and_parts (is_next_stamp (ids_at state hand) (stamp_in (words_of holding))) (is_none_else_aside (stripe_at state (stripe_of state key)).state key) h in
-        inr (tells_set state hand l (stripe_of state key) has key holding.chunk (stamp_in (words_of holding)) (numbers (item_in (words_of holding))) refl (own_stamp (ids_at state hand) (stamp_in (words_of holding)) parts.0) (of_key (stripe_at state (stripe_of state key)).state.aside key parts.1))
+        let key = known_key (holding_words holding) in
+        let parts = and_parts (is_next_stamp (ids_at state hand) (stamp_in (holding_words holding))) (is_none_else_aside (stripe_at state (stripe_of state key)).state key) h in
+        inr (tells_set state hand l (stripe_of state key) has key holding.chunk (stamp_in (holding_words holding)) (numbers_of_known (words_of_item (holding_words holding))) refl (own_stamp (ids_at state hand) (stamp_in (holding_words holding)) parts.0) (of_key (stripe_at state (stripe_of state key)).state.aside key parts.1))
     told_by_kind holding (Fresh (Rescue old item) own) has h =
-        let key = key_in (words_of holding) in
+        let key = known_key (holding_words holding) in
         let stripe = stripe_at state (stripe_of state key) in
-        let parts = and_parts (are_same (item_in (words_of holding)) item) (is_entry_aside stripe.state key old (stamp_in (words_of holding))) h in
-        inr (tells_rescued state hand l (stripe_of state key) has key holding.chunk (key_is stripe.state.aside key old (stamp_in (words_of holding)) parts.1))
+        let parts = and_parts (are_same (words_of_item (holding_words holding)) item) (is_entry_aside stripe.state key old (stamp_in (holding_words holding))) h in
+        inr (tells_rescued state hand l (stripe_of state key) has key holding.chunk (key_is stripe.state.aside key old (stamp_in (holding_words holding)) parts.1))
 
-    told_by_link : (holding : Option Holding) → can_link_holding state hand chunk holding ≡ true → MayTell state (after_link_of without hand chunk holding).stripes hand (said_by holding)
+    told_by_link : (holding : Option Holding) → can_link_holding state hand chunk holding ≡ true → MayTell state (after_link_of without hand chunk holding).stripes hand (item_stored_by_link holding)
     told_by_link None h = absurd (cc)
     told_by_link (Some holding) h =
-        let key = key_in (words_of holding) in
-        let parts = and_parts (is_complete (words_of holding) && can_tell_link state hand holding && is_unlinked (head_at state chunk).tag) (can_count (head_at state chunk)) h in
-        let more = and_parts (is_complete (words_of holding) && can_tell_link state hand holding) (is_unlinked (head_at state chunk).tag) parts.0 in
-        let told = (and_parts (is_complete (words_of holding)) (can_tell_link state hand holding) more.0).1 in
-        let both = and_parts (can_link_key state hand key) (suits state hand (words_of holding) holding.kind) told in
-        let ready = and_parts (has_stripe state hand (stripe_of state key) && can_store (stripe_at state (stripe_of state key))) (is_none (place_of (stripe_at state (stripe_of state key)).state key)) both.0 in
+        let key = known_key (holding_words holding) in
+        let parts = and_parts (is_complete (holding_words holding) && can_record_link state hand holding && is_unlinked (head_at state chunk).tag) (can_count (head_at state chunk)) h in
+        let more = and_parts (is_complete (holding_words holding) && can_record_link state hand holding) (is_unlinked (head_at state chunk).tag) parts.0 in
+        let told = (and_parts (is_complete (holding_words holding)) (can_record_link state hand holding) more.0).1 in
+        let both = and_parts (can_link_key state hand key) (is_allowed_for state hand (holding_words holding) holding.kind) told in
+        let ready = and_parts (has_stripe state hand (stripe_of state key) && can_store (stripe_at state (stripe_of state key))) (is_none (chunk_and_stamp (stripe_at state (stripe_of state key)).state key)) both.0 in
         let has = (and_parts (has_stripe state hand (stripe_of state key)) (can_store (stripe_at state (stripe_of state key))) ready.0).0 in
         told_by_kind holding holding.kind has both.1
 
-  popped_stripes : (s : State) (chunk : Option ChunkId) → (popped s hand chunk).stripes ≡ s.stripes
+  popped_stripes : (s : State) (chunk : Option ChunkId) → (state_after_pop_of s hand chunk).stripes ≡ s.stripes
   popped_stripes s None = refl
   popped_stripes s (Some chunk) = refl
 
@@ -192,10 +192,10 @@ module _ (state : State) (hand : ℕ) (l : AreLegal state.stripes state.stripe_l
   popped_off_stripes s old None = refl
   popped_off_stripes s old (Some chunk) = refl
 
-  looked_stripes : (s : State) (look : Look) → (looked s hand look).stripes ≡ s.stripes
+  looked_stripes : (s : State) (look : Look) → (state_after_look s hand look).stripes ≡ s.stripes
   looked_stripes s look = elim (has_slabs s hand) as (λ b. (cond b (with_look s hand look) s).stripes ≡ s.stripes) [ true ↦ refl | false ↦ refl ]
 
-  pub told_by_step : (step : Step) → allows_step state hand step ≡ true → MayTell state (after_step state hand step).stripes hand (sayings_of state hand step)
+  pub told_by_step : (step : Step) → allows_step state hand step ≡ true → MayTell state (after_step state hand step).stripes hand (items_stored_by_step state hand step)
   told_by_step TakeSlabs h = inl (refl, refl)
   told_by_step (TakeStripe stripe) h = inl (refl, refl)
   told_by_step MissSlabs h = inl (refl, refl)

@@ -12,10 +12,10 @@ use Rattle.mc_stripe.specs.StripeState.{ReadyStripe, new_stripe}
 use Rattle.mc_core.specs.declared.ids.Ids.{Ids}
 use Rattle.mc_core.specs.State.{State}
 use Rattle.mc_core.specs.Silent.{writer_of}
-use Rattle.mc_core.specs.Past.{Own, Saying, Known, own_after, told}
+use Rattle.mc_core.specs.Past.{Own, StoredItem, KnownItem, own_after, calls_with_new}
 use Rattle.mc_core.specs.Holdings.{key_of}
 use Rattle.mc_core.specs.Columns.{Each}
-use Rattle.mc_core.specs.Identities.{owns, owners, number_in, said_times, AreNumbered}
+use Rattle.mc_core.specs.Identities.{count_in_hand, count_in_hands, number_in, stored_times, AreNumbered}
 use Rattle.mc_core.specs.Indexed.{stripe_for}
 use Rattle.mc_core.specs.Histories.{hand_of, is_set_of, set_count, IsBeginning, IsSetIn, IsStored}
 use Rattle.mc_core.proofs.Grown.{AreGrown, grown_quiet, grown_at, history_in, calls_in, else_calls, own_calls}
@@ -28,7 +28,7 @@ use Rattle.mc_core.proofs.ToldBy.{MayTell}
 use Rattle.mc_core.proofs.Totals.{total_two, total_at, owned_total}
 
 -- what is told is growth
-pub grown_told : (state : State) (now : List ReadyStripe) (hand : ℕ) (said : List Saying) → MayTell state now hand said → AreGrown (writer_of state hand) state.stripes now
+pub grown_told : (state : State) (now : List ReadyStripe) (hand : ℕ) (said : List StoredItem) → MayTell state now hand said → AreGrown (writer_of state hand) state.stripes now
 grown_told state now hand said (inl quiet) = subst (AreGrown (writer_of state hand) state.stripes) (sym quiet.0) (grown_quiet (writer_of state hand) state.stripes)
 grown_told state now hand said (inr t) =
     subst (AreGrown (writer_of state hand) state.stripes) (sym t.stripes)
@@ -42,7 +42,7 @@ set_count_written stamp (x ∷ stripes) zero value within = omega arith
 set_count_written stamp (x ∷ stripes) (suc at) value within = let rest = set_count_written stamp stripes at value (omega arith) in omega arith
 
 -- stored as often as before, and where it is said
-pub set_count_told : (state : State) (now : List ReadyStripe) (hand : ℕ) (said : List Saying) (stamp : ℕ) → MayTell state now hand said → set_count stamp now ≡ set_count stamp state.stripes + said_times stamp said
+pub set_count_told : (state : State) (now : List ReadyStripe) (hand : ℕ) (said : List StoredItem) (stamp : ℕ) → MayTell state now hand said → set_count stamp now ≡ set_count stamp state.stripes + stored_times stamp said
 set_count_told state now hand said stamp (inl quiet) = rw (quiet.0, quiet.1) (sym (add-zero (set_count stamp state.stripes)))
 set_count_told state now hand said stamp (inr t) =
     let written = set_count_written stamp state.stripes t.at t.value t.within in
@@ -66,7 +66,7 @@ module _ (writer : ℕ) (old now : List ReadyStripe) (g : AreGrown writer old no
       (was.0 ++ grown.more, sym is_now ∙ grown.grown ∙ ap (λ (cs : List Call). cs ++ grown.more) was.1 ∙ append_assoc calls was.0 grown.more)
 
   -- what was stored is stored
-  pub stored_grown : (s : Saying) → IsStored old s → IsStored now s
+  pub stored_grown : (s : StoredItem) → IsStored old s → IsStored now s
   stored_grown s was =
       let key = key_of s.words in
       let grown = g.each (key % length old) in
@@ -86,35 +86,35 @@ module _ (writer : ℕ) (old now : List ReadyStripe) (g : AreGrown writer old no
       (subst (All (IsSetIn (length old) stripe)) (sym grown.grown ∙ is_now) (All-append (IsSetIn (length old) stripe) (history_in old stripe) grown.more was grown.sets))
 
   -- each call is of one hand's number
-  pub writers_grown : (mine mine' : List (List Own)) → SameNumbers mine mine' → owners writer mine ≡ 1 → All (λ (value : ReadyStripe). All (λ call. owners (hand_of call) mine ≡ 1) value.state.history) old
-      → All (λ (value : ReadyStripe). All (λ call. owners (hand_of call) mine' ≡ 1) value.state.history) now
+  pub writers_grown : (mine mine' : List (List Own)) → SameNumbers mine mine' → count_in_hands writer mine ≡ 1 → All (λ (value : ReadyStripe). All (λ call. count_in_hands (hand_of call) mine ≡ 1) value.state.history) old
+      → All (λ (value : ReadyStripe). All (λ call. count_in_hands (hand_of call) mine' ≡ 1) value.state.history) now
   writers_grown mine mine' same one writers =
-      All-from_get_or (λ (value : ReadyStripe). All (λ call. owners (hand_of call) mine' ≡ 1) value.state.history) now new_stripe (λ stripe within.
-      let was = All-get_or (λ (value : ReadyStripe). All (λ call. owners (hand_of call) mine ≡ 1) value.state.history) old stripe new_stripe (omega (arith, within, g.long)) writers in
+      All-from_get_or (λ (value : ReadyStripe). All (λ call. count_in_hands (hand_of call) mine' ≡ 1) value.state.history) now new_stripe (λ stripe within.
+      let was = All-get_or (λ (value : ReadyStripe). All (λ call. count_in_hands (hand_of call) mine ≡ 1) value.state.history) old stripe new_stripe (omega (arith, within, g.long)) writers in
       let grown = g.each stripe in
-      subst (All (λ call. owners (hand_of call) mine' ≡ 1)) (sym grown.grown) (All-append (λ call. owners (hand_of call) mine' ≡ 1) (history_in old stripe) grown.more
-      (All-weaker (λ call. owners (hand_of call) mine ≡ 1) (λ call. owners (hand_of call) mine' ≡ 1) (λ call is. owners_same mine mine' (hand_of call) same ∙ is) (history_in old stripe) was)
-      (All-weaker (λ call. hand_of call ≡ writer) (λ call. owners (hand_of call) mine' ≡ 1) (λ call is. owners_same mine mine' (hand_of call) same ∙ (ap (λ n. owners n mine) is ∙ one)) grown.more grown.own)))
+      subst (All (λ call. count_in_hands (hand_of call) mine' ≡ 1)) (sym grown.grown) (All-append (λ call. count_in_hands (hand_of call) mine' ≡ 1) (history_in old stripe) grown.more
+      (All-weaker (λ call. count_in_hands (hand_of call) mine ≡ 1) (λ call. count_in_hands (hand_of call) mine' ≡ 1) (λ call is. owners_same mine mine' (hand_of call) same ∙ is) (history_in old stripe) was)
+      (All-weaker (λ call. hand_of call ≡ writer) (λ call. count_in_hands (hand_of call) mine' ≡ 1) (λ call is. owners_same mine mine' (hand_of call) same ∙ (ap (λ n. count_in_hands n mine) is ∙ one)) grown.more grown.own)))
 
 -- the calls of a number are its own
 abbrev pub IsOwnIn : List ReadyStripe → Own → Type 0
 IsOwnIn stripes own = own.calls ≡ calls_in own.number stripes
 
-module _ (before after : State) (hand writer : ℕ) (ids : List Ids) (mine : List (List Own)) (said : List (List Saying)) (known : List (List Known)) (l : AreNumbered ids mine said known)
+module _ (before after : State) (hand writer : ℕ) (ids : List Ids) (mine : List (List Own)) (said : List (List StoredItem)) (known : List (List KnownItem)) (l : AreNumbered ids mine said known)
     (is : number_in ids hand ≡ Some writer) (g : AreGrown writer before.stripes after.stripes) where
   -- the hand has the number alone
-  pub one_owner : owners writer mine ≡ 1
+  pub one_owner : count_in_hands writer mine ≡ 1
   one_owner =
       let own = l.own hand writer is in
-      let at = total_at (owns writer) mine hand refl in
+      let at = total_at (count_in_hand writer) mine hand refl in
       let all = owned_total writer mine in
       let most = l.apart writer in omega arith
 
   else_own : (other : ℕ) → other ≢ hand → (own : Own) → Contains (row_of mine other) own → writer ≢ own.number
   else_own other apart own among same =
-      let some : 1 ≤ owns writer (row_of mine other) = subst (λ n. 1 ≤ owns n (row_of mine other)) (sym same) (own_counts (row_of mine other) own among) in
+      let some : 1 ≤ count_in_hand writer (row_of mine other) = subst (λ n. 1 ≤ count_in_hand n (row_of mine other)) (sym same) (own_counts (row_of mine other) own among) in
       let mine_is = l.own hand writer is in
-      let two = total_two (owns writer) mine other hand refl apart in
+      let two = total_two (count_in_hand writer) mine other hand refl apart in
       let all = owned_total writer mine in
       let most = l.apart writer in absurd (omega arith)
 
@@ -122,7 +122,7 @@ module _ (before after : State) (hand writer : ℕ) (ids : List Ids) (mine : Lis
   own_one own was = elim (cases_eq own.number writer) [
     | inl same ↦
         let test : (own.number == writer) ≡ true = eq-eqb own.number writer same in
-        let calls : told before after 0 own.calls ≡ calls_in own.number after.stripes = ap (told before after 0) (was ∙ ap (λ n. calls_in n before.stripes) same) ∙ (own_calls before after writer g ∙ ap (λ n. calls_in n after.stripes) (sym same)) in
+        let calls : calls_with_new before after 0 own.calls ≡ calls_in own.number after.stripes = ap (calls_with_new before after 0) (was ∙ ap (λ n. calls_in n before.stripes) same) ∙ (own_calls before after writer g ∙ ap (λ n. calls_in n after.stripes) (sym same)) in
         rw test calls
     | inr apart ↦
         let test : (own.number == writer) ≡ false = ne_eqb own.number writer apart in

@@ -13,15 +13,15 @@ use Rattle.mc_stripe.specs.Changes.{after_link, used_up}
 use Rattle.mc_core.specs.declared.event.Step.{Step}
 use Rattle.mc_core.specs.declared.event.Step.TheVariants as step
 use Rattle.mc_core.specs.declared.holding.Holding.{Holding}
-use Rattle.mc_core.specs.Holdings.{Words, key_in, stamp_in, item_in, item_length, holding_of, numbers, words_of}
+use Rattle.mc_core.specs.Holdings.{Words, known_key, stamp_in, words_of_item, item_length, holding_of, numbers_of_known, holding_words}
 use Rattle.mc_core.specs.State.{State, number_at, is_hand, stripe_at, stripe_of, ids_at, holdings_at}
 use Rattle.mc_core.specs.Silent.{writer_of, after_change}
-use Rattle.mc_core.specs.Past.{Past, Moment, Own, Saying, own_after, with_calls, with_more, sayings_of, seen_after, history_at, longer_each, moment_stepped}
+use Rattle.mc_core.specs.Past.{Past, Moment, Own, StoredItem, own_after, with_calls, with_more, items_stored_by_step, seen_after, history_at, longer_each, moment_stepped}
 use Rattle.mc_core.specs.Columns.{Each}
-use Rattle.mc_core.specs.Identities.{owners, said_times, said_count, AreNumbered}
+use Rattle.mc_core.specs.Identities.{count_in_hands, stored_times, stored_count, AreNumbered}
 use Rattle.mc_core.specs.Indexed.{stripe_for}
-use Rattle.mc_core.specs.Histories.{hand_of, IsStored, AreTold}
-use Rattle.mc_core.specs.Lawful.{ToldIn}
+use Rattle.mc_core.specs.Histories.{hand_of, IsStored, AreRecorded}
+use Rattle.mc_core.specs.Lawful.{RecordedIn}
 use Rattle.mc_core.specs.Laws.{MayStep, ChangesKeep, StepsKeep}
 use Rattle.mc_core.specs.Run.{after_step}
 use Rattle.mc_core.proofs.Base.{each_map}
@@ -42,9 +42,9 @@ number_is state hand None is there = absurd (cc)
 number_is state hand (Some number) is there = is ∙ ap Some (sym (ap (λ (o : Option ℕ). unwrap_or o 0) is))
 
 -- what the histories say after one telling
-told_next : (m : Moment) (hand : ℕ) (after : State) (more : List Saying) (seen' : List (List (List Call))) (said' : List (List Saying)) → ToldIn m → AreNumbered m.state.ids m.past.mine m.past.said m.past.known → length m.past.mine ≡ length m.state.ids
-    → is_hand m.state hand ≡ true → MayTell m.state after.stripes hand more → All (IsBegun after.stripes) seen' → ((stamp : ℕ) → said_count stamp said' ≡ said_count stamp m.past.said + said_times stamp more)
-    → Each (IsStored after.stripes) said' → AreTold after.stripes (with_calls m.state after m.past hand).mine seen' said'
+told_next : (m : Moment) (hand : ℕ) (after : State) (more : List StoredItem) (seen' : List (List (List Call))) (said' : List (List StoredItem)) → RecordedIn m → AreNumbered m.state.ids m.past.mine m.past.said m.past.known → length m.past.mine ≡ length m.state.ids
+    → is_hand m.state hand ≡ true → MayTell m.state after.stripes hand more → All (IsBegun after.stripes) seen' → ((stamp : ℕ) → stored_count stamp said' ≡ stored_count stamp m.past.said + stored_times stamp more)
+    → Each (IsStored after.stripes) said' → AreRecorded after.stripes (with_calls m.state after m.past hand).mine seen' said'
 told_next m hand after more seen' said' l numbered rows there told begun counts stored =
     let writer = writer_of m.state hand in
     let number = number_is m.state hand (number_at m.state hand) refl there in
@@ -58,11 +58,11 @@ told_next m hand after more seen' said' l numbered rows there told begun counts 
       begun = begun;
       writers = writers_grown writer m.state.stripes after.stripes g m.past.mine mine' same (one_owner m.state after hand writer m.state.ids m.past.mine m.past.said m.past.known numbered number g) l.writers;
       sets = sets_grown writer m.state.stripes after.stripes g l.sets;
-      stored_once = λ stamp. set_count_told m.state after.stripes hand more stamp told ∙ ap (λ n. n + said_times stamp more) (l.stored_once stamp) ∙ sym (counts stamp);
+      stored_once = λ stamp. set_count_told m.state after.stripes hand more stamp told ∙ ap (λ n. n + stored_times stamp more) (l.stored_once stamp) ∙ sym (counts stamp);
       stored = stored;
     }
 
-pub told_changes : ChangesKeep ToldIn
+pub told_changes : ChangesKeep RecordedIn
 told_changes m hand change may =
     let after = after_change m.state hand change in
     let told = told_by_change m.state hand may.lawful.legal change may.allowed in
@@ -70,15 +70,15 @@ told_changes m hand change may =
     let l = may.lawful.told in
     told_next m hand after [] m.past.seen m.past.said l may.lawful.numbered may.lawful.rows.mine may.there told
     (All-weaker (IsBegun m.state.stripes) (IsBegun after.stripes) (begun_grown (writer_of m.state hand) m.state.stripes after.stripes g) m.past.seen l.begun)
-    (λ stamp. sym (add-zero (said_count stamp m.past.said)))
+    (λ stamp. sym (add-zero (stored_count stamp m.past.said)))
     (each_map (IsStored m.state.stripes) (IsStored after.stripes) m.past.said (stored_grown (writer_of m.state hand) m.state.stripes after.stripes g) l.stored)
 
 -- a step by which the hand alone learns
 alone : (m : Moment) (hand : ℕ) (next : Step) → is_join next ≡ false → MayStep m hand next → IsBegun (after_step m.state hand next).stripes (seen_after m.state next (slice_index_or m.past.seen hand []))
-    → All (IsStored (after_step m.state hand next).stripes) (sayings_of m.state hand next) → ToldIn (moment_stepped m hand next)
+    → All (IsStored (after_step m.state hand next).stripes) (items_stored_by_step m.state hand next) → RecordedIn (moment_stepped m hand next)
 alone m hand next is_alone may begun stored =
     let after = after_step m.state hand next in
-    let more = sayings_of m.state hand next in
+    let more = items_stored_by_step m.state hand next in
     let told = told_by_step m.state hand may.lawful.legal next may.allowed in
     let g = grown_told m.state after.stripes hand more told in
     let writer = writer_of m.state hand in
@@ -87,11 +87,11 @@ alone m hand next is_alone may begun stored =
     let said_within : hand < length m.past.said = omega (arith, within, may.lawful.rows.said) in
     let seen' = slice_set m.past.seen hand (seen_after m.state next (slice_index_or m.past.seen hand [])) in
     let said' = with_more m.past.said hand more in
-    subst (λ (p : Past). AreTold after.stripes p.mine p.seen p.said) (sym (learned_is m.state after m.past hand next is_alone))
+    subst (λ (p : Past). AreRecorded after.stripes p.mine p.seen p.said) (sym (learned_is m.state after m.past hand next is_alone))
     (told_next m hand after more seen' said' l may.lawful.numbered may.lawful.rows.mine may.there told
     (All-set (IsBegun after.stripes) m.past.seen hand (seen_after m.state next (slice_index_or m.past.seen hand [])) begun
     (All-weaker (IsBegun m.state.stripes) (IsBegun after.stripes) (begun_grown writer m.state.stripes after.stripes g) m.past.seen l.begun))
-    (λ stamp. said_total stamp said' ∙ total_more (λ (s : Saying). truth (s.stamp == stamp)) m.past.said hand more said_within ∙ ap (λ n. n + said_times stamp more) (sym (said_total stamp m.past.said)))
+    (λ stamp. said_total stamp said' ∙ total_more (λ (s : StoredItem). truth (s.stamp == stamp)) m.past.said hand more said_within ∙ ap (λ n. n + stored_times stamp more) (sym (said_total stamp m.past.said)))
     (each_more (IsStored after.stripes) m.past.said hand more
     (each_map (IsStored m.state.stripes) (IsStored after.stripes) m.past.said (stored_grown writer m.state.stripes after.stripes g) l.stored) stored))
 
@@ -112,31 +112,31 @@ begun_seen state row at begun stripe calls value is there = elim (get_set row at
   | inr else ↦ begun stripe calls value else.1 there
 ]
 
-quiet : (m : Moment) (hand : ℕ) (next : Step) → is_join next ≡ false → seen_after m.state next (slice_index_or m.past.seen hand []) ≡ slice_index_or m.past.seen hand [] → sayings_of m.state hand next ≡ [] → MayStep m hand next → ToldIn (moment_stepped m hand next)
+quiet : (m : Moment) (hand : ℕ) (next : Step) → is_join next ≡ false → seen_after m.state next (slice_index_or m.past.seen hand []) ≡ slice_index_or m.past.seen hand [] → items_stored_by_step m.state hand next ≡ [] → MayStep m hand next → RecordedIn (moment_stepped m hand next)
 quiet m hand next is_alone same unsaid may =
     let after = after_step m.state hand next in
     let told = told_by_step m.state hand may.lawful.legal next may.allowed in
-    let g = grown_told m.state after.stripes hand (sayings_of m.state hand next) told in
+    let g = grown_told m.state after.stripes hand (items_stored_by_step m.state hand next) told in
     alone m hand next is_alone may
     (subst (IsBegun after.stripes) (sym same) (begun_grown (writer_of m.state hand) m.state.stripes after.stripes g (slice_index_or m.past.seen hand []) (begun_row m.state.stripes m.past.seen hand may.lawful.told.begun)))
     (subst (All (IsStored after.stripes)) (sym unsaid) (All-nil (IsStored after.stripes)))
 
 -- the key of an item is that of its words
-key_of_item : (words : Words) → key_in (item_in words) ≡ key_in words
+key_of_item : (words : Words) → known_key (words_of_item words) ≡ known_key words
 key_of_item words = ap (λ (o : Option ℕ). unwrap_or o 0) (get_or-take (item_length words) words 0 None (omega arith))
 
 -- a new item is stored under its key
 stored_new : (m : Moment) (hand : ℕ) (chunk : ChunkId) (holding : Holding) → MayStep m hand (step.Link chunk)
-    → link.IsStored m.state hand chunk holding (after_step m.state hand (step.Link chunk)) (sayings_of m.state hand (step.Link chunk))
-    → All (IsStored (after_step m.state hand (step.Link chunk)).stripes) (sayings_of m.state hand (step.Link chunk))
+    → link.IsStored m.state hand chunk holding (after_step m.state hand (step.Link chunk)) (items_stored_by_step m.state hand (step.Link chunk))
+    → All (IsStored (after_step m.state hand (step.Link chunk)).stripes) (items_stored_by_step m.state hand (step.Link chunk))
 stored_new m hand chunk holding may is =
-    let stamp = stamp_in (words_of holding) in
-    let key = key_in (words_of holding) in
+    let stamp = stamp_in (holding_words holding) in
+    let key = known_key (holding_words holding) in
     let at = stripe_of m.state key in
     let old = (stripe_at m.state at).state in
     let writer = writer_of m.state hand in
     let value : ReadyStripe = used_up (after_link old writer key holding.chunk stamp) in
-    let s : Saying = record { stamp = stamp; words = numbers (item_in (words_of holding)) } in
+    let s : StoredItem = record { stamp = stamp; words = numbers_of_known (words_of_item (holding_words holding)) } in
     let stripes = slice_set m.state.stripes at value in
     let some = may.lawful.legal.some in
     let within : at < length m.state.stripes = mod-lt key some in
@@ -145,18 +145,18 @@ stored_new m hand chunk holding may is =
     let own : stamp / 2 ^ 48 ≡ writer = own_stamp (ids_at m.state hand) stamp is.next in
     let set : Contains value.state.history (Set writer key stamp) = Contains-push old.history (Set writer key stamp) in
     let stored : IsStored stripes s =
-    rw (numbers_at (item_in (words_of holding)) 0 ∙ key_of_item (words_of holding), own) (subst (λ (calls : List Call). Contains calls (Set writer key stamp)) (sym here) set) in
-    subst (λ (xs : List ReadyStripe). All (IsStored xs) (sayings_of m.state hand (step.Link chunk))) (sym is.stripes)
+    rw (numbers_at (words_of_item (holding_words holding)) 0 ∙ key_of_item (holding_words holding), own) (subst (λ (calls : List Call). Contains calls (Set writer key stamp)) (sym here) set) in
+    subst (λ (xs : List ReadyStripe). All (IsStored xs) (items_stored_by_step m.state hand (step.Link chunk))) (sym is.stripes)
     (subst (All (IsStored stripes)) (sym is.says) (All-cons (IsStored stripes) s [] stored (All-nil (IsStored stripes))))
 
-linked : (m : Moment) (hand : ℕ) (chunk : ChunkId) → MayStep m hand (step.Link chunk) → ToldIn (moment_stepped m hand (step.Link chunk))
+linked : (m : Moment) (hand : ℕ) (chunk : ChunkId) → MayStep m hand (step.Link chunk) → RecordedIn (moment_stepped m hand (step.Link chunk))
 linked m hand chunk may =
     let after = after_step m.state hand (step.Link chunk) in
     let kind = link.link_kind m.state hand chunk (holding_of chunk (holdings_at m.state hand)) may.allowed in
     elim kind.2 [
       | inl is ↦
           let told = told_by_step m.state hand may.lawful.legal (step.Link chunk) may.allowed in
-          let g = grown_told m.state after.stripes hand (sayings_of m.state hand (step.Link chunk)) told in
+          let g = grown_told m.state after.stripes hand (items_stored_by_step m.state hand (step.Link chunk)) told in
           alone m hand (step.Link chunk) refl may
           (begun_grown (writer_of m.state hand) m.state.stripes after.stripes g (slice_index_or m.past.seen hand []) (begun_row m.state.stripes m.past.seen hand may.lawful.told.begun))
           (stored_new m hand chunk kind.0 may is)
@@ -174,30 +174,30 @@ longer_of (x ∷ xs) (y ∷ ys) (suc stripe) calls is = longer_of xs ys stripe c
 begun_longer : (stripes : List ReadyStripe) (xs ys : List (List Call)) → IsBegun stripes xs → IsBegun stripes ys → IsBegun stripes (longer_each xs ys)
 begun_longer stripes xs ys p q stripe calls value at is = elim (longer_of xs ys stripe calls at) [ inl e ↦ p stripe calls value e is | inr e ↦ q stripe calls value e is ]
 
-join : (m : Moment) (hand kept spent : ℕ) → MayStep m hand (step.Join kept spent) → ToldIn (moment_stepped m hand (step.Join kept spent))
+join : (m : Moment) (hand kept spent : ℕ) → MayStep m hand (step.Join kept spent) → RecordedIn (moment_stepped m hand (step.Join kept spent))
 join m hand kept spent may =
     let l = may.lawful.told in
     let facts = join_facts m hand kept spent may in
     let rows = may.lawful.rows in
     let stripes = m.state.stripes in
-    let owned : (number : ℕ) → owners number (joined_rows m.past.mine kept spent) ≡ owners number m.past.mine = λ number.
+    let owned : (number : ℕ) → count_in_hands number (joined_rows m.past.mine kept spent) ≡ count_in_hands number m.past.mine = λ number.
     owned_total number (joined_rows m.past.mine kept spent)
     ∙ (total_joined (λ (own : Own). truth (own.number == number)) m.past.mine kept spent facts.0 (omega (arith, facts.1, rows.mine)) (omega (arith, facts.2, rows.mine)) ∙ sym (owned_total number m.past.mine)) in
-    let counted : (stamp : ℕ) → said_count stamp (joined_rows m.past.said kept spent) ≡ said_count stamp m.past.said = λ stamp.
+    let counted : (stamp : ℕ) → stored_count stamp (joined_rows m.past.said kept spent) ≡ stored_count stamp m.past.said = λ stamp.
     said_total stamp (joined_rows m.past.said kept spent)
-    ∙ (total_joined (λ (s : Saying). truth (s.stamp == stamp)) m.past.said kept spent facts.0 (omega (arith, facts.1, rows.said)) (omega (arith, facts.2, rows.said)) ∙ sym (said_total stamp m.past.said)) in
+    ∙ (total_joined (λ (s : StoredItem). truth (s.stamp == stamp)) m.past.said kept spent facts.0 (omega (arith, facts.1, rows.said)) (omega (arith, facts.2, rows.said)) ∙ sym (said_total stamp m.past.said)) in
     let seen_of = λ (h : ℕ). begun_row stripes m.past.seen h l.begun in
     record {
       own_calls = each_joined (IsOwnIn stripes) m.past.mine kept spent l.own_calls;
       begun = All-set (IsBegun stripes) _ spent [] (begun_nothing stripes) (All-set (IsBegun stripes) m.past.seen kept _ (begun_longer stripes _ _ (seen_of kept) (seen_of spent)) l.begun);
-      writers = All-weaker (λ (value : ReadyStripe). All (λ call. owners (hand_of call) m.past.mine ≡ 1) value.state.history) (λ (value : ReadyStripe). All (λ call. owners (hand_of call) (joined_rows m.past.mine kept spent) ≡ 1) value.state.history)
-          (λ value all. All-weaker (λ call. owners (hand_of call) m.past.mine ≡ 1) (λ call. owners (hand_of call) (joined_rows m.past.mine kept spent) ≡ 1) (λ call is. owned (hand_of call) ∙ is) value.state.history all) stripes l.writers;
+      writers = All-weaker (λ (value : ReadyStripe). All (λ call. count_in_hands (hand_of call) m.past.mine ≡ 1) value.state.history) (λ (value : ReadyStripe). All (λ call. count_in_hands (hand_of call) (joined_rows m.past.mine kept spent) ≡ 1) value.state.history)
+          (λ value all. All-weaker (λ call. count_in_hands (hand_of call) m.past.mine ≡ 1) (λ call. count_in_hands (hand_of call) (joined_rows m.past.mine kept spent) ≡ 1) (λ call is. owned (hand_of call) ∙ is) value.state.history all) stripes l.writers;
       sets = l.sets;
       stored_once = λ stamp. l.stored_once stamp ∙ sym (counted stamp);
       stored = each_joined (IsStored stripes) m.past.said kept spent l.stored;
     }
 
-pub told_steps : StepsKeep ToldIn
+pub told_steps : StepsKeep RecordedIn
 told_steps m hand step.TakeSlabs may = quiet m hand step.TakeSlabs refl refl refl may
 told_steps m hand (step.TakeStripe stripe) may =
     alone m hand (step.TakeStripe stripe) refl may (begun_seen m.state _ stripe (begun_row m.state.stripes m.past.seen hand may.lawful.told.begun)) (All-nil (IsStored m.state.stripes))

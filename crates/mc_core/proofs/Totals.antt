@@ -1,8 +1,8 @@
 -- Sums over the rows of all hands.
 use Rattle.std.proofs.Common.{◌≡◌, ◌≢◌, ℕ, zero, suc, ◌+◌, ◌<◌, ◌≤◌, List, [], ◌∷◌, ◌++◌, length, refl, sym, ap, arith, length-set, slice_set, sum_by}
 use Rattle.std.proofs.lemmas.List.Sums.{sum_by-append}
-use Rattle.mc_core.specs.Past.{with_more, Own, Saying}
-use Rattle.mc_core.specs.Identities.{owns, owners, said_times, said_count}
+use Rattle.mc_core.specs.Past.{with_more, Own, StoredItem}
+use Rattle.mc_core.specs.Identities.{count_in_hand, count_in_hands, stored_times, stored_count}
 use Rattle.mc_core.proofs.MoreRows.{row_of, row_other, joined_rows}
 
 module _ {X : Type 0} (f : List X → ℕ) where
@@ -55,10 +55,10 @@ module _ {X : Type 0} (g : X → ℕ) where
       omega arith
 
 -- the counts of the law are such sums
-pub said_total : (stamp : ℕ) (rows : List (List Saying)) → said_count stamp rows ≡ total (said_times stamp) rows
+pub said_total : (stamp : ℕ) (rows : List (List StoredItem)) → stored_count stamp rows ≡ total (stored_times stamp) rows
 said_total stamp [] = refl
-said_total stamp (row ∷ rows) = ap (λ n. said_times stamp row + n) (said_total stamp rows)
+said_total stamp (row ∷ rows) = ap (λ n. stored_times stamp row + n) (said_total stamp rows)
 
-pub owned_total : (number : ℕ) (rows : List (List Own)) → owners number rows ≡ total (owns number) rows
+pub owned_total : (number : ℕ) (rows : List (List Own)) → count_in_hands number rows ≡ total (count_in_hand number) rows
 owned_total number [] = refl
-owned_total number (row ∷ rows) = ap (λ n. owns number row + n) (owned_total number rows)
+owned_total number (row ∷ rows) = ap (λ n. count_in_hand number row + n) (owned_total number rows)

@@ -10,10 +10,10 @@ use Rattle.mc_core.specs.declared.head.Head.{Head}
 use Rattle.mc_core.specs.declared.head.Tag.TheVariants.{Unlinked}
 use Rattle.mc_core.specs.declared.holding.Holding.{Holding}
 use Rattle.mc_core.specs.Head.{is_free, is_out}
-use Rattle.mc_core.specs.Holdings.{Words, is_fresh, words_of}
+use Rattle.mc_core.specs.Holdings.{Words, is_fresh, holding_words}
 use Rattle.mc_core.specs.State.{head_place, has_chunk, most_of, page_words, room_in}
-use Rattle.mc_core.specs.Columns.{head_in, Shows, Each, holders, link_of}
-use Rattle.mc_core.specs.Counts.{AreCounted, AreHeld, IsSized}
+use Rattle.mc_core.specs.Columns.{head_in, Shows, Each, holder_count, link_count}
+use Rattle.mc_core.specs.Counts.{AreCounted, AreHeld, IsHoldingSized}
 use Rattle.mc_core.proofs.Base.{head_written, head_other}
 use Rattle.mc_core.specs.Chunks.{most_holdings}
 
@@ -28,14 +28,14 @@ shows_moved table slabs next words chunk known same shows = record {
 
 -- a fresh chunk is unlinked, and held once
 abbrev pub IsAlone : Classes → List Head → List (List Holding) → Holding → Type 0
-IsAlone table heads rows holding = is_fresh holding ≡ true → ((head_in table heads holding.chunk).tag ≡ Unlinked) × (holders holding.chunk rows ≡ 1)
+IsAlone table heads rows holding = is_fresh holding ≡ true → ((head_in table heads holding.chunk).tag ≡ Unlinked) × (holder_count holding.chunk rows ≡ 1)
 
 -- all that is said of one holding
 pub record IsSo (table : Classes) (slabs : SlabState) (heads : List Head) (words : List ℕ) (rows : List (List Holding)) (holding : Holding) : Type 0 where
   pub inside : has_chunk table holding.chunk ≡ true
   pub issue : holding.issue ≡ (head_in table heads holding.chunk).issue
-  pub shows : Shows table slabs words holding.chunk (words_of holding)
-  pub sized : IsSized (room_in table (class_of_page slabs holding.chunk.page)) holding
+  pub shows : Shows table slabs words holding.chunk (holding_words holding)
+  pub sized : IsHoldingSized (room_in table (class_of_page slabs holding.chunk.page)) holding
   pub alone : IsAlone table heads rows holding
 
 pub each_so : (table : Classes) (slabs : SlabState) (heads : List Head) (words : List ℕ) (rows : List (List Holding)) → AreHeld table slabs heads words rows → Each (IsSo table slabs heads words rows) rows
@@ -62,8 +62,8 @@ held_from_so table slabs heads words rows each most = record {
 pub record Turn (table : Classes) (heads : List Head) (rows now : List (List Holding)) (chunk : ChunkId) (head : Head) : Type 0 where
   pub long : length heads ≡ arena_pages_of table * most_of table
   pub near : has_chunk table chunk ≡ true
-  pub others : (other : ChunkId) → is_chunk chunk other ≡ false → holders other now ≡ holders other rows
-  pub sum : (head_in table heads chunk).count + (link_of head.tag + holders chunk now) ≡ head.count + (link_of (head_in table heads chunk).tag + holders chunk rows)
+  pub others : (other : ChunkId) → is_chunk chunk other ≡ false → holder_count other now ≡ holder_count other rows
+  pub sum : (head_in table heads chunk).count + (link_count head.tag + holder_count chunk now) ≡ head.count + (link_count (head_in table heads chunk).tag + holder_count chunk rows)
   pub shut : (is_free head.tag ≡ true) ⊎ (is_out head.tag ≡ true) → head.count ≡ 0
   pub issued : head.issue < 2 ^ 46
 
@@ -87,9 +87,9 @@ module _ (table : Classes) (heads : List Head) (rows now : List (List Holding)) 
 
   pub turn_counted : AreCounted table heads rows → AreCounted table heads' now
   turn_counted counted = record {
-    counted = at_each (λ c h. h.count ≡ link_of h.tag + holders c now)
+    counted = at_each (λ c h. h.count ≡ link_count h.tag + holder_count c now)
         (let before = counted.counted chunk turn.near in let sum = turn.sum in omega arith)
-        (λ other near isnt. counted.counted other near ∙ ap (λ n. link_of (head_in table heads other).tag + n) (sym (turn.others other isnt)));
+        (λ other near isnt. counted.counted other near ∙ ap (λ n. link_count (head_in table heads other).tag + n) (sym (turn.others other isnt)));
     shut = at_each (λ c h. (is_free h.tag ≡ true) ⊎ (is_out h.tag ≡ true) → h.count ≡ 0) turn.shut (λ other near isnt. counted.shut other near);
     issued = at_each (λ c h. h.issue < 2 ^ 46) turn.issued (λ other near isnt. counted.issued other near);
   }
@@ -101,8 +101,8 @@ module _ (table : Classes) (heads : List Head) (rows now : List (List Holding)) 
         record {
           inside = so.inside;
           issue = so.issue ∙ ap (λ (h : Head). h.issue) (sym kept);
-          shows = shows_moved table slabs next words holding.chunk (words_of holding) (same holding.chunk.page) so.shows;
-          sized = subst (λ class. IsSized (room_in table class) holding) (sym (same holding.chunk.page)) so.sized;
+          shows = shows_moved table slabs next words holding.chunk (holding_words holding) (same holding.chunk.page) so.shows;
+          sized = subst (λ class. IsHoldingSized (room_in table class) holding) (sym (same holding.chunk.page)) so.sized;
           alone = λ fresh. let alone = so.alone fresh in (ap (λ (h : Head). h.tag) kept ∙ alone.0, turn.others holding.chunk isnt ∙ alone.1);
         }
 
@@ -110,8 +110,8 @@ module _ (table : Classes) (heads : List Head) (rows now : List (List Holding)) 
     so_here holding is issue stale so = record {
       inside = so.inside;
       issue = so.issue ∙ (ap (λ c. (head_in table heads c).issue) is ∙ (sym issue ∙ (ap (λ (h : Head). h.issue) (sym written) ∙ ap (λ c. (head_in table heads' c).issue) (sym is))));
-      shows = shows_moved table slabs next words holding.chunk (words_of holding) (same holding.chunk.page) so.shows;
-      sized = subst (λ class. IsSized (room_in table class) holding) (sym (same holding.chunk.page)) so.sized;
+      shows = shows_moved table slabs next words holding.chunk (holding_words holding) (same holding.chunk.page) so.shows;
+      sized = subst (λ class. IsHoldingSized (room_in table class) holding) (sym (same holding.chunk.page)) so.sized;
       alone = λ fresh. absurd (both_ways (is_fresh holding) stale fresh);
     }
 
@@ -131,13 +131,13 @@ module _ (table : Classes) (heads : List Head) (rows now : List (List Holding)) 
         turn_so (slice_index_or (slice_index_or kept hand row) place holding) (quiet hand row within place holding inside) (each hand row within place holding inside)
 
     -- one more holding, of this chunk
-    pub turn_more : (holding : Holding) → holding.chunk ≡ chunk → holding.issue ≡ head.issue → Shows table next words chunk (words_of holding) → IsSized (room_in table (class_of_page next chunk.page)) holding →
-        (is_fresh holding ≡ true → (head.tag ≡ Unlinked) × (holders chunk now ≡ 1)) → IsSo table next heads' words now holding
+    pub turn_more : (holding : Holding) → holding.chunk ≡ chunk → holding.issue ≡ head.issue → Shows table next words chunk (holding_words holding) → IsHoldingSized (room_in table (class_of_page next chunk.page)) holding →
+        (is_fresh holding ≡ true → (head.tag ≡ Unlinked) × (holder_count chunk now ≡ 1)) → IsSo table next heads' words now holding
     turn_more holding is issue shows sized alone = record {
       inside = ap (has_chunk table) is ∙ turn.near;
       issue = issue ∙ (ap (λ (h : Head). h.issue) (sym written) ∙ ap (λ c. (head_in table heads' c).issue) (sym is));
-      shows = subst (λ c. Shows table next words c (words_of holding)) (sym is) shows;
-      sized = subst (λ (c : ChunkId). IsSized (room_in table (class_of_page next c.page)) holding) (sym is) sized;
+      shows = subst (λ c. Shows table next words c (holding_words holding)) (sym is) shows;
+      sized = subst (λ (c : ChunkId). IsHoldingSized (room_in table (class_of_page next c.page)) holding) (sym is) sized;
       alone = λ fresh. let both = alone fresh in
-          (ap (λ c. (head_in table heads' c).tag) is ∙ (ap (λ (h : Head). h.tag) written ∙ both.0), ap (λ c. holders c now) is ∙ both.1);
+          (ap (λ c. (head_in table heads' c).tag) is ∙ (ap (λ (h : Head). h.tag) written ∙ both.0), ap (λ c. holder_count c now) is ∙ both.1);
     }

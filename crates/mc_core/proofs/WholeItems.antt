@@ -6,7 +6,7 @@ use Rattle.std.proofs.lemmas.List.{length-take-le, get_or-take, get_or-map, take
 use Rattle.std.proofs.lemmas.List.FromFn.{length-map-range_with_len, length-range_with_len, get_or-range_with_len}
 use Rattle.mc_pages.specs.declared.ids.ChunkId.{ChunkId}
 use Rattle.mc_pages.specs.SlabState.{class_of_page}
-use Rattle.mc_core.specs.Holdings.{Words, word_in, item_length, item_in, fits, is_complete, all_known}
+use Rattle.mc_core.specs.Holdings.{Words, word_in, item_length, words_of_item, has_whole_item, is_complete, all_known}
 use Rattle.mc_core.specs.State.{State, room_in, word_at, item_at}
 use Rattle.mc_core.specs.Columns.{Shows}
 use Rattle.mc_core.proofs.Lists.{all_known_map}
@@ -20,13 +20,13 @@ whole_from words long known =
     (long, and_from _ _ (le-leb (item_length words) (length words) (omega arith)) (ap (list_all is_some) (take_all (item_length words) words (omega arith)) ∙ known))
 
 -- the words that were filled, as far as the item goes
-pub filled_whole : (words : Words) → is_complete words ≡ true → IsWhole (item_in words) × (length (item_in words) ≤ length words)
+pub filled_whole : (words : Words) → is_complete words ≡ true → IsWhole (words_of_item words) × (length (words_of_item words) ≤ length words)
 filled_whole words complete =
-    let parts = and_parts (fits words) (list_all is_some (item_in words)) complete in
+    let parts = and_parts (has_whole_item words) (list_all is_some (words_of_item words)) complete in
     let enough = leb-true (item_length words) (length words) parts.0 in
     let long = length-take-le (item_length words) words enough in
-    let same : word_in (item_in words) 2 ≡ word_in words 2 = ap (λ (o : Option ℕ). unwrap_or o 0) (get_or-take (item_length words) words 2 None (omega arith)) in
-    (whole_from (item_in words) (omega arith) parts.1, omega arith)
+    let same : word_in (words_of_item words) 2 ≡ word_in words 2 = ap (λ (o : Option ℕ). unwrap_or o 0) (get_or-take (item_length words) words 2 None (omega arith)) in
+    (whole_from (words_of_item words) (omega arith) parts.1, omega arith)
 
 -- a word of the front is a word of the whole
 pub in_front : (n : ℕ) (words : Words) (place word : ℕ) → slice_get (take n words) place ≡ Some (Some word) → slice_get words place ≡ Some (Some word)

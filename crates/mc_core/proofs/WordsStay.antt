@@ -12,13 +12,13 @@ use Rattle.mc_core.specs.declared.event.Change.TheVariants.{Grow, BeginMove, Fin
 use Rattle.mc_core.specs.declared.event.Step.{Step}
 use Rattle.mc_core.specs.declared.event.Step.TheVariants as step
 use Rattle.mc_core.specs.declared.holding.Holding.{Holding}
-use Rattle.mc_core.specs.Holdings.{is_of, is_fresh, holding_of}
+use Rattle.mc_core.specs.Holdings.{is_of_chunk, is_fresh, holding_of}
 use Rattle.mc_core.specs.State.{State, room_in, word_place, holdings_at, without_holding, with_slabs}
 use Rattle.mc_core.specs.Silent.{after_change}
 use Rattle.mc_core.specs.Chunks.{can_fill_in, after_fill, next_free, target_of}
-use Rattle.mc_core.specs.Items.{with_got, chunk_of}
+use Rattle.mc_core.specs.Items.{with_got, chunk_of_key}
 use Rattle.mc_core.specs.Run.{after_step}
-use Rattle.mc_core.specs.Columns.{holds, holders}
+use Rattle.mc_core.specs.Columns.{count_of_holdings, holder_count}
 use Rattle.mc_core.specs.Past.{Moment}
 use Rattle.mc_core.specs.Lawful.{IsLawful}
 use Rattle.mc_core.proofs.Base.{IsPlaced, same_word, holds_own}
@@ -49,10 +49,10 @@ step_words state hand (step.Fill chunk place word) h = absurd (cc)
 step_words state hand (step.Word chunk place) h = refl
 step_words state hand (step.WordHeld chunk place) h = refl
 step_words state hand (step.Link chunk) h =
-    let left : State = without_holding state hand (is_of chunk) in
+    let left : State = without_holding state hand (is_of_chunk chunk) in
     linked_keeps (λ s. s.words) left hand chunk (holding_of chunk (holdings_at state hand)) (λ holding. told_link_keeps (λ s. s.words) left hand holding holding.kind refl refl)
-step_words state hand (step.Refer key) h = referred_keeps (λ s. s.words) (with_got state hand key) hand (chunk_of state key) (λ chunk. refl)
-step_words state hand (step.Unlink key) h = unlinked_keeps (λ s. s.words) _ (chunk_of state key) (λ chunk. refl)
+step_words state hand (step.Refer key) h = referred_keeps (λ s. s.words) (with_got state hand key) hand (chunk_of_key state key) (λ chunk. refl)
+step_words state hand (step.Unlink key) h = unlinked_keeps (λ s. s.words) _ (chunk_of_key state key) (λ chunk. refl)
 step_words state hand (step.Release chunk) h = refl
 step_words state hand (step.Discard chunk) h = refl
 step_words state hand (step.Condemn chunk) h = refl
@@ -84,21 +84,21 @@ change_leaves state hand (GotNone key) = record { table = refl; heads = refl; wo
 change_leaves state hand (DeletedNone key) = record { table = refl; heads = refl; words = refl; holdings = refl }
 
 -- what two hands hold is among all
-holders_two : (chunk : ChunkId) (rows : List (List Holding)) (a b : ℕ) → a ≢ b → holds chunk (slice_index_or rows a []) + holds chunk (slice_index_or rows b []) ≤ holders chunk rows
+holders_two : (chunk : ChunkId) (rows : List (List Holding)) (a b : ℕ) → a ≢ b → count_of_holdings chunk (slice_index_or rows a []) + count_of_holdings chunk (slice_index_or rows b []) ≤ holder_count chunk rows
 holders_two chunk [] a b apart = omega arith
 holders_two chunk (row ∷ rows) zero zero apart = absurd (apart refl)
 holders_two chunk (row ∷ rows) zero (suc b) apart = let rest = holds-le-holders chunk rows b in omega arith
 holders_two chunk (row ∷ rows) (suc a) zero apart = let rest = holds-le-holders chunk rows a in omega arith
 holders_two chunk (row ∷ rows) (suc a) (suc b) apart = let rest = holders_two chunk rows a b (λ e. apart (ap suc e)) in omega arith
 
-holds_at : (chunk : ChunkId) (row : List Holding) (holding : Holding) → Contains row holding → holding.chunk ≡ chunk → 1 ≤ holds chunk row
-holds_at chunk row holding among same = subst (λ (c : ChunkId). 1 ≤ holds c row) same (holds_own row holding among)
+holds_at : (chunk : ChunkId) (row : List Holding) (holding : Holding) → Contains row holding → holding.chunk ≡ chunk → 1 ≤ count_of_holdings chunk row
+holds_at chunk row holding among same = subst (λ (c : ChunkId). 1 ≤ count_of_holdings c row) same (holds_own row holding among)
 
-is_held : (chunk : ChunkId) (holding : Holding) → holding.chunk ≡ chunk → truth (is_of chunk holding) ≡ 1
+is_held : (chunk : ChunkId) (holding : Holding) → holding.chunk ≡ chunk → truth (is_of_chunk chunk holding) ≡ 1
 is_held chunk holding same = ap truth (subst (λ (c : ChunkId). is_chunk c chunk ≡ true) (sym same) (is_chunk-same chunk))
 
 -- a reference and a fresh holding are two
-two_kinds : (chunk : ChunkId) (row : List Holding) (r f : Holding) → Contains row r → Contains row f → is_fresh r ≡ false → is_fresh f ≡ true → r.chunk ≡ chunk → f.chunk ≡ chunk → 2 ≤ holds chunk row
+two_kinds : (chunk : ChunkId) (row : List Holding) (r f : Holding) → Contains row r → Contains row f → is_fresh r ≡ false → is_fresh f ≡ true → r.chunk ≡ chunk → f.chunk ≡ chunk → 2 ≤ count_of_holdings chunk row
 two_kinds chunk [] r f (k, within, at) has_f stale fresh same_r same_f = absurd (omega arith)
 two_kinds chunk (x ∷ row) r f (zero, within, at) (zero, within', at') stale fresh same_r same_f = absurd (false≢true (sym stale ∙ ap is_fresh (sym at ∙ at') ∙ fresh))
 two_kinds chunk (x ∷ row) r f (zero, within, at) (suc k, within', at') stale fresh same_r same_f =
@@ -127,8 +127,8 @@ module _ (m : Moment) (l : IsLawful m) (filler : ℕ) (filled : ChunkId) (place 
         let mine = holds_at filled (holdings_at m.state hand) holding among same in
         let theirs = holds_from_found filled (holdings_at m.state filler) fresh found in
         let all = holders_two filled m.state.holdings hand filler apart in
-        let once : holders filled m.state.holdings ≡ 1 =
-        subst (λ (c : ChunkId). holders c m.state.holdings ≡ 1) (fill_at m l filler filled place fresh found can) (fresh_once m l filler (is_of filled) fresh found (fill_fresh m l filler filled place fresh found can)) in
+        let once : holder_count filled m.state.holdings ≡ 1 =
+        subst (λ (c : ChunkId). holder_count c m.state.holdings ≡ 1) (fill_at m l filler filled place fresh found can) (fresh_once m l filler (is_of_chunk filled) fresh found (fill_fresh m l filler filled place fresh found can)) in
         absurd (omega arith)
   ]
 
@@ -136,9 +136,9 @@ module _ (m : Moment) (l : IsLawful m) (filler : ℕ) (filled : ChunkId) (place 
   pub filler_fresh : (holding : Holding) → Contains (holdings_at m.state filler) holding → holding.chunk ≡ filled → is_fresh holding ≡ false → ⊥
   filler_fresh holding among same stale =
       let at = fill_at m l filler filled place fresh found can in
-      let two = two_kinds filled (holdings_at m.state filler) holding fresh among (found_among (is_of filled) (holdings_at m.state filler) fresh found) stale (fill_fresh m l filler filled place fresh found can) same at in
+      let two = two_kinds filled (holdings_at m.state filler) holding fresh among (found_among (is_of_chunk filled) (holdings_at m.state filler) fresh found) stale (fill_fresh m l filler filled place fresh found can) same at in
       let all = holds-le-holders filled m.state.holdings filler in
-      let once : holders filled m.state.holdings ≡ 1 = subst (λ (c : ChunkId). holders c m.state.holdings ≡ 1) at (fresh_once m l filler (is_of filled) fresh found (fill_fresh m l filler filled place fresh found can)) in
+      let once : holder_count filled m.state.holdings ≡ 1 = subst (λ (c : ChunkId). holder_count c m.state.holdings ≡ 1) at (fresh_once m l filler (is_of_chunk filled) fresh found (fill_fresh m l filler filled place fresh found can)) in
       absurd (omega arith)
 
   -- another chunk's words stay

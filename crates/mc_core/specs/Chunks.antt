@@ -17,8 +17,8 @@ use Rattle.mc_core.specs.declared.holding.Purpose.TheVariants.{Item, Copy}
 use Rattle.mc_core.specs.declared.limits.TheConstants.{MOST_HOLDINGS}
 use Rattle.mc_core.specs.declared.look.Look.TheVariants.{Popped, PoppedOff, PutBack, Cleared, Cut}
 use Rattle.mc_core.specs.Head.{is_free, is_out, is_dead}
-use Rattle.mc_core.specs.Holdings.{is_of, is_fresh, holding_of, words_of}
-use Rattle.mc_core.specs.State.{State, is_class, has_chunk, head_at, with_head, room_at, with_word, has_slabs, with_slabs, holdings_at, with_holding, with_changed, without_holding, with_look}
+use Rattle.mc_core.specs.Holdings.{is_of_chunk, is_fresh, holding_of, holding_words}
+use Rattle.mc_core.specs.State.{State, is_class, has_chunk, head_at, with_head, chunk_room, with_word, has_slabs, with_slabs, holdings_at, with_holding, with_changed, without_holding, with_look}
 use Rattle.mc_core.specs.Columns.{head_in}
 use Rattle.mc_core.specs.Silent.{is_handed_out, is_listed}
 
@@ -40,20 +40,20 @@ can_hand_out state None = false
 can_hand_out state (Some chunk) = is_free (head_at state chunk).tag && nat_lt (head_at state chunk).issue most_issue
 
 -- a header after its chunk is handed out: the next issue, one holder
-abbrev pub handed_out : Head → Head
-handed_out head = record { issue = head.issue + 1; tag = Unlinked; count = 1 }
+abbrev pub head_after_hand_out : Head → Head
+head_after_hand_out head = record { issue = head.issue + 1; tag = Unlinked; count = 1 }
 
 -- the holding of a chunk that is handed out for this purpose, with its next issue number, and none of its words filled
 abbrev pub new_holding : State → ChunkId → Purpose → Holding
 new_holding state chunk purpose = record {
   chunk = chunk;
   issue = (head_at state chunk).issue + 1;
-  kind = Fresh purpose (replicate (room_at state chunk) None);
+  kind = Fresh purpose (replicate (chunk_room state chunk) None);
 }
 
 -- the header and the hand's holdings after the chunk is handed out to it
 abbrev pub with_fresh : State → ℕ → ChunkId → Purpose → State
-with_fresh state hand chunk purpose = with_holding (with_head state chunk (handed_out (head_at state chunk))) hand (new_holding state chunk purpose)
+with_fresh state hand chunk purpose = with_holding (with_head state chunk (head_after_hand_out (head_at state chunk))) hand (new_holding state chunk purpose)
 
 -- the chunk that the class hands out next, none where its free list is empty
 abbrev pub next_free : State → ℕ → Option ChunkId
@@ -64,13 +64,13 @@ abbrev pub can_pop : State → ℕ → ℕ → Bool
 can_pop state hand class = has_slabs state hand && is_class state.table class && has_place state hand && can_hand_out state (next_free state class)
 
 -- the state after this chunk went to the hand for its own item; where there is no chunk, nothing changes
-abbrev pub popped : State → ℕ → Option ChunkId → State
-popped state hand None = state
-popped state hand (Some chunk) = with_look (with_fresh state hand chunk Item) hand (Popped chunk (handed_out (head_at state chunk)))
+abbrev pub state_after_pop_of : State → ℕ → Option ChunkId → State
+state_after_pop_of state hand None = state
+state_after_pop_of state hand (Some chunk) = with_look (with_fresh state hand chunk Item) hand (Popped chunk (head_after_hand_out (head_at state chunk)))
 
 -- the class's next free chunk is handed out to the hand, for an item of its own
-abbrev pub after_pop : State → ℕ → ℕ → State
-after_pop state hand class = popped (with_slabs state (slabs_changes.after_pop state.slabs class)) hand (next_free state class)
+abbrev pub state_after_pop : State → ℕ → ℕ → State
+state_after_pop state hand class = state_after_pop_of (with_slabs state (slabs_changes.after_pop state.slabs class)) hand (next_free state class)
 
 -- the chunk is off the page and isn't used up
 abbrev pub is_target : Classes → List Head → ℕ → ChunkId → Bool
@@ -90,7 +90,7 @@ abbrev pub popped_off : State → ℕ → ChunkId → Option ChunkId → State
 popped_off state hand old None = state
 popped_off state hand old (Some chunk) =
     with_look (with_fresh (with_slabs state (slabs_changes.after_replace state.slabs chunk old)) hand chunk (Copy old)) hand
-    (PoppedOff chunk old (handed_out (head_at state chunk)))
+    (PoppedOff chunk old (head_after_hand_out (head_at state chunk)))
 
 -- the first free chunk to which the old one's item can be taken gets its place, and goes to the hand for a copy
 abbrev pub after_pop_off : State → ℕ → ChunkId → State
@@ -99,7 +99,7 @@ after_pop_off state hand old = popped_off state hand old (target_of state.table 
 -- the holding is fresh, and its chunk has such a place
 abbrev pub can_fill_in : ℕ → Option Holding → Bool
 can_fill_in place None = false
-can_fill_in place (Some holding) = is_fresh holding && nat_lt place (length (words_of holding))
+can_fill_in place (Some holding) = is_fresh holding && nat_lt place (length (holding_words holding))
 
 -- the hand's first holding of the chunk is fresh, and the chunk has such a place
 abbrev pub can_fill : State → ℕ → ChunkId → ℕ → Bool
@@ -111,16 +111,16 @@ filled_kind place word (Reference item) = Reference item
 filled_kind place word (Fresh purpose words) = Fresh purpose (slice_set words place (Some word))
 
 -- the holding with one more word
-abbrev pub filled : ℕ → ℕ → Holding → Holding
-filled place word holding = record holding { kind = filled_kind place word holding.kind }
+abbrev pub holding_with_word : ℕ → ℕ → Holding → Holding
+holding_with_word place word holding = record holding { kind = filled_kind place word holding.kind }
 
 -- the word is at this place of the chunk, and the hand's fresh holding of the chunk records the word there
 abbrev pub after_fill : State → ℕ → ChunkId → ℕ → ℕ → State
-after_fill state hand chunk place word = with_word (with_changed state hand (is_of chunk) (filled place word)) chunk place word
+after_fill state hand chunk place word = with_word (with_changed state hand (is_of_chunk chunk) (holding_with_word place word)) chunk place word
 
 -- a header with one holder less
-abbrev pub let_go : Head → Head
-let_go head = record head { count = head.count - 1 }
+abbrev pub head_after_release : Head → Head
+head_after_release head = record head { count = head.count - 1 }
 
 -- there is a holding, and it is fresh or a reference, as is asked
 abbrev pub holds_as : Bool → Option Holding → Bool
@@ -137,7 +137,7 @@ can_release state hand chunk = holds_as false (holding_of chunk (holdings_at sta
 
 -- the hand gives up its first holding of the chunk, whose header counts one holder less
 abbrev pub after_drop : State → ℕ → ChunkId → State
-after_drop state hand chunk = without_holding (with_head state chunk (let_go (head_at state chunk))) hand (is_of chunk)
+after_drop state hand chunk = without_holding (with_head state chunk (head_after_release (head_at state chunk))) hand (is_of_chunk chunk)
 
 -- a header whose chunk came to its free list: issue and count are as they were
 abbrev pub with_tag_free : Head → Head
@@ -164,8 +164,8 @@ can_clear state hand chunk =
     && is_listed state.slabs (class_of_page state.slabs chunk.page) chunk
 
 -- the chunk of the moving page leaves the list that it is in and is out, with the issue that it had
-abbrev pub after_clear : State → ℕ → ChunkId → State
-after_clear state hand chunk =
+abbrev pub state_after_clear : State → ℕ → ChunkId → State
+state_after_clear state hand chunk =
     with_look (with_head (with_slabs state (slabs_changes.after_clear state.slabs chunk)) chunk (with_tag_out (head_at state chunk))) hand
     (Cleared chunk (with_tag_out (head_at state chunk)))
 
@@ -178,7 +178,7 @@ abbrev pub can_cut : State → ℕ → ChunkId → Bool
 can_cut state hand chunk = has_slabs state hand && has_chunk state.table chunk && is_next_uncut state.slabs chunk && is_out (head_at state chunk).tag
 
 -- the chunk is cut: it goes to the head of its class's free list, with the issue that it had
-abbrev pub after_cut : State → ℕ → ChunkId → State
-after_cut state hand chunk =
+abbrev pub state_after_cut : State → ℕ → ChunkId → State
+state_after_cut state hand chunk =
     with_look (with_head (with_slabs state (slabs_changes.after_cut state.slabs chunk)) chunk (with_tag_free (head_at state chunk))) hand
     (Cut chunk (with_tag_free (head_at state chunk)))

@@ -3,17 +3,17 @@ use Rattle.std.specs.Prelude.{◌≡◌, ℕ, ◌+◌, ◌-◌, ◌%◌, ◌^◌
 use Rattle.mc_core.specs.declared.head.Head.{Head}
 use Rattle.mc_core.specs.declared.head.Tag.TheVariants.{Out, Free, Unlinked, Linked}
 use Rattle.mc_core.specs.Head.{code, decode, is_dead}
-use Rattle.mc_core.specs.Chunks.{most_issue, handed_out, let_go, with_tag_free, with_tag_out}
-use Rattle.mc_core.specs.Items.{linked, unlinked, referred}
-use Rattle.mc_core.specs.Evictions.{is_linked_unheld, condemned}
+use Rattle.mc_core.specs.Chunks.{most_issue, head_after_hand_out, head_after_release, with_tag_free, with_tag_out}
+use Rattle.mc_core.specs.Items.{head_after_link, head_after_unlink, head_after_refer}
+use Rattle.mc_core.specs.Evictions.{is_linked_unheld, head_after_condemn}
 
 -- a word of 64 bits after so much is added to it
-abbrev pub plus : ℕ → ℕ → ℕ
-plus more word = (word + more) % 2 ^ 64
+abbrev pub word_plus : ℕ → ℕ → ℕ
+word_plus more word = (word + more) % 2 ^ 64
 
 -- a word of 64 bits after so much is taken from it
-abbrev pub minus : ℕ → ℕ → ℕ
-minus less word = (word + (2 ^ 64 - less)) % 2 ^ 64
+abbrev pub word_minus : ℕ → ℕ → ℕ
+word_minus less word = (word + (2 ^ 64 - less)) % 2 ^ 64
 
 -- issue number and count fit their bits
 pub record FitsBits (head : Head) : Type 0 where
@@ -29,16 +29,16 @@ pub record AreOneWord : Type 0 where
 
 -- each change of this header adds one number to its word, or takes one from it
 pub record AreSums (head : Head) : Type 0 where
-  pub hand_out : head.tag ≡ Free → head.count ≡ 0 → head.issue < most_issue → code (handed_out head) ≡ plus 327681 (code head)
-  pub refer : head.count < 65535 → code (referred head) ≡ plus 1 (code head)
-  pub release : 1 ≤ head.count → code (let_go head) ≡ minus 1 (code head)
-  pub link : head.tag ≡ Unlinked → head.count < 65535 → code (linked head) ≡ plus 65537 (code head)
-  pub unlink : head.tag ≡ Linked → 1 ≤ head.count → code (unlinked head) ≡ minus 65537 (code head)
-  pub condemn : is_linked_unheld head ≡ true → code (condemned head) ≡ minus 65537 (code head)
-  pub put_back : is_dead head ≡ true → code (with_tag_free head) ≡ minus 65536 (code head)
-  pub clear_free : head.tag ≡ Free → code (with_tag_out head) ≡ minus 65536 (code head)
-  pub clear_dead : is_dead head ≡ true → code (with_tag_out head) ≡ minus 131072 (code head)
-  pub cut : head.tag ≡ Out → code (with_tag_free head) ≡ plus 65536 (code head)
+  pub hand_out : head.tag ≡ Free → head.count ≡ 0 → head.issue < most_issue → code (head_after_hand_out head) ≡ word_plus 327681 (code head)
+  pub refer : head.count < 65535 → code (head_after_refer head) ≡ word_plus 1 (code head)
+  pub release : 1 ≤ head.count → code (head_after_release head) ≡ word_minus 1 (code head)
+  pub link : head.tag ≡ Unlinked → head.count < 65535 → code (head_after_link head) ≡ word_plus 65537 (code head)
+  pub unlink : head.tag ≡ Linked → 1 ≤ head.count → code (head_after_unlink head) ≡ word_minus 65537 (code head)
+  pub condemn : is_linked_unheld head ≡ true → code (head_after_condemn head) ≡ word_minus 65537 (code head)
+  pub put_back : is_dead head ≡ true → code (with_tag_free head) ≡ word_minus 65536 (code head)
+  pub clear_free : head.tag ≡ Free → code (with_tag_out head) ≡ word_minus 65536 (code head)
+  pub clear_dead : is_dead head ≡ true → code (with_tag_out head) ≡ word_minus 131072 (code head)
+  pub cut : head.tag ≡ Out → code (with_tag_free head) ≡ word_plus 65536 (code head)
 
 -- each change of each header that fits its bits adds one number to its word, or takes one from it
 abbrev pub AllAreSums : Type 0

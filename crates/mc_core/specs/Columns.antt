@@ -9,7 +9,7 @@ use Rattle.mc_core.specs.declared.head.Tag.{Tag}
 use Rattle.mc_core.specs.declared.head.Tag.TheVariants.{Unlinked, Linked}
 use Rattle.mc_core.specs.declared.holding.Holding.{Holding}
 use Rattle.mc_core.specs.Head.{never_cut, is_linked}
-use Rattle.mc_core.specs.Holdings.{Words, is_of}
+use Rattle.mc_core.specs.Holdings.{Words, is_of_chunk}
 use Rattle.mc_core.specs.State.{head_place, room_in, page_words}
 
 -- the header at the chunk's place; where there is none, that of a chunk never cut
@@ -31,17 +31,17 @@ abbrev pub Each : {X : Type 0} → (X → Type 0) → List (List X) → Type 0
 Each P = All (All P)
 
 -- how often one hand holds the chunk
-abbrev pub holds : ChunkId → List Holding → ℕ
-holds chunk holdings = count_by (is_of chunk) holdings
+abbrev pub count_of_holdings : ChunkId → List Holding → ℕ
+count_of_holdings chunk holdings = count_by (is_of_chunk chunk) holdings
 
 -- how often all hands together hold the chunk, each counted as often as it holds it
-abbrev pub holders : ChunkId → List (List Holding) → ℕ
-holders chunk [] = 0
-holders chunk (row ∷ rows) = holds chunk row + holders chunk rows
+abbrev pub holder_count : ChunkId → List (List Holding) → ℕ
+holder_count chunk [] = 0
+holder_count chunk (row ∷ rows) = count_of_holdings chunk row + holder_count chunk rows
 
 -- what a header counts for its link: 1 where its chunk is linked, and else 0
-abbrev pub link_of : Tag → ℕ
-link_of tag = truth (is_linked tag)
+abbrev pub link_count : Tag → ℕ
+link_count tag = truth (is_linked tag)
 
 -- the chunk is handed out with this issue number
 abbrev pub IsHandedOut : Head → ℕ → Type 0

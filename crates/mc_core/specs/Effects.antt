@@ -6,7 +6,7 @@ use Rattle.mc_core.specs.declared.event.Event.{Event}
 use Rattle.mc_core.specs.declared.event.Step.{Step}
 use Rattle.mc_core.specs.Head.{never_cut}
 use Rattle.mc_core.specs.State.{State, number_at}
-use Rattle.mc_core.specs.Run.{is_allowed, play}
+use Rattle.mc_core.specs.Run.{is_allowed, state_after_all}
 use Rattle.mc_core.specs.Histories.{hand_of}
 use Rattle.mc_core.specs.Past.{Moment, history_at, moment_changed, moment_stepped, moment_after}
 use Rattle.mc_core.specs.Lawful.{IsLawful}
@@ -56,4 +56,4 @@ pub record HistoriesGrow : Type 0 where
 
 -- a run is played to its end, and its state is that of its last moment
 abbrev pub RunsArePlayed : Type 0
-RunsArePlayed = (moment : Moment) (events : List Event) → IsRun moment events → play moment.state events ≡ Ok ((moment_at_end moment events).state)
+RunsArePlayed = (moment : Moment) (events : List Event) → IsRun moment events → state_after_all moment.state events ≡ Ok ((moment_at_end moment events).state)

@@ -7,7 +7,7 @@ use Rattle.mc_pages.specs.ClassState.{first_free}
 use Rattle.mc_pages.specs.Pages.{is_on_the_move}
 use Rattle.mc_pages.specs.Changes.{next_page}
 use Rattle.mc_pages.specs.SlabState.{SlabState, class_of_chunk, class_of_page}
-use Rattle.mc_stripe.specs.StripeState.{ReadyStripe, place_of}
+use Rattle.mc_stripe.specs.StripeState.{ReadyStripe, chunk_and_stamp}
 use Rattle.mc_stripe.specs.Changes.{after_evict, after_lift, used_up}
 use Rattle.mc_core.specs.declared.head.Head.{Head}
 use Rattle.mc_core.specs.declared.head.Tag.TheVariants.{Unlinked}
@@ -17,7 +17,7 @@ use Rattle.mc_core.specs.declared.holding.Purpose.TheVariants.{Rescue}
 use Rattle.mc_core.specs.declared.look.Look.{Look}
 use Rattle.mc_core.specs.declared.look.Look.TheVariants.{Condemned}
 use Rattle.mc_core.specs.Head.{is_linked}
-use Rattle.mc_core.specs.Holdings.{is_copy_of, words_of}
+use Rattle.mc_core.specs.Holdings.{is_copy_of, holding_words}
 use Rattle.mc_core.specs.Looks.{is_found_alive}
 use Rattle.mc_core.specs.State.{State, has_chunk, head_at, with_head, word_at, item_at, has_slabs, has_stripe, stripe_of, stripe_at, with_stripe, holdings_at, with_changed, looks_at, with_look}
 use Rattle.mc_core.specs.Silent.{none_half_cut, writer_of}
@@ -55,7 +55,7 @@ is_linked_unheld head = is_linked head.tag && head.count == 1
 
 -- the stripe has room for a call, the key leads somewhere, and where its entry is to be put aside none is aside
 abbrev pub can_lose_entry : ReadyStripe → ℕ → Bool → Bool
-can_lose_entry stripe key rescues = stripe.ready && is_some (place_of stripe.state key) && (not rescues || is_none stripe.state.aside)
+can_lose_entry stripe key rescues = stripe.ready && is_some (chunk_and_stamp stripe.state key) && (not rescues || is_none stripe.state.aside)
 
 -- under both locks: the chunk is linked and unheld, its key's entry can go, and there is a reason to take the item away
 abbrev pub can_condemn : State → ℕ → ChunkId → Bool
@@ -65,12 +65,12 @@ can_condemn state hand chunk =
     && has_reason state.table state.heads state.slabs (looks_at state hand) (holdings_at state hand) chunk
 
 -- a header after its item was taken away
-abbrev pub condemned : Head → Head
-condemned head = record { issue = head.issue; tag = Unlinked; count = 0 }
+abbrev pub head_after_condemn : Head → Head
+head_after_condemn head = record { issue = head.issue; tag = Unlinked; count = 0 }
 
 -- the fresh chunk is to have these words, and no others
 abbrev pub as_rescue : ChunkId → List ℕ → Holding → Holding
-as_rescue old item holding = record holding { kind = Fresh (Rescue old item) (words_of holding) }
+as_rescue old item holding = record holding { kind = Fresh (Rescue old item) (holding_words holding) }
 
 -- the stripe after a key's item was taken away: for a rescue the key's entry was put aside, and otherwise evicted
 abbrev pub stripe_condemned : ReadyStripe → Bool → ℕ → ℕ → ReadyStripe
@@ -82,12 +82,12 @@ abbrev pub with_bound : State → ℕ → ChunkId → List ℕ → State
 with_bound state hand chunk item = with_changed state hand (is_copy_of chunk) (as_rescue chunk item)
 
 -- the stripe of the key knows that the item was taken away
-abbrev pub with_told : State → ℕ → ChunkId → ℕ → State
-with_told state hand chunk key =
+abbrev pub with_eviction_call : State → ℕ → ChunkId → ℕ → State
+with_eviction_call state hand chunk key =
     with_stripe state (stripe_of state key) (stripe_condemned (stripe_at state (stripe_of state key)) (has_copy (holdings_at state hand) chunk) (writer_of state hand) key)
 
 -- the chunk is dead, its key's entry evicted, or put aside where the hand has a copy, which is to have its words
 abbrev pub after_condemn : State → ℕ → ChunkId → State
 after_condemn state hand chunk =
-    with_look (with_head (with_bound (with_told state hand chunk (key_at state chunk)) hand chunk (item_at state chunk)) chunk (condemned (head_at state chunk)))
-    hand (Condemned chunk (condemned (head_at state chunk)))
+    with_look (with_head (with_bound (with_eviction_call state hand chunk (key_at state chunk)) hand chunk (item_at state chunk)) chunk (head_after_condemn (head_at state chunk)))
+    hand (Condemned chunk (head_after_condemn (head_at state chunk)))

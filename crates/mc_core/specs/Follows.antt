@@ -2,36 +2,36 @@
 use Rattle.std.specs.Prelude.{◌≡◌, ◌⊎◌, ℕ, ◌<◌, true, List, [], length, slice_get, slice_index_or, Some, All}
 use Rattle.mc_pages.specs.declared.ids.ChunkId.{ChunkId}
 use Rattle.mc_stripe.specs.declared.history.Call.{Call}
-use Rattle.mc_stripe.specs.StripeState.{place_of}
+use Rattle.mc_stripe.specs.StripeState.{chunk_and_stamp}
 use Rattle.mc_core.specs.declared.event.Event.{Event}
 use Rattle.mc_core.specs.declared.event.Step.TheVariants.{Join}
 use Rattle.mc_core.specs.declared.head.Tag.TheVariants.{Linked}
-use Rattle.mc_core.specs.Holdings.{all_known, key_of, stamp_of, length_of}
+use Rattle.mc_core.specs.Holdings.{all_known, key_of, stamp_in_words, length_of_item}
 use Rattle.mc_core.specs.State.{has_chunk, holdings_at}
 use Rattle.mc_core.specs.Columns.{head_in, Shows}
 use Rattle.mc_core.specs.Past.{Moment, moment_after}
 use Rattle.mc_core.specs.Run.{is_allowed}
 use Rattle.mc_core.specs.Histories.{IsBeginning}
 use Rattle.mc_core.specs.Indexed.{stripe_for}
-use Rattle.mc_core.specs.Knowing.{IsSaid}
+use Rattle.mc_core.specs.Knowing.{WasStored}
 use Rattle.mc_core.specs.Lawful.{IsLawful, IsKept}
 
 -- in every lawful moment each holding of each hand is kept
-abbrev pub AreKept : Type 0
-AreKept = (moment : Moment) → IsLawful moment → (hand : ℕ) → All (IsKept moment.state) (holdings_at moment.state hand)
+abbrev pub HoldingsAreKept : Type 0
+HoldingsAreKept = (moment : Moment) → IsLawful moment → (hand : ℕ) → All (IsKept moment.state) (holdings_at moment.state hand)
 
 -- the words of a linked chunk are a whole item, which was stored with the stamp of the key's entry
-pub record IsSaidItem (moment : Moment) (chunk : ChunkId) : Type 0 where
+pub record IsStoredItem (moment : Moment) (chunk : ChunkId) : Type 0 where
   pub words : List ℕ
-  pub whole : length words ≡ length_of words
+  pub whole : length words ≡ length_of_item words
   pub shows : Shows moment.state.table moment.state.slabs moment.state.words chunk (all_known words)
-  pub said : IsSaid moment.past.said (stamp_of words) words
-  pub entry : place_of (stripe_for moment.state.stripes (key_of words)).state (key_of words) ≡ Some (chunk, stamp_of words)
+  pub said : WasStored moment.past.said (stamp_in_words words) words
+  pub entry : chunk_and_stamp (stripe_for moment.state.stripes (key_of words)).state (key_of words) ≡ Some (chunk, stamp_in_words words)
 
 -- in every lawful moment the words of each linked chunk are a whole item, which was stored with the stamp of its key's entry
-abbrev pub AreSaidItems : Type 0
-AreSaidItems = (moment : Moment) → IsLawful moment → (chunk : ChunkId) → has_chunk moment.state.table chunk ≡ true → (head_in moment.state.table moment.state.heads chunk).tag ≡ Linked →
-    IsSaidItem moment chunk
+abbrev pub LinkedItemsAreStored : Type 0
+LinkedItemsAreStored = (moment : Moment) → IsLawful moment → (chunk : ChunkId) → has_chunk moment.state.table chunk ≡ true → (head_in moment.state.table moment.state.heads chunk).tag ≡ Linked →
+    IsStoredItem moment chunk
 
 -- what a hand saw of a history begins what it sees after an event; or what the hand sees that took it over
 abbrev pub SeenGrows : Type 0

@@ -5,18 +5,18 @@ use Rattle.mc_core.specs.declared.event.Step.{Step}
 use Rattle.mc_core.specs.declared.event.Step.TheVariants.{Join}
 use Rattle.mc_core.specs.State.{State, has_slabs, has_stripe, stripe_at}
 use Rattle.mc_core.specs.Past.{Moment, moment_changed, moment_stepped}
-use Rattle.mc_core.specs.Views.{row_at, held_slabs, held_stripe}
+use Rattle.mc_core.specs.Views.{hand_row, held_slabs, held_stripe}
 use Rattle.mc_core.specs.Laws.{MayChange, MayStep}
 
 -- pages and lists, and the value of each stripe, are as they were, or the hand has their lock
-pub record AreGuarded (before now : State) (hand : ℕ) : Type 0 where
+pub record ChangesUnderLocks (before now : State) (hand : ℕ) : Type 0 where
   pub slabs : (now.slabs ≡ before.slabs) ⊎ (has_slabs before hand ≡ true)
   pub stripes : (stripe : ℕ) → (stripe_at now stripe ≡ stripe_at before stripe) ⊎ (has_stripe before hand stripe ≡ true)
   pub count : length now.stripes ≡ length before.stripes
 
 -- the hand has what it had, and sees the same behind the locks that it has
 pub record HasSame (before now : Moment) (hand : ℕ) : Type 0 where
-  pub row : row_at now hand ≡ row_at before hand
+  pub row : hand_row now hand ≡ hand_row before hand
   pub slabs : held_slabs now.state hand ≡ held_slabs before.state hand
   pub stripes : (stripe : ℕ) → held_stripe now.state hand stripe ≡ held_stripe before.state hand stripe
 
@@ -24,7 +24,7 @@ pub record HasSame (before now : Moment) (hand : ℕ) : Type 0 where
 pub record IsFramed (before now : Moment) (hand : ℕ) (IsOther : ℕ → Type 0) : Type 0 where
   pub table : now.state.table ≡ before.state.table
   pub hands : length now.state.ids ≡ length before.state.ids
-  pub guarded : AreGuarded before.state now.state hand
+  pub guarded : ChangesUnderLocks before.state now.state hand
   pub others : (other : ℕ) → IsOther other → HasSame before now other
 
 -- the step takes this hand over

@@ -5,11 +5,11 @@ use Rattle.mc_core.specs.declared.head.Tag.{Tag}
 use Rattle.mc_core.specs.declared.head.Tag.TheVariants.{Out, Free, Unlinked, Linked}
 
 -- the number of a tag in a header's word
-abbrev pub number_of : Tag → ℕ
-number_of Out = 0
-number_of Free = 1
-number_of Unlinked = 2
-number_of Linked = 3
+abbrev pub number_of_tag : Tag → ℕ
+number_of_tag Out = 0
+number_of_tag Free = 1
+number_of_tag Unlinked = 2
+number_of_tag Linked = 3
 
 -- the tag of a number; any beyond is read as Linked
 abbrev pub tag_of : ℕ → Tag
@@ -20,7 +20,7 @@ tag_of (suc (suc (suc n))) = Linked
 
 -- the header as a word: its count in the lowest 16 bits, the number of its tag in the next 2, and above them its issue
 unfoldable pub code : Head → ℕ
-code head = head.issue * 262144 + number_of head.tag * 65536 + head.count
+code head = head.issue * 262144 + number_of_tag head.tag * 65536 + head.count
 
 -- the header that a word is
 unfoldable pub decode : ℕ → Head

@@ -5,8 +5,8 @@ use Rattle.mc_stripe.specs.declared.history.Call.TheVariants.{Set, Get, Delete, 
 use Rattle.mc_stripe.specs.declared.history.Call.TheVariants as call
 use Rattle.mc_stripe.specs.StripeState.{ReadyStripe}
 use Rattle.mc_core.specs.Holdings.{key_of}
-use Rattle.mc_core.specs.Past.{Own, Saying}
-use Rattle.mc_core.specs.Identities.{owners, said_count}
+use Rattle.mc_core.specs.Past.{Own, StoredItem}
+use Rattle.mc_core.specs.Identities.{count_in_hands, stored_count}
 use Rattle.mc_core.specs.Indexed.{stripe_for}
 use Rattle.mc_core.specs.Columns.{Each}
 
@@ -38,16 +38,16 @@ set_count stamp [] = 0
 set_count stamp (stripe ∷ stripes) = count_by (is_set_of stamp) stripe.state.history + set_count stamp stripes
 
 -- the history of the key's stripe has the set of these words, with their stamp and its hand's number
-abbrev pub IsStored : List ReadyStripe → Saying → Type 0
+abbrev pub IsStored : List ReadyStripe → StoredItem → Type 0
 IsStored stripes s = Contains (stripe_for stripes (key_of s.words)).state.history (Set (s.stamp / 2 ^ 48) (key_of s.words) s.stamp)
 
 -- histories: a hand's own calls are those of its numbers, and what it saw begins the present history. Each call has one hand's number. Each
 -- stamp is in the histories as often as hands stored it
-pub record AreTold (stripes : List ReadyStripe) (mine : List (List Own)) (seen : List (List (List Call))) (said : List (List Saying)) : Type 0 where
+pub record AreRecorded (stripes : List ReadyStripe) (mine : List (List Own)) (seen : List (List (List Call))) (said : List (List StoredItem)) : Type 0 where
   pub own_calls : Each (λ own. own.calls ≡ map (λ (value : ReadyStripe). filter (λ call. hand_of call == own.number) value.state.history) stripes) mine
   pub begun : All (λ row. (stripe : ℕ) (calls : List Call) (value : ReadyStripe) → slice_get row stripe ≡ Some calls → slice_get stripes stripe ≡ Some value →
       IsBeginning calls value.state.history) seen
-  pub writers : All (λ (value : ReadyStripe). All (λ call. owners (hand_of call) mine ≡ 1) value.state.history) stripes
+  pub writers : All (λ (value : ReadyStripe). All (λ call. count_in_hands (hand_of call) mine ≡ 1) value.state.history) stripes
   pub sets : (stripe : ℕ) (value : ReadyStripe) → slice_get stripes stripe ≡ Some value → All (IsSetIn (length stripes) stripe) value.state.history
-  pub stored_once : (stamp : ℕ) → set_count stamp stripes ≡ said_count stamp said
+  pub stored_once : (stamp : ℕ) → set_count stamp stripes ≡ stored_count stamp said
   pub stored : Each (IsStored stripes) said

@@ -4,16 +4,16 @@ use Rattle.mc_pages.specs.Accounted.{truth}
 use Rattle.mc_core.specs.declared.holding.Holding.{Holding}
 use Rattle.mc_core.specs.declared.ids.Ids.{Ids}
 use Rattle.mc_core.specs.declared.look.Look.{Look}
-use Rattle.mc_core.specs.Past.{Own, Saying, Known, Past}
-use Rattle.mc_core.specs.State.{gone, is_held_by}
+use Rattle.mc_core.specs.Past.{Own, StoredItem, KnownItem, Past}
+use Rattle.mc_core.specs.State.{no_ids, is_held_by}
 
 -- the number of a hand, none where it is gone or was never there
 abbrev pub number_in : List Ids → ℕ → Option ℕ
-number_in ids hand = (slice_index_or ids hand gone).number
+number_in ids hand = (slice_index_or ids hand no_ids).number
 
 -- how many stamps a hand gave out, 0 where it is gone or was never there
-abbrev pub stamps_in : List Ids → ℕ → ℕ
-stamps_in ids hand = (slice_index_or ids hand gone).stamps
+abbrev pub stamps_given : List Ids → ℕ → ℕ
+stamps_given ids hand = (slice_index_or ids hand no_ids).stamps
 
 -- the lock is free, or one of the hands has it
 abbrev pub IsFreeOrHeld : List Ids → ℕ → Type 0
@@ -26,7 +26,7 @@ pub record AreHands (ids : List Ids) (slabs_lock : ℕ) (locks : List ℕ) (hold
   pub look_rows : length looks ≡ length ids
   pub numbers : (hand number : ℕ) → number_in ids hand ≡ Some number → number < 64
   pub apart : (a b number : ℕ) → number_in ids a ≡ Some number → number_in ids b ≡ Some number → a ≡ b
-  pub stamps : (hand : ℕ) → stamps_in ids hand < 2 ^ 48
+  pub stamps : (hand : ℕ) → stamps_given ids hand < 2 ^ 48
   pub slabs : IsFreeOrHeld ids slabs_lock
   pub stripes : All (IsFreeOrHeld ids) locks
   pub nothing : (hand : ℕ) → number_in ids hand ≡ None → slice_index_or holdings hand [] ≡ []
@@ -42,34 +42,34 @@ pub record HaveRows (ids : List Ids) (stripes : ℕ) (past : Past) : Type 0 wher
   pub histories : (hand : ℕ) → is_some (number_in ids hand) ≡ true → length (slice_index_or past.seen hand []) ≡ stripes
 
 -- how often the number is among those of one hand, those of hands that it took over counted in
-abbrev pub owns : ℕ → List Own → ℕ
-owns number row = count_by (λ (own : Own). own.number == number) row
+abbrev pub count_in_hand : ℕ → List Own → ℕ
+count_in_hand number row = count_by (λ (own : Own). own.number == number) row
 
 -- how often the number is among those of all hands, those taken over counted in
-abbrev pub owners : ℕ → List (List Own) → ℕ
-owners number [] = 0
-owners number (row ∷ rows) = owns number row + owners number rows
+abbrev pub count_in_hands : ℕ → List (List Own) → ℕ
+count_in_hands number [] = 0
+count_in_hands number (row ∷ rows) = count_in_hand number row + count_in_hands number rows
 
 -- how often one hand stored words with the stamp
-abbrev pub said_times : ℕ → List Saying → ℕ
-said_times stamp row = count_by (λ (s : Saying). s.stamp == stamp) row
+abbrev pub stored_times : ℕ → List StoredItem → ℕ
+stored_times stamp row = count_by (λ (s : StoredItem). s.stamp == stamp) row
 
 -- how often all hands together stored words with the stamp
-abbrev pub said_count : ℕ → List (List Saying) → ℕ
-said_count stamp [] = 0
-said_count stamp (row ∷ rows) = said_times stamp row + said_count stamp rows
+abbrev pub stored_count : ℕ → List (List StoredItem) → ℕ
+stored_count stamp [] = 0
+stored_count stamp (row ∷ rows) = stored_times stamp row + stored_count stamp rows
 
 -- of the stamps of a number, those with a count from 1 to n were stored, each once
-abbrev pub AreCountedTo : ℕ → ℕ → List Saying → Type 0
-AreCountedTo most number row = (count : ℕ) → count < 2 ^ 48 → said_times (number * 2 ^ 48 + count) row ≡ truth (nat_le 1 count && nat_le count most)
+abbrev pub AreCountedTo : ℕ → ℕ → List StoredItem → Type 0
+AreCountedTo most number row = (count : ℕ) → count < 2 ^ 48 → stored_times (number * 2 ^ 48 + count) row ≡ truth (nat_le 1 count && nat_le count most)
 
 -- numbers: each is one hand's, which got it or took its hand over. The stamps that a hand stored are of its numbers, and their counts have
 -- no gap
-pub record AreNumbered (ids : List Ids) (mine : List (List Own)) (said : List (List Saying)) (known : List (List Known)) : Type 0 where
-  pub apart : (number : ℕ) → owners number mine ≤ 1
-  pub own : (hand number : ℕ) → number_in ids hand ≡ Some number → owns number (slice_index_or mine hand []) ≡ 1
-  pub stamps : (hand number : ℕ) → number_in ids hand ≡ Some number → AreCountedTo (stamps_in ids hand) number (slice_index_or said hand [])
+pub record AreNumbered (ids : List Ids) (mine : List (List Own)) (said : List (List StoredItem)) (known : List (List KnownItem)) : Type 0 where
+  pub apart : (number : ℕ) → count_in_hands number mine ≤ 1
+  pub own : (hand number : ℕ) → number_in ids hand ≡ Some number → count_in_hand number (slice_index_or mine hand []) ≡ 1
+  pub stamps : (hand number : ℕ) → number_in ids hand ≡ Some number → AreCountedTo (stamps_given ids hand) number (slice_index_or said hand [])
   pub gapless : (hand : ℕ) → All (λ (own : Own). (most : ℕ) × AreCountedTo most own.number (slice_index_or said hand [])) (slice_index_or mine hand [])
-  pub of_own : (hand : ℕ) → All (λ (s : Saying). owns (s.stamp / 2 ^ 48) (slice_index_or mine hand []) ≡ 1) (slice_index_or said hand [])
+  pub of_own : (hand : ℕ) → All (λ (s : StoredItem). count_in_hand (s.stamp / 2 ^ 48) (slice_index_or mine hand []) ≡ 1) (slice_index_or said hand [])
   -- a hand that is gone has no number, and neither stored nor knows anything
   pub nothing : (hand : ℕ) → number_in ids hand ≡ None → (slice_index_or mine hand [] ≡ []) × (slice_index_or said hand [] ≡ []) × (slice_index_or known hand [] ≡ [])

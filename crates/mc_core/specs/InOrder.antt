@@ -9,8 +9,8 @@ use Rattle.mc_core.specs.Head.{never_cut}
 use Rattle.mc_core.specs.State.{State}
 
 -- the state as its callers see it
-abbrev pub state_of : Inside → State
-state_of state = record {
+abbrev pub callers_state : Inside → State
+callers_state state = record {
   table = state.table;
   heads = state.heads.items;
   words = state.words.items;
@@ -36,7 +36,7 @@ abbrev pub AreIssued : List Head → Type 0
 AreIssued heads = (place : ℕ) → (slice_index_or heads place never_cut).issue < 2 ^ 46
 
 -- the table is sound, pages and lists are its own, issue numbers fit, and no lock and no row of a hand is missing
-pub record IsInOrder (state : State) : Type 0 where
+pub record IsStateInOrder (state : State) : Type 0 where
   pub sound : IsSound state.table
   pub slabs : IsOfTable state.table state.slabs
   pub issued : AreIssued state.heads

@@ -3,7 +3,7 @@ use Rattle.std.specs.Prelude.{true, ◌≡◌, ℕ, ◌+◌, ◌%◌, ◌≤◌,
 use Rattle.mc_classes.specs.Classes.{Classes}
 use Rattle.mc_pages.specs.declared.ids.ChunkId.{ChunkId}
 use Rattle.mc_pages.specs.SlabState.{SlabState, class_of_page}
-use Rattle.mc_stripe.specs.StripeState.{ReadyStripe, new_stripe, place_of}
+use Rattle.mc_stripe.specs.StripeState.{ReadyStripe, new_stripe, chunk_and_stamp}
 use Rattle.mc_stripe.specs.Legal.{IsLegal}
 use Rattle.mc_core.specs.declared.head.Head.{Head}
 use Rattle.mc_core.specs.declared.head.Tag.TheVariants.{Linked}
@@ -24,10 +24,10 @@ stripe_for stripes key = slice_index_or stripes (key % length stripes) new_strip
 
 -- index: the entries of the stripes are the linked chunks, each in its key's stripe
 pub record AreIndexed (table : Classes) (slabs : SlabState) (heads : List Head) (words : List ℕ) (stripes : List ReadyStripe) : Type 0 where
-  pub entries : (stripe key stamp : ℕ) (value : ReadyStripe) (chunk : ChunkId) → slice_get stripes stripe ≡ Some value → place_of value.state key ≡ Some (chunk, stamp) →
+  pub entries : (stripe key stamp : ℕ) (value : ReadyStripe) (chunk : ChunkId) → slice_get stripes stripe ≡ Some value → chunk_and_stamp value.state key ≡ Some (chunk, stamp) →
       (key % length stripes ≡ stripe) × IsEntry table slabs heads words key stamp chunk
   pub linked : (chunk : ChunkId) → has_chunk table chunk ≡ true → (head_in table heads chunk).tag ≡ Linked →
-      place_of (stripe_for stripes (slice_index words (place_in table slabs chunk 0))).state (slice_index words (place_in table slabs chunk 0))
+      chunk_and_stamp (stripe_for stripes (slice_index words (place_in table slabs chunk 0))).state (slice_index words (place_in table slabs chunk 0))
       ≡ Some (chunk, slice_index words (place_in table slabs chunk 1))
 
 -- stripes: each history is legal and makes its index. A free stripe has nothing aside, and an entry aside has a key of its stripe

@@ -1,6 +1,6 @@
 -- The law: what holds of a moment between any two events; and what a holding means.
 use Rattle.std.specs.Prelude.{◌≡◌, ℕ, true, [], length, slice_index_or}
-use Rattle.mc_pages.specs.SlabState.{IsClass, class_of_page}
+use Rattle.mc_pages.specs.SlabState.{HasClass, class_of_page}
 use Rattle.mc_core.specs.declared.holding.Holding.{Holding}
 use Rattle.mc_core.specs.State.{State, has_slabs}
 use Rattle.mc_core.specs.Past.{Past, Moment, no_hold}
@@ -11,8 +11,8 @@ use Rattle.mc_core.specs.Indexed.{AreIndexed, AreLegal}
 use Rattle.mc_core.specs.Seen.{AreSeen}
 use Rattle.mc_core.specs.Identities.{AreHands, HaveRows, AreNumbered}
 use Rattle.mc_core.specs.Knowing.{AreKnown, IsRescue}
-use Rattle.mc_core.specs.Histories.{AreTold}
-use Rattle.mc_core.specs.Holdings.{words_of}
+use Rattle.mc_core.specs.Histories.{AreRecorded}
+use Rattle.mc_core.specs.Holdings.{holding_words}
 
 -- in this moment each index of each page has its header, and each page all its data words
 abbrev pub SizedIn : Moment → Type 0
@@ -73,8 +73,8 @@ abbrev pub RescuedIn : Moment → Type 0
 RescuedIn m = Each (λ holding. IsRescue m.past.said holding.chunk holding.kind) m.state.holdings
 
 -- in this moment a hand's own calls are the histories', which begin with what the hand saw and have the stamps that hands stored
-abbrev pub ToldIn : Moment → Type 0
-ToldIn m = AreTold m.state.stripes m.past.mine m.past.seen m.past.said
+abbrev pub RecordedIn : Moment → Type 0
+RecordedIn m = AreRecorded m.state.stripes m.past.mine m.past.seen m.past.said
 
 -- *lawful*: what holds of the moment, subject by subject
 pub record IsLawful (moment : Moment) : Type 0 where
@@ -91,10 +91,10 @@ pub record IsLawful (moment : Moment) : Type 0 where
   pub seen : SeenIn moment
   pub known : KnownIn moment
   pub rescued : RescuedIn moment
-  pub told : ToldIn moment
+  pub told : RecordedIn moment
 
 -- *kept*: the chunk of a holding is handed out with its issue and has its words; its page belongs to a class or moves away from one
 pub record IsKept (state : State) (holding : Holding) : Type 0 where
   pub handed_out : IsHandedOut (head_in state.table state.heads holding.chunk) holding.issue
-  pub shows : Shows state.table state.slabs state.words holding.chunk (words_of holding)
-  pub owned : IsClass state.slabs (class_of_page state.slabs holding.chunk.page)
+  pub shows : Shows state.table state.slabs state.words holding.chunk (holding_words holding)
+  pub owned : HasClass state.slabs (class_of_page state.slabs holding.chunk.page)

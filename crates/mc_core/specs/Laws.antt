@@ -9,7 +9,7 @@ use Rattle.mc_core.specs.declared.event.Step.{Step}
 use Rattle.mc_core.specs.State.{State, is_hand, has_chunk, new_state}
 use Rattle.mc_core.specs.Silent.{allows_change}
 use Rattle.mc_core.specs.Chunks.{most_issue}
-use Rattle.mc_core.specs.Run.{allows_step, is_allowed, play}
+use Rattle.mc_core.specs.Run.{allows_step, is_allowed, state_after_all}
 use Rattle.mc_core.specs.Columns.{head_in, IsHandedOut}
 use Rattle.mc_core.specs.Past.{Moment, moment_changed, moment_stepped, moment_after, first_moment}
 use Rattle.mc_core.specs.Lawful.{IsLawful}
@@ -67,11 +67,11 @@ IsRun moment (event ∷ events) = (is_allowed moment.state event ≡ true) × Is
 
 -- where events are played to the end, they are a run, and their state is that of the run's last moment
 abbrev pub ArePlayed : List Event → Type 0
-ArePlayed events = (moment : Moment) (state : State) → play moment.state events ≡ Ok state → IsRun moment events × ((moment_at_end moment events).state ≡ state)
+ArePlayed events = (moment : Moment) (state : State) → state_after_all moment.state events ≡ Ok state → IsRun moment events × ((moment_at_end moment events).state ≡ state)
 
 -- every moment of a run is lawful; and what is played to the end from the beginning ends in a lawful moment
 pub record AreLawful : Type 0 where
   pub runs : (moment : Moment) (events : List Event) → IsLawful moment → IsRun moment events → IsLawful (moment_at_end moment events)
   pub from_first : (table : Classes) (stripes hands start : ℕ) (events : List Event) (state : State) → IsSound table → 1 ≤ stripes → 1 ≤ hands → hands ≤ 64 → start ≤ most_issue →
-      play (new_state table stripes hands start) events ≡ Ok state →
+      state_after_all (new_state table stripes hands start) events ≡ Ok state →
       ((moment_at_end (first_moment table stripes hands start) events).state ≡ state) × IsLawful (moment_at_end (first_moment table stripes hands start) events)

@@ -8,8 +8,8 @@ use Rattle.mc_core.specs.State.{State, has_chunk, head_at, number_at, has_slabs,
 use Rattle.mc_core.specs.Silent.{none_half_cut}
 
 -- the hand saw or did this, which counts under the slabs lock alone
-abbrev pub looked : State → ℕ → Look → State
-looked state hand look = if has_slabs state hand then with_look state hand look else state
+abbrev pub state_after_look : State → ℕ → Look → State
+state_after_look state hand look = if has_slabs state hand then with_look state hand look else state
 
 -- the arena has the chunk, so any hand may look at its header, with a lock or without
 abbrev pub can_look : State → ChunkId → Bool
@@ -17,7 +17,7 @@ can_look state chunk = has_chunk state.table chunk
 
 -- the hand looked at the chunk's header, which counts under the slabs lock alone
 abbrev pub after_look : State → ℕ → ChunkId → State
-after_look state hand chunk = looked state hand (Saw chunk (head_at state chunk))
+after_look state hand chunk = state_after_look state hand (Saw chunk (head_at state chunk))
 
 -- the arena has a stripe of this number; they are numbered from 0
 abbrev pub has_stripes : State → ℕ → Bool
@@ -25,7 +25,7 @@ has_stripes state stripe = nat_lt stripe (length state.stripe_locks)
 
 -- the hand looked at the word of the stripe's lock, which counts under the slabs lock alone
 abbrev pub after_miss_stripe : State → ℕ → ℕ → State
-after_miss_stripe state hand stripe = looked state hand (SawStripe stripe (slice_index state.stripe_locks stripe))
+after_miss_stripe state hand stripe = state_after_look state hand (SawStripe stripe (slice_index state.stripe_locks stripe))
 
 -- the word of a lock that the hand has: its number plus 1
 abbrev pub lock_word : State → ℕ → ℕ

@@ -10,7 +10,7 @@ use Rattle.mc_core.specs.Holdings.{is_fresh, holding_of}
 use Rattle.mc_core.specs.State.{is_class, has_chunk, head_at, holdings_at}
 use Rattle.mc_core.specs.Silent.{is_handed_out, is_listed}
 use Rattle.mc_core.specs.Chunks.{most_holdings, next_free, target_of}
-use Rattle.mc_core.specs.Items.{can_count, chunk_of}
+use Rattle.mc_core.specs.Items.{can_count, chunk_of_key}
 use Rattle.mc_core.specs.Codes.{FitsBits}
 use Rattle.mc_core.specs.Past.{Moment}
 use Rattle.mc_core.specs.Lawful.{IsLawful}
@@ -41,7 +41,7 @@ pub record AreNeedless (m : Moment) : Type 0 where
   -- what is cut next is out
   pub uncut : (chunk : ChunkId) → m.state.slabs.uncut ≡ Some chunk → (has_chunk m.state.table chunk ≡ true) × ((head_at m.state chunk).tag ≡ Out)
   -- the chunk to which a key leads is linked
-  pub entry : (key : ℕ) (place : ChunkId × ℕ) → chunk_of m.state key ≡ Some place → (has_chunk m.state.table place.0 ≡ true) × ((head_at m.state place.0).tag ≡ Linked)
+  pub entry : (key : ℕ) (place : ChunkId × ℕ) → chunk_of_key m.state key ≡ Some place → (has_chunk m.state.table place.0 ≡ true) × ((head_at m.state place.0).tag ≡ Linked)
   -- what a hand fills isn't linked
   pub fresh : (hand : ℕ) (chunk : ChunkId) (holding : Holding) → holding_of chunk (holdings_at m.state hand) ≡ Some holding → is_fresh holding ≡ true →
       (has_chunk m.state.table chunk ≡ true) × ((head_at m.state chunk).tag ≡ Unlinked)

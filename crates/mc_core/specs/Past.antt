@@ -16,33 +16,33 @@ use Rattle.mc_core.specs.declared.holding.Holding.{Holding}
 use Rattle.mc_core.specs.declared.holding.Kind.{Kind}
 use Rattle.mc_core.specs.declared.holding.Kind.TheVariants.{Fresh}
 use Rattle.mc_core.specs.declared.holding.Purpose.TheVariants.{Rescue}
-use Rattle.mc_core.specs.Holdings.{Words, stamp_in, item_in, holding_of, numbers, words_of, item_of}
-use Rattle.mc_core.specs.State.{State, room_at, head_at, number_at, stripe_at, holdings_at, new_state}
+use Rattle.mc_core.specs.Holdings.{Words, stamp_in, words_of_item, holding_of, numbers_of_known, holding_words, item_of}
+use Rattle.mc_core.specs.State.{State, chunk_room, head_at, number_at, stripe_at, holdings_at, new_state}
 use Rattle.mc_core.specs.Silent.{after_change}
-use Rattle.mc_core.specs.Items.{chunk_of, new_reference}
+use Rattle.mc_core.specs.Items.{chunk_of_key, new_reference}
 use Rattle.mc_core.specs.Run.{after_step}
 
 -- a word that a hand found
-pub data Sight : Type 0 where
-  header : ChunkId → Head → Sight
-  slabs_word : ℕ → Sight
-  stripe_word : ℕ → ℕ → Sight
+pub data SeenWord : Type 0 where
+  header : ChunkId → Head → SeenWord
+  slabs_word : ℕ → SeenWord
+  stripe_word : ℕ → ℕ → SeenWord
 
 -- a stamp, and the words that a hand stored with it
-pub record Saying : Type 0 where
+pub record StoredItem : Type 0 where
   pub stamp : ℕ
   pub words : List ℕ
 
 -- the item that a chunk had with this issue number, and for how many words the chunk had room
-pub record Known : Type 0 where
+pub record KnownItem : Type 0 where
   pub chunk : ChunkId
   pub issue : ℕ
   pub room : ℕ
   pub words : List ℕ
 
 -- some hand knows an item with this property
-abbrev pub IsKnownToSome : List (List Known) → (Known → Type 0) → Type 0
-IsKnownToSome known P = (hand : ℕ) × (k : Known) × Contains (slice_index_or known hand []) k × P k
+abbrev pub IsKnownToSome : List (List KnownItem) → (KnownItem → Type 0) → Type 0
+IsKnownToSome known P = (hand : ℕ) × (k : KnownItem) × Contains (slice_index_or known hand []) k × P k
 
 -- holds of a stripe's lock: its value as it was taken last, and as it was given back last; none before the first time
 pub record StripeHold : Type 0 where
@@ -66,12 +66,12 @@ pub record Own : Type 0 where
 -- for each hand, six rows: the words that its looks found; its holds of locks; its numbers with their calls; the history of each stripe
 -- that it saw; what it stored; and the items that it ever held
 pub record Past : Type 0 where
-  pub saw : List (List Sight)
+  pub saw : List (List SeenWord)
   pub holds : List Hold
   pub mine : List (List Own)
   pub seen : List (List (List Call))
-  pub said : List (List Saying)
-  pub known : List (List Known)
+  pub said : List (List StoredItem)
+  pub known : List (List KnownItem)
 
 -- a run's state with what the hands know
 pub record Moment : Type 0 where
@@ -84,11 +84,11 @@ module _ {X : Type 0} where
   with_more rows hand more = slice_set rows hand (slice_index_or rows hand [] ++ more)
 
 -- the word that a step finds by a look; nothing where the step is no look
-abbrev pub sights_of : State → Step → List Sight
-sights_of state MissSlabs = slabs_word state.slabs_lock ∷ []
-sights_of state (MissStripe stripe) = stripe_word stripe (slice_index state.stripe_locks stripe) ∷ []
-sights_of state (step.Head chunk) = header chunk (head_at state chunk) ∷ []
-sights_of state other = []
+abbrev pub seen_words_of : State → Step → List SeenWord
+seen_words_of state MissSlabs = slabs_word state.slabs_lock ∷ []
+seen_words_of state (MissStripe stripe) = stripe_word stripe (slice_index state.stripe_locks stripe) ∷ []
+seen_words_of state (step.Head chunk) = header chunk (head_at state chunk) ∷ []
+seen_words_of state other = []
 
 -- the last hold of this stripe; where there was none, a hold that found and left nothing
 abbrev pub last_of : ℕ → List StripeHold → StripeHold
@@ -112,39 +112,39 @@ hold_after state (GiveStripe stripe) hold = end_hold stripe (stripe_at state str
 hold_after state other hold = hold
 
 -- the item's stamp and words; nothing where the item was rescued
-abbrev pub saying_of : Kind → Words → List Saying
-saying_of (Fresh (Rescue old item) own) words = []
-saying_of kind words = record { stamp = stamp_in words; words = numbers (item_in words) } ∷ []
+abbrev pub stored_item_of : Kind → Words → List StoredItem
+stored_item_of (Fresh (Rescue old item) own) words = []
+stored_item_of kind words = record { stamp = stamp_in words; words = numbers_of_known (words_of_item words) } ∷ []
 
 -- what the link of this holding stores: nothing where the item is rescued, or where there is no holding
-abbrev pub said_by : Option Holding → List Saying
-said_by None = []
-said_by (Some holding) = saying_of holding.kind (words_of holding)
+abbrev pub item_stored_by_link : Option Holding → List StoredItem
+item_stored_by_link None = []
+item_stored_by_link (Some holding) = stored_item_of holding.kind (holding_words holding)
 
 -- what a step stores: a link the words of its holding, and any other step nothing
-abbrev pub sayings_of : State → ℕ → Step → List Saying
-sayings_of state hand (Link chunk) = said_by (holding_of chunk (holdings_at state hand))
-sayings_of state hand other = []
+abbrev pub items_stored_by_step : State → ℕ → Step → List StoredItem
+items_stored_by_step state hand (Link chunk) = item_stored_by_link (holding_of chunk (holdings_at state hand))
+items_stored_by_step state hand other = []
 
 -- what is known by a reference: its chunk, issue and item, and for how many words the chunk has room
-abbrev pub known_by : ℕ → Holding → Known
+abbrev pub known_by : ℕ → Holding → KnownItem
 known_by room holding = record { chunk = holding.chunk; issue = holding.issue; room = room; words = item_of holding }
 
 -- what is known once this holding is linked: its item, without words of the chunk behind it; nothing for none
-abbrev pub known_of_holding : ℕ → Option Holding → List Known
+abbrev pub known_of_holding : ℕ → Option Holding → List KnownItem
 known_of_holding room None = []
-known_of_holding room (Some holding) = record { chunk = holding.chunk; issue = holding.issue; room = room; words = numbers (item_in (words_of holding)) } ∷ []
+known_of_holding room (Some holding) = record { chunk = holding.chunk; issue = holding.issue; room = room; words = numbers_of_known (words_of_item (holding_words holding)) } ∷ []
 
 -- what is known by a reference to the chunk to which a key leads; nothing where it leads nowhere
-abbrev pub known_of_place : State → Option (ChunkId × ℕ) → List Known
+abbrev pub known_of_place : State → Option (ChunkId × ℕ) → List KnownItem
 known_of_place state None = []
-known_of_place state (Some place) = known_by (room_at state place.0) (new_reference state place.0) ∷ []
+known_of_place state (Some place) = known_by (chunk_room state place.0) (new_reference state place.0) ∷ []
 
 -- what the hand knows by its step: the item to which it gets a reference, by a link, a key or a hint; by any other step nothing
-abbrev pub known_of : State → ℕ → Step → List Known
-known_of state hand (Link chunk) = known_of_holding (room_at state chunk) (holding_of chunk (holdings_at state hand))
-known_of state hand (Refer key) = known_of_place state (chunk_of state key)
-known_of state hand (Again chunk issue) = known_by (room_at state chunk) (new_reference state chunk) ∷ []
+abbrev pub known_of : State → ℕ → Step → List KnownItem
+known_of state hand (Link chunk) = known_of_holding (chunk_room state chunk) (holding_of chunk (holdings_at state hand))
+known_of state hand (Refer key) = known_of_place state (chunk_of_key state key)
+known_of state hand (Again chunk issue) = known_by (chunk_room state chunk) (new_reference state chunk) ∷ []
 known_of state hand other = []
 
 -- all calls of the stripe so far, recorded or not, the oldest first
@@ -156,14 +156,14 @@ abbrev pub new_calls : State → State → ℕ → List Call
 new_calls before now stripe = drop (length (history_at before stripe)) (history_at now stripe)
 
 -- the lists of calls of the stripes from this place on, each with the new calls of its stripe at the end
-abbrev pub told : State → State → ℕ → List (List Call) → List (List Call)
-told before now place [] = []
-told before now place (calls ∷ rows) = (calls ++ new_calls before now place) ∷ told before now (place + 1) rows
+abbrev pub calls_with_new : State → State → ℕ → List (List Call) → List (List Call)
+calls_with_new before now place [] = []
+calls_with_new before now place (calls ∷ rows) = (calls ++ new_calls before now place) ∷ calls_with_new before now (place + 1) rows
 
 -- a number's own calls, with those that came in, where it is the number of the hand that made them
 abbrev pub own_after : State → State → Option ℕ → Own → Own
 own_after before now None own = own
-own_after before now (Some number) own = if own.number == number then record own { calls = told before now 0 own.calls } else own
+own_after before now (Some number) own = if own.number == number then record own { calls = calls_with_new before now 0 own.calls } else own
 
 -- the histories that the hand saw, after its step: it sees that of a stripe as it takes or gives its lock
 abbrev pub seen_after : State → Step → List (List Call) → List (List Call)
@@ -191,8 +191,8 @@ no_hold = record { found = no_slabs; left = no_slabs; count = 0; stripes = [] }
 
 -- the first hand has the numbers, calls, stored words and items of both, and saw of each history the longer that either saw. The second
 -- knows nothing any more
-abbrev pub joined : Past → ℕ → ℕ → Past
-joined past kept spent = record {
+abbrev pub past_after_join : Past → ℕ → ℕ → Past
+past_after_join past kept spent = record {
   saw = slice_set past.saw spent [];
   holds = slice_set past.holds spent no_hold;
   mine = slice_set (with_more past.mine kept (slice_index_or past.mine spent [])) spent [];
@@ -208,12 +208,12 @@ with_calls before now past hand =
 
 -- what one hand knows: its row of each column
 pub record Knowledge : Type 0 where
-  pub saw : List Sight
+  pub saw : List SeenWord
   pub hold : Hold
   pub mine : List Own
   pub seen : List (List Call)
-  pub said : List Saying
-  pub known : List Known
+  pub said : List StoredItem
+  pub known : List KnownItem
 
 -- what this hand knows; nothing where there is no such hand
 abbrev pub knowledge_at : Past → ℕ → Knowledge
@@ -244,11 +244,11 @@ own_calls_after before now hand mine = map (own_after before now (number_at befo
 -- what the stepping hand knows after the step, from what it knew and from the states before and after
 abbrev pub knowledge_after : State → State → ℕ → Step → Knowledge → Knowledge
 knowledge_after before now hand step knows = record {
-  saw = knows.saw ++ sights_of before step;
+  saw = knows.saw ++ seen_words_of before step;
   hold = hold_after before step knows.hold;
   mine = own_calls_after before now hand knows.mine;
   seen = seen_after before step knows.seen;
-  said = knows.said ++ sayings_of before hand step;
+  said = knows.said ++ items_stored_by_step before hand step;
   known = knows.known ++ known_of before hand step;
 }
 
@@ -257,9 +257,9 @@ abbrev pub learned_alone : State → State → Past → ℕ → Step → Past
 learned_alone before now past hand step = with_knowledge past hand (knowledge_after before now hand step (knowledge_at past hand))
 
 -- what the hands know after a step
-abbrev pub learned : State → State → Past → ℕ → Step → Past
-learned before now past hand (Join kept spent) = joined past kept spent
-learned before now past hand step = learned_alone before now past hand step
+abbrev pub past_after_step : State → State → Past → ℕ → Step → Past
+past_after_step before now past hand (Join kept spent) = past_after_join past kept spent
+past_after_step before now past hand step = learned_alone before now past hand step
 
 -- the moment after a change of a value behind a lock
 abbrev pub moment_changed : Moment → ℕ → Change → Moment
@@ -274,7 +274,7 @@ moment_changes moment hand (change ∷ changes) = moment_changes (moment_changed
 -- the moment after a step
 abbrev pub moment_stepped : Moment → ℕ → Step → Moment
 moment_stepped moment hand step =
-    record { state = after_step moment.state hand step; past = learned moment.state (after_step moment.state hand step) moment.past hand step }
+    record { state = after_step moment.state hand step; past = past_after_step moment.state (after_step moment.state hand step) moment.past hand step }
 
 -- the moment after an event: the changes before it, and then its step
 abbrev pub moment_after : Moment → Event → Moment

@@ -19,17 +19,17 @@ use Rattle.mc_core.specs.Past.{Moment}
 use Rattle.mc_core.specs.Laws.{MayStep}
 
 -- by this look a chunk was handed out, condemned or cleared
-abbrev pub takes : Look → Bool
-takes (Popped chunk head) = true
-takes (PoppedOff chunk old head) = true
-takes (Condemned chunk head) = true
-takes (Cleared chunk head) = true
-takes look = false
+abbrev pub is_taking_look : Look → Bool
+is_taking_look (Popped chunk head) = true
+is_taking_look (PoppedOff chunk old head) = true
+is_taking_look (Condemned chunk head) = true
+is_taking_look (Cleared chunk head) = true
+is_taking_look look = false
 
 -- by this look the chunk's header was seen
-abbrev pub sees : ChunkId → Look → Bool
-sees chunk (Saw seen head) = is_chunk seen chunk
-sees chunk look = false
+abbrev pub is_look_at : ChunkId → Look → Bool
+is_look_at chunk (Saw seen head) = is_chunk seen chunk
+is_look_at chunk look = false
 
 -- the chunk was found not dead by the last look at it, and since then the hand handed out, condemned and cleared nothing
 pub record WasFoundAlive (looks : List Look) (chunk : ChunkId) : Type 0 where
@@ -38,7 +38,7 @@ pub record WasFoundAlive (looks : List Look) (chunk : ChunkId) : Type 0 where
   pub since : List Look
   pub split : looks ≡ before ++ Saw chunk head ∷ since
   pub alive : head.tag ≡ Unlinked → head.count ≡ 0 → ⊥
-  pub quiet : All (λ look. (takes look ≡ false) × (sees chunk look ≡ false)) since
+  pub quiet : All (λ look. (is_taking_look look ≡ false) × (is_look_at chunk look ≡ false)) since
 
 -- the hand has the slabs lock, and under this hold found each chunk that the class handed out not dead; since then it handed out, condemned
 -- and cleared nothing

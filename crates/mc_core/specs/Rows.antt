@@ -5,7 +5,7 @@ use Rattle.std.specs.Option.{option_map}
 use Rattle.mc_classes.specs.Classes.{Classes}
 use Rattle.mc_pages.specs.declared.ids.ChunkId.{ChunkId}
 use Rattle.mc_pages.specs.declared.ledger.Entry.{Entry}
-use Rattle.mc_pages.specs.Base.{tail_of}
+use Rattle.mc_pages.specs.Base.{ledger_tail}
 use Rattle.mc_core.specs.declared.event.Event.{Event}
 use Rattle.mc_core.specs.declared.event.Step.{Step}
 use Rattle.mc_core.specs.declared.event.Step.TheVariants.{TakeSlabs, TakeStripe, GiveSlabs, GiveStripe, Head, Pop, PopOff, Fill, Link, Unlink, Release, Discard, Condemn, PutBack, Clear, Cut}
@@ -14,23 +14,23 @@ use Rattle.mc_core.specs.declared.event.Change.TheVariants.{Grow, BeginMove, Fin
 use Rattle.mc_core.specs.declared.event.StripeChange.TheVariants.{Reserve}
 use Rattle.mc_core.specs.State.{State, new_state}
 use Rattle.mc_core.specs.Past.{Moment, first_moment, knowledge_at, last_of, moment_after}
-use Rattle.mc_core.specs.Run.{play}
+use Rattle.mc_core.specs.Run.{state_after_all}
 
 -- four pages of 1024 bytes, and classes of 48, 96, 192 and 512 bytes
 abbrev pub four_classes : Classes
 four_classes = record { page = 1024; limit = 4096; sizes = 48 ∷ 96 ∷ 192 ∷ 512 ∷ [] }
 
 -- a step of hand 0
-abbrev pub does : List Change → Step → Event
-does before step = record { hand = 0; before = before; step = step }
+abbrev pub hand_event : List Change → Step → Event
+hand_event before step = record { hand = 0; before = before; step = step }
 
 -- n events that cut chunks of page 0, from this index on
 abbrev pub cuts_from : ℕ → ℕ → List Event
-cuts_from first count = map (λ index. does [] (Cut 0 index)) (range_with_len first count)
+cuts_from first count = map (λ index. hand_event [] (Cut 0 index)) (range_with_len first count)
 
 -- class 1 gets page 0, of which the first chunk and n more are cut
-abbrev pub grows : ℕ → List Event
-grows more = does [] TakeSlabs ∷ does (Grow 1 ∷ []) (Cut 0 0) ∷ cuts_from 1 more ++ does [] GiveSlabs ∷ []
+abbrev pub growth_events : ℕ → List Event
+growth_events more = hand_event [] TakeSlabs ∷ hand_event (Grow 1 ∷ []) (Cut 0 0) ∷ cuts_from 1 more ++ hand_event [] GiveSlabs ∷ []
 
 -- the ledger of a run that ends well, or the place of the first event that isn't allowed
 abbrev pub ledger_of : Result State ℕ → Result (List Entry) ℕ
@@ -38,14 +38,14 @@ ledger_of (Ok state) = Ok state.slabs.ledger
 ledger_of (Err place) = Err place
 
 -- the ledger after one hand made these events over the four classes, or the place of the first event that isn't allowed
-abbrev pub played : List Event → Result (List Entry) ℕ
-played events = ledger_of (play (new_state four_classes 4 1 0) events)
+abbrev pub worked_ledger : List Event → Result (List Entry) ℕ
+worked_ledger events = ledger_of (state_after_all (new_state four_classes 4 1 0) events)
 
 -- the ledger after a chunk of class 1 was handed out twice over the four classes, where issue numbers count on from this one; or the place of the
 -- first event that isn't allowed
 abbrev pub pops_from : ℕ → Result (List Entry) ℕ
-pops_from start = ledger_of (play (new_state four_classes 4 1 start) (grows 20 ++ does [] TakeSlabs ∷ does [] (Pop 1) ∷ does [] (Discard (record { page = 0; index = 20 })) ∷
-    does [] (PutBack (record { page = 0; index = 20 })) ∷ does [] (Pop 1) ∷ []))
+pops_from start = ledger_of (state_after_all (new_state four_classes 4 1 start) (growth_events 20 ++ hand_event [] TakeSlabs ∷ hand_event [] (Pop 1) ∷ hand_event [] (Discard (record { page = 0; index = 20 })) ∷
+    hand_event [] (PutBack (record { page = 0; index = 20 })) ∷ hand_event [] (Pop 1) ∷ []))
 
 -- classes of n pages of 64 bytes, with one class of 32 bytes
 abbrev pub one_class : ℕ → Classes
@@ -54,69 +54,69 @@ one_class pages = record { page = 64; limit = pages * 64; sizes = 32 ∷ [] }
 -- the ledger after one hand took both locks of an arena of n pages and one stripe, and these events; or the place of the first event that
 -- isn't allowed
 abbrev pub played_on : ℕ → List Event → Result (List Entry) ℕ
-played_on pages events = ledger_of (play (new_state (one_class pages) 1 1 0) (does [] TakeSlabs ∷ does [] (TakeStripe 0) ∷ events))
+played_on pages events = ledger_of (state_after_all (new_state (one_class pages) 1 1 0) (hand_event [] TakeSlabs ∷ hand_event [] (TakeStripe 0) ∷ events))
 
 -- the chunk of this page at this index
 abbrev pub chunk_at : ℕ → ℕ → ChunkId
 chunk_at page index = record { page = page; index = index }
 
 -- class 1 gets the page, and its two chunks are cut
-abbrev pub gets : ℕ → List Event
-gets page = does (Grow 1 ∷ []) (Cut page 0) ∷ does [] (Cut page 1) ∷ []
+abbrev pub page_events : ℕ → List Event
+page_events page = hand_event (Grow 1 ∷ []) (Cut page 0) ∷ hand_event [] (Cut page 1) ∷ []
 
 -- a fresh chunk is filled with a key, the stamp of the same number, and one word
 abbrev pub fills_with : ChunkId → ℕ → List Event
-fills_with chunk key = does [] (Fill chunk 0 key) ∷ does [] (Fill chunk 1 key) ∷ does [] (Fill chunk 2 1) ∷ does [] (Fill chunk 3 7) ∷ []
+fills_with chunk key = hand_event [] (Fill chunk 0 key) ∷ hand_event [] (Fill chunk 1 key) ∷ hand_event [] (Fill chunk 2 1) ∷ hand_event [] (Fill chunk 3 7) ∷ []
 
 -- the chunk is filled, linked and let go
-abbrev pub puts : ChunkId → ℕ → List Event
-puts chunk key = fills_with chunk key ++ does (OfStripe 0 Reserve ∷ []) (Link chunk) ∷ does [] (Release chunk) ∷ []
+abbrev pub fill_events : ChunkId → ℕ → List Event
+fill_events chunk key = fills_with chunk key ++ hand_event (OfStripe 0 Reserve ∷ []) (Link chunk) ∷ hand_event [] (Release chunk) ∷ []
 
 -- the chunk, which is the next free one, is handed out, filled, linked and let go
-abbrev pub stores : ChunkId → ℕ → List Event
-stores chunk key = does [] (Pop 1) ∷ puts chunk key
+abbrev pub store_events : ChunkId → ℕ → List Event
+store_events chunk key = hand_event [] (Pop 1) ∷ fill_events chunk key
 
 -- a page whose two chunks have items
 abbrev pub full_page : List Event
-full_page = gets 0 ++ stores (chunk_at 0 1) 1 ++ stores (chunk_at 0 0) 2
+full_page = page_events 0 ++ store_events (chunk_at 0 1) 1 ++ store_events (chunk_at 0 0) 2
 
 -- the item of a chunk is taken away
 abbrev pub takes_away : ChunkId → List Event
-takes_away chunk = does (OfStripe 0 Reserve ∷ []) (Condemn chunk) ∷ []
+takes_away chunk = hand_event (OfStripe 0 Reserve ∷ []) (Condemn chunk) ∷ []
 
 -- the hand looks at both chunks of a page
-abbrev pub looks_at : ℕ → List Event
-looks_at page = does [] (Head (chunk_at page 1)) ∷ does [] (Head (chunk_at page 0)) ∷ []
+abbrev pub look_events : ℕ → List Event
+look_events page = hand_event [] (Head (chunk_at page 1)) ∷ hand_event [] (Head (chunk_at page 0)) ∷ []
 
 -- two pages, of whose four chunks one has an item: chunk 1 of page 0
 abbrev pub one_of_four : List Event
-one_of_four = gets 0 ++ stores (chunk_at 0 1) 1 ++ gets 1
+one_of_four = page_events 0 ++ store_events (chunk_at 0 1) 1 ++ page_events 1
 
 -- two pages, of whose four chunks all have items but chunk 0 of page 0, which is free
 abbrev pub three_of_four : List Event
-three_of_four = one_of_four ++ stores (chunk_at 1 1) 2 ++ stores (chunk_at 1 0) 3
+three_of_four = one_of_four ++ store_events (chunk_at 1 1) 2 ++ store_events (chunk_at 1 0) 3
 
 -- page 0 begins to move to the pool, and its chunk 1 is looked at
 abbrev pub begins_move : List Event
-begins_move = does (BeginMove (Some 1) 0 ∷ []) (Head (chunk_at 0 1)) ∷ []
+begins_move = hand_event (BeginMove (Some 1) 0 ∷ []) (Head (chunk_at 0 1)) ∷ []
 
 -- page 0 begins to move to the pool, and a chunk is handed out for a copy of the item in its chunk 1
 abbrev pub begins_rescue : List Event
-begins_rescue = does (BeginMove (Some 1) 0 ∷ []) (PopOff (chunk_at 0 1)) ∷ []
+begins_rescue = hand_event (BeginMove (Some 1) 0 ∷ []) (PopOff (chunk_at 0 1)) ∷ []
 
 -- the item in chunk 1 of page 0 is taken to chunk 1 of page 1, and both chunks of page 0 are cleared
-abbrev pub rescues : List Event
-rescues =
-    fills_with (chunk_at 1 1) 1 ++ takes_away (chunk_at 0 1) ++ does [] (Link (chunk_at 1 1)) ∷ does [] (Release (chunk_at 1 1)) ∷ does [] (Clear (chunk_at 0 1)) ∷ does [] (Clear (chunk_at 0 0)) ∷ []
+abbrev pub rescue_events : List Event
+rescue_events =
+    fills_with (chunk_at 1 1) 1 ++ takes_away (chunk_at 0 1) ++ hand_event [] (Link (chunk_at 1 1)) ∷ hand_event [] (Release (chunk_at 1 1)) ∷ hand_event [] (Clear (chunk_at 0 1)) ∷ hand_event [] (Clear (chunk_at 0 0)) ∷ []
 
 -- the move ends, and the locks are given back
-abbrev pub ends : List Event
-ends = does (FinishMove ∷ []) GiveSlabs ∷ does [] (GiveStripe 0) ∷ []
+abbrev pub end_events : List Event
+end_events = hand_event (FinishMove ∷ []) GiveSlabs ∷ hand_event [] (GiveStripe 0) ∷ []
 
 -- the item is deleted, and a chunk is handed out for its copy; its page leaves the class and comes again, and its chunk has a new item
 abbrev pub comes_again : List Event
 comes_again =
-    does (OfStripe 0 Reserve ∷ []) (Unlink 1) ∷ begins_rescue ++ does [] (Clear (chunk_at 0 1)) ∷ does [] (Clear (chunk_at 0 0)) ∷ does (FinishMove ∷ Grow 1 ∷ []) (Cut 0 0) ∷ does [] (Cut 0 1) ∷ stores (chunk_at 0 1) 2
+    hand_event (OfStripe 0 Reserve ∷ []) (Unlink 1) ∷ begins_rescue ++ hand_event [] (Clear (chunk_at 0 1)) ∷ hand_event [] (Clear (chunk_at 0 0)) ∷ hand_event (FinishMove ∷ Grow 1 ∷ []) (Cut 0 0) ∷ hand_event [] (Cut 0 1) ∷ store_events (chunk_at 0 1) 2
 
 -- classes of n pages of 64 bytes within the limit, with one class of 32 bytes and one of 64
 abbrev pub two_classes : ℕ → Classes
@@ -124,20 +124,20 @@ two_classes pages = record { page = 64; limit = pages * 64; sizes = 32 ∷ 64 �
 
 -- the state after one hand took the slabs lock of an arena of n pages within the limit and two classes, and these events; or the place of
 -- the first that isn't allowed
-abbrev pub left_by : ℕ → List Event → Result State ℕ
-left_by pages events = play (new_state (two_classes pages) 1 1 0) (does [] TakeSlabs ∷ events)
+abbrev pub state_left_by : ℕ → List Event → Result State ℕ
+state_left_by pages events = state_after_all (new_state (two_classes pages) 1 1 0) (hand_event [] TakeSlabs ∷ events)
 
 -- class 1 gets page 0, which is cut
-abbrev pub first_page : List Event
-first_page = does (Grow 1 ∷ []) (Cut 0 0) ∷ does [] (Cut 0 1) ∷ []
+abbrev pub first_page_events : List Event
+first_page_events = hand_event (Grow 1 ∷ []) (Cut 0 0) ∷ hand_event [] (Cut 0 1) ∷ []
 
 -- class 2 gets this page, which is cut
 abbrev pub gets_whole : ℕ → List Event
-gets_whole page = does (Grow 2 ∷ []) (Cut page 0) ∷ []
+gets_whole page = hand_event (Grow 2 ∷ []) (Cut page 0) ∷ []
 
 -- the entries that are recorded after a run that ends well, or the place of the first event that isn't allowed
 abbrev pub recorded_of : Result State ℕ → Result (List Entry) ℕ
-recorded_of (Ok state) = Ok (tail_of state.slabs)
+recorded_of (Ok state) = Ok (ledger_tail state.slabs)
 recorded_of (Err place) = Err place
 
 -- what the hands know behind these events
@@ -153,4 +153,4 @@ room_in_hold stripe events =
 
 -- room is made in stripe 1, under its lock
 abbrev pub makes_room : List Event
-makes_room = does [] (TakeStripe 1) ∷ does (OfStripe 1 Reserve ∷ []) (GiveStripe 1) ∷ []
+makes_room = hand_event [] (TakeStripe 1) ∷ hand_event (OfStripe 1 Reserve ∷ []) (GiveStripe 1) ∷ []

@@ -51,20 +51,20 @@ after_step state hand (MissStripe stripe) = locks.after_miss_stripe state hand s
 after_step state hand GiveSlabs = locks.after_give_slabs state
 after_step state hand (GiveStripe stripe) = locks.after_give_stripe state stripe
 after_step state hand (step.Head chunk) = locks.after_look state hand chunk
-after_step state hand (Pop class) = chunks.after_pop state hand class
+after_step state hand (Pop class) = chunks.state_after_pop state hand class
 after_step state hand (PopOff old) = chunks.after_pop_off state hand old
 after_step state hand (Fill chunk place word) = chunks.after_fill state hand chunk place word
 after_step state hand (Word chunk place) = state
 after_step state hand (WordHeld chunk place) = items.after_word_held state hand chunk place
-after_step state hand (Link chunk) = items.after_link state hand chunk
+after_step state hand (Link chunk) = items.state_after_link state hand chunk
 after_step state hand (Refer key) = items.after_refer state hand key
-after_step state hand (Unlink key) = items.after_unlink state hand key
+after_step state hand (Unlink key) = items.state_after_unlink state hand key
 after_step state hand (Release chunk) = chunks.after_drop state hand chunk
 after_step state hand (Discard chunk) = chunks.after_drop state hand chunk
 after_step state hand (Condemn chunk) = evictions.after_condemn state hand chunk
 after_step state hand (PutBack chunk) = chunks.after_put_back state hand chunk
-after_step state hand (Clear chunk) = chunks.after_clear state hand chunk
-after_step state hand (Cut page index) = chunks.after_cut state hand (record { page = page; index = index })
+after_step state hand (Clear chunk) = chunks.state_after_clear state hand chunk
+after_step state hand (Cut page index) = chunks.state_after_cut state hand (record { page = page; index = index })
 after_step state hand (Again chunk issue) = items.with_reference state hand chunk
 after_step state hand (Join kept spent) = hands.after_join state spent
 
@@ -74,23 +74,23 @@ is_allowed state event =
     is_hand state event.hand && (allows_changes state event.hand event.before && allows_step (after_changes state event.hand event.before) event.hand event.step)
 
 -- the state after the event
-abbrev pub after : State → Event → State
-after state event = after_step (after_changes state event.hand event.before) event.hand event.step
+abbrev pub state_after_event : State → Event → State
+state_after_event state event = after_step (after_changes state event.hand event.before) event.hand event.step
 
 -- the state after these events, or the place of the first that isn't allowed, counted on from here
 abbrev pub play_from : ℕ → State → List Event → Result State ℕ
 play_from place state [] = Ok state
-play_from place state (event ∷ events) = if is_allowed state event then play_from (place + 1) (after state event) events else Err place
+play_from place state (event ∷ events) = if is_allowed state event then play_from (place + 1) (state_after_event state event) events else Err place
 
 -- the state after these events, or the place of the first that isn't allowed, counted from 0
-abbrev pub play : State → List Event → Result State ℕ
-play state events = play_from 0 state events
+abbrev pub state_after_all : State → List Event → Result State ℕ
+state_after_all state events = play_from 0 state events
 
 -- what the events answer from the beginning: a state, or the place of the first event that isn't allowed; or memory ran out
-abbrev pub TellsEnd : Result State ℕ → Result State Stop → Type 0
-TellsEnd (Ok state) told = (told ≡ Ok state) ⊎ (told ≡ Err (NoMemory tt))
-TellsEnd (Err place) told = (told ≡ Err (NotAllowed place)) ⊎ (told ≡ Err (NoMemory tt))
+abbrev pub EndsRunAs : Result State ℕ → Result State Stop → Type 0
+EndsRunAs (Ok state) told = (told ≡ Ok state) ⊎ (told ≡ Err (NoMemory tt))
+EndsRunAs (Err place) told = (told ≡ Err (NotAllowed place)) ⊎ (told ≡ Err (NoMemory tt))
 
 -- the events were played with the table of this configuration, from the beginning
 pub record IsPlayed (config : Config) (hands : ℕ) (events : List Event) (told : Result State Stop) : Type 0 where
-  pub exact : (table : Classes) → IsTableOf config table → TellsEnd (play (new_state table config.stripes hands 0) events) told
+  pub exact : (table : Classes) → IsTableOf config table → EndsRunAs (state_after_all (new_state table config.stripes hands 0) events) told

@@ -10,7 +10,7 @@ use Rattle.mc_core.specs.declared.head.Head.{Head}
 use Rattle.mc_core.specs.declared.look.Look.{Look}
 use Rattle.mc_core.specs.declared.look.Look.TheVariants.{Saw, Read, Popped, PoppedOff, Condemned, PutBack, Cleared, Cut, Changed}
 use Rattle.mc_core.specs.Head.{is_free, is_out, is_dead, is_linked}
-use Rattle.mc_core.specs.Past.{Known, IsKnownToSome}
+use Rattle.mc_core.specs.Past.{KnownItem, IsKnownToSome}
 use Rattle.mc_core.specs.State.{room_in, has_chunk}
 use Rattle.mc_core.specs.Silent.{slabs_after}
 use Rattle.mc_core.specs.Columns.{head_in, place_in, IsHandedOut}
@@ -49,14 +49,14 @@ last_read chunk place before (Cleared seen head) = if is_chunk seen chunk then N
 last_read chunk place before other = before
 
 -- pages and lists after what the hand did by this look
-abbrev pub told_by_look : SlabState → Look → SlabState
-told_by_look slabs (Popped chunk head) = after_pop slabs (class_of_page slabs chunk.page)
-told_by_look slabs (PoppedOff chunk old head) = after_replace slabs chunk old
-told_by_look slabs (PutBack chunk head) = after_back slabs chunk
-told_by_look slabs (Cleared chunk head) = after_clear slabs chunk
-told_by_look slabs (Cut chunk head) = after_cut slabs chunk
-told_by_look slabs (Changed change) = slabs_after slabs change
-told_by_look slabs other = slabs
+abbrev pub slabs_after_look : SlabState → Look → SlabState
+slabs_after_look slabs (Popped chunk head) = after_pop slabs (class_of_page slabs chunk.page)
+slabs_after_look slabs (PoppedOff chunk old head) = after_replace slabs chunk old
+slabs_after_look slabs (PutBack chunk head) = after_back slabs chunk
+slabs_after_look slabs (Cleared chunk head) = after_clear slabs chunk
+slabs_after_look slabs (Cut chunk head) = after_cut slabs chunk
+slabs_after_look slabs (Changed change) = slabs_after slabs change
+slabs_after_look slabs other = slabs
 
 -- what is out, free or dead is as it was last seen; what was handed out is so still, with its issue
 abbrev pub IsStill : Head → Head → Type 0
@@ -72,10 +72,10 @@ pub record IsReadStill (table : Classes) (slabs : SlabState) (words : List ℕ) 
 
 -- looks: under a hold of the slabs lock, the headers that the hand last saw or wrote hold still, and so do the words that it read. Its
 -- changes of pages and lists since the hold began gave the present ones
-pub record AreSeen (table : Classes) (slabs : SlabState) (heads : List Head) (words : List ℕ) (known : List (List Known)) (found : SlabState) (looks : List Look) : Type 0 where
+pub record AreSeen (table : Classes) (slabs : SlabState) (heads : List Head) (words : List ℕ) (known : List (List KnownItem)) (found : SlabState) (looks : List Look) : Type 0 where
   pub last_heads : (chunk : ChunkId) (seen : Head) → has_chunk table chunk ≡ true → seen_head looks chunk ≡ Some seen → IsStill (head_in table heads chunk) seen
   pub linked : (chunk : ChunkId) (issue : ℕ) → has_chunk table chunk ≡ true → fold (linked_issue chunk) None looks ≡ Some issue →
       IsHandedOut (head_in table heads chunk) issue × IsKnownToSome known (λ k. (k.chunk ≡ chunk) × (k.issue ≡ issue))
   pub read_words : (chunk : ChunkId) (place word : ℕ) → has_chunk table chunk ≡ true → fold (last_read chunk place) None looks ≡ Some word →
       IsReadStill table slabs words looks chunk place word
-  pub told : fold told_by_look found looks ≡ slabs
+  pub told : fold slabs_after_look found looks ≡ slabs

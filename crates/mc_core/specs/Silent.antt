@@ -13,8 +13,8 @@ use Rattle.mc_pages.specs.Accounted.{cut_count}
 use Rattle.mc_pages.specs.Changes.{after_touch, after_evicted, after_grow, after_trim as after_trim_slabs, next_page}
 use Rattle.mc_pages.specs.Answer.{answer_of}
 use Rattle.mc_pages.specs.Moves.{after_begin, after_finish, after_passed, after_wrap, is_held_up, chunk_at_position}
-use Rattle.mc_stripe.specs.StripeState.{StripeState, ReadyStripe, key_aside, place_of}
-use Rattle.mc_stripe.specs.Changes.{after_got, after_unlink, after_trim, after_forget, used_up, after_reserve, after_reserve_call}
+use Rattle.mc_stripe.specs.StripeState.{StripeState, ReadyStripe, key_aside, chunk_and_stamp}
+use Rattle.mc_stripe.specs.Changes.{after_got, after_unlink, stripe_after_trim, after_forget, used_up, after_reserve, after_reserve_call}
 use Rattle.mc_core.specs.declared.event.Change.{Change}
 use Rattle.mc_core.specs.declared.event.Change.TheVariants.{Grow, BeginMove, FinishMove, Touch, SetAutomove, TrimLedger, Passed, Wrap, Evicted, OfStripe, GotNone, DeletedNone}
 use Rattle.mc_core.specs.declared.event.StripeChange.{StripeChange}
@@ -89,19 +89,19 @@ can_change_slabs table slabs (Evicted class) = is_class table class
 can_change_slabs table slabs change = false
 
 -- the class got the next page, where there is one
-abbrev pub grown : SlabState → ℕ → Option ℕ → SlabState
-grown slabs class None = slabs
-grown slabs class (Some page) = after_grow slabs class page
+abbrev pub after_growth : SlabState → ℕ → Option ℕ → SlabState
+after_growth slabs class None = slabs
+after_growth slabs class (Some page) = after_grow slabs class page
 
 -- the first page of the class that is the answer began to move; where the answer is a refusal nothing changes
-abbrev pub begun : SlabState → Option ℕ → ℕ → Result ℕ Reassign → SlabState
-begun slabs src dst (Err refusal) = slabs
-begun slabs src dst (Ok source) = after_begin slabs src source dst
+abbrev pub after_reassign : SlabState → Option ℕ → ℕ → Result ℕ Reassign → SlabState
+after_reassign slabs src dst (Err refusal) = slabs
+after_reassign slabs src dst (Ok source) = after_begin slabs src source dst
 
 -- pages and lists after the change
 abbrev pub slabs_after : SlabState → Change → SlabState
-slabs_after slabs (Grow class) = grown slabs class (next_page slabs class)
-slabs_after slabs (BeginMove src dst) = begun slabs src dst (answer_of slabs src dst)
+slabs_after slabs (Grow class) = after_growth slabs class (next_page slabs class)
+slabs_after slabs (BeginMove src dst) = after_reassign slabs src dst (answer_of slabs src dst)
 slabs_after slabs FinishMove = after_finish slabs slabs.moving
 slabs_after slabs (Touch chunk) = after_touch slabs chunk
 slabs_after slabs (SetAutomove mode) = record slabs { automove = mode }
@@ -116,8 +116,8 @@ abbrev pub is_aside : StripeState → ℕ → Bool
 is_aside stripe key = option_map_or (λ other. other == key) (key_aside stripe) false
 
 -- the stripe has room for a call, the key leads nowhere, and the key's entry isn't aside
-abbrev pub can_tell_none : ReadyStripe → ℕ → Bool
-can_tell_none stripe key = stripe.ready && not (is_aside stripe.state key) && is_none (place_of stripe.state key)
+abbrev pub can_record_miss : ReadyStripe → ℕ → Bool
+can_record_miss stripe key = stripe.ready && not (is_aside stripe.state key) && is_none (chunk_and_stamp stripe.state key)
 
 -- the change of the stripe is allowed: a trim only where the place of the next call can be counted, if calls are recorded
 abbrev pub can_change_stripe : StripeChange → StripeState → Bool
@@ -130,7 +130,7 @@ can_change_stripe Forget stripe = true
 abbrev pub stripe_after : StripeChange → ReadyStripe → ReadyStripe
 stripe_after Reserve stripe = after_reserve stripe
 stripe_after ReserveCall stripe = after_reserve_call stripe
-stripe_after Trim stripe = record stripe { state = after_trim stripe.state }
+stripe_after Trim stripe = record stripe { state = stripe_after_trim stripe.state }
 stripe_after Forget stripe = record stripe { state = after_forget stripe.state }
 
 -- the number that a hand writes into histories, 0 where it is gone
@@ -140,8 +140,8 @@ writer_of state hand = unwrap_or (number_at state hand) 0
 -- the hand may make this change of a value behind a lock that it has
 abbrev pub allows_change : State → ℕ → Change → Bool
 allows_change state hand (OfStripe stripe how) = has_stripe state hand stripe && can_change_stripe how (stripe_at state stripe).state
-allows_change state hand (GotNone key) = has_stripe state hand (stripe_of state key) && can_tell_none (stripe_at state (stripe_of state key)) key
-allows_change state hand (DeletedNone key) = has_stripe state hand (stripe_of state key) && can_tell_none (stripe_at state (stripe_of state key)) key
+allows_change state hand (GotNone key) = has_stripe state hand (stripe_of state key) && can_record_miss (stripe_at state (stripe_of state key)) key
+allows_change state hand (DeletedNone key) = has_stripe state hand (stripe_of state key) && can_record_miss (stripe_at state (stripe_of state key)) key
 allows_change state hand change = has_slabs state hand && can_change_slabs state.table state.slabs change
 
 -- the state after the change
@@ -164,8 +164,8 @@ after_changes state hand [] = state
 after_changes state hand (change ∷ changes) = after_changes (after_change state hand change) hand changes
 
 -- the stripe after it recorded a call on a key that isn't there: a delete, or else a look-up
-abbrev pub told_none : Bool → StripeState → ℕ → ℕ → StripeState
-told_none deletes stripe writer key = if deletes then after_unlink stripe writer key else after_got stripe writer key
+abbrev pub stripe_after_miss : Bool → StripeState → ℕ → ℕ → StripeState
+stripe_after_miss deletes stripe writer key = if deletes then after_unlink stripe writer key else after_got stripe writer key
 
 -- the change by which a stripe records a call on a key that isn't there: a delete, or else a look-up
 abbrev pub call_of : Bool → ℕ → Change

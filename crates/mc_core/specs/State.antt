@@ -10,7 +10,7 @@ use Rattle.mc_core.specs.declared.ids.Ids.{Ids}
 use Rattle.mc_core.specs.declared.holding.Holding.{Holding}
 use Rattle.mc_core.specs.declared.look.Look.{Look}
 use Rattle.mc_core.specs.Head.{never_cut, uncut_from}
-use Rattle.mc_core.specs.Holdings.{change_each, lose}
+use Rattle.mc_core.specs.Holdings.{change_each, without_first}
 
 -- all words of the arena, the values behind its locks, and what each hand is, holds and saw
 pub record State : Type 0 where
@@ -68,12 +68,12 @@ abbrev pub with_head : State → ChunkId → Head → State
 with_head state chunk head = record state { heads = slice_set state.heads (head_place state.table chunk) head }
 
 -- how many words a chunk of the page has
-abbrev pub room_at : State → ChunkId → ℕ
-room_at state chunk = room_in state.table (class_of_page state.slabs chunk.page)
+abbrev pub chunk_room : State → ChunkId → ℕ
+chunk_room state chunk = room_in state.table (class_of_page state.slabs chunk.page)
 
 -- the place of a chunk's word among all data words
 abbrev pub word_place : State → ChunkId → ℕ → ℕ
-word_place state chunk place = chunk.page * page_words state.table + chunk.index * room_at state chunk + place
+word_place state chunk place = chunk.page * page_words state.table + chunk.index * chunk_room state chunk + place
 
 -- the data word at this place of the chunk; place 0 has the key
 abbrev pub word_at : State → ChunkId → ℕ → ℕ
@@ -85,15 +85,15 @@ with_word state chunk place word = record state { words = slice_set state.words 
 
 -- the item in a chunk: key, stamp, length, and as many words as the length counts, as far as the chunk goes
 abbrev pub item_at : State → ChunkId → List ℕ
-item_at state chunk = map (λ place. word_at state chunk place) (range_with_len 0 (min (3 + word_at state chunk 2) (room_at state chunk)))
+item_at state chunk = map (λ place. word_at state chunk place) (range_with_len 0 (min (3 + word_at state chunk 2) (chunk_room state chunk)))
 
 -- the entry of a hand that another hand took over: no number, and no stamps
-abbrev pub gone : Ids
-gone = record { number = None; stamps = 0 }
+abbrev pub no_ids : Ids
+no_ids = record { number = None; stamps = 0 }
 
 -- the number of a hand, and how many stamps it gave out; gone where there is no such hand
 abbrev pub ids_at : State → ℕ → Ids
-ids_at state hand = slice_index_or state.ids hand gone
+ids_at state hand = slice_index_or state.ids hand no_ids
 
 -- the number of a hand, none where it is gone or was never there
 abbrev pub number_at : State → ℕ → Option ℕ
@@ -150,7 +150,7 @@ with_changed state hand test change = record state { holdings = slice_set state.
 
 -- the hand lost its first holding that passes the test
 abbrev pub without_holding : State → ℕ → (Holding → Bool) → State
-without_holding state hand test = record state { holdings = slice_set state.holdings hand (lose test (holdings_at state hand)) }
+without_holding state hand test = record state { holdings = slice_set state.holdings hand (without_first test (holdings_at state hand)) }
 
 -- what the hand saw or did under its last hold of the slabs lock, the oldest first; it stays until the next hold
 abbrev pub looks_at : State → ℕ → List Look

@@ -16,8 +16,8 @@ pub record Row : Type 0 where
   pub knows : Knowledge
 
 -- all that the moment has of this hand
-abbrev pub row_at : Moment → ℕ → Row
-row_at moment hand = record {
+abbrev pub hand_row : Moment → ℕ → Row
+hand_row moment hand = record {
   ids = ids_at moment.state hand;
   holdings = holdings_at moment.state hand;
   looks = looks_at moment.state hand;

@@ -26,11 +26,11 @@ pub struct Head {
 }
 
 impl Tag {
-    ghost use Rattle.mc_core.specs.Head.{number_of};
+    ghost use Rattle.mc_core.specs.Head.{number_of_tag};
 
     /// The tag's number, 0 to 3.
     pub fn number(self) -> u64
-        ensures { result ≡ number_of self }
+        ensures { result ≡ number_of_tag self }
     {
         match self {
             Tag::Out => 0,

@@ -1,7 +1,7 @@
 //! The holdings of a hand: references, and fresh chunks that it fills.
 ghost use Rattle.std.specs.Prelude.{◌≡◌, true, if◌then◌else◌, IfOk, OnOk};
-ghost use Rattle.mc_core.specs.Holdings.{is_of, is_copy_of, change_each};
-ghost use Rattle.mc_core.specs.Chunks.{filled};
+ghost use Rattle.mc_core.specs.Holdings.{is_of_chunk, is_copy_of, change_each};
+ghost use Rattle.mc_core.specs.Chunks.{holding_with_word};
 ghost use Rattle.mc_core.specs.Evictions.{as_rescue};
 
 use crate::series::Series;
@@ -41,9 +41,9 @@ pub enum Purpose {
 }
 
 impl Holding {
-    ghost use Rattle.mc_core.specs.Holdings.{is_fresh, is_of, is_copy_of, is_complete, word_in, words_of};
+    ghost use Rattle.mc_core.specs.Holdings.{is_fresh, is_of_chunk, is_copy_of, is_complete, word_in, holding_words};
     ghost use Rattle.mc_core.specs.Items.{as_reference};
-    ghost use Rattle.mc_core.specs.Chunks.{filled};
+    ghost use Rattle.mc_core.specs.Chunks.{holding_with_word};
     ghost use Rattle.mc_core.specs.Evictions.{as_rescue};
 
     /// Whether the chunk wasn't linked yet.
@@ -68,7 +68,7 @@ impl Holding {
 
     /// A word by its place, 0 where it isn't known.
     pub(crate) fn word(&self, place: usize) -> u64
-        ensures { result ≡ word_in (words_of self.now) place }
+        ensures { result ≡ word_in (holding_words self.now) place }
     {
         match &self.kind {
             Kind::Reference(item) => words::number_in(item.as_slice(), place),
@@ -79,7 +79,7 @@ impl Holding {
     /// The item was linked: the hand refers to it.
     pub(crate) fn as_reference(&self, alloc: Global) -> Result<Holding, Refused>
         requires fresh { is_fresh self.now ≡ true }
-        requires complete { is_complete (words_of self.now) ≡ true }
+        requires complete { is_complete (holding_words self.now) ≡ true }
         ensures { IfOk result (λ holding. holding ≡ as_reference self.now) }
     {
         let item = match &self.kind {
@@ -95,7 +95,7 @@ impl Holding {
 
     /// A word of this chunk is written, if the holding is of it.
     fn fill(&mut self, chunk: ChunkId, place: u64, word: u64)
-        ensures { self.new ≡ (if is_of chunk self.old then filled place word self.old else self.old) }
+        ensures { self.new ≡ (if is_of_chunk chunk self.old then holding_with_word place word self.old else self.old) }
     {
         if self.chunk == chunk {
             if let Kind::Fresh(_, words) = &mut self.kind {
@@ -120,7 +120,7 @@ impl Holding {
 
 /// A word of this chunk is written, if it is among what a hand holds.
 pub(crate) fn fill_chunk(holdings: &mut Series<Holding>, chunk: ChunkId, place: u64, word: u64)
-    ensures { holdings.new ≡ change_each (is_of chunk) (filled place word) holdings.old }
+    ensures { holdings.new ≡ change_each (is_of_chunk chunk) (holding_with_word place word) holdings.old }
 {
     for holding in holdings.items.iter_mut() {
         holding.fill(chunk, place, word);

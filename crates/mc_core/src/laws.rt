@@ -9,9 +9,9 @@ ghost use Rattle.mc_stripe.specs.Sequential.{StampMap, Leads};
 ghost use Rattle.mc_core.specs.declared.event.Event.{Event};
 ghost use Rattle.mc_core.specs.declared.event.Step.TheVariants.{TakeSlabs, TakeStripe, GiveSlabs, Pop, Head, Cut};
 ghost use Rattle.mc_core.specs.declared.event.Change.TheVariants.{Grow, FinishMove, TrimLedger};
-ghost use Rattle.mc_core.specs.Rows.{played, grows, does, makes_room, room_in_hold, pops_from, played_on, chunk_at, gets, puts, stores, full_page, one_of_four, three_of_four, looks_at, takes_away, begins_move, begins_rescue, rescues, ends, comes_again, ledger_of, left_by, first_page, gets_whole, recorded_of};
+ghost use Rattle.mc_core.specs.Rows.{worked_ledger, growth_events, hand_event, makes_room, room_in_hold, pops_from, played_on, chunk_at, page_events, fill_events, store_events, full_page, one_of_four, three_of_four, look_events, takes_away, begins_move, begins_rescue, rescue_events, end_events, comes_again, ledger_of, state_left_by, first_page_events, gets_whole, recorded_of};
 ghost use Rattle.mc_core.specs.Chunks.{most_issue};
-ghost use Rattle.mc_core.specs.Lawful.{IsLawful, SizedIn, PagedIn, PlacedIn, CountedIn, HeldIn, IndexedIn, LegalIn, HandsIn, RowsIn, NumberedIn, SeenIn, KnownIn, RescuedIn, ToldIn};
+ghost use Rattle.mc_core.specs.Lawful.{IsLawful, SizedIn, PagedIn, PlacedIn, CountedIn, HeldIn, IndexedIn, LegalIn, HandsIn, RowsIn, NumberedIn, SeenIn, KnownIn, RescuedIn, RecordedIn};
 ghost use Rattle.mc_core.specs.Laws.{IsKeptByAll, ArePlayed, AreLawful};
 ghost use Rattle.mc_core.specs.Frame.{AreFramed};
 ghost use Rattle.mc_core.specs.Effects.{WriteOneWord, HistoriesGrow, RunsArePlayed};
@@ -21,14 +21,14 @@ ghost use Rattle.mc_core.specs.Stretch.{StretchesKeep};
 ghost use Rattle.mc_core.specs.Codes.{AreOneWord, AllAreSums};
 ghost use Rattle.mc_core.specs.Needless.{AllAreNeedless};
 ghost use Rattle.mc_core.specs.Judged.{AllAreJudged};
-ghost use Rattle.mc_core.specs.Follows.{AreKept, AreSaidItems, SeenGrows};
+ghost use Rattle.mc_core.specs.Follows.{HoldingsAreKept, LinkedItemsAreStored, SeenGrows};
 
 /// Runs of one hand: a page that is cut whole, one cut short, and a chunk from a class without a page; and where issue
 /// numbers count on from one below the greatest, a chunk is handed out once and not again.
 pub fn worked_runs()
-    ensures whole_page { played (grows 20) ≡ Ok (Granted 0 1 false ∷ []) }
-    ensures cut_short { played (grows 19) ≡ Err 21 }
-    ensures no_page { played (does [] TakeSlabs ∷ does [] (Pop 1) ∷ []) ≡ Err 1 }
+    ensures whole_page { worked_ledger (growth_events 20) ≡ Ok (Granted 0 1 false ∷ []) }
+    ensures cut_short { worked_ledger (growth_events 19) ≡ Err 21 }
+    ensures no_page { worked_ledger (hand_event [] TakeSlabs ∷ hand_event [] (Pop 1) ∷ []) ≡ Err 1 }
     ensures twice { pops_from (most_issue - 2) ≡ Ok (Granted 0 1 false ∷ []) }
     ensures once { pops_from (most_issue - 1) ≡ Err 27 }
     ensures worn { pops_from most_issue ≡ Err 24 }
@@ -36,53 +36,53 @@ pub fn worked_runs()
 
 /// A class's first page is granted beyond the limit where none is left within it, and its second isn't; where one is left, that is granted.
 pub fn worked_grants()
-    ensures beyond { ledger_of (left_by 1 (first_page ++ gets_whole 1)) ≡ Ok (Granted 0 1 false ∷ Granted 1 2 true ∷ []) }
-    ensures one_a_class { ledger_of (left_by 1 (first_page ++ gets_whole 1 ++ gets_whole 2)) ≡ Err 4 }
-    ensures within { ledger_of (left_by 2 (first_page ++ gets_whole 1)) ≡ Ok (Granted 0 1 false ∷ Granted 1 2 false ∷ []) }
-    ensures no_more_within { ledger_of (left_by 2 (first_page ++ gets_whole 1 ++ gets_whole 2)) ≡ Err 4 }
+    ensures beyond { ledger_of (state_left_by 1 (first_page_events ++ gets_whole 1)) ≡ Ok (Granted 0 1 false ∷ Granted 1 2 true ∷ []) }
+    ensures one_a_class { ledger_of (state_left_by 1 (first_page_events ++ gets_whole 1 ++ gets_whole 2)) ≡ Err 4 }
+    ensures within { ledger_of (state_left_by 2 (first_page_events ++ gets_whole 1)) ≡ Ok (Granted 0 1 false ∷ Granted 1 2 false ∷ []) }
+    ensures no_more_within { ledger_of (state_left_by 2 (first_page_events ++ gets_whole 1 ++ gets_whole 2)) ≡ Err 4 }
 {}
 
 /// Entries before a trim of the ledger aren't recorded, and those behind it are. It is trimmed under the lock of the slabs alone.
 pub fn worked_trims()
-    ensures trimmed { recorded_of (left_by 1 (first_page ++ does (TrimLedger ∷ Grow 2 ∷ []) (Cut 1 0) ∷ [])) ≡ Ok (Granted 1 2 true ∷ []) }
-    ensures twice { recorded_of (left_by 1 (first_page ++ does (TrimLedger ∷ TrimLedger ∷ []) GiveSlabs ∷ [])) ≡ Ok [] }
-    ensures whole { ledger_of (left_by 1 (first_page ++ does (TrimLedger ∷ []) GiveSlabs ∷ [])) ≡ Ok (Granted 0 1 false ∷ []) }
-    ensures without_the_lock { recorded_of (left_by 1 (first_page ++ does [] GiveSlabs ∷ does (TrimLedger ∷ []) TakeSlabs ∷ [])) ≡ Err 4 }
+    ensures trimmed { recorded_of (state_left_by 1 (first_page_events ++ hand_event (TrimLedger ∷ Grow 2 ∷ []) (Cut 1 0) ∷ [])) ≡ Ok (Granted 1 2 true ∷ []) }
+    ensures twice { recorded_of (state_left_by 1 (first_page_events ++ hand_event (TrimLedger ∷ TrimLedger ∷ []) GiveSlabs ∷ [])) ≡ Ok [] }
+    ensures whole { ledger_of (state_left_by 1 (first_page_events ++ hand_event (TrimLedger ∷ []) GiveSlabs ∷ [])) ≡ Ok (Granted 0 1 false ∷ []) }
+    ensures without_the_lock { recorded_of (state_left_by 1 (first_page_events ++ hand_event [] GiveSlabs ∷ hand_event (TrimLedger ∷ []) TakeSlabs ∷ [])) ≡ Err 4 }
 {}
 
 /// Of each stripe a hand knows how it last took it and how it last gave it back: the first as it was then, the second with what was done
 /// under its lock. Other stripes' holds stay.
 pub fn worked_holds()
-    ensures taken { room_in_hold 1 (does [] (TakeStripe 1) ∷ []) ≡ (Some false, None) }
+    ensures taken { room_in_hold 1 (hand_event [] (TakeStripe 1) ∷ []) ≡ (Some false, None) }
     ensures given { room_in_hold 1 makes_room ≡ (Some false, Some true) }
-    ensures again { room_in_hold 1 (makes_room ++ does [] (TakeStripe 1) ∷ []) ≡ (Some true, Some true) }
+    ensures again { room_in_hold 1 (makes_room ++ hand_event [] (TakeStripe 1) ∷ []) ≡ (Some true, Some true) }
     ensures other { room_in_hold 0 makes_room ≡ (None, None) }
 {}
 
 /// An item is evicted from a full class behind a sweep. It is refused without a sweep, behind half of one, and behind one that an
 /// eviction ended; where a chunk is free; where a page is left, or one is pooled; and where one is half cut.
 pub fn worked_evictions()
-    ensures evicted { played_on 1 (full_page ++ looks_at 0 ++ takes_away (chunk_at 0 1)) ≡ Ok (Granted 0 1 false ∷ []) }
+    ensures evicted { played_on 1 (full_page ++ look_events 0 ++ takes_away (chunk_at 0 1)) ≡ Ok (Granted 0 1 false ∷ []) }
     ensures no_sweep { played_on 1 (full_page ++ takes_away (chunk_at 0 1)) ≡ Err 18 }
-    ensures half_a_sweep { played_on 1 (full_page ++ does [] (Head (chunk_at 0 1)) ∷ takes_away (chunk_at 0 1)) ≡ Err 19 }
-    ensures one_a_sweep { played_on 1 (full_page ++ looks_at 0 ++ takes_away (chunk_at 0 1) ++ takes_away (chunk_at 0 0)) ≡ Err 21 }
-    ensures a_free_chunk { played_on 1 (gets 0 ++ stores (chunk_at 0 1) 1 ++ does [] (Head (chunk_at 0 1)) ∷ takes_away (chunk_at 0 1)) ≡ Err 12 }
-    ensures a_page_left { played_on 2 (full_page ++ looks_at 0 ++ takes_away (chunk_at 0 1)) ≡ Err 20 }
-    ensures a_pooled_page { played_on 2 (one_of_four ++ begins_rescue ++ rescues ++ does (FinishMove ∷ []) (Pop 1) ∷ puts (chunk_at 1 0) 2 ++ looks_at 1 ++ takes_away (chunk_at 1 1)) ≡ Err 32 }
-    ensures half_a_page { played_on 2 (full_page ++ does (Grow 1 ∷ []) (Cut 1 0) ∷ stores (chunk_at 1 0) 3 ++ looks_at 0 ++ does [] (Head (chunk_at 1 0)) ∷ takes_away (chunk_at 0 1)) ≡ Err 29 }
+    ensures half_a_sweep { played_on 1 (full_page ++ hand_event [] (Head (chunk_at 0 1)) ∷ takes_away (chunk_at 0 1)) ≡ Err 19 }
+    ensures one_a_sweep { played_on 1 (full_page ++ look_events 0 ++ takes_away (chunk_at 0 1) ++ takes_away (chunk_at 0 0)) ≡ Err 21 }
+    ensures a_free_chunk { played_on 1 (page_events 0 ++ store_events (chunk_at 0 1) 1 ++ hand_event [] (Head (chunk_at 0 1)) ∷ takes_away (chunk_at 0 1)) ≡ Err 12 }
+    ensures a_page_left { played_on 2 (full_page ++ look_events 0 ++ takes_away (chunk_at 0 1)) ≡ Err 20 }
+    ensures a_pooled_page { played_on 2 (one_of_four ++ begins_rescue ++ rescue_events ++ hand_event (FinishMove ∷ []) (Pop 1) ∷ fill_events (chunk_at 1 0) 2 ++ look_events 1 ++ takes_away (chunk_at 1 1)) ≡ Err 32 }
+    ensures half_a_page { played_on 2 (full_page ++ hand_event (Grow 1 ∷ []) (Cut 1 0) ∷ store_events (chunk_at 1 0) 3 ++ look_events 0 ++ hand_event [] (Head (chunk_at 1 0)) ∷ takes_away (chunk_at 0 1)) ≡ Err 29 }
 {}
 
 /// An item is rescued off its moving page, which then comes to the pool. It isn't rescued onto that page, nor to a chunk that is
 /// for something else, nor when its page stays. Where no free chunk is off the page, the item leaves the page behind a sweep. It
 /// doesn't leave without one, nor behind one that a handing out ended, nor where a free chunk is there.
 pub fn worked_rescues()
-    ensures rescued { played_on 2 (one_of_four ++ begins_rescue ++ rescues ++ ends) ≡ Ok (Granted 0 1 false ∷ Granted 1 1 false ∷ Began 0 1 0 ∷ Ended 0 0 ∷ []) }
+    ensures rescued { played_on 2 (one_of_four ++ begins_rescue ++ rescue_events ++ end_events) ≡ Ok (Granted 0 1 false ∷ Granted 1 1 false ∷ Began 0 1 0 ∷ Ended 0 0 ∷ []) }
     ensures no_chunk_off { played_on 2 (three_of_four ++ begins_rescue) ≡ Err 27 }
-    ensures no_copy { played_on 2 (one_of_four ++ does [] (Pop 1) ∷ begins_move ++ takes_away (chunk_at 0 1)) ≡ Err 15 }
+    ensures no_copy { played_on 2 (one_of_four ++ hand_event [] (Pop 1) ∷ begins_move ++ takes_away (chunk_at 0 1)) ≡ Err 15 }
     ensures a_page_that_stays { played_on 2 (one_of_four ++ comes_again ++ takes_away (chunk_at 0 1)) ≡ Err 26 }
-    ensures leaves { played_on 2 (three_of_four ++ begins_move ++ looks_at 1 ++ takes_away (chunk_at 0 1)) ≡ Ok (Granted 0 1 false ∷ Granted 1 1 false ∷ Began 0 1 0 ∷ []) }
+    ensures leaves { played_on 2 (three_of_four ++ begins_move ++ look_events 1 ++ takes_away (chunk_at 0 1)) ≡ Ok (Granted 0 1 false ∷ Granted 1 1 false ∷ Began 0 1 0 ∷ []) }
     ensures no_sweep { played_on 2 (three_of_four ++ begins_move ++ takes_away (chunk_at 0 1)) ≡ Err 28 }
-    ensures old_sweep { played_on 2 (one_of_four ++ stores (chunk_at 1 1) 2 ++ begins_move ++ does [] (Head (chunk_at 1 1)) ∷ does [] (Pop 1) ∷ does [] (Head (chunk_at 1 0)) ∷ takes_away (chunk_at 0 1)) ≡ Err 24 }
+    ensures old_sweep { played_on 2 (one_of_four ++ store_events (chunk_at 1 1) 2 ++ begins_move ++ hand_event [] (Head (chunk_at 1 1)) ∷ hand_event [] (Pop 1) ∷ hand_event [] (Head (chunk_at 1 0)) ∷ takes_away (chunk_at 0 1)) ≡ Err 24 }
     ensures a_chunk_off { played_on 2 (one_of_four ++ begins_move ++ takes_away (chunk_at 0 1)) ≡ Err 14 }
 {}
 
@@ -158,7 +158,7 @@ pub fn rescues_are_kept()
 /// A hand's calls are those that the histories have of its numbers, each in its place; what the hand saw of a history begins the
 /// history; and each stamp that a hand stored is in a history once.
 pub fn calls_are_kept()
-    ensures { IsKeptByAll ToldIn }
+    ensures { IsKeptByAll RecordedIn }
 {}
 
 /// All clauses together.
@@ -215,12 +215,12 @@ pub fn stretches_are_kept()
 /// Each holding of a lawful moment is of a chunk that is handed out with the holding's issue number and shows the holding's
 /// words. The chunk's page is of a class, or moves away from one.
 pub fn held_chunks_are_handed_out()
-    ensures { AreKept }
+    ensures { HoldingsAreKept }
 {}
 
 /// The words of a linked chunk are a whole item, which was stored with the stamp of its key's entry.
 pub fn linked_items_were_said()
-    ensures { AreSaidItems }
+    ensures { LinkedItemsAreStored }
 {}
 
 /// What a hand saw of a history is never shortened: it begins what the hand sees after an event, or what the hand sees that

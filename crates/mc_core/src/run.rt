@@ -1,7 +1,7 @@
 //! Lists of events, played from the beginning.
 ghost use Rattle.std.specs.Prelude.{◌≡◌, ◌≤◌, None};
-ghost use Rattle.mc_classes.specs.Refusals.{refusal_of};
-ghost use Rattle.mc_core.specs.Run.{play, TellsEnd, IsPlayed};
+ghost use Rattle.mc_classes.specs.Refusals.{config_refusal};
+ghost use Rattle.mc_core.specs.Run.{state_after_all, EndsRunAs, IsPlayed};
 
 use crate::event::Event;
 use crate::state::State;
@@ -11,7 +11,7 @@ use std::alloc::Global;
 
 /// Plays the events, one after another, on an arena in which nothing was granted yet.
 pub fn replay(alloc: Global, config: &Config, hands: u64, events: &[Event]) -> Result<State, Stop>
-    requires config { refusal_of config.now ≡ None }
+    requires config { config_refusal config.now ≡ None }
     requires hands { (1 ≤ hands) × (hands ≤ 64) }
     ensures { IsPlayed config.now hands events.now result }
 {
@@ -26,7 +26,7 @@ pub fn replay(alloc: Global, config: &Config, hands: u64, events: &[Event]) -> R
 
 /// Plays the events, one after another.
 fn play_all(mut state: State, events: &[Event]) -> Result<State, Stop>
-    ensures { TellsEnd (play state events.now) result }
+    ensures { EndsRunAs (state_after_all state events.now) result }
 {
     for (place, event) in events.iter().enumerate() {
         let is_done = state.play(event)?;

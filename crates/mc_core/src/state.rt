@@ -53,11 +53,11 @@ impl Model for State {
 
     ghost Value = { State };
 
-    ghost use Rattle.mc_core.specs.InOrder.{state_of, IsInOrder};
+    ghost use Rattle.mc_core.specs.InOrder.{callers_state, IsStateInOrder};
 
-    ghost view = { state_of };
+    ghost view = { callers_state };
 
-    ghost invariant = { λ state. IsInOrder (state_of state) };
+    ghost invariant = { λ state. IsStateInOrder (callers_state state) };
 }
 
 impl State {

@@ -1,7 +1,7 @@
 //! The words of a chunk, as far as they are known.
 ghost use Rattle.std.specs.Prelude.{◌≡◌, true, is_some, slice_index, IfOk};
 ghost use Rattle.std.specs.List.{list_all};
-ghost use Rattle.mc_core.specs.Holdings.{word_in, numbers, item_in, fits, is_complete};
+ghost use Rattle.mc_core.specs.Holdings.{word_in, numbers_of_known, words_of_item, has_whole_item, is_complete};
 ghost use Rattle.mc_core.specs.Items.{are_same};
 
 use crate::series::Series;
@@ -32,7 +32,7 @@ pub(crate) fn number_in(numbers: &[u64], place: usize) -> u64
 
 /// Whether the words are at least as many as the item takes.
 fn fits(words: &[Option<u64>]) -> bool
-    ensures { result ≡ fits words.now }
+    ensures { result ≡ has_whole_item words.now }
 {
     words.len() >= 3 && word_in(words, 2) <= words.len() as u64 - 3
 }
@@ -71,7 +71,7 @@ pub(crate) fn are_same(words: &[Option<u64>], item: &[u64]) -> bool
 
 /// The words as numbers, with 0 for each that isn't known.
 pub(crate) fn numbers_of(alloc: Global, words: &[Option<u64>]) -> Result<Series<u64>, Refused>
-    ensures { IfOk result (λ found. found ≡ numbers words.now) }
+    ensures { IfOk result (λ found. found ≡ numbers_of_known words.now) }
 {
     let mut found = Series::new(alloc);
     for word in words {
@@ -82,8 +82,8 @@ pub(crate) fn numbers_of(alloc: Global, words: &[Option<u64>]) -> Result<Series<
 
 /// The words of an item that fits.
 pub(crate) fn item_in(words: &[Option<u64>]) -> &[Option<u64>]
-    requires { fits words.now ≡ true }
-    ensures { result.now ≡ item_in words.now }
+    requires { has_whole_item words.now ≡ true }
+    ensures { result.now ≡ words_of_item words.now }
 {
     &words[..word_in(words, 2) as usize + 3]
 }

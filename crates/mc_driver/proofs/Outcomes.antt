@@ -9,14 +9,14 @@ use Rattle.mc_classes.specs.declared.config.Config.{Config}
 use Rattle.mc_classes.specs.declared.config.ConfigError.{ConfigError}
 use Rattle.mc_classes.specs.declared.config.ConfigError.TheVariants.{PageSize, FirstSize, Factor, ChunkMax, Limit, Stripes, TooManyChunks, Bulk, NoMemory}
 use Rattle.mc_classes.specs.Classes.{Classes, IsTableOf}
-use Rattle.mc_classes.specs.Refusals.{refusal_of, number_of}
+use Rattle.mc_classes.specs.Refusals.{config_refusal, config_error_number}
 use Rattle.mc_options.specs.declared.settings.Run.{Run}
 use Rattle.mc_script.specs.declared.command.Command.{Command}
 use Rattle.mc_driver.specs.declared.fault.RunFault.{RunFault}
 use Rattle.mc_driver.specs.declared.fault.RunFault.TheVariants.{Config as Refused, Script, TooLong, Read, Write, Memory, Thread, Turns}
 use Rattle.mc_serial_spec.specs.Machine.{Machine, fresh_machine}
 use Rattle.mc_driver.specs.Reading.{IsReadFault, since}
-use Rattle.mc_driver.specs.Run.{IsOutcome, IsReadWhole, IsScript, IsScriptOutcome, config_fault, refusal_number}
+use Rattle.mc_driver.specs.Run.{IsOutcome, IsReadWhole, IsScript, IsScriptOutcome, config_fault, config_refusal_number}
 
 -- the front of the bytes is all of them where it is short
 pub front_all : (n : ℕ) (all front : List ℕ) → front ≡ take (n + 1) all → length front ≤ n → front ≡ all
@@ -61,22 +61,22 @@ outcome_known run table None front old new result is front_is outcome = tt
 outcome_known run table (Some bytes) front old new result is front_is outcome = outcome_all run table bytes front old new result is front_is outcome
 
 -- memory is no refusal
-not_first : (failed : Bool) (error : ConfigError) (rest : Option ConfigError) → number_of error < 9 → rest ≢ Some (NoMemory tt)
+not_first : (failed : Bool) (error : ConfigError) (rest : Option ConfigError) → config_error_number error < 9 → rest ≢ Some (NoMemory tt)
     → cond failed (Some error) rest ≢ Some (NoMemory tt)
-not_first true error rest other later h = let same : error ≡ NoMemory tt = cc in let bad : number_of error ≡ 9 = ap number_of same in omega arith
+not_first true error rest other later h = let same : error ≡ NoMemory tt = cc in let bad : config_error_number error ≡ 9 = ap config_error_number same in omega arith
 not_first false error rest other later h = later h
 
 none_last : None ≢ Some (NoMemory tt)
 none_last h = cc
 
-pub no_memory_refusal : (config : Config) → refusal_of config ≢ Some (NoMemory tt)
+pub no_memory_refusal : (config : Config) → config_refusal config ≢ Some (NoMemory tt)
 no_memory_refusal config =
     not_first _ PageSize _ (omega arith) (not_first _ FirstSize _ (omega arith) (not_first _ Factor _ (omega arith)
     (not_first _ ChunkMax _ (omega arith) (not_first _ Limit _ (omega arith) (not_first _ Stripes _ (omega arith)
     (not_first _ TooManyChunks _ (omega arith) (not_first _ Bulk _ (omega arith) none_last)))))))
 
 -- any other refusal is told by its number
-pub told_by_number : (error : ConfigError) → error ≢ NoMemory tt → config_fault error ≡ Refused (number_of error)
+pub told_by_number : (error : ConfigError) → error ≢ NoMemory tt → config_fault error ≡ Refused (config_error_number error)
 told_by_number PageSize other = refl
 told_by_number FirstSize other = refl
 told_by_number Factor other = refl
@@ -89,11 +89,11 @@ told_by_number (NoMemory _) other = absurd (other refl)
 
 -- how a run ends where there is no table
 pub record Unbuilt (run : Run) (error : ConfigError) : Type 0 where
-  pub told : (number : ℕ) → config_fault error ≡ Refused number → refusal_number run.config ≡ Some number
-  pub tells : (number : ℕ) → refusal_number run.config ≡ Some number → config_fault error ≡ Refused number
+  pub told : (number : ℕ) → config_fault error ≡ Refused number → config_refusal_number run.config ≡ Some number
+  pub tells : (number : ℕ) → config_refusal_number run.config ≡ Some number → config_fault error ≡ Refused number
   pub outcome : (all held : Option (List ℕ)) → IfSome all (λ bytes. IsOutcome run bytes held held (Err (config_fault error)))
 
-unbuilt_memory : (run : Run) → refusal_of run.config ≡ None → Unbuilt run (NoMemory tt)
+unbuilt_memory : (run : Run) → config_refusal run.config ≡ None → Unbuilt run (NoMemory tt)
 unbuilt_memory run none = record {
   told = λ number h. cc;
   tells = λ number h. let bad : None ≡ Some number = rw none at h in cc;
@@ -104,24 +104,24 @@ unbuilt_memory run none = record {
     known None held = tt
     known (Some bytes) held = inl (Keeps-refl held)
 
-pub unbuilt_refused : (run : Run) (error : ConfigError) → refusal_of run.config ≡ Some error → error ≢ NoMemory tt → Unbuilt run error
+pub unbuilt_refused : (run : Run) (error : ConfigError) → config_refusal run.config ≡ Some error → error ≢ NoMemory tt → Unbuilt run error
 unbuilt_refused run error is other = record {
-  told = λ number h. let same : number_of error ≡ number = cc (told_by_number error other) in rw (is, same) refl;
-  tells = λ number h. let same : Some (number_of error) ≡ Some number = rw is at h in cc (told_by_number error other);
+  told = λ number h. let same : config_error_number error ≡ number = cc (told_by_number error other) in rw (is, same) refl;
+  tells = λ number h. let same : Some (config_error_number error) ≡ Some number = rw is at h in cc (told_by_number error other);
   outcome = λ all held. rw (told_by_number error other) (known all held);
 }
   where
-    known : (all held : Option (List ℕ)) → IfSome all (λ bytes. IsOutcome run bytes held held (Err (Refused (number_of error))))
+    known : (all held : Option (List ℕ)) → IfSome all (λ bytes. IsOutcome run bytes held held (Err (Refused (config_error_number error))))
     known None held = tt
     known (Some bytes) held = (rw is refl, Keeps-refl held)
 
-unbuilt_as : (run : Run) (error : ConfigError) (first : Option ConfigError) → refusal_of run.config ≡ first → error ≡ unwrap_or first (NoMemory tt) → Unbuilt run error
+unbuilt_as : (run : Run) (error : ConfigError) (first : Option ConfigError) → config_refusal run.config ≡ first → error ≡ unwrap_or first (NoMemory tt) → Unbuilt run error
 unbuilt_as run error None is told = rw told (unbuilt_memory run is)
 unbuilt_as run error (Some first) is told =
     rw told (unbuilt_refused run first is (λ memory. no_memory_refusal run.config (rw memory at is)))
 
-pub unbuilt : (run : Run) (error : ConfigError) → error ≡ unwrap_or (refusal_of run.config) (NoMemory tt) → Unbuilt run error
-unbuilt run error told = unbuilt_as run error (refusal_of run.config) refl told
+pub unbuilt : (run : Run) (error : ConfigError) → error ≡ unwrap_or (config_refusal run.config) (NoMemory tt) → Unbuilt run error
+unbuilt run error told = unbuilt_as run error (config_refusal run.config) refl told
 
 -- the outcome over bytes is the run's over them
 pub outcome_of : (run : Run) (table : Classes) (bytes : List ℕ) (old new : Option (List ℕ)) (result : Result (Unit {0}) RunFault)

@@ -10,12 +10,12 @@ use Rattle.mc_driver.specs.declared.fault.RunFault.{RunFault}
 use Rattle.mc_driver.specs.declared.fault.RunFault.TheVariants.{Config as Refused, Script, TooLong, Read, Write, Memory, Thread, Turns}
 use Rattle.mc_driver.specs.Run.{IsReplyFault, IsServeFault}
 use Rattle.mc_serial_spec.specs.Machine.{Machine}
-use Rattle.mc_serial_spec.specs.Lines.{Served, serve, replies_to, after_all, is_done}
+use Rattle.mc_serial_spec.specs.Lines.{Outcome, serve, replies_to, after_all, is_done}
 
 -- some commands and then others, where the run isn't stopped at the first ones
-after_step : (found : Option Served) (commands more : List Command) (now : Machine)
+after_step : (found : Option Outcome) (commands more : List Command) (now : Machine)
     → option_and_then (λ served. after_all served.machine commands) found ≡ Some now
-    → ((s : Served) → after_all s.machine commands ≡ Some now → after_all s.machine (commands ++ more) ≡ after_all now more)
+    → ((s : Outcome) → after_all s.machine commands ≡ Some now → after_all s.machine (commands ++ more) ≡ after_all now more)
     → option_and_then (λ served. after_all served.machine (commands ++ more)) found ≡ after_all now more
 after_step None commands more now is then = cc
 after_step (Some served) commands more now is then = then served is
@@ -26,9 +26,9 @@ after-append m now [] more is = let same : m ≡ now = cc in ap (λ (n : Machine
 after-append m now (c ∷ commands) more is =
     after_step (serve m c) commands more now is (λ served rest. after-append served.machine now commands more rest)
 
-replies_step : (found : Option Served) (commands more : List Command) (now : Machine)
+replies_step : (found : Option Outcome) (commands more : List Command) (now : Machine)
     → option_and_then (λ served. after_all served.machine commands) found ≡ Some now
-    → ((s : Served) → after_all s.machine commands ≡ Some now → replies_to s.machine (commands ++ more) ≡ replies_to s.machine commands ++ replies_to now more)
+    → ((s : Outcome) → after_all s.machine commands ≡ Some now → replies_to s.machine (commands ++ more) ≡ replies_to s.machine commands ++ replies_to now more)
     → option_map_or (λ served. served.reply ++ replies_to served.machine (commands ++ more)) found []
     ≡ option_map_or (λ served. served.reply ++ replies_to served.machine commands) found [] ++ replies_to now more
 replies_step None commands more now is then = cc
@@ -49,7 +49,7 @@ extends_from_appends (Some xs) (Some ys) None text wrote then = absurd then
 extends_from_appends (Some xs) (Some ys) (Some zs) text wrote then = (then.0, then.1 ∙ ap (λ bs. bs ++ then.0) wrote)
 
 -- one command alone
-done_alone : (found : Option Served) → is_some (option_and_then (λ (served : Served). after_all served.machine []) found) ≡ is_some found
+done_alone : (found : Option Outcome) → is_some (option_and_then (λ (served : Outcome). after_all served.machine []) found) ≡ is_some found
 done_alone None = refl
 done_alone (Some served) = refl
 
@@ -60,7 +60,7 @@ module _ (m now : Machine) (commands : List Command) (i : ℕ) (other : Command)
   after_more =
       ap (λ cs. after_all m cs) (take_more commands i other inside) ∙ after-append m now (take i commands) (get_or commands i other ∷ []) so_far
 
-  pub replies_more : (served : Served) → serve now (get_or commands i other) ≡ Some served
+  pub replies_more : (served : Outcome) → serve now (get_or commands i other) ≡ Some served
       → replies_to m (take (i + 1) commands) ≡ replies_to m (take i commands) ++ served.reply
   replies_more served is =
       ap (λ cs. replies_to m cs) (take_more commands i other inside)

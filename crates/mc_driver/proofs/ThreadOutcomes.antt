@@ -4,19 +4,19 @@ use Rattle.std.specs.Prelude.{IfSome}
 use Rattle.std.proofs.KnownBytes.{Keeps-refl}
 use Rattle.mc_classes.specs.declared.config.ConfigError.{ConfigError}
 use Rattle.mc_classes.specs.declared.config.ConfigError.TheVariants.{PageSize, FirstSize, Factor, ChunkMax, Limit, Stripes, TooManyChunks, Bulk, NoMemory}
-use Rattle.mc_classes.specs.Refusals.{refusal_of}
+use Rattle.mc_classes.specs.Refusals.{config_refusal}
 use Rattle.mc_options.specs.declared.settings.Run.{Run}
 use Rattle.mc_workers.specs.declared.ended.Ended.{Ended}
 use Rattle.mc_workers.specs.declared.ended.Ended.TheVariants as ended
 use Rattle.mc_driver.specs.declared.fault.RunFault.{RunFault}
 use Rattle.mc_driver.specs.declared.fault.RunFault.TheVariants.{Config as Refused, Script, TooLong, Read, Write, Memory, Thread, Turns}
 use Rattle.mc_driver.specs.Run.{config_fault}
-use Rattle.mc_driver.specs.Threads.{IsThreadsOutcome, IsToldOutcome, ended_fault}
+use Rattle.mc_driver.specs.Threads.{IsThreadsOutcome, IsOutcomeByThreads, ended_fault}
 use Rattle.mc_driver.proofs.Outcomes.{front_all, front_long, no_memory_refusal, script_all, told_by_number}
 
 -- the outcome over the front of the bytes is the outcome over all of them
 told_all : (run : Run) (all front : List ℕ) (old new : Option (List ℕ)) (result : Result (Unit {0}) RunFault)
-    → front ≡ take 1048577 all → IsToldOutcome run front old new result → IsToldOutcome run all old new result
+    → front ≡ take 1048577 all → IsOutcomeByThreads run front old new result → IsOutcomeByThreads run all old new result
 told_all run all front old new (Ok unit) front_is (commands, script, told) = (commands, script_all all front commands front_is script, told)
 told_all run all front old new (Err Turns) front_is (commands, script, kept) = (commands, script_all all front commands front_is script, kept)
 told_all run all front old new (Err (Thread unstarted)) front_is (commands, script, kept) = (commands, script_all all front commands front_is script, kept)
@@ -31,7 +31,7 @@ told_all run all front old new (Err Read) front_is told = absurd told
 
 -- the outcome of threads that were started is the run's
 pub threads_outcome : (run : Run) (bytes : List ℕ) (old new : Option (List ℕ)) (result : Result (Unit {0}) RunFault)
-    → refusal_of run.config ≡ None → IsToldOutcome run bytes old new result → IsThreadsOutcome run bytes old new result
+    → config_refusal run.config ≡ None → IsOutcomeByThreads run bytes old new result → IsThreadsOutcome run bytes old new result
 threads_outcome run bytes old new (Ok unit) accepted told = (accepted, told)
 threads_outcome run bytes old new (Err Turns) accepted told = (accepted, told)
 threads_outcome run bytes old new (Err (Thread unstarted)) accepted told = (accepted, told)
@@ -44,16 +44,16 @@ threads_outcome run bytes old new (Err Read) accepted told = absurd told
 
 -- the same, of bytes that the reader may not tell
 pub threads_known : (run : Run) (all : Option (List ℕ)) (front : List ℕ) (old new : Option (List ℕ)) (result : Result (Unit {0}) RunFault)
-    → refusal_of run.config ≡ None → IfSome all (λ bytes. front ≡ take 1048577 bytes) → IsToldOutcome run front old new result → IfSome all (λ bytes. IsThreadsOutcome run bytes old new result)
+    → config_refusal run.config ≡ None → IfSome all (λ bytes. front ≡ take 1048577 bytes) → IsOutcomeByThreads run front old new result → IfSome all (λ bytes. IsThreadsOutcome run bytes old new result)
 threads_known run None front old new result accepted front_is told = tt
 threads_known run (Some bytes) front old new result accepted front_is told = threads_outcome run bytes old new result accepted (told_all run bytes front old new result front_is told)
 
 -- a run whose configuration was refused answered that, and nothing else
-pub refused_threads : (run : Run) (bytes : List ℕ) (held : Option (List ℕ)) (error : ConfigError) → refusal_of run.config ≡ Some error → IsThreadsOutcome run bytes held held (Err (config_fault error))
+pub refused_threads : (run : Run) (bytes : List ℕ) (held : Option (List ℕ)) (error : ConfigError) → config_refusal run.config ≡ Some error → IsThreadsOutcome run bytes held held (Err (config_fault error))
 refused_threads run bytes held error is =
     rw (told_by_number error (λ memory. no_memory_refusal run.config (rw memory at is))) (rw is refl, Keeps-refl held)
 
-pub refused_known : (run : Run) (all held : Option (List ℕ)) (error : ConfigError) → refusal_of run.config ≡ Some error → IfSome all (λ bytes. IsThreadsOutcome run bytes held held (Err (config_fault error)))
+pub refused_known : (run : Run) (all held : Option (List ℕ)) (error : ConfigError) → config_refusal run.config ≡ Some error → IfSome all (λ bytes. IsThreadsOutcome run bytes held held (Err (config_fault error)))
 refused_known run None held error is = tt
 refused_known run (Some bytes) held error is = refused_threads run bytes held error is
 

@@ -5,7 +5,7 @@ use Rattle.std.specs.Io.KnownBytes.{Appends, Keeps, append_known}
 use Rattle.mc_classes.specs.declared.config.Config.{Config}
 use Rattle.mc_classes.specs.declared.config.ConfigError.{ConfigError}
 use Rattle.mc_classes.specs.declared.config.ConfigError.TheVariants.{NoMemory}
-use Rattle.mc_classes.specs.Refusals.{refusal_of, number_of}
+use Rattle.mc_classes.specs.Refusals.{config_refusal, config_error_number}
 use Rattle.mc_classes.specs.Classes.{Classes, IsTableOf}
 use Rattle.mc_io.specs.Device.{Extends}
 use Rattle.mc_options.specs.declared.settings.Run.{Run}
@@ -16,20 +16,20 @@ use Rattle.mc_driver.specs.declared.fault.RunFault.TheVariants.{Config as Refuse
 use Rattle.mc_keeper.specs.declared.keeper.serve.Stop.{Stop}
 use Rattle.mc_keeper.specs.declared.keeper.serve.Stop.TheVariants as stop
 use Rattle.mc_serial_spec.specs.Machine.{Machine, fresh_machine}
-use Rattle.mc_serial_spec.specs.Lines.{Served, is_done, replies_to, serve}
+use Rattle.mc_serial_spec.specs.Lines.{Outcome, is_done, replies_to, serve}
 
 -- the most bytes of a script
 abbrev pub most_bytes : ℕ
 most_bytes = 1048576
 
 -- the number of the configuration's first refusal
-abbrev pub refusal_number : Config → Option ℕ
-refusal_number config = option_map number_of (refusal_of config)
+abbrev pub config_refusal_number : Config → Option ℕ
+config_refusal_number config = option_map config_error_number (config_refusal config)
 
 -- how a run ends without a class table
 abbrev pub config_fault : ConfigError → RunFault
 config_fault (NoMemory refused) = Memory refused
-config_fault refusal = Refused (number_of refusal)
+config_fault refusal = Refused (config_error_number refusal)
 
 -- how a run ends without commands: the bytes are too many, or the lowest line that is no command is this
 abbrev pub IsScriptFault : List ℕ → RunFault → Type 0
@@ -68,7 +68,7 @@ pub record WroteBroken (machine : Machine) (commands : List Command) (old new : 
 
 -- the command was done, and its reply written
 pub record WroteReply (m : Machine) (command : Command) (old new : Option (List ℕ)) (machine : Machine) : Type 0 where
-  pub served : Served
+  pub served : Outcome
   pub is : serve m command ≡ Some served
   pub written : Appends old new served.reply
   pub after : machine ≡ served.machine
@@ -126,7 +126,7 @@ OfMachine run Says = (table : Classes) × IsTableOf run.config table × Says (fr
 -- How a run over these bytes ends, where the writer held `old` before it and holds `new` after it.
 abbrev pub IsOutcome : Run → List ℕ → Option (List ℕ) → Option (List ℕ) → Result (Unit {0}) RunFault → Type 0
 -- the configuration is refused: nothing was written
-IsOutcome run bytes old new (Err (Refused number)) = (refusal_number run.config ≡ Some number) × Keeps old new
+IsOutcome run bytes old new (Err (Refused number)) = (config_refusal_number run.config ≡ Some number) × Keeps old new
 -- the reader failed: nothing was written
 IsOutcome run bytes old new (Err Read) = Keeps old new
 -- memory ran out before there was a machine, or later

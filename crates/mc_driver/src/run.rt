@@ -1,14 +1,14 @@
 //! A serial run: one thread reads a script, does its commands in order, and writes each reply before the next command.
 ghost use Rattle.std.specs.Prelude.{◌≡◌, ◌<◌, ◌≤◌, ◌↔◌, ℕ, true, Some, Err, Ok, length, IfSome, IsSome, IfOk, OnOk, IfErr, All};
 ghost use Rattle.std.specs.Io.KnownBytes.{Appends, Keeps};
-ghost use Rattle.mc_classes.specs.Refusals.{refusal_of};
+ghost use Rattle.mc_classes.specs.Refusals.{config_refusal};
 ghost use Rattle.mc_classes.specs.Classes.{IsSound};
 ghost use Rattle.mc_script.specs.Command.{IsValid};
 ghost use Rattle.mc_script.specs.Script.{script_of};
 ghost use Rattle.mc_serial_spec.specs.Lines.{is_done, replies_to};
 ghost use Rattle.mc_serial_spec.specs.Machine.{fresh_machine};
 ghost use Rattle.mc_driver.specs.Reading.{GivesAtMost, TakesAtMost, since};
-ghost use Rattle.mc_driver.specs.Run.{IsOutcome, IsReadWhole, IsScript, IsReplyFault, WroteReply, IsScriptFault, IsScriptOutcome, IsServeFault, config_fault, refusal_number};
+ghost use Rattle.mc_driver.specs.Run.{IsOutcome, IsReadWhole, IsScript, IsReplyFault, WroteReply, IsScriptFault, IsScriptOutcome, IsServeFault, config_fault, config_refusal_number};
 
 use crate::fault::RunFault;
 use crate::reading::read_script;
@@ -34,8 +34,8 @@ pub fn run_serial<R: Source, W: Sink>(
     requires { run.now.automove ≤ 2 }
 
     // A refused configuration is returned, exactly then, and leaves reader and writer alone.
-    ensures refused { (number : ℕ) → (result ≡ Err (RunFault.Config number)) ↔ (refusal_number run.now.config ≡ Some number) }
-    ensures unread { IsSome (refusal_of run.now.config) → (reader.new ≡ reader.old) × (writer.new ≡ writer.old) }
+    ensures refused { (number : ℕ) → (result ≡ Err (RunFault.Config number)) ↔ (config_refusal_number run.now.config ≡ Some number) }
+    ensures unread { IsSome (config_refusal run.now.config) → (reader.new ≡ reader.old) × (writer.new ≡ writer.old) }
 
     // No more is read than shows that a script is too long.
     ensures most { TakesAtMost 1048577 (R.remaining reader.old) (R.remaining reader.new) }

@@ -1,11 +1,11 @@
 //! A run by threads: each worker's lines in a thread of its own and the mover's beside them, on an arena that all share.
 ghost use Rattle.std.specs.Prelude.{◌≡◌, ◌<◌, ◌≤◌, ◌↔◌, ℕ, Some, None, Err, IfSome, IsSome, OnOk};
 ghost use Rattle.std.specs.Io.KnownBytes.{Keeps};
-ghost use Rattle.mc_classes.specs.Refusals.{refusal_of};
+ghost use Rattle.mc_classes.specs.Refusals.{config_refusal};
 ghost use Rattle.mc_workers.specs.Ends.{RunPasses, RunStops};
 ghost use Rattle.mc_driver.specs.Reading.{GivesAtMost, TakesAtMost, since};
-ghost use Rattle.mc_driver.specs.Run.{IsReadWhole, OfScript, refusal_number};
-ghost use Rattle.mc_driver.specs.Threads.{IsThreadsOutcome, IsToldOutcome};
+ghost use Rattle.mc_driver.specs.Run.{IsReadWhole, OfScript, config_refusal_number};
+ghost use Rattle.mc_driver.specs.Threads.{IsThreadsOutcome, IsOutcomeByThreads};
 
 use crate::fault::RunFault;
 use crate::reading::read_script;
@@ -38,8 +38,8 @@ pub fn run_threads<T: Threads + Wait + Sync, G: Gate + Sync, R: Source, W: Sink>
     requires { run.now.automove ≤ 2 }
 
     // A refused configuration is returned, exactly then, and leaves reader and writer alone.
-    ensures refused { (number : ℕ) → (result ≡ Err (RunFault.Config number)) ↔ (refusal_number run.now.config ≡ Some number) }
-    ensures unread { IsSome (refusal_of run.now.config) → (reader.new ≡ reader.old) × (writer.new ≡ writer.old) }
+    ensures refused { (number : ℕ) → (result ≡ Err (RunFault.Config number)) ↔ (config_refusal_number run.now.config ≡ Some number) }
+    ensures unread { IsSome (config_refusal run.now.config) → (reader.new ≡ reader.old) × (writer.new ≡ writer.old) }
 
     // No more is read than shows that a script is too long.
     ensures most { TakesAtMost 1048577 (R.remaining reader.old) (R.remaining reader.new) }
@@ -82,9 +82,9 @@ fn run_by_threads<T: Threads + Wait + Sync, G: Gate + Sync, W: Sink>(
     bytes: &[u8],
     writer: &mut W,
 ) -> Result<(), RunFault>
-    requires accepted { refusal_of run.now.config ≡ None }
+    requires accepted { config_refusal run.now.config ≡ None }
     requires automove { run.now.automove ≤ 2 }
-    ensures outcome { IsToldOutcome run.now bytes.now (W.contents writer.old) (W.contents writer.new) result }
+    ensures outcome { IsOutcomeByThreads run.now bytes.now (W.contents writer.old) (W.contents writer.new) result }
     ensures write { (result ≡ Err RunFault.Write) ↔ (W.failures writer.old < W.failures writer.new) }
     ensures passed { OnOk result (OfScript bytes.now (RunPasses (G.LetsOn gate.now))) }
     ensures stopped { result ≡ Err RunFault.Turns

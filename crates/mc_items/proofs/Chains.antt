@@ -10,9 +10,9 @@ use Rattle.mc_core.specs.declared.holding.Holding.{Holding}
 use Rattle.mc_core.specs.declared.holding.Kind.{Kind}
 use Rattle.mc_core.specs.declared.holding.Kind.TheVariants.{Fresh, Reference}
 use Rattle.mc_core.specs.Columns.{Each, head_in}
-use Rattle.mc_core.specs.Holdings.{has_fresh, holding_of, is_fresh, is_fresh_kind, is_of, item_of, item_of_kind, key_of, length_of, lose, stamp_of}
-use Rattle.mc_core.specs.Knowing.{IsSaid}
-use Rattle.mc_core.specs.Past.{Known, Saying, known_by}
+use Rattle.mc_core.specs.Holdings.{has_fresh, holding_of, is_fresh, is_fresh_kind, is_of_chunk, item_of, item_of_kind, key_of, length_of_item, without_first, stamp_in_words}
+use Rattle.mc_core.specs.Knowing.{WasStored}
+use Rattle.mc_core.specs.Past.{KnownItem, StoredItem, known_by}
 use Rattle.mc_core.specs.State.{has_chunk}
 use Rattle.mc_core.proofs.KnownQuiet.{IsStill}
 use Rattle.mc_core.proofs.MoreRows.{each_contained, row_of}
@@ -24,12 +24,12 @@ use Rattle.mc_words.specs.rule.Happens.{LawfulView}
 use Rattle.mc_words.specs.item.Items.{held_item}
 use Rattle.mc_words.specs.lock.Out.{is_neither}
 use Rattle.mc_words.specs.hand.Ready.{IsReady}
-use Rattle.mc_words.specs.item.Refs.{IsRefOf, KeepsHeld, KeepsRefs}
+use Rattle.mc_words.specs.item.Refs.{IsRefOf, KeepsRemainingRefs, KeepsRefs}
 use Rattle.mc_words.proofs.Pages.Owners.{holdings_here}
 use Rattle.mc_words.proofs.Locks.Unlocked.{unlocked_from}
 use Rattle.mc_items.specs.declared.refs.Ref.{Ref}
 use Rattle.mc_items.specs.ItemRefs.{IsItemRef, item_chunk, item_stamp, item_words}
-use Rattle.mc_items.specs.Keeping.{AreSaid, HeldRefsKeepItems, IsAsSaid, KeepingGoesOn, KeptRefsKeepItems, ReleasingKeepsOthers, StaysItemRef, holding_by}
+use Rattle.mc_items.specs.Keeping.{WordsWereStored, HeldRefsKeepItems, HasStoredWords, KeepingGoesOn, KeptRefsKeepItems, ReleasingKeepsOthers, StaysItemRef, holding_by}
 use Rattle.mc_words.specs.item.Items.{item_with}
 use Rattle.mc_items.proofs.Rows.{chunk_found, found_among, fresh_more, left_among, none_fresh, still_found}
 
@@ -65,13 +65,13 @@ number_kept before now same = one (sym now.noted.0 ∙ (same ∙ before.noted.0)
     one e = cc
 
 -- what is held stays, and what is known grows: so each reference stays
-pub refs_kept : (view now : View) (more : List Known) → now.row.holdings ≡ view.row.holdings → now.row.knows.known ≡ view.row.knows.known ++ more → KeepsRefs view now
+pub refs_kept : (view now : View) (more : List KnownItem) → now.row.holdings ≡ view.row.holdings → now.row.knows.known ≡ view.row.knows.known ++ more → KeepsRefs view now
 refs_kept view now more same known = record {
   refers = λ chunk room ref. record {
     holding = ref.holding;
     found = ap (holding_of chunk) same ∙ ref.found;
     linked = ref.linked;
-    knows = subst (λ (l : List Known). Contains l (known_by room ref.holding)) (sym known) (Contains-append_left view.row.knows.known more (known_by room ref.holding) ref.knows);
+    knows = subst (λ (l : List KnownItem). Contains l (known_by room ref.holding)) (sym known) (Contains-append_left view.row.knows.known more (known_by room ref.holding) ref.knows);
   };
   same = λ chunk room ref. ap (holding_of chunk) same;
 }
@@ -80,19 +80,19 @@ pub refs_stay : (view now : View) → now.row.holdings ≡ view.row.holdings →
 refs_stay view now same known = refs_kept view now [] same (known ∙ sym (append-nil view.row.knows.known))
 
 -- one more at the end changes none of the others
-pub refs_and_more : (view now : View) (one : Holding) (more : List Known) → now.row.holdings ≡ view.row.holdings ++ one ∷ [] → now.row.knows.known ≡ view.row.knows.known ++ more → KeepsRefs view now
+pub refs_and_more : (view now : View) (one : Holding) (more : List KnownItem) → now.row.holdings ≡ view.row.holdings ++ one ∷ [] → now.row.knows.known ≡ view.row.knows.known ++ more → KeepsRefs view now
 refs_and_more view now one more holdings known = record {
   refers = λ chunk room ref. record {
     holding = ref.holding;
     found = found chunk room ref;
     linked = ref.linked;
-    knows = subst (λ (l : List Known). Contains l (known_by room ref.holding)) (sym known) (Contains-append_left view.row.knows.known more (known_by room ref.holding) ref.knows);
+    knows = subst (λ (l : List KnownItem). Contains l (known_by room ref.holding)) (sym known) (Contains-append_left view.row.knows.known more (known_by room ref.holding) ref.knows);
   };
   same = λ chunk room ref. found chunk room ref ∙ sym ref.found;
 }
   where
     found : (chunk : ChunkId) (room : ℕ) (ref : IsRefOf view chunk room) → holding_of chunk now.row.holdings ≡ Some ref.holding
-    found chunk room ref = ap (holding_of chunk) holdings ∙ (find-append (is_of chunk) view.row.holdings (one ∷ []) ∙ ap (λ (o : Option Holding). option_or o (holding_of chunk (one ∷ []))) ref.found)
+    found chunk room ref = ap (holding_of chunk) holdings ∙ (find-append (is_of_chunk chunk) view.row.holdings (one ∷ []) ∙ ap (λ (o : Option Holding). option_or o (holding_of chunk (one ∷ []))) ref.found)
 
 -- two references to one chunk are one holding
 same_kind : (a b : Kind) → is_fresh_kind a ≡ false → is_fresh_kind b ≡ false → item_of_kind a ≡ item_of_kind b → a ≡ b
@@ -115,20 +115,20 @@ one_holding view was none a b has_a has_b chunks =
     let known_a = known a has_a old_a in
     let known_b = known b has_b old_b in
     let words : item_of b ≡ item_of a =
-    each_contained (λ (other : Known). other.chunk ≡ a.chunk → other.issue ≡ a.issue → other.words ≡ item_of a) m.past.known was.hand (known_by known_b.0 b)
-    (each_contained (λ (k : Known). Each (λ (other : Known). other.chunk ≡ k.chunk → other.issue ≡ k.issue → other.words ≡ k.words) m.past.known) m.past.known was.hand (known_by known_a.0 a) was.lawful.known.one known_a.1)
+    each_contained (λ (other : KnownItem). other.chunk ≡ a.chunk → other.issue ≡ a.issue → other.words ≡ item_of a) m.past.known was.hand (known_by known_b.0 b)
+    (each_contained (λ (k : KnownItem). Each (λ (other : KnownItem). other.chunk ≡ k.chunk → other.issue ≡ k.issue → other.words ≡ k.words) m.past.known) m.past.known was.hand (known_by known_a.0 a) was.lawful.known.one known_a.1)
     known_b.1 (sym chunks) (sym issues) in
     let kinds : a.kind ≡ b.kind = same_kind a.kind b.kind old_a old_b (sym words) in
     λ k. record { chunk = chunks k; issue = issues k; kind = kinds k }
 
 -- a holding given up leaves each reference that is held still
-pub refs_less : (view now : View) → LawfulView view → has_fresh view.row.holdings ≡ false → (chunk : ChunkId) → now.row.holdings ≡ lose (is_of chunk) view.row.holdings → now.row.knows.known ≡ view.row.knows.known → KeepsHeld view now
+pub refs_less : (view now : View) → LawfulView view → has_fresh view.row.holdings ≡ false → (chunk : ChunkId) → now.row.holdings ≡ without_first (is_of_chunk chunk) view.row.holdings → now.row.knows.known ≡ view.row.knows.known → KeepsRemainingRefs view now
 refs_less view now was none lost holdings known = record {
   refers = λ chunk room ref still. record {
     holding = ref.holding;
     found = found chunk room ref still;
     linked = ref.linked;
-    knows = subst (λ (l : List Known). Contains l (known_by room ref.holding)) (sym known) ref.knows;
+    knows = subst (λ (l : List KnownItem). Contains l (known_by room ref.holding)) (sym known) ref.knows;
   };
   same = λ chunk room ref still. found chunk room ref still ∙ sym ref.found;
 }
@@ -136,9 +136,9 @@ refs_less view now was none lost holdings known = record {
     found : (chunk : ChunkId) (room : ℕ) (ref : IsRefOf view chunk room) → is_some (holding_of chunk now.row.holdings) ≡ true → holding_of chunk now.row.holdings ≡ Some ref.holding
     found chunk room ref still =
         let (one, is) = some_is (holding_of chunk now.row.holdings) still in
-        let is_left : holding_of chunk (lose (is_of lost) view.row.holdings) ≡ Some one = ap (holding_of chunk) (sym holdings) ∙ is in
-        let same : one ≡ ref.holding = one_holding view was none one ref.holding (left_among (is_of chunk) (is_of lost) view.row.holdings one is_left) (found_among (is_of chunk) view.row.holdings ref.holding ref.found)
-        (chunk_found chunk (lose (is_of lost) view.row.holdings) one is_left ∙ sym (chunk_found chunk view.row.holdings ref.holding ref.found)) in
+        let is_left : holding_of chunk (without_first (is_of_chunk lost) view.row.holdings) ≡ Some one = ap (holding_of chunk) (sym holdings) ∙ is in
+        let same : one ≡ ref.holding = one_holding view was none one ref.holding (left_among (is_of_chunk chunk) (is_of_chunk lost) view.row.holdings one is_left) (found_among (is_of_chunk chunk) view.row.holdings ref.holding ref.found)
+        (chunk_found chunk (without_first (is_of_chunk lost) view.row.holdings) one is_left ∙ sym (chunk_found chunk view.row.holdings ref.holding ref.found)) in
         is ∙ ap Some same
 
 -- one call after another
@@ -149,14 +149,14 @@ keeping_goes_on view next now first second = record {
 }
 
 -- what was got and released leaves what was there before
-pub kept_past : (view got now : View) (one : Holding) (chunk : ChunkId) → one.chunk ≡ chunk → KeepsRefs view got → got.row.holdings ≡ view.row.holdings ++ one ∷ [] → KeepsHeld got now → now.row.holdings ≡ lose (is_of chunk) got.row.holdings → KeepsRefs view now
+pub kept_past : (view got now : View) (one : Holding) (chunk : ChunkId) → one.chunk ≡ chunk → KeepsRefs view got → got.row.holdings ≡ view.row.holdings ++ one ∷ [] → KeepsRemainingRefs got now → now.row.holdings ≡ without_first (is_of_chunk chunk) got.row.holdings → KeepsRefs view now
 kept_past view got now one lost of more gained less holdings = record {
   refers = λ chunk room ref. less.refers chunk room (more.refers chunk room ref) (still chunk room ref);
   same = λ chunk room ref. less.same chunk room (more.refers chunk room ref) (still chunk room ref) ∙ more.same chunk room ref;
 }
   where
     still : (chunk : ChunkId) (room : ℕ) (ref : IsRefOf view chunk room) → is_some (holding_of chunk now.row.holdings) ≡ true
-    still chunk room ref = ap (λ (hs : List Holding). is_some (holding_of chunk hs)) (holdings ∙ ap (lose (is_of lost)) gained) ∙ still_found chunk lost view.row.holdings one ref.holding of ref.found
+    still chunk room ref = ap (λ (hs : List Holding). is_some (holding_of chunk hs)) (holdings ∙ ap (without_first (is_of_chunk lost)) gained) ∙ still_found chunk lost view.row.holdings one ref.holding of ref.found
 
 pub releasing_keeps_others : ReleasingKeepsOthers
 releasing_keeps_others view got next now item keeps gained same less holdings =
@@ -170,7 +170,7 @@ item_stays view now item is ref same =
         reference = ref;
         issue = ap (λ (o : Option Holding). option_map (λ (h : Holding). h.issue) o) same ∙ is.issue;
         key = ap (λ (l : List ℕ). key_of l) words ∙ is.key;
-        stamp = ap (λ (l : List ℕ). stamp_of l) words ∙ is.stamp;
+        stamp = ap (λ (l : List ℕ). stamp_in_words l) words ∙ is.stamp;
         len = ap (λ (l : List ℕ). length l) words ∙ is.len;
       };
       words = ap (drop 3) words;
@@ -185,7 +185,7 @@ held_refs_keep_items view now item keeps is still = item_stays view now item is 
 -- what a reference is to, as the hand knows it
 module _ (view : View) (was : LawfulView view) (item : Ref) (is : IsItemRef view item) where
   known_item : Contains (row_of was.moment.past.known was.hand) (known_by item.reference.room is.reference.holding)
-  known_item = subst (λ (l : List Known). Contains l (known_by item.reference.room is.reference.holding)) (ap (λ (v : View). v.row.knows.known) was.is) is.reference.knows
+  known_item = subst (λ (l : List KnownItem). Contains l (known_by item.reference.room is.reference.holding)) (ap (λ (v : View). v.row.knows.known) was.is) is.reference.knows
 
   item_is : held_item view (item_chunk item) ≡ item_of is.reference.holding
   item_is = ap (λ (o : Option Holding). option_map_or item_of o []) is.reference.found
@@ -198,25 +198,25 @@ module _ (view : View) (was : LawfulView view) (item : Ref) (is : IsItemRef view
   item_near = (λ k. has_chunk (sym was.same_table k) (sym (chunk_found (item_chunk item) view.row.holdings is.reference.holding is.reference.found) k)) ∙ still.inside
 
   -- it is as long as it says
-  pub item_whole : length (held_item view (item_chunk item)) ≡ length_of (held_item view (item_chunk item))
-  item_whole = ap (λ (l : List ℕ). length l) item_is ∙ (still.whole ∙ ap length_of (sym item_is))
+  pub item_whole : length (held_item view (item_chunk item)) ≡ length_of_item (held_item view (item_chunk item))
+  item_whole = ap (λ (l : List ℕ). length l) item_is ∙ (still.whole ∙ ap length_of_item (sym item_is))
 
   -- its words are those that were said with its stamp
-  pub item_said : IsAsSaid view item
+  pub item_said : HasStoredWords view item
   item_said = record { by_some = some; own = λ saying has stamp. own saying has stamp }
     where
-      some : (other : LawfulView view) → IsSaid other.moment.past.said (item_stamp item) (held_item view (item_chunk item))
+      some : (other : LawfulView view) → WasStored other.moment.past.said (item_stamp item) (held_item view (item_chunk item))
       some other =
-          let knows = subst (λ (l : List Known). Contains l (known_by item.reference.room is.reference.holding)) (ap (λ (v : View). v.row.knows.known) other.is) is.reference.knows in
-          let said = each_contained (λ (k : Known). IsSaid other.moment.past.said (stamp_of k.words) k.words) other.moment.past.known other.hand (known_by item.reference.room is.reference.holding) other.lawful.known.said_by_some knows in
-          subst (λ (p : ℕ × List ℕ). IsSaid other.moment.past.said p.0 p.1) (λ k. ((ap stamp_of (sym item_is) ∙ is.stamp) k, sym item_is k)) said
+          let knows = subst (λ (l : List KnownItem). Contains l (known_by item.reference.room is.reference.holding)) (ap (λ (v : View). v.row.knows.known) other.is) is.reference.knows in
+          let said = each_contained (λ (k : KnownItem). WasStored other.moment.past.said (stamp_in_words k.words) k.words) other.moment.past.known other.hand (known_by item.reference.room is.reference.holding) other.lawful.known.said_by_some knows in
+          subst (λ (p : ℕ × List ℕ). WasStored other.moment.past.said p.0 p.1) (λ k. ((ap stamp_in_words (sym item_is) ∙ is.stamp) k, sym item_is k)) said
 
-      own : (saying : Saying) → Contains view.row.knows.said saying → saying.stamp ≡ item_stamp item → saying.words ≡ held_item view (item_chunk item)
+      own : (saying : StoredItem) → Contains view.row.knows.said saying → saying.stamp ≡ item_stamp item → saying.words ≡ held_item view (item_chunk item)
       own saying has stamp =
-          (Rattle.mc_words.proofs.Hands.Joined.agrees view was).both saying (known_by item.reference.room is.reference.holding) has is.reference.knows (stamp ∙ (sym is.stamp ∙ ap stamp_of item_is)) ∙ sym item_is
+          (Rattle.mc_words.proofs.Hands.Joined.agrees view was).both saying (known_by item.reference.room is.reference.holding) has is.reference.knows (stamp ∙ (sym is.stamp ∙ ap stamp_in_words item_is)) ∙ sym item_is
 
 -- an item is its key, its stamp, how many words it has, and these
-item_from : (item : List ℕ) (key stamp len : ℕ) → key_of item ≡ key → stamp_of item ≡ stamp → length item ≡ 3 + len → length item ≡ length_of item → item ≡ item_with key stamp (drop 3 item)
+item_from : (item : List ℕ) (key stamp len : ℕ) → key_of item ≡ key → stamp_in_words item ≡ stamp → length item ≡ 3 + len → length item ≡ length_of_item item → item ≡ item_with key stamp (drop 3 item)
 item_from [] key stamp len keys stamps long whole = absurd (omega arith)
 item_from (a ∷ []) key stamp len keys stamps long whole = absurd (omega arith)
 item_from (a ∷ b ∷ []) key stamp len keys stamps long whole = absurd (omega arith)
@@ -224,6 +224,6 @@ item_from (a ∷ b ∷ d ∷ rest) key stamp len keys stamps long whole =
     let third : d ≡ length rest = omega arith in
     λ k. keys k ∷ stamps k ∷ third k ∷ rest
 
-pub words_said : (view : View) (was : LawfulView view) (item : Ref) (is : IsItemRef view item) → AreSaid view (item_stamp item) (item_with item.key item.stamp (item_words view item))
+pub words_said : (view : View) (was : LawfulView view) (item : Ref) (is : IsItemRef view item) → WordsWereStored view (item_stamp item) (item_with item.key item.stamp (item_words view item))
 words_said view was item is =
-    subst (λ (words : List ℕ). AreSaid view (item_stamp item) words) (item_from (held_item view (item_chunk item)) item.key item.stamp item.len is.key is.stamp is.len (item_whole view was item is)) (item_said view was item is)
+    subst (λ (words : List ℕ). WordsWereStored view (item_stamp item) words) (item_from (held_item view (item_chunk item)) item.key item.stamp item.len is.key is.stamp is.len (item_whole view was item is)) (item_said view was item is)

@@ -4,11 +4,11 @@ use Rattle.std.proofs.lemmas.Bool.{and_parts}
 use Rattle.std.proofs.lemmas.List.FromFn.{get_or-map-range_with_len, length-map-range_with_len}
 use Rattle.mc_pages.specs.declared.ids.ChunkId.{ChunkId}
 use Rattle.mc_core.specs.declared.holding.Holding.{Holding}
-use Rattle.mc_core.specs.Holdings.{item_of, key_of, stamp_of}
+use Rattle.mc_core.specs.Holdings.{item_of, key_of, stamp_in_words}
 use Rattle.mc_core.specs.Items.{can_count, has_place_unlocked, new_reference}
 use Rattle.mc_core.specs.Head.{is_linked}
 use Rattle.mc_core.specs.Past.{Moment}
-use Rattle.mc_core.specs.State.{State, has_chunk, head_at, item_at, room_at, word_at}
+use Rattle.mc_core.specs.State.{State, has_chunk, head_at, item_at, chunk_room, word_at}
 use Rattle.mc_core.proofs.Entered.{tag_linked}
 use Rattle.mc_words.specs.declared.item.refs.Hint.{Hint}
 use Rattle.mc_words.specs.hand.View.{View}
@@ -29,8 +29,8 @@ same_end (x ∷ xs) a b e = let rest : xs ++ a ∷ [] ≡ xs ++ b ∷ [] = cc in
 -- the first words of an item are those of its chunk
 word_of_item : (state : State) (chunk : ChunkId) (place : ℕ) → place < length (item_at state chunk) → slice_index (item_at state chunk) place ≡ word_at state chunk place
 word_of_item state chunk place near =
-    let long = length-map-range_with_len (λ place. word_at state chunk place) 0 (min (3 + word_at state chunk 2) (room_at state chunk)) in
-    get_or-map-range_with_len (λ place. word_at state chunk place) 0 (min (3 + word_at state chunk 2) (room_at state chunk)) place place 0 (omega arith) (zero-add place)
+    let long = length-map-range_with_len (λ place. word_at state chunk place) 0 (min (3 + word_at state chunk 2) (chunk_room state chunk)) in
+    get_or-map-range_with_len (λ place. word_at state chunk place) 0 (min (3 + word_at state chunk 2) (chunk_room state chunk)) place place 0 (omega arith) (zero-add place)
 
 module _ (view now : View) (chunk : ChunkId) (issue room : ℕ) (refers : RefersAgain view chunk issue room now) where
   abbrev m : Moment
@@ -46,7 +46,7 @@ module _ (view now : View) (chunk : ChunkId) (issue room : ℕ) (refers : Refers
   word place near = ap (λ (l : List ℕ). slice_index l place) item_is ∙ word_of_item m.state chunk place (let l = long in omega arith)
 
   -- its key leads to it
-  pub leads_to_it : IsCurrent m (key_of refers.item) (stamp_of refers.item) chunk
+  pub leads_to_it : IsCurrent m (key_of refers.item) (stamp_in_words refers.item) chunk
   leads_to_it =
       let may = (may_step refers.happens).allowed in
       let all = and_parts _ (can_count (head_at m.state chunk)) may in
@@ -64,5 +64,5 @@ gets_current view got now hint item gets is chunk ref =
     let same : held_item now item.reference.chunk ≡ refers.item = (λ k. held_item (is k) (chunk k)) ∙ refers.held in
     record {
       gets = (got, gets, is);
-      current = subst (λ (p : ℕ × ℕ). IsCurrent refers.happens.was.moment p.0 p.1 hint.chunk) (λ k. ((sym (ap key_of same) ∙ ref.key) k, (sym (ap stamp_of same) ∙ ref.stamp) k)) (leads_to_it _ got hint.chunk hint.issue item.reference.room refers);
+      current = subst (λ (p : ℕ × ℕ). IsCurrent refers.happens.was.moment p.0 p.1 hint.chunk) (λ k. ((sym (ap key_of same) ∙ ref.key) k, (sym (ap stamp_in_words same) ∙ ref.stamp) k)) (leads_to_it _ got hint.chunk hint.issue item.reference.room refers);
     }

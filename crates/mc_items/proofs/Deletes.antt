@@ -1,9 +1,9 @@
 -- A key that is deleted, from the parts of the call.
 use Rattle.std.proofs.Common.{◌≡◌, ℕ, [], ◌+◌, Bool, true, false, ◌&&◌, if◌then◌else◌, is_some, refl, ap, ◌∙◌, Result, Ok, Err, IfOk, OnErr}
-use Rattle.mc_stripe.specs.StripeState.{ReadyStripe, place_of}
+use Rattle.mc_stripe.specs.StripeState.{ReadyStripe, chunk_and_stamp}
 use Rattle.mc_stripe.specs.Changes.{after_unlink, used_up, after_reserve_call}
 use Rattle.mc_core.specs.Holdings.{has_fresh}
-use Rattle.mc_words.specs.lock.Doing.{IsDone}
+use Rattle.mc_words.specs.lock.Doing.{UsesRoomForCall}
 use Rattle.mc_words.specs.hand.View.{View}
 use Rattle.mc_words.specs.item.Calls.{key_deleted, key_lifted, key_not_deleted, key_unlinked}
 use Rattle.mc_core.specs.declared.event.Step.TheVariants as step
@@ -23,14 +23,14 @@ and_false false = refl
 
 -- the call
 pub deleted_done : (number stripe : ℕ) (value : ReadyStripe) (key : ℕ) (there : Bool) (view made got now : View) (number' stripe' stripe'' : ℕ) (ready left : ReadyStripe) → number' ≡ number → stripe' ≡ stripe → stripe'' ≡ stripe → ready ≡ after_reserve_call value
-    → made ≡ call_reserved stripe value (number + 1) view → there ≡ is_some (place_of ready.state key)
+    → made ≡ call_reserved stripe value (number + 1) view → there ≡ is_some (chunk_and_stamp ready.state key)
     → got ≡ (if there then with_event [] (step.Unlink key) (key_deleted number' stripe' ready key true made) else key_not_deleted number' stripe' ready key made) → left ≡ used_up (after_unlink ready.state number' key) → now ≡ stripe_given stripe'' left got
-    → IsDone number stripe value (Deletes number stripe key there) view now
+    → UsesRoomForCall number stripe value (Deletes number stripe key there) view now
 deleted_done number stripe value key there view made got now number' stripe' stripe'' ready left numbers stripes stripes' readies mades was gots lefts given = record {
   left = left;
   last = got;
   does = (
-    was ∙ ap (λ (v : ReadyStripe). is_some (place_of v.state key)) readies,
+    was ∙ ap (λ (v : ReadyStripe). is_some (chunk_and_stamp v.state key)) readies,
     gots ∙ (λ k. if there then with_event [] (step.Unlink key) (key_deleted (numbers k) (stripes k) (readies k) key true (mades k)) else key_not_deleted (numbers k) (stripes k) (readies k) key (mades k)),
     lefts ∙ (λ k. used_up (after_unlink (readies k).state (numbers k) key)),
   );

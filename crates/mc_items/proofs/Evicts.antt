@@ -11,7 +11,7 @@ use Rattle.mc_core.specs.declared.look.Look.{Look}
 use Rattle.mc_core.specs.declared.look.Look.TheVariants.{SawStripe}
 use Rattle.mc_core.specs.Chunks.{most_issue}
 use Rattle.mc_core.specs.Seen.{last_head, last_read}
-use Rattle.mc_words.specs.lock.Doing.{Doing, IsDone}
+use Rattle.mc_words.specs.lock.Doing.{Doing, UsesRoomForCall}
 use Rattle.mc_words.specs.hand.View.{View}
 use Rattle.mc_words.specs.item.Removal.{knows_reason, stripe_read}
 use Rattle.mc_words.specs.item.Items.{word_read}
@@ -41,7 +41,7 @@ module _ (view made : View) (slabs : SlabState) (mine : view.slabs ≡ Some slab
 
 -- the call
 pub done_so : (Does : ℕ → ℕ → Doing) (number stripe : ℕ) (value : ReadyStripe) (view made last now : View) (number' stripe' stripe'' : ℕ) (ready left : ReadyStripe) → number' ≡ number → stripe' ≡ stripe → stripe'' ≡ stripe → ready ≡ after_reserve_call value
-    → made ≡ call_reserved stripe value (number + 1) view → Does number' stripe' ready made left last → now ≡ stripe_given stripe'' left last → IsDone number stripe value (Does number stripe) view now
+    → made ≡ call_reserved stripe value (number + 1) view → Does number' stripe' ready made left last → now ≡ stripe_given stripe'' left last → UsesRoomForCall number stripe value (Does number stripe) view now
 done_so Does number stripe value view made last now number' stripe' stripe'' ready left numbers stripes stripes' readies mades does given = record {
   left = left;
   last = last;

@@ -2,20 +2,20 @@
 use Rattle.std.proofs.Common.{◌≡◌, ℕ, ◌%◌, Bool, true, false, is_ok, is_some, refl, sym, IsOk, IsErr, IfOk, Result, Ok, Err, OnOk, OnErr, List, map, Option, Some, None, ap, ◌∙◌, inl, inr}
 use Rattle.mc_pages.specs.declared.ids.ChunkId.{ChunkId}
 use Rattle.mc_pages.specs.Changes.{after_back, after_evicted, with_class}
-use Rattle.mc_pages.specs.ClassState.{ClassState, evicted, first_free, put_back}
-use Rattle.mc_pages.specs.SlabState.{SlabState, IsClass, class_at, class_of_page}
+use Rattle.mc_pages.specs.ClassState.{ClassState, class_after_eviction, first_free, put_back}
+use Rattle.mc_pages.specs.SlabState.{SlabState, HasClass, class_at, class_of_page}
 use Rattle.mc_pages.proofs.OneClass.{IsClass-with_class, class_at-with_class_same}
 use Rattle.mc_stripe.specs.StripeState.{ReadyStripe}
 use Rattle.mc_stripe.specs.declared.history.Call.TheVariants.{Evict}
 use Rattle.mc_core.specs.Past.{Own}
-use Rattle.mc_words.specs.lock.Doing.{IsDone}
+use Rattle.mc_words.specs.lock.Doing.{UsesRoomForCall}
 use Rattle.mc_words.specs.hand.View.{View}
 use Rattle.mc_words.specs.item.Calls.{with_own_call}
 use Rattle.mc_words.specs.item.Removal.{Condemns}
 use Rattle.mc_items.specs.declared.evicting.Supply.{Supply}
 use Rattle.mc_items.specs.declared.evicting.Supply.TheVariants.{Page, Dead, Evicted}
 use Rattle.mc_items.specs.Calls.{IsFull}
-use Rattle.mc_items.specs.Evicting.{FreesChunk, FreesOne, LacksEntry, TellsEvict}
+use Rattle.mc_items.specs.Evicting.{FreesChunk, FreesOne, LacksEntry, RecordsEviction}
 use Rattle.mc_items.specs.Supplying.{FreesEvicted, ReachesItem}
 use Rattle.mc_items.proofs.Passes.{OwnTuple, each_keeps, lacks_spares, own_of, passed_spares, reach_spares}
 
@@ -25,7 +25,7 @@ pub record Evicts (number : ℕ) (view now : View) : Type 0 where
   pub said : now.row.knows.said ≡ view.row.knows.said
   pub ids : now.row.ids ≡ view.row.ids
   pub known : now.row.knows.known ≡ view.row.knows.known
-  pub calls : TellsEvict number view now
+  pub calls : RecordsEviction number view now
 
 -- it did nothing
 pub evicts_none : (number : ℕ) (view now : View) → own_of now ≡ own_of view → Evicts number view now
@@ -50,7 +50,7 @@ evicts_after number view next now own then_now = record {
     mine : next.row.knows.mine ≡ view.row.knows.mine
     mine = ap (λ (o : OwnTuple). o.3) own
 
-    by : TellsEvict number next now → TellsEvict number view now
+    by : RecordsEviction number next now → RecordsEviction number view now
     by (inl none) = inl (none ∙ mine)
     by (inr (stripe, key, tells)) = inr (stripe, key, tells ∙ ap (λ (m : List Own). map (with_own_call number stripe (Evict number key)) m) mine)
 
@@ -67,12 +67,12 @@ evicts_before number view next now first own = record {
     mine : now.row.knows.mine ≡ next.row.knows.mine
     mine = ap (λ (o : OwnTuple). o.3) own
 
-    by : TellsEvict number view next → TellsEvict number view now
+    by : RecordsEviction number view next → RecordsEviction number view now
     by (inl none) = inl (mine ∙ none)
     by (inr (stripe, key, tells)) = inr (stripe, key, mine ∙ tells)
 
 -- an item was taken away
-taken_done : (number stripe : ℕ) (chunk : ChunkId) (value : ReadyStripe) (view now : View) → IsDone number stripe value (Condemns number stripe chunk) view now → Evicts number view now
+taken_done : (number stripe : ℕ) (chunk : ChunkId) (value : ReadyStripe) (view now : View) → UsesRoomForCall number stripe value (Condemns number stripe chunk) view now → Evicts number view now
 taken_done number stripe chunk value view now done = record {
   holdings = ap (λ (v : View). v.row.holdings) done.given ∙ ap (λ (v : View). v.row.holdings) done.does.is;
   said = ap (λ (v : View). v.row.knows.said) done.given ∙ ap (λ (v : View). v.row.knows.said) done.does.is;
@@ -110,16 +110,16 @@ frees_uncut number class chunk Evicted view slabs now left (taken, reaches, free
 frees_uncut number class chunk Dead view slabs now left (tried, passes, back, is) = ap (λ (s : SlabState). s.uncut) is
 
 -- a chunk that was put back is free
-pub back_is_free : (slabs : SlabState) (class : ℕ) (chunk : ChunkId) → IsClass slabs class → class_of_page slabs chunk.page ≡ class → is_some (first_free (class_at (after_back slabs chunk) class)) ≡ true
+pub back_is_free : (slabs : SlabState) (class : ℕ) (chunk : ChunkId) → HasClass slabs class → class_of_page slabs chunk.page ≡ class → is_some (first_free (class_at (after_back slabs chunk) class)) ≡ true
 back_is_free slabs class chunk is own =
     ap (λ (n : ℕ). is_some (first_free (class_at (with_class slabs n (put_back (class_at slabs n) chunk)) class))) own
     ∙ ap (λ (c : ClassState). is_some (first_free c)) (class_at-with_class_same slabs class (put_back (class_at slabs class) chunk) is)
 
-pub frees_free : (number class : ℕ) (chunk : ChunkId) (supply : Supply) (view : View) (slabs : SlabState) (now : View) (left : SlabState) → IsClass slabs class → class_of_page slabs chunk.page ≡ class → FreesChunk number class chunk supply view slabs now left → is_some (first_free (class_at left class)) ≡ true
+pub frees_free : (number class : ℕ) (chunk : ChunkId) (supply : Supply) (view : View) (slabs : SlabState) (now : View) (left : SlabState) → HasClass slabs class → class_of_page slabs chunk.page ≡ class → FreesChunk number class chunk supply view slabs now left → is_some (first_free (class_at left class)) ≡ true
 frees_free number class chunk Page view slabs now left is own frees = absurd frees
 frees_free number class chunk Evicted view slabs now left is own (taken, reaches, frees) =
     ap (λ (s : SlabState). is_some (first_free (class_at s class))) frees.left_is
-    ∙ back_is_free (after_evicted slabs class) class chunk (IsClass-with_class slabs class class (evicted (class_at slabs class)) is) own
+    ∙ back_is_free (after_evicted slabs class) class chunk (IsClass-with_class slabs class class (class_after_eviction (class_at slabs class)) is) own
 frees_free number class chunk Dead view slabs now left is own (tried, passes, back, left_is) =
     ap (λ (s : SlabState). is_some (first_free (class_at s class))) left_is ∙ back_is_free slabs class chunk is own
 

@@ -19,7 +19,7 @@ use Rattle.mc_words.specs.hand.View.{Setup, View}
 use Rattle.mc_items.specs.declared.refs.Ref.{Ref}
 use Rattle.mc_items.specs.Calls.{CallsOn, Deletes, LooksUp, OnlyWaits}
 use Rattle.mc_items.specs.ItemRefs.{IsItemRef, item_chunk, item_issue, item_key, item_reference}
-use Rattle.mc_items.specs.Keeping.{HoldsToo, IsAsSaid, holding_by}
+use Rattle.mc_items.specs.Keeping.{HoldsToo, HasStoredWords, holding_by}
 use Rattle.mc_items.specs.Reading.{AndReads}
 use Rattle.mc_items.proofs.Chains.{item_near, item_said, ready_more, ready_still, refs_and_more, refs_stay}
 use Rattle.mc_items.proofs.Left.{GotOne, Kept, deletes_keep, gets_one, kept_of, contended_keeps, gone_keeps, none_keeps, one_more_held, only_keeps}
@@ -64,7 +64,7 @@ pub get_near : (setup : Setup) (view : View) (found : Option Ref) (key : ℕ) �
 get_near setup view (Some item) key was same is = ap (λ (s : Setup). has_chunk s.table (item_chunk item)) (sym same) ∙ item_near view was item is.0
 get_near setup view None key was same is = tt
 
-pub get_said : (view : View) (found : Option Ref) (key : ℕ) → LawfulView view → IfSome found (λ item. IsItemRef view item × (item_key item ≡ key)) → IfSome found (IsAsSaid view)
+pub get_said : (view : View) (found : Option Ref) (key : ℕ) → LawfulView view → IfSome found (λ item. IsItemRef view item × (item_key item ≡ key)) → IfSome found (HasStoredWords view)
 get_said view (Some item) key was is = item_said view was item is.0
 get_said view None key was is = tt
 

@@ -2,14 +2,14 @@
 use Rattle.std.proofs.Common.{false, ◌≡◌, ℕ, ◌+◌, true, Option, Some, None, IfSome, refl, sym, ap, subst, ◌∙◌, Contains}
 use Rattle.std.proofs.lemmas.List.Elements.{Contains-push}
 use Rattle.mc_pages.specs.declared.ids.ChunkId.{ChunkId}
-use Rattle.mc_stripe.specs.StripeState.{ReadyStripe, place_of, stamp_of}
+use Rattle.mc_stripe.specs.StripeState.{ReadyStripe, chunk_and_stamp, stamp_of_key}
 use Rattle.mc_stripe.specs.Changes.{after_got, used_up, after_reserve_call}
 use Rattle.mc_core.specs.declared.holding.Holding.{Holding}
 use Rattle.std.specs.Option.{option_map}
 use Rattle.mc_core.specs.Holdings as items
 use Rattle.mc_core.specs.Past.{known_by}
 use Rattle.mc_core.specs.declared.event.StripeChange.{StripeChange}
-use Rattle.mc_words.specs.lock.Doing.{Doing, IsDone, IsDoneBehind}
+use Rattle.mc_words.specs.lock.Doing.{Doing, UsesRoomForCall, IsDoneBehind}
 use Rattle.mc_words.specs.hand.View.{View}
 use Rattle.mc_words.specs.item.Calls.{key_missed}
 use Rattle.mc_words.specs.rule.Happens.{LawfulView}
@@ -33,7 +33,7 @@ got_item view now number stripe value key chunk issue room gets was =
 -- a call that found the key's item
 pub found_done : (number stripe : ℕ) (value : ReadyStripe) (key : ℕ) (r : Ref) (view made got now : View) (number' stripe' stripe'' : ℕ) (ready left : ReadyStripe) → number' ≡ number → stripe' ≡ stripe → stripe'' ≡ stripe → ready ≡ after_reserve_call value
     → made ≡ call_reserved stripe value (number + 1) view → left ≡ used_up (after_got ready.state number' key) → GetsItem made number' stripe' ready key r.chunk r.issue r.room got → now ≡ stripe_given stripe'' left got
-    → IsDone number stripe value (LooksUp number stripe key (Some r)) view now
+    → UsesRoomForCall number stripe value (LooksUp number stripe key (Some r)) view now
 found_done number stripe value key r view made got now number' stripe' stripe'' ready left numbers stripes stripes' readies mades lefts gets given = record {
   left = left;
   last = got;
@@ -61,13 +61,13 @@ only_waits stripe stripe' value view taken now stripes waits lent full given = r
 
 -- one that found none
 none_done : (number stripe : ℕ) (value : ReadyStripe) (key : ℕ) (view made got now : View) (number' stripe' stripe'' : ℕ) (ready left : ReadyStripe) → number' ≡ number → stripe' ≡ stripe → stripe'' ≡ stripe → ready ≡ after_reserve_call value
-    → made ≡ call_reserved stripe value (number + 1) view → left ≡ used_up (after_got ready.state number' key) → place_of ready.state key ≡ None → got ≡ key_missed number' stripe' ready key made → now ≡ stripe_given stripe'' left got
-    → IsDone number stripe value (LooksUp number stripe key None) view now
+    → made ≡ call_reserved stripe value (number + 1) view → left ≡ used_up (after_got ready.state number' key) → chunk_and_stamp ready.state key ≡ None → got ≡ key_missed number' stripe' ready key made → now ≡ stripe_given stripe'' left got
+    → UsesRoomForCall number stripe value (LooksUp number stripe key None) view now
 none_done number stripe value key view made got now number' stripe' stripe'' ready left numbers stripes stripes' readies mades lefts nowhere gots given = record {
   left = left;
   last = got;
   does = (
-    ap (λ (v : ReadyStripe). place_of v.state key) (sym readies) ∙ nowhere,
+    ap (λ (v : ReadyStripe). chunk_and_stamp v.state key) (sym readies) ∙ nowhere,
     gots ∙ (λ k. key_missed (numbers k) (stripes k) (readies k) key (mades k)),
     lefts ∙ (λ k. used_up (after_got (readies k).state (numbers k) key)),
   );
@@ -77,8 +77,8 @@ none_done number stripe value key view made got now number' stripe' stripe'' rea
 -- one of the two
 pub looked_up : (number stripe : ℕ) (value : ReadyStripe) (key : ℕ) (found : Option Ref) (view made got now : View) (number' stripe' stripe'' : ℕ) (ready left : ReadyStripe) → number' ≡ number → stripe' ≡ stripe → stripe'' ≡ stripe → ready ≡ after_reserve_call value
     → made ≡ call_reserved stripe value (number + 1) view → left ≡ used_up (after_got ready.state number' key) → IfSome found (λ r. GetsItem made number' stripe' ready key r.chunk r.issue r.room got)
-    → (found ≡ None → (place_of ready.state key ≡ None) × (got ≡ key_missed number' stripe' ready key made)) → now ≡ stripe_given stripe'' left got
-    → IsDone number stripe value (LooksUp number stripe key found) view now
+    → (found ≡ None → (chunk_and_stamp ready.state key ≡ None) × (got ≡ key_missed number' stripe' ready key made)) → now ≡ stripe_given stripe'' left got
+    → UsesRoomForCall number stripe value (LooksUp number stripe key found) view now
 looked_up number stripe value key (Some r) view made got now number' stripe' stripe'' ready left numbers stripes stripes' readies mades lefts gets misses given =
     found_done number stripe value key r view made got now number' stripe' stripe'' ready left numbers stripes stripes' readies mades lefts gets given
 looked_up number stripe value key None view made got now number' stripe' stripe'' ready left numbers stripes stripes' readies mades lefts gets misses given =
@@ -91,14 +91,14 @@ some_both P Q R None next p q = tt
 
 -- the stamp that the stripe has is that of the item that was got
 pub stamp_found : (value ready left : ReadyStripe) (key number' stripe' stripe'' : ℕ) (found : Option Ref) (made got last : View) → ready ≡ after_reserve_call value → last ≡ stripe_given stripe'' left got → LawfulView got
-    → IfSome found (λ r. GetsItem made number' stripe' ready key r.chunk r.issue r.room got) → (found ≡ None → place_of ready.state key ≡ None)
-    → stamp_of value.state key ≡ option_map (λ (r : Ref). items.stamp_of (held_item last r.chunk)) found
+    → IfSome found (λ r. GetsItem made number' stripe' ready key r.chunk r.issue r.room got) → (found ≡ None → chunk_and_stamp ready.state key ≡ None)
+    → stamp_of_key value.state key ≡ option_map (λ (r : Ref). items.stamp_in_words (held_item last r.chunk)) found
 stamp_found value ready left key number' stripe' stripe'' (Some r) made got last readies given was gets misses =
-    ap (λ (v : ReadyStripe). stamp_of v.state key) (sym readies)
+    ap (λ (v : ReadyStripe). stamp_of_key v.state key) (sym readies)
     ∙ (ap (λ (o : Option (ChunkId × ℕ)). option_map (λ (p : ChunkId × ℕ). p.1) o) gets.leads
-    ∙ ap Some (sym (ap (λ (v : View). items.stamp_of (held_item v r.chunk)) given ∙ (ap items.stamp_of (got_item made got number' stripe' ready key r.chunk r.issue r.room gets was) ∙ gets.stamp_is))))
+    ∙ ap Some (sym (ap (λ (v : View). items.stamp_in_words (held_item v r.chunk)) given ∙ (ap items.stamp_in_words (got_item made got number' stripe' ready key r.chunk r.issue r.room gets was) ∙ gets.stamp_is))))
 stamp_found value ready left key number' stripe' stripe'' None made got last readies given was gets misses =
-    ap (λ (v : ReadyStripe). stamp_of v.state key) (sym readies) ∙ ap (λ (o : Option (ChunkId × ℕ)). option_map (λ (p : ChunkId × ℕ). p.1) o) (misses refl)
+    ap (λ (v : ReadyStripe). stamp_of_key v.state key) (sym readies) ∙ ap (λ (o : Option (ChunkId × ℕ)). option_map (λ (p : ChunkId × ℕ). p.1) o) (misses refl)
 
 -- what is read afterwards is read still
 pub and_reads : (chunk : Option ChunkId) (P Q : View → View → Type 0) (taken view now : View) → ((got : View) → P taken got → Q view got) → AndReads chunk P taken now → AndReads chunk Q view now

@@ -7,7 +7,7 @@ use Rattle.mc_stripe.specs.StripeState.{ReadyStripe}
 use Rattle.mc_core.specs.declared.event.Step.TheVariants as step
 use Rattle.mc_core.specs.declared.holding.Holding.{Holding}
 use Rattle.mc_core.specs.declared.ids.Ids.{Ids}
-use Rattle.mc_core.specs.Past.{Known, Saying, known_by}
+use Rattle.mc_core.specs.Past.{KnownItem, StoredItem, known_by}
 use Rattle.mc_words.specs.hand.View.{View}
 use Rattle.mc_words.specs.item.Calls.{key_deleted, key_not_deleted}
 use Rattle.mc_words.specs.item.Again.{FindsContended, FindsGone, GetsAgain}
@@ -27,7 +27,7 @@ use Rattle.mc_items.proofs.Locks.{waits_keep, waits_slabs_keep}
 
 -- what is held, known and said, and the numbers
 abbrev pub Kept : Type 0
-Kept = List Holding × List Known × List Saying × Ids
+Kept = List Holding × List KnownItem × List StoredItem × Ids
 
 abbrev pub kept_of : View → Kept
 kept_of view = (view.row.holdings, view.row.knows.known, view.row.knows.said, view.row.ids)

@@ -10,7 +10,7 @@ use Rattle.mc_words.specs.hand.Arenas.{view}
 use Rattle.mc_core.specs.declared.event.Step.TheVariants as step
 use Rattle.mc_words.specs.rule.Happens.{Happens}
 use Rattle.mc_words.specs.hand.Idle.{is_unlocked}
-use Rattle.mc_words.specs.lock.Out.{is_neither, with_slabs, with_stripe, without_slabs, without_stripe}
+use Rattle.mc_words.specs.lock.Out.{is_neither, locks_with_slabs, locks_with_stripe, without_slabs, without_stripe}
 use Rattle.mc_words.specs.hand.Views.{slabs_missed, slabs_taken, stripe_missed, stripe_taken}
 use Rattle.mc_words.specs.lock.Lent.{BeginsWithSeen}
 use Rattle.mc_words.specs.lock.Wait.{MissesSlabs, MissesStripe, WaitsForSlabs, WaitsForStripe}
@@ -26,10 +26,10 @@ module _ {X : Type 0} (part : View → X) (stripe : ℕ) (missed : (word : ℕ) 
   waits_keep before value now waits = ap part waits.is ∙ (took value waits.before ∙ misses_keep waits.words before waits.before waits.misses)
 
 -- a stripe's lock that came and went
-pub locks_back : (hand : Hand) (stripe : ℕ) → is_unlocked (view hand) ≡ true → without_stripe (with_stripe stripe hand.locks) ≡ hand.locks
+pub locks_back : (hand : Hand) (stripe : ℕ) → is_unlocked (view hand) ≡ true → without_stripe (locks_with_stripe stripe hand.locks) ≡ hand.locks
 locks_back hand stripe unlocked = by hand.locks (unlocked_from hand.seat.me.0 hand.locks hand.noted.4 ∙ unlocked)
   where
-    by : (locks : Locks) → is_neither locks ≡ true → without_stripe (with_stripe stripe locks) ≡ locks
+    by : (locks : Locks) → is_neither locks ≡ true → without_stripe (locks_with_stripe stripe locks) ≡ locks
     by Neither none = refl
     by Slabs none = absurd (cc)
     by (Stripe other) none = absurd (cc)
@@ -55,10 +55,10 @@ still_unlocked before now unlocked same =
     sym (unlocked_from now.seat.me.0 now.locks now.noted.4) ∙ (ap is_neither same ∙ (unlocked_from before.seat.me.0 before.locks before.noted.4 ∙ unlocked))
 
 -- the lock of the slabs that came and went
-pub slabs_back : (hand : Hand) → is_unlocked (view hand) ≡ true → without_slabs (with_slabs hand.locks) ≡ hand.locks
+pub slabs_back : (hand : Hand) → is_unlocked (view hand) ≡ true → without_slabs (locks_with_slabs hand.locks) ≡ hand.locks
 slabs_back hand unlocked = by hand.locks (unlocked_from hand.seat.me.0 hand.locks hand.noted.4 ∙ unlocked)
   where
-    by : (locks : Locks) → is_neither locks ≡ true → without_slabs (with_slabs locks) ≡ locks
+    by : (locks : Locks) → is_neither locks ≡ true → without_slabs (locks_with_slabs locks) ≡ locks
     by Neither none = refl
     by Slabs none = absurd (cc)
     by (Stripe other) none = absurd (cc)

@@ -7,24 +7,24 @@ use Rattle.mc_pages.specs.declared.ids.ChunkId.{ChunkId}
 use Rattle.mc_pages.specs.Changes.{after_back, after_cut, after_pop, next_page}
 use Rattle.mc_pages.specs.ClassState.{first_free, is_chunk, put_back}
 use Rattle.mc_pages.specs.Eviction.{eviction_candidates}
-use Rattle.mc_pages.specs.SlabState.{SlabState, IsClass, class_at, class_of_chunk, class_of_page}
+use Rattle.mc_pages.specs.SlabState.{SlabState, HasClass, class_at, class_of_chunk, class_of_page}
 use Rattle.mc_pages.proofs.Chunks.{same_from_is_chunk}
 use Rattle.mc_pages.proofs.OneClass.{IsClass-with_class}
 use Rattle.mc_core.specs.Head.{is_dead}
 use Rattle.mc_core.specs.declared.head.Head.{Head}
 use Rattle.mc_core.specs.declared.ids.Ids.{Ids}
 use Rattle.mc_core.specs.declared.holding.Holding.{Holding}
-use Rattle.mc_core.specs.Past.{Known, Own, Saying}
+use Rattle.mc_core.specs.Past.{KnownItem, Own, StoredItem}
 use Rattle.mc_core.specs.State.{is_class, room_in}
 use Rattle.mc_words.specs.hand.Views.{fresh_holding}
 use Rattle.mc_words.specs.lock.Doing.{HoldsSlabs}
 use Rattle.mc_words.specs.hand.View.{View}
 use Rattle.mc_words.specs.rule.Happens.{LawfulView}
 use Rattle.mc_words.specs.page.Owner.{PopsFirst, SeesOther}
-use Rattle.mc_words.specs.chunk.Sweeps.{Recovers, SeesHeader, SeesHeaders, Sweeps, SweepsEach, follows, with_seen}
+use Rattle.mc_words.specs.chunk.Sweeps.{Recovers, SeesHeader, SeesHeaders, Sweeps, SweepsEach, is_in_sequence, with_seen}
 use Rattle.mc_words.proofs.Pages.LookedOver.{sees_both, sees_headers_alone}
 use Rattle.mc_words.proofs.Chunks.SweepViews.{class_here, sees_alone, stands_out}
-use Rattle.mc_items.specs.Evicting.{FreesOne, TellsEvict}
+use Rattle.mc_items.specs.Evicting.{FreesOne, RecordsEviction}
 use Rattle.mc_pages.specs.declared.moves.Reassign.{Reassign}
 use Rattle.mc_words.specs.page.Moves.{Reassigns}
 use Rattle.mc_items.specs.declared.evicting.Supply.{Supply}
@@ -42,17 +42,17 @@ use Rattle.mc_items.proofs.Passes.{OwnTuple, each_keeps, own_of}
 use Rattle.mc_items.proofs.Supplies.{FindsNoneDead, recovers_here}
 
 -- chunks that stand in an order, in that sequence, are of it
-pub follows_there : (order chunks : List ChunkId) → follows order chunks ≡ true → (chunk : ChunkId) → Contains chunks chunk → Contains order chunk
+pub follows_there : (order chunks : List ChunkId) → is_in_sequence order chunks ≡ true → (chunk : ChunkId) → Contains chunks chunk → Contains order chunk
 follows_there order [] h chunk there = absurd (omega (arith, there.1))
 follows_there [] (first ∷ chunks) h chunk there = absurd (let never : false ≡ true = h in cc)
 follows_there (other ∷ order) (first ∷ chunks) h chunk there = elim (cases_Bool (is_chunk other first)) [
   | inl same ↦
-      let h' : follows order chunks ≡ true = sym (ap (λ (b : Bool). if b then follows order chunks else follows order (first ∷ chunks)) same) ∙ h in elim (Contains-append_cases (first ∷ []) chunks chunk there) [
+      let h' : is_in_sequence order chunks ≡ true = sym (ap (λ (b : Bool). if b then is_in_sequence order chunks else is_in_sequence order (first ∷ chunks)) same) ∙ h in elim (Contains-append_cases (first ∷ []) chunks chunk there) [
         | inl one ↦ Contains-append_left (other ∷ []) order chunk (subst (λ (c : ChunkId). Contains (c ∷ []) chunk) (sym (same_from_is_chunk other first same)) one)
         | inr more ↦ Contains-append_right (other ∷ []) order chunk (follows_there order chunks h' chunk more)
       ]
   | inr apart ↦
-      let h' : follows order (first ∷ chunks) ≡ true = sym (ap (λ (b : Bool). if b then follows order chunks else follows order (first ∷ chunks)) apart) ∙ h in
+      let h' : is_in_sequence order (first ∷ chunks) ≡ true = sym (ap (λ (b : Bool). if b then is_in_sequence order chunks else is_in_sequence order (first ∷ chunks)) apart) ∙ h in
       Contains-append_right (other ∷ []) order chunk (follows_there order (first ∷ chunks) h' chunk there)
 ]
 
@@ -67,7 +67,7 @@ module _ (class : ℕ) where
   rest_of : (slabs : SlabState) (chunk : ChunkId) (chunks : List ChunkId) → AreOf slabs (chunk ∷ chunks) → AreOf slabs chunks
   rest_of slabs chunk chunks own other there = own other (Contains-append_right (chunk ∷ []) chunks other there)
 
-  free_still : (chunks : List ChunkId) (view : View) (slabs : SlabState) (now : View) (left : SlabState) → IsClass slabs class → AreOf slabs chunks → is_some (first_free (class_at slabs class)) ≡ true → SweepsEach chunks view slabs now left
+  free_still : (chunks : List ChunkId) (view : View) (slabs : SlabState) (now : View) (left : SlabState) → HasClass slabs class → AreOf slabs chunks → is_some (first_free (class_at slabs class)) ≡ true → SweepsEach chunks view slabs now left
       → is_some (first_free (class_at left class)) ≡ true
   free_still [] view slabs now left is own free (same, left_is) = ap (λ (s : SlabState). is_some (first_free (class_at s class))) left_is ∙ free
   free_still (chunk ∷ chunks) view slabs now left is own free (next, between, one, rest) = elim one [
@@ -76,7 +76,7 @@ module _ (class : ℕ) where
     | inr other ↦ free_still chunks next slabs now left is (rest_of slabs chunk chunks own) free (subst (λ (s : SlabState). SweepsEach chunks next s now left) other.1 rest)
   ]
 
-  none_back : (chunks : List ChunkId) (view : View) (slabs : SlabState) (now : View) (left : SlabState) → IsClass slabs class → AreOf slabs chunks → first_free (class_at left class) ≡ None → SweepsEach chunks view slabs now left
+  none_back : (chunks : List ChunkId) (view : View) (slabs : SlabState) (now : View) (left : SlabState) → HasClass slabs class → AreOf slabs chunks → first_free (class_at left class) ≡ None → SweepsEach chunks view slabs now left
       → (left ≡ slabs) × SeesHeaders chunks view now
   none_back [] view slabs now left is own none (same, left_is) = (left_is, same)
   none_back (chunk ∷ chunks) view slabs now left is own none (next, between, one, rest) = elim one [
@@ -162,14 +162,14 @@ pub record Tells (number : ℕ) (view now : View) : Type 0 where
   pub said : now.row.knows.said ≡ view.row.knows.said
   pub ids : now.row.ids ≡ view.row.ids
   pub known : now.row.knows.known ≡ view.row.knows.known
-  pub calls : TellsEvict number view now
+  pub calls : RecordsEviction number view now
 
 pub tells_from : (number : ℕ) (view now : View) → Evicts number view now → Tells number view now
 tells_from number view now evicts = record { said = evicts.said; ids = evicts.ids; known = evicts.known; calls = evicts.calls }
 
 -- a pop leaves these, too
 abbrev pub TellsTuple : Type 0
-TellsTuple = List Saying × Ids × List Own × List Known
+TellsTuple = List StoredItem × Ids × List Own × List KnownItem
 
 abbrev pub told_of : View → TellsTuple
 told_of view = (view.row.knows.said, view.row.ids, view.row.knows.mine, view.row.knows.known)
@@ -185,7 +185,7 @@ tells_before number view next now first told = record {
     mine : now.row.knows.mine ≡ next.row.knows.mine
     mine = ap (λ (o : TellsTuple). o.2) told
 
-    by : TellsEvict number view next → TellsEvict number view now
+    by : RecordsEviction number view next → RecordsEviction number view now
     by (inl none) = inl (mine ∙ none)
     by (inr (stripe, key, tells)) = inr (stripe, key, mine ∙ tells)
 
@@ -200,7 +200,7 @@ tells_after number view next now told second = record {
     mine : next.row.knows.mine ≡ view.row.knows.mine
     mine = ap (λ (o : TellsTuple). o.2) told
 
-    by : TellsEvict number next now → TellsEvict number view now
+    by : RecordsEviction number next now → RecordsEviction number view now
     by (inl none) = inl (none ∙ mine)
     by (inr (stripe, key, tells)) = inr (stripe, key, tells ∙ ap (λ (m : List Own). map (Rattle.mc_words.specs.item.Calls.with_own_call number stripe (Rattle.mc_stripe.specs.declared.history.Call.TheVariants.Evict number key)) m) mine)
 

@@ -1,7 +1,7 @@
 -- Sets that missed a lock at each try: what they leave of what the hand has.
 use Rattle.std.proofs.Common.{◌≡◌, ℕ, false, List, [], ◌∷◌, refl, ap, ◌∙◌, inl}
 use Rattle.mc_pages.specs.declared.ids.ChunkId.{ChunkId}
-use Rattle.mc_core.specs.Holdings.{has_fresh, is_of, lose}
+use Rattle.mc_core.specs.Holdings.{has_fresh, is_of_chunk, without_first}
 use Rattle.mc_words.specs.hand.View.{View}
 use Rattle.mc_words.specs.hand.Views.{slabs_missed}
 use Rattle.mc_words.specs.item.Refs.{KeepsRefs}
@@ -41,7 +41,7 @@ module _ (chunk : ChunkId) (item : List ℕ) (view between : View) (none : has_f
   missed_is = misses_keep kept_of stripe (λ word v. refl) dead.misses.words (item_filled chunk item between) dead.missed dead.misses.misses
 
   pub unlinked_holds : now.row.holdings ≡ view.row.holdings
-  unlinked_holds = ap (λ (v : View). v.row.holdings) dead.dropped ∙ (ap (λ (k : Kept). lose (is_of chunk) k.0) missed_is ∙ lost_again chunk item view between none gains own)
+  unlinked_holds = ap (λ (v : View). v.row.holdings) dead.dropped ∙ (ap (λ (k : Kept). without_first (is_of_chunk chunk) k.0) missed_is ∙ lost_again chunk item view between none gains own)
 
   unlinked_knows : now.row.knows.known ≡ between.row.knows.known
   unlinked_knows = ap (λ (v : View). v.row.knows.known) dead.dropped ∙ ap (λ (k : Kept). k.1) missed_is

@@ -14,8 +14,8 @@ use Rattle.mc_core.specs.declared.look.Look.{Look}
 use Rattle.mc_core.specs.declared.look.Look.TheVariants.{Read, Saw, SawStripe}
 use Rattle.mc_core.specs.Head.{is_dead}
 use Rattle.mc_core.specs.Looks.{is_found_alive, stays_alive}
-use Rattle.mc_core.specs.Past.{Known, Own, Saying}
-use Rattle.mc_words.specs.lock.Doing.{Doing, IsDone}
+use Rattle.mc_core.specs.Past.{KnownItem, Own, StoredItem}
+use Rattle.mc_words.specs.lock.Doing.{Doing, UsesRoomForCall}
 use Rattle.mc_words.specs.hand.View.{View}
 use Rattle.mc_words.specs.item.Removal.{FindsHeld, key_seen}
 use Rattle.mc_words.specs.page.Owner.{SeesOther}
@@ -26,7 +26,7 @@ use Rattle.mc_items.specs.Supplying.{FindsItemHeld, LacksCall, PassesItem, Reach
 
 -- what a hand has of its own: its chunks, what it said, its numbers, its calls and what it knows
 abbrev pub OwnTuple : Type 0
-OwnTuple = List Holding × List Saying × Ids × List Own × List Known
+OwnTuple = List Holding × List StoredItem × Ids × List Own × List KnownItem
 
 abbrev pub own_of : View → OwnTuple
 own_of view = (view.row.holdings, view.row.knows.said, view.row.ids, view.row.knows.mine, view.row.knows.known)
@@ -111,7 +111,7 @@ reach_spares number chunk Does view now reaches =
     spares_at chunk view (stripe_taken (reaches.key % view.setup.config.stripes) reaches.value key) reaches.taken reaches.is_taken
     (spares_on chunk view key (stripe_taken (reaches.key % view.setup.config.stripes) reaches.value key) (key_spares chunk reaches.head reaches.key view) (taken_spares chunk (reaches.key % view.setup.config.stripes) reaches.value key))
 
-held_spares : (number stripe : ℕ) (chunk : ChunkId) (value : ReadyStripe) (view now : View) → IsDone number stripe value (FindsItemHeld chunk) view now → Spares chunk view now
+held_spares : (number stripe : ℕ) (chunk : ChunkId) (value : ReadyStripe) (view now : View) → UsesRoomForCall number stripe value (FindsItemHeld chunk) view now → Spares chunk view now
 held_spares number stripe chunk value view now done =
     let made = call_reserved stripe value (number + 1) view in
     spares_at chunk view (stripe_given stripe done.left done.last) now done.given

@@ -26,7 +26,7 @@ use Rattle.mc_core.specs.Holdings.{has_fresh, is_copy_kind, is_fresh_kind}
 use Rattle.mc_core.specs.Looks.{is_found_alive, stays_linked, was_linked}
 use Rattle.mc_core.specs.Seen.{last_read}
 use Rattle.mc_core.specs.State.{is_class, room_in}
-use Rattle.mc_words.specs.lock.Doing.{Doing, IsDone}
+use Rattle.mc_words.specs.lock.Doing.{Doing, UsesRoomForCall}
 use Rattle.mc_words.specs.hand.View.{View}
 use Rattle.mc_words.specs.item.Removal.{key_seen, knows_reason, stripe_read}
 use Rattle.mc_words.specs.rule.Happens.{Happens, LawfulView}
@@ -37,7 +37,7 @@ use Rattle.mc_words.specs.declared.hand.Hand.{Hand}
 use Rattle.mc_words.specs.declared.lock.locks.Locks.{Locks}
 use Rattle.mc_words.specs.declared.lock.locks.Locks.TheVariants.{Neither, Slabs, Stripe, SlabsLast, StripeLast}
 use Rattle.mc_words.specs.hand.Idle.{has_no_stripes}
-use Rattle.mc_words.specs.lock.Out.{has_no_stripe, with_stripe, without_stripe}
+use Rattle.mc_words.specs.lock.Out.{locks_have_no_stripe, locks_with_stripe, without_stripe}
 use Rattle.mc_words.proofs.Locks.Unlocked.{no_stripe_from}
 use Rattle.mc_words.proofs.Chunks.Judging.{class_of_table, room_of, seen_is}
 use Rattle.mc_words.proofs.Items.Reasoned.{alive_after_look, alive_after_read, all_weaker, room_needed}
@@ -113,7 +113,7 @@ module _ (view : View) (slabs : SlabState) (mine : view.slabs ≡ Some slabs) (c
 -- the whole, from its parts
 pub reached : (Does : ℕ → ℕ → Doing) (number number' : ℕ) (view : View) (chunk : ChunkId) (head : Head) (seen read taken now : View) (key stripe stripe' : ℕ) (value : ReadyStripe) → is_linked_unheld head ≡ true → seen ≡ head_seen chunk head view → read ≡ key_seen chunk key seen
     → stripe ≡ key % view.setup.config.stripes → stripe' ≡ stripe → number' ≡ number → Happens view [] (step.Head chunk) seen → Happens seen [] (step.WordHeld chunk 0) read → Happens read [] (step.TakeStripe stripe) taken → taken ≡ stripe_taken stripe value read
-    → IsLentStripe taken stripe value → BeginsWithSeen read stripe value → IsDone number' stripe' value (Does number' stripe') taken now → ReachesItem number chunk Does view now
+    → IsLentStripe taken stripe value → BeginsWithSeen read stripe value → UsesRoomForCall number' stripe' value (Does number' stripe') taken now → ReachesItem number chunk Does view now
 reached Does number number' view chunk head seen read taken now key stripe stripe' value unheld seen_is read_is at same numbers looks reads takes taken_is lent begins done =
     let all : read ≡ key_seen chunk key (head_seen chunk head view) = read_is ∙ ap (key_seen chunk key) seen_is in record {
       head = head;
@@ -127,7 +127,7 @@ reached Does number number' view chunk head seen read taken now key stripe strip
       is_taken = taken_is ∙ (λ k. stripe_taken (at k) value (all k));
       lent = subst (λ n. IsLentStripe taken n value) at lent;
       begins = subst (λ (p : View × ℕ). BeginsWithSeen p.0 p.1 value) (λ k. (all k, at k)) begins;
-      done = subst (λ (p : ℕ × ℕ). IsDone p.0 p.1 value (Does p.0 p.1) taken now) (λ k. (numbers k, (same ∙ at) k)) done;
+      done = subst (λ (p : ℕ × ℕ). UsesRoomForCall p.0 p.1 value (Does p.0 p.1) taken now) (λ k. (numbers k, (same ∙ at) k)) done;
     }
 
 -- without memory for a call
@@ -151,10 +151,10 @@ lacked view chunk head seen read taken now key stripe stripe' value unheld seen_
     }
 
 -- a stripe's lock that came and went
-pub stripe_back : (hand : Hand) (stripe : ℕ) → has_no_stripes hand.seat.me.0 ≡ true → without_stripe (with_stripe stripe hand.locks) ≡ hand.locks
+pub stripe_back : (hand : Hand) (stripe : ℕ) → has_no_stripes hand.seat.me.0 ≡ true → without_stripe (locks_with_stripe stripe hand.locks) ≡ hand.locks
 stripe_back hand stripe none = by hand.locks (no_stripe_from hand.seat.me.0 hand.locks hand.noted.4 none)
   where
-    by : (locks : Locks) → has_no_stripe locks ≡ true → without_stripe (with_stripe stripe locks) ≡ locks
+    by : (locks : Locks) → locks_have_no_stripe locks ≡ true → without_stripe (locks_with_stripe stripe locks) ≡ locks
     by Neither none = refl
     by Slabs none = refl
     by (Stripe other) none = absurd (cc)

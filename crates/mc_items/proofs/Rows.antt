@@ -9,8 +9,8 @@ use Rattle.mc_pages.specs.declared.ids.ChunkId.{ChunkId}
 use Rattle.mc_pages.specs.ClassState.{is_chunk}
 use Rattle.mc_pages.proofs.Chunks.{is_chunk-same, same_from_is_chunk}
 use Rattle.mc_core.specs.declared.holding.Holding.{Holding}
-use Rattle.mc_core.specs.Columns.{holds}
-use Rattle.mc_core.specs.Holdings.{change_each, has_fresh, holding_of, is_fresh, is_of, lose}
+use Rattle.mc_core.specs.Columns.{count_of_holdings}
+use Rattle.mc_core.specs.Holdings.{change_each, has_fresh, holding_of, is_fresh, is_of_chunk, without_first}
 use Rattle.mc_pages.specs.Accounted.{truth}
 use Rattle.mc_core.proofs.Base.{all_lose}
 use Rattle.mc_core.proofs.SeenLooks.{some_is}
@@ -21,15 +21,15 @@ pub found_among : (test : Holding → Bool) (row : List Holding) (one : Holding)
 found_among test row one found = found_all (Contains row) test row one found (All-contains_itself row)
 
 -- and so is what is found of what is left
-pub left_among : (test lost : Holding → Bool) (row : List Holding) (one : Holding) → find test (lose lost row) ≡ Some one → Contains row one
-left_among test lost row one found = found_all (Contains row) test (lose lost row) one found (all_lose (Contains row) lost row (All-contains_itself row))
+pub left_among : (test lost : Holding → Bool) (row : List Holding) (one : Holding) → find test (without_first lost row) ≡ Some one → Contains row one
+left_among test lost row one found = found_all (Contains row) test (without_first lost row) one found (all_lose (Contains row) lost row (All-contains_itself row))
 
 -- the chunk of what is found
 pub chunk_found : (chunk : ChunkId) (row : List Holding) (one : Holding) → holding_of chunk row ≡ Some one → one.chunk ≡ chunk
-chunk_found chunk row one found = same_from_is_chunk one.chunk chunk (found_passes (is_of chunk) row one found)
+chunk_found chunk row one found = same_from_is_chunk one.chunk chunk (found_passes (is_of_chunk chunk) row one found)
 
 -- the last one passes
-pub last_passes : (chunk : ChunkId) (last : Holding) → last.chunk ≡ chunk → is_of chunk last ≡ true
+pub last_passes : (chunk : ChunkId) (last : Holding) → last.chunk ≡ chunk → is_of_chunk chunk last ≡ true
 last_passes chunk last of = ap (λ (c : ChunkId). is_chunk c chunk) of ∙ is_chunk-same chunk
 
 -- none of a chunk is fresh where no holding is
@@ -51,39 +51,39 @@ fresh_more (first ∷ row) last none old =
     ap (λ (b : Bool). b || has_fresh (row ++ last ∷ [])) both.0 ∙ fresh_more row last both.1 old
 
 -- one less
-pub fresh_less : (test : Holding → Bool) (row : List Holding) → has_fresh row ≡ false → has_fresh (lose test row) ≡ false
+pub fresh_less : (test : Holding → Bool) (row : List Holding) → has_fresh row ≡ false → has_fresh (without_first test row) ≡ false
 fresh_less test [] none = refl
 fresh_less test (first ∷ row) none = by (test first) (fresh_less test row (both_false (is_fresh first) (has_fresh row) none).1)
   where
     both : (is_fresh first ≡ false) × (has_fresh row ≡ false)
     both = both_false (is_fresh first) (has_fresh row) none
 
-    by : (t : Bool) → has_fresh (lose test row) ≡ false → has_fresh (if t then row else first ∷ lose test row) ≡ false
+    by : (t : Bool) → has_fresh (without_first test row) ≡ false → has_fresh (if t then row else first ∷ without_first test row) ≡ false
     by true later = both.1
-    by false later = ap (λ (b : Bool). b || has_fresh (lose test row)) both.0 ∙ later
+    by false later = ap (λ (b : Bool). b || has_fresh (without_first test row)) both.0 ∙ later
 
 -- the last one is lost, where none before is of its chunk
-pub lose_last : (chunk : ChunkId) (row : List Holding) (last : Holding) → holding_of chunk row ≡ None → is_of chunk last ≡ true → lose (is_of chunk) (row ++ last ∷ []) ≡ row
+pub lose_last : (chunk : ChunkId) (row : List Holding) (last : Holding) → holding_of chunk row ≡ None → is_of_chunk chunk last ≡ true → without_first (is_of_chunk chunk) (row ++ last ∷ []) ≡ row
 lose_last chunk [] last none is = ap (λ (b : Bool). if b then [] else last ∷ []) is
-lose_last chunk (first ∷ row) last none is = by (is_of chunk first) none (λ none. lose_last chunk row last none is)
+lose_last chunk (first ∷ row) last none is = by (is_of_chunk chunk first) none (λ none. lose_last chunk row last none is)
   where
-    by : (t : Bool) → (if t then Some first else holding_of chunk row) ≡ None → (holding_of chunk row ≡ None → lose (is_of chunk) (row ++ last ∷ []) ≡ row) → (if t then row ++ last ∷ [] else first ∷ lose (is_of chunk) (row ++ last ∷ [])) ≡ first ∷ row
+    by : (t : Bool) → (if t then Some first else holding_of chunk row) ≡ None → (holding_of chunk row ≡ None → without_first (is_of_chunk chunk) (row ++ last ∷ []) ≡ row) → (if t then row ++ last ∷ [] else first ∷ without_first (is_of_chunk chunk) (row ++ last ∷ [])) ≡ first ∷ row
     by true none later = absurd (cc)
     by false none later = ap (λ (l : List Holding). first ∷ l) (later none)
 
 -- the last one is changed alone
-pub change_last : (chunk : ChunkId) (change : Holding → Holding) (row : List Holding) (last : Holding) → holding_of chunk row ≡ None → is_of chunk last ≡ true → change_each (is_of chunk) change (row ++ last ∷ []) ≡ row ++ change last ∷ []
+pub change_last : (chunk : ChunkId) (change : Holding → Holding) (row : List Holding) (last : Holding) → holding_of chunk row ≡ None → is_of_chunk chunk last ≡ true → change_each (is_of_chunk chunk) change (row ++ last ∷ []) ≡ row ++ change last ∷ []
 change_last chunk change [] last none is = ap (λ (b : Bool). (if b then change last else last) ∷ []) is
-change_last chunk change (first ∷ row) last none is = by (is_of chunk first) none (λ none. change_last chunk change row last none is)
+change_last chunk change (first ∷ row) last none is = by (is_of_chunk chunk first) none (λ none. change_last chunk change row last none is)
   where
-    by : (t : Bool) → (if t then Some first else holding_of chunk row) ≡ None → (holding_of chunk row ≡ None → change_each (is_of chunk) change (row ++ last ∷ []) ≡ row ++ change last ∷ []) → (if t then change first else first) ∷ change_each (is_of chunk) change (row ++ last ∷ []) ≡ first ∷ (row ++ change last ∷ [])
+    by : (t : Bool) → (if t then Some first else holding_of chunk row) ≡ None → (holding_of chunk row ≡ None → change_each (is_of_chunk chunk) change (row ++ last ∷ []) ≡ row ++ change last ∷ []) → (if t then change first else first) ∷ change_each (is_of_chunk chunk) change (row ++ last ∷ []) ≡ first ∷ (row ++ change last ∷ [])
     by true none later = absurd (cc)
     by false none later = ap (λ (l : List Holding). first ∷ l) (later none)
 
 -- one at the end is found
-last_found : (chunk : ChunkId) (row : List Holding) (last : Holding) → is_of chunk last ≡ true → is_some (holding_of chunk (row ++ last ∷ [])) ≡ true
+last_found : (chunk : ChunkId) (row : List Holding) (last : Holding) → is_of_chunk chunk last ≡ true → is_some (holding_of chunk (row ++ last ∷ [])) ≡ true
 last_found chunk [] last is = ap (λ (b : Bool). is_some (if b then Some last else None)) is
-last_found chunk (first ∷ row) last is = by (is_of chunk first) (last_found chunk row last is)
+last_found chunk (first ∷ row) last is = by (is_of_chunk chunk first) (last_found chunk row last is)
   where
     by : (t : Bool) → is_some (holding_of chunk (row ++ last ∷ [])) ≡ true → is_some (if t then Some first else holding_of chunk (row ++ last ∷ [])) ≡ true
     by true later = refl
@@ -92,40 +92,40 @@ last_found chunk (first ∷ row) last is = by (is_of chunk first) (last_found ch
 -- and so is each that was found before
 before_found : (chunk : ChunkId) (row : List Holding) (last one : Holding) → holding_of chunk row ≡ Some one → is_some (holding_of chunk (row ++ last ∷ [])) ≡ true
 before_found chunk row last one found =
-    ap is_some (find-append (is_of chunk) row (last ∷ []) ∙ ap (λ (o : Option Holding). option_or o (holding_of chunk (last ∷ []))) found)
+    ap is_some (find-append (is_of_chunk chunk) row (last ∷ []) ∙ ap (λ (o : Option Holding). option_or o (holding_of chunk (last ∷ []))) found)
 
 -- where one of a chunk came at the end and then the first of that chunk is lost, each chunk that was held is held still
-pub still_found : (chunk lost : ChunkId) (row : List Holding) (last one : Holding) → last.chunk ≡ lost → holding_of chunk row ≡ Some one → is_some (holding_of chunk (lose (is_of lost) (row ++ last ∷ []))) ≡ true
+pub still_found : (chunk lost : ChunkId) (row : List Holding) (last one : Holding) → last.chunk ≡ lost → holding_of chunk row ≡ Some one → is_some (holding_of chunk (without_first (is_of_chunk lost) (row ++ last ∷ []))) ≡ true
 still_found chunk lost [] last one of found = absurd (none-some one found)
-still_found chunk lost (first ∷ row) last one of found = by (is_of lost first) (is_of chunk first) refl refl found (still_found chunk lost row last one of)
+still_found chunk lost (first ∷ row) last one of found = by (is_of_chunk lost first) (is_of_chunk chunk first) refl refl found (still_found chunk lost row last one of)
   where
-    by : (l c : Bool) → is_of lost first ≡ l → is_of chunk first ≡ c → (if c then Some first else holding_of chunk row) ≡ Some one
-        → (holding_of chunk row ≡ Some one → is_some (holding_of chunk (lose (is_of lost) (row ++ last ∷ []))) ≡ true) → is_some (holding_of chunk (if l then row ++ last ∷ [] else first ∷ lose (is_of lost) (row ++ last ∷ []))) ≡ true
+    by : (l c : Bool) → is_of_chunk lost first ≡ l → is_of_chunk chunk first ≡ c → (if c then Some first else holding_of chunk row) ≡ Some one
+        → (holding_of chunk row ≡ Some one → is_some (holding_of chunk (without_first (is_of_chunk lost) (row ++ last ∷ []))) ≡ true) → is_some (holding_of chunk (if l then row ++ last ∷ [] else first ∷ without_first (is_of_chunk lost) (row ++ last ∷ []))) ≡ true
     by true true is_lost is_chunk_too found later =
         let same : last.chunk ≡ chunk = of ∙ (sym (same_from_is_chunk first.chunk lost is_lost) ∙ same_from_is_chunk first.chunk chunk is_chunk_too) in
         last_found chunk row last (last_passes chunk last same)
     by true false is_lost isnt found later = before_found chunk row last one found
-    by false true isnt is_here found later = ap (λ (b : Bool). is_some (if b then Some first else holding_of chunk (lose (is_of lost) (row ++ last ∷ [])))) is_here
+    by false true isnt is_here found later = ap (λ (b : Bool). is_some (if b then Some first else holding_of chunk (without_first (is_of_chunk lost) (row ++ last ∷ [])))) is_here
     by false false isnt isnt_here found later =
-        ap (λ (b : Bool). is_some (if b then Some first else holding_of chunk (lose (is_of lost) (row ++ last ∷ [])))) isnt_here ∙ later found
+        ap (λ (b : Bool). is_some (if b then Some first else holding_of chunk (without_first (is_of_chunk lost) (row ++ last ∷ [])))) isnt_here ∙ later found
 
 -- some one is found first, where one is at the end
-first_is : (chunk : ChunkId) (row : List Holding) (last : Holding) → is_of chunk last ≡ true → (one : Holding) × (holding_of chunk (row ++ last ∷ []) ≡ Some one)
+first_is : (chunk : ChunkId) (row : List Holding) (last : Holding) → is_of_chunk chunk last ≡ true → (one : Holding) × (holding_of chunk (row ++ last ∷ []) ≡ Some one)
 first_is chunk row last is = some_is (holding_of chunk (row ++ last ∷ [])) (last_found chunk row last is)
 
 -- and then each chunk is held as often as before
-pub as_often : (lost : ChunkId) (row : List Holding) (last : Holding) → last.chunk ≡ lost → (chunk : ChunkId) → holds chunk (lose (is_of lost) (row ++ last ∷ [])) ≡ holds chunk row
+pub as_often : (lost : ChunkId) (row : List Holding) (last : Holding) → last.chunk ≡ lost → (chunk : ChunkId) → count_of_holdings chunk (without_first (is_of_chunk lost) (row ++ last ∷ [])) ≡ count_of_holdings chunk row
 as_often lost row last of chunk =
     let (one, found) = first_is lost row last (last_passes lost last of) in
-    let less = holds-lose chunk (is_of lost) (row ++ last ∷ []) one found in
+    let less = holds-lose chunk (is_of_chunk lost) (row ++ last ∷ []) one found in
     let more = holds-push chunk row last in
-    let same : truth (is_of chunk one) ≡ truth (is_of chunk last) = ap (λ (c : ChunkId). truth (is_chunk c chunk)) (chunk_found lost (row ++ last ∷ []) one found ∙ sym of) in
+    let same : truth (is_of_chunk chunk one) ≡ truth (is_of_chunk chunk last) = ap (λ (c : ChunkId). truth (is_chunk c chunk)) (chunk_found lost (row ++ last ∷ []) one found ∙ sym of) in
     omega arith
 
 -- there are as many
-pub as_many : (lost : ChunkId) (row : List Holding) (last : Holding) → last.chunk ≡ lost → length (lose (is_of lost) (row ++ last ∷ [])) ≤ length row
+pub as_many : (lost : ChunkId) (row : List Holding) (last : Holding) → last.chunk ≡ lost → length (without_first (is_of_chunk lost) (row ++ last ∷ [])) ≤ length row
 as_many lost row last of =
     let (one, found) = first_is lost row last (last_passes lost last of) in
-    let less = length-lose (is_of lost) (row ++ last ∷ []) one found in
+    let less = length-lose (is_of_chunk lost) (row ++ last ∷ []) one found in
     let more = length-append row (last ∷ []) in
     omega arith

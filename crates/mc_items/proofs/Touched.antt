@@ -2,8 +2,8 @@
 use Rattle.std.proofs.Common.{◌≡◌, ◌≤◌, ◌∙◌, ℕ, List, [], ◌∷◌, ◌++◌, false, refl, ap, arith, length}
 use Rattle.mc_pages.specs.declared.ids.ChunkId.{ChunkId}
 use Rattle.mc_core.specs.declared.holding.Holding.{Holding}
-use Rattle.mc_core.specs.Columns.{holds}
-use Rattle.mc_core.specs.Holdings.{has_fresh, is_of, lose}
+use Rattle.mc_core.specs.Columns.{count_of_holdings}
+use Rattle.mc_core.specs.Holdings.{has_fresh, is_of_chunk, without_first}
 use Rattle.mc_core.specs.Past.{known_by}
 use Rattle.mc_words.specs.hand.View.{View}
 use Rattle.mc_words.specs.item.References.{reference_to}
@@ -27,22 +27,22 @@ module _ (number stripe key : ℕ) (view now : View) (touches : Touches number s
   gained : touches.got.row.holdings ≡ view.row.holdings ++ one ∷ []
   gained = ap (λ (k : Kept). k.0) got_one.kept
 
-  left : kept_of now ≡ (lose (is_of chunk_of) touches.got.row.holdings, touches.got.row.knows.known, touches.got.row.knows.said, touches.got.row.ids)
+  left : kept_of now ≡ (without_first (is_of_chunk chunk_of) touches.got.row.holdings, touches.got.row.knows.known, touches.got.row.knows.said, touches.got.row.ids)
   left =
       ap kept_of touches.released
-      ∙ ap (λ (k : Kept). (lose (is_of chunk_of) k.0, k.1, k.2, k.3)) (bumped_keeps number chunk_of touches.got touches.bumped touches.bumps)
+      ∙ ap (λ (k : Kept). (without_first (is_of_chunk chunk_of) k.0, k.1, k.2, k.3)) (bumped_keeps number chunk_of touches.got touches.bumped touches.bumps)
 
-  lost : now.row.holdings ≡ lose (is_of chunk_of) touches.got.row.holdings
+  lost : now.row.holdings ≡ without_first (is_of_chunk chunk_of) touches.got.row.holdings
   lost = ap (λ (k : Kept). k.0) left
 
   -- each chunk is held as often as before
-  pub touch_holds_as_often : (chunk : ChunkId) → holds chunk now.row.holdings ≡ holds chunk view.row.holdings
-  touch_holds_as_often chunk = ap (holds chunk) (lost ∙ ap (lose (is_of chunk_of)) gained) ∙ as_often chunk_of view.row.holdings one refl chunk
+  pub touch_holds_as_often : (chunk : ChunkId) → count_of_holdings chunk now.row.holdings ≡ count_of_holdings chunk view.row.holdings
+  touch_holds_as_often chunk = ap (count_of_holdings chunk) (lost ∙ ap (without_first (is_of_chunk chunk_of)) gained) ∙ as_often chunk_of view.row.holdings one refl chunk
 
   pub touch_holds_no_more : length now.row.holdings ≤ length view.row.holdings
   touch_holds_no_more =
       let many = as_many chunk_of view.row.holdings one refl in
-      let same = ap (λ (l : List Holding). length l) (lost ∙ ap (lose (is_of chunk_of)) gained) in
+      let same = ap (λ (l : List Holding). length l) (lost ∙ ap (without_first (is_of_chunk chunk_of)) gained) in
       omega arith
 
   pub touch_keeps_ids : now.row.ids ≡ view.row.ids
@@ -56,7 +56,7 @@ module _ (number stripe key : ℕ) (view now : View) (touches : Touches number s
     got_unfilled = ap has_fresh gained ∙ fresh_more view.row.holdings one unfilled refl
 
     pub touch_fills_none : has_fresh now.row.holdings ≡ false
-    touch_fills_none = ap has_fresh lost ∙ fresh_less (is_of chunk_of) touches.got.row.holdings got_unfilled
+    touch_fills_none = ap has_fresh lost ∙ fresh_less (is_of_chunk chunk_of) touches.got.row.holdings got_unfilled
 
     pub touch_keeps_refs : LawfulView touches.got → KeepsRefs view now
     touch_keeps_refs lawful =

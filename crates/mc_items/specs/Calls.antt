@@ -7,7 +7,7 @@ use Rattle.mc_core.specs.declared.event.Step.TheVariants as step
 use Rattle.mc_core.specs.declared.event.StripeChange.{StripeChange}
 use Rattle.mc_core.specs.declared.event.StripeChange.TheVariants.{ReserveCall}
 use Rattle.mc_stripe.specs.declared.history.Call.{Call}
-use Rattle.mc_stripe.specs.StripeState.{ReadyStripe, place_of, can_store}
+use Rattle.mc_stripe.specs.StripeState.{ReadyStripe, chunk_and_stamp, can_store}
 use Rattle.mc_stripe.specs.Changes.{after_got, after_unlink, used_up}
 use Rattle.mc_words.specs.lock.Doing.{Doing, HoldsSlabs, IsDoneBehind, SlabsDoing}
 use Rattle.mc_words.specs.hand.View.{View}
@@ -60,7 +60,7 @@ Finds number stripe key r value view left now =
 -- the key was looked up, and has no item
 abbrev pub FindsNone : ℕ → ℕ → ℕ → Doing
 FindsNone number stripe key value view left now =
-    (place_of value.state key ≡ None) × (now ≡ key_missed number stripe value key view) × (left ≡ used_up (after_got value.state number key))
+    (chunk_and_stamp value.state key ≡ None) × (now ≡ key_missed number stripe value key view) × (left ≡ used_up (after_got value.state number key))
 
 -- the hand looked the key up, and got this reference to its item, or there is no item
 abbrev pub LooksUp : ℕ → ℕ → ℕ → Option words.Ref → Doing
@@ -83,14 +83,14 @@ pub record Touches (number stripe key : ℕ) (view now : View) : Type 0 where
 -- the key was deleted, and had an item or none
 abbrev pub Deletes : ℕ → ℕ → ℕ → Bool → Doing
 Deletes number stripe key there value view left now =
-    (there ≡ is_some (place_of value.state key))
+    (there ≡ is_some (chunk_and_stamp value.state key))
     × (now ≡ (if there then with_event [] (step.Unlink key) (key_deleted number stripe value key true view) else key_not_deleted number stripe value key view))
     × (left ≡ used_up (after_unlink value.state number key))
 
 -- the hand's own calls on keys of this stripe got this call, as the last of its number, and no other call came
-abbrev pub TellsCall : ℕ → ℕ → Call → View → View → Type 0
-TellsCall number stripe call view now = now.row.knows.mine ≡ map (with_own_call number stripe call) view.row.knows.mine
+abbrev pub RecordsCall : ℕ → ℕ → Call → View → View → Type 0
+RecordsCall number stripe call view now = now.row.knows.mine ≡ map (with_own_call number stripe call) view.row.knows.mine
 
 -- the hand's own calls are as before
-abbrev pub TellsNoCall : View → View → Type 0
-TellsNoCall view now = now.row.knows.mine ≡ view.row.knows.mine
+abbrev pub RecordsNoCall : View → View → Type 0
+RecordsNoCall view now = now.row.knows.mine ≡ view.row.knows.mine

@@ -1,7 +1,7 @@
 -- Items that are got by hints: each is the current item of its key at the one exchange by which it is got.
 use Rattle.std.specs.Prelude.{◌≡◌, ℕ, Some}
 use Rattle.mc_pages.specs.declared.ids.ChunkId.{ChunkId}
-use Rattle.mc_core.specs.Items.{chunk_of}
+use Rattle.mc_core.specs.Items.{chunk_of_key}
 use Rattle.mc_core.specs.Past.{Moment}
 use Rattle.mc_words.specs.declared.item.refs.Hint.{Hint}
 use Rattle.mc_words.specs.hand.Observers.{hint_chunk}
@@ -12,7 +12,7 @@ use Rattle.mc_items.specs.OnKeys.{GetsByHint}
 
 -- in this moment the key leads to this chunk, with this stamp, by the index of its own stripe, whoever has that stripe's lock
 abbrev pub IsCurrent : Moment → ℕ → ℕ → ChunkId → Type 0
-IsCurrent moment key stamp chunk = chunk_of moment.state key ≡ Some (chunk, stamp)
+IsCurrent moment key stamp chunk = chunk_of_key moment.state key ≡ Some (chunk, stamp)
 
 -- the hand got the item by the hint, and read its key, stamp and length. In the lawful moment of the exchange by which the hand got the
 -- item, its key led to it

@@ -12,7 +12,7 @@ use Rattle.mc_words.specs.page.Owner.{PutsBack, SeesOther}
 use Rattle.mc_words.specs.hand.View.{View}
 use Rattle.mc_items.specs.declared.evicting.Supply.{Supply}
 use Rattle.mc_items.specs.declared.evicting.Supply.TheVariants.{Page, Dead, Evicted}
-use Rattle.mc_items.specs.Calls.{TellsCall, TellsNoCall}
+use Rattle.mc_items.specs.Calls.{RecordsCall, RecordsNoCall}
 use Rattle.mc_items.specs.Supplying.{FreesEvicted, LacksCall, PassesItem, ReachesItem}
 
 -- the chunk was passed over: its item couldn't be taken away, and the chunk wasn't dead
@@ -67,6 +67,6 @@ abbrev pub LacksEntryAtCandidate : ℕ → ℕ → SlabsDoing
 LacksEntryAtCandidate number class view slabs now left = LacksEntry number (eviction_candidates slabs class) view now × (left ≡ slabs)
 
 -- the hand's own calls got an eviction at most
-abbrev pub TellsEvict : ℕ → View → View → Type 0
-TellsEvict number view now =
-    TellsNoCall view now ⊎ ((stripe : ℕ) × (key : ℕ) × TellsCall number stripe (call.Evict number key) view now)
+abbrev pub RecordsEviction : ℕ → View → View → Type 0
+RecordsEviction number view now =
+    RecordsNoCall view now ⊎ ((stripe : ℕ) × (key : ℕ) × RecordsCall number stripe (call.Evict number key) view now)

@@ -7,7 +7,7 @@ use Rattle.mc_words.specs.declared.hand.held.StripeHeld.{StripeHeld}
 use Rattle.mc_words.specs.declared.item.refs.Ref as words
 use Rattle.mc_words.specs.hand.Arenas.{view}
 use Rattle.mc_words.specs.item.Fresh.{IsFreshOf}
-use Rattle.mc_words.specs.item.Items.{issue_in, item_with, words_in}
+use Rattle.mc_words.specs.item.Items.{issue_in, item_with, known_words_in}
 use Rattle.mc_words.specs.item.Links.{IsItemFilled}
 use Rattle.mc_words.specs.hand.Observers.{fresh_chunk, fresh_room, ref_chunk, ref_issue, ref_room, stripe_lent, stripe_number}
 use Rattle.mc_words.specs.hand.View.{Setup, View}
@@ -21,7 +21,7 @@ IsFreshFor setup class view fresh = (fresh_room fresh ≡ room_in setup.table cl
 
 -- the hand filled the fresh chunk with a whole item of this key and stamp
 abbrev pub IsFilledWith : View → Fresh → ℕ → ℕ → Type 0
-IsFilledWith view fresh key stamp = IsItemFilled view (fresh_chunk fresh) (issue_in view (fresh_chunk fresh)) (words_in view (fresh_chunk fresh)) key stamp
+IsFilledWith view fresh key stamp = IsItemFilled view (fresh_chunk fresh) (issue_in view (fresh_chunk fresh)) (known_words_in view (fresh_chunk fresh)) key stamp
 
 -- the view after the hand wrote the item of these words into the fresh chunk
 abbrev pub filled_with : Fresh → ℕ → ℕ → List ℕ → View → View

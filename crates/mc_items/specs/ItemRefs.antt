@@ -2,8 +2,8 @@
 use Rattle.std.specs.Prelude.{◌≡◌, ℕ, ◌+◌, Bool, List, All, count_by, drop, length}
 use Rattle.mc_pages.specs.declared.ids.ChunkId.{ChunkId}
 use Rattle.mc_pages.specs.ClassState.{is_chunk}
-use Rattle.mc_core.specs.Columns.{holds}
-use Rattle.mc_core.specs.Holdings.{key_of, stamp_of}
+use Rattle.mc_core.specs.Columns.{count_of_holdings}
+use Rattle.mc_core.specs.Holdings.{key_of, stamp_in_words}
 use Rattle.mc_words.specs.hand.View.{View}
 use Rattle.mc_words.specs.item.Items.{held_item}
 use Rattle.mc_words.specs.item.Refs.{IsIssueOf, IsRefOf}
@@ -44,7 +44,7 @@ pub record IsItemRef (view : View) (item : Ref) : Type 0 where
   pub reference : IsRefOf view (item_chunk item) (ref_room (item_reference item))
   pub issue : IsIssueOf view (item_chunk item) (ref_issue (item_reference item))
   pub key : key_of (held_item view (item_chunk item)) ≡ item_key item
-  pub stamp : stamp_of (held_item view (item_chunk item)) ≡ item_stamp item
+  pub stamp : stamp_in_words (held_item view (item_chunk item)) ≡ item_stamp item
   pub len : length (held_item view (item_chunk item)) ≡ 3 + item_len item
 
 -- the reference is to an item in the chunk
@@ -52,6 +52,6 @@ abbrev pub refers_to : ChunkId → Ref → Bool
 refers_to chunk item = is_chunk (item_chunk item) chunk
 
 -- the hand refers to the item of each of these references, and holds each chunk as often as the list has references to it
-pub record AreKept (view : View) (kept : List Ref) : Type 0 where
+pub record RefersToEach (view : View) (kept : List Ref) : Type 0 where
   pub items : All (IsItemRef view) kept
-  pub counts : (chunk : ChunkId) → holds chunk view.row.holdings ≡ count_by (refers_to chunk) kept
+  pub counts : (chunk : ChunkId) → count_of_holdings chunk view.row.holdings ≡ count_by (refers_to chunk) kept

@@ -2,15 +2,15 @@
 use Rattle.std.specs.Prelude.{◌≡◌, ℕ, ◌++◌, [], ◌∷◌, true, List, Option, Some, None, is_some, Contains}
 use Rattle.mc_pages.specs.declared.ids.ChunkId.{ChunkId}
 use Rattle.mc_core.specs.declared.holding.Holding.{Holding}
-use Rattle.mc_core.specs.Columns.{holds}
-use Rattle.mc_core.specs.Holdings.{holding_of, is_of, lose}
-use Rattle.mc_core.specs.Knowing.{IsSaid}
-use Rattle.mc_core.specs.Past.{Saying}
+use Rattle.mc_core.specs.Columns.{count_of_holdings}
+use Rattle.mc_core.specs.Holdings.{holding_of, is_of_chunk, without_first}
+use Rattle.mc_core.specs.Knowing.{WasStored}
+use Rattle.mc_core.specs.Past.{StoredItem}
 use Rattle.mc_words.specs.hand.View.{View}
 use Rattle.mc_words.specs.rule.Happens.{LawfulView}
 use Rattle.mc_words.specs.item.Items.{held_item}
 use Rattle.mc_words.specs.item.References.{reference_to}
-use Rattle.mc_words.specs.item.Refs.{KeepsHeld, KeepsRefs}
+use Rattle.mc_words.specs.item.Refs.{KeepsRemainingRefs, KeepsRefs}
 use Rattle.mc_items.specs.declared.refs.Ref.{Ref}
 use Rattle.mc_items.specs.ItemRefs.{IsItemRef, item_chunk, item_issue, item_stamp, item_words}
 
@@ -20,7 +20,7 @@ HoldsTheSame view now = now.row.holdings ≡ view.row.holdings
 
 -- the hand holds each chunk as often as it did
 abbrev pub HoldsAsOften : View → View → Type 0
-HoldsAsOften view now = (chunk : ChunkId) → holds chunk now.row.holdings ≡ holds chunk view.row.holdings
+HoldsAsOften view now = (chunk : ChunkId) → count_of_holdings chunk now.row.holdings ≡ count_of_holdings chunk view.row.holdings
 
 -- the holding that a reference to an item is
 abbrev pub holding_by : View → Ref → Holding
@@ -33,24 +33,24 @@ HoldsToo (Some item) view now = now.row.holdings ≡ view.row.holdings ++ holdin
 
 -- the hand holds one chunk less, by the reference that it gave up
 abbrev pub HoldsLess : Ref → View → View → Type 0
-HoldsLess item view now = now.row.holdings ≡ lose (is_of (item_chunk item)) view.row.holdings
+HoldsLess item view now = now.row.holdings ≡ without_first (is_of_chunk (item_chunk item)) view.row.holdings
 
 -- the hand stored no words
-abbrev pub SaysNothing : View → View → Type 0
-SaysNothing view now = now.row.knows.said ≡ view.row.knows.said
+abbrev pub StoresNothing : View → View → Type 0
+StoresNothing view now = now.row.knows.said ≡ view.row.knows.said
 
 -- the hand stored these words with this stamp
-abbrev pub Says : List ℕ → ℕ → View → View → Type 0
-Says words stamp view now = now.row.knows.said ≡ view.row.knows.said ++ record { stamp = stamp; words = words } ∷ []
+abbrev pub StoresWithStamp : List ℕ → ℕ → View → View → Type 0
+StoresWithStamp words stamp view now = now.row.knows.said ≡ view.row.knows.said ++ record { stamp = stamp; words = words } ∷ []
 
 -- some hand stored these words with the stamp; where this hand stored words with the stamp itself, they are these words
-pub record AreSaid (view : View) (stamp : ℕ) (words : List ℕ) : Type 0 where
-  pub by_some : (was : LawfulView view) → IsSaid was.moment.past.said stamp words
-  pub own : (saying : Saying) → Contains view.row.knows.said saying → saying.stamp ≡ stamp → saying.words ≡ words
+pub record WordsWereStored (view : View) (stamp : ℕ) (words : List ℕ) : Type 0 where
+  pub by_some : (was : LawfulView view) → WasStored was.moment.past.said stamp words
+  pub own : (saying : StoredItem) → Contains view.row.knows.said saying → saying.stamp ≡ stamp → saying.words ≡ words
 
 -- the words of the item to which the reference leads were stored with the item's stamp: key, stamp and length, and then the others
-abbrev pub IsAsSaid : View → Ref → Type 0
-IsAsSaid view item = AreSaid view (item_stamp item) (held_item view (item_chunk item))
+abbrev pub HasStoredWords : View → Ref → Type 0
+HasStoredWords view item = WordsWereStored view (item_stamp item) (held_item view (item_chunk item))
 
 -- a reference to an item is one still, and the item's words are the same
 pub record StaysItemRef (view now : View) (item : Ref) : Type 0 where
@@ -63,7 +63,7 @@ KeptRefsKeepItems = (view now : View) (item : Ref) → KeepsRefs view now → Is
 
 -- *a release keeps each item that is held still*
 abbrev pub HeldRefsKeepItems : Type 0
-HeldRefsKeepItems = (view now : View) (item : Ref) → KeepsHeld view now → IsItemRef view item → is_some (holding_of (item_chunk item) now.row.holdings) ≡ true → StaysItemRef view now item
+HeldRefsKeepItems = (view now : View) (item : Ref) → KeepsRemainingRefs view now → IsItemRef view item → is_some (holding_of (item_chunk item) now.row.holdings) ≡ true → StaysItemRef view now item
 
 -- *calls that keep references, one after another, keep them*
 abbrev pub KeepingGoesOn : Type 0
@@ -71,4 +71,4 @@ KeepingGoesOn = (view next now : View) → KeepsRefs view next → KeepsRefs nex
 
 -- *what a hand got and released leaves it what it referred to before*, whatever calls came between that keep references
 abbrev pub ReleasingKeepsOthers : Type 0
-ReleasingKeepsOthers = (view got next now : View) (item : Ref) → KeepsRefs view next → HoldsToo (Some item) view got → HoldsTheSame got next → KeepsHeld next now → HoldsLess item next now → KeepsRefs view now
+ReleasingKeepsOthers = (view got next now : View) (item : Ref) → KeepsRefs view next → HoldsToo (Some item) view got → HoldsTheSame got next → KeepsRemainingRefs next now → HoldsLess item next now → KeepsRefs view now

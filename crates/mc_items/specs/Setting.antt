@@ -7,9 +7,9 @@ use Rattle.mc_words.specs.lock.Doing.{HoldsSlabs}
 use Rattle.mc_words.specs.item.Items.{item_with}
 use Rattle.mc_words.specs.hand.View.{View}
 use Rattle.mc_words.specs.hand.Tallies.{next_stamp}
-use Rattle.mc_items.specs.Calls.{TellsCall}
+use Rattle.mc_items.specs.Calls.{RecordsCall}
 use Rattle.mc_items.specs.OnKeys.{stripe_of_key}
-use Rattle.mc_items.specs.Evicting.{TellsEvict}
+use Rattle.mc_items.specs.Evicting.{RecordsEviction}
 use Rattle.mc_items.specs.Sources.{SuppliesChunk, SuppliesNone}
 use Rattle.mc_items.specs.Storing.{LeavesDead, StoresItem, item_filled}
 use Rattle.mc_items.specs.declared.setting.SetError.{SetError}
@@ -64,7 +64,7 @@ RefusesSet number key words WornOut view now = HasNoStamp words view now ⊎ Fin
 RefusesSet number key words (NoMemory _) view now = FindsNoChunk number words (NoMemory tt) view now ⊎ StoresNone number key words view now
 
 -- the hand's own calls got an eviction at most, and then the set
-pub record TellsSet (number key stamp : ℕ) (view now : View) : Type 0 where
+pub record RecordsSet (number key stamp : ℕ) (view now : View) : Type 0 where
   pub between : View
-  pub evicts : TellsEvict number view between
-  pub sets : TellsCall number (stripe_of_key view.setup key) (call.Set number key stamp) between now
+  pub evicts : RecordsEviction number view between
+  pub sets : RecordsCall number (stripe_of_key view.setup key) (call.Set number key stamp) between now

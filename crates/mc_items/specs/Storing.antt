@@ -1,18 +1,18 @@
 -- Items that are stored: what the hand writes into its fresh chunk, and how that comes to its key.
 use Rattle.std.specs.Prelude.{◌≡◌, ℕ, ◌+◌, List, [], ◌∷◌, ◌++◌, if◌then◌else◌, is_some, Some}
 use Rattle.mc_pages.specs.declared.ids.ChunkId.{ChunkId}
-use Rattle.mc_stripe.specs.StripeState.{ReadyStripe, place_of}
+use Rattle.mc_stripe.specs.StripeState.{ReadyStripe, chunk_and_stamp}
 use Rattle.mc_stripe.specs.Changes.{after_lift, after_link, used_up}
 use Rattle.mc_core.specs.declared.holding.Holding.{Holding}
 use Rattle.mc_core.specs.declared.holding.Kind.{Kind}
 use Rattle.mc_core.specs.declared.holding.Kind.TheVariants.{Reference, Fresh}
-use Rattle.mc_core.specs.Holdings.{Words, change_each, holding_of, is_of}
+use Rattle.mc_core.specs.Holdings.{Words, change_each, holding_of, is_of_chunk}
 use Rattle.mc_words.specs.lock.Doing.{Doing}
 use Rattle.mc_words.specs.hand.View.{OwnEvent, View, made}
 use Rattle.mc_core.specs.declared.event.Step.TheVariants as step
 use Rattle.mc_core.specs.declared.event.StripeChange.TheVariants.{Reserve}
 use Rattle.mc_words.specs.item.Calls.{key_lifted}
-use Rattle.mc_words.specs.item.Items.{issue_in, words_in}
+use Rattle.mc_words.specs.item.Items.{issue_in, known_words_in}
 use Rattle.mc_words.specs.item.Links.{item_linked, own_item}
 use Rattle.mc_words.specs.hand.Views.{chunk_discarded, chunk_released, with_holdings}
 use Rattle.mc_items.specs.Calls.{CallsBehind, FindsStripe, IsFullToStore}
@@ -39,11 +39,11 @@ fills_of chunk place (word ∷ item) = made [] (step.Fill chunk place word) ∷ 
 
 -- the view after the hand wrote the item's words into the chunk, from its first word on
 abbrev pub item_filled : ChunkId → List ℕ → View → View
-item_filled chunk item view = record (with_holdings (change_each (is_of chunk) (holding_with item) view.row.holdings) view) { events = view.events ++ fills_of chunk 0 item }
+item_filled chunk item view = record (with_holdings (change_each (is_of_chunk chunk) (holding_with item) view.row.holdings) view) { events = view.events ++ fills_of chunk 0 item }
 
 -- the hand fills the chunk with an item of its own
 abbrev pub IsOwnItem : View → ChunkId → Type 0
-IsOwnItem view chunk = holding_of chunk view.row.holdings ≡ Some (own_item chunk (issue_in view chunk) (words_in view chunk))
+IsOwnItem view chunk = holding_of chunk view.row.holdings ≡ Some (own_item chunk (issue_in view chunk) (known_words_in view chunk))
 
 -- the stripe, with the key's entry aside, if it has one
 abbrev pub stripe_lifted : ReadyStripe → ℕ → ReadyStripe
@@ -52,12 +52,12 @@ stripe_lifted value key = record value { state = after_lift value.state key }
 -- the hand put the key's entry aside, if there was one
 abbrev pub key_put_aside : ℕ → ReadyStripe → ℕ → View → View
 key_put_aside stripe value key view =
-    record (key_lifted stripe value key view) { events = if is_some (place_of value.state key) then view.events ++ made [] (step.Unlink key) ∷ [] else view.events }
+    record (key_lifted stripe value key view) { events = if is_some (chunk_and_stamp value.state key) then view.events ++ made [] (step.Unlink key) ∷ [] else view.events }
 
 -- the key's entry was put aside, if there was one; then the item in the chunk was linked to the key
 abbrev pub Stores : ℕ → ℕ → ℕ → ℕ → ChunkId → ℕ → Doing
 Stores number stripe key stamp chunk room value view left now =
-    (now ≡ item_linked number stripe (stripe_lifted value key) key stamp chunk (issue_in view chunk) (words_in view chunk) room (key_put_aside stripe value key view))
+    (now ≡ item_linked number stripe (stripe_lifted value key) key stamp chunk (issue_in view chunk) (known_words_in view chunk) room (key_put_aside stripe value key view))
     × (left ≡ used_up (after_link (stripe_lifted value key).state number key chunk stamp))
 
 -- the item was stored, and the hand gave the reference to it up, so that its header counts the link alone

@@ -14,7 +14,7 @@ use Rattle.mc_core.specs.Evictions.{is_linked_unheld}
 use Rattle.mc_stripe.specs.StripeState.{ReadyStripe}
 use Rattle.mc_core.specs.Looks.{is_found_alive}
 use Rattle.mc_items.specs.Calls.{IsFull}
-use Rattle.mc_words.specs.lock.Doing.{Doing, IsDone}
+use Rattle.mc_words.specs.lock.Doing.{Doing, UsesRoomForCall}
 use Rattle.mc_words.specs.hand.View.{View}
 use Rattle.mc_words.specs.rule.Happens.{Happens}
 use Rattle.mc_words.specs.page.Cuts.{CutsEach}
@@ -81,7 +81,7 @@ pub record ReachesItem (number : ℕ) (chunk : ChunkId) (Does : ℕ → ℕ → 
   pub is_taken : taken ≡ stripe_taken (key % view.setup.config.stripes) value (key_seen chunk key (head_seen chunk head view))
   pub lent : IsLentStripe taken (key % view.setup.config.stripes) value
   pub begins : BeginsWithSeen view (key % view.setup.config.stripes) value
-  pub done : IsDone number (key % view.setup.config.stripes) value (Does number (key % view.setup.config.stripes)) taken now
+  pub done : UsesRoomForCall number (key % view.setup.config.stripes) value (Does number (key % view.setup.config.stripes)) taken now
 
 -- the chunk's item was seen linked and unheld, its key's stripe was taken at once, and the item was taken away there
 abbrev pub TakesAtOnce : ℕ → ChunkId → View → View → Type 0

@@ -2,13 +2,13 @@
 ghost use Rattle.std.specs.Prelude.{◌≡◌, true};
 ghost use Rattle.mc_words.specs.hand.Arenas.{IsHandOf, view};
 ghost use Rattle.mc_words.specs.hand.Idle.{is_unlocked};
-ghost use Rattle.mc_words.specs.hand.Observers.{locks_of, number_of, ref_chunk, ref_room};
+ghost use Rattle.mc_words.specs.hand.Observers.{locks_of, hand_number, ref_chunk, ref_room};
 ghost use Rattle.mc_words.specs.hand.Ready.{IsReady};
 ghost use Rattle.mc_words.specs.item.Refs.{IsRefOf, KeepsRefs};
 ghost use Rattle.mc_words.specs.lock.Doing.{HoldsSlabs};
-ghost use Rattle.mc_items.specs.Calls.{Bumps, TellsNoCall};
+ghost use Rattle.mc_items.specs.Calls.{Bumps, RecordsNoCall};
 ghost use Rattle.mc_items.specs.ItemRefs.{IsItemRef, item_chunk, item_words};
-ghost use Rattle.mc_items.specs.Keeping.{HoldsTheSame, SaysNothing};
+ghost use Rattle.mc_items.specs.Keeping.{HoldsTheSame, StoresNothing};
 
 use crate::refs::Ref;
 use mc_words::{Arena, Hand};
@@ -23,14 +23,14 @@ pub fn bump<R: Wait>(rt: &R, arena: &Arena, hand: &mut Hand, item: &Ref)
     ensures arena { IsHandOf arena.now hand.new }
     ensures ready { IsReady (view hand.new) }
     ensures locks { locks_of hand.new ≡ locks_of hand.old }
-    ensures number { number_of hand.new ≡ number_of hand.old }
+    ensures number { hand_number hand.new ≡ hand_number hand.old }
     ensures item { IsItemRef (view hand.new) item.now }
-    ensures bumps { HoldsSlabs (Bumps (number_of hand.old) (item_chunk item.now)) (view hand.old) (view hand.new) }
+    ensures bumps { HoldsSlabs (Bumps (hand_number hand.old) (item_chunk item.now)) (view hand.old) (view hand.new) }
     ensures words { item_words (view hand.new) item.now ≡ item_words (view hand.old) item.now }
     ensures holdings { HoldsTheSame (view hand.old) (view hand.new) }
     ensures keeps { KeepsRefs (view hand.old) (view hand.new) }
-    ensures calls { TellsNoCall (view hand.old) (view hand.new) }
-    ensures unsaid { SaysNothing (view hand.old) (view hand.new) }
+    ensures calls { RecordsNoCall (view hand.old) (view hand.new) }
+    ensures unsaid { StoresNothing (view hand.old) (view hand.new) }
 {
     bump_chunk(rt, arena, hand, &item.reference);
 }
@@ -42,7 +42,7 @@ pub(crate) fn bump_chunk<R: Wait>(rt: &R, arena: &Arena, hand: &mut Hand, refere
     requires reference { IsRefOf (view hand.old) (ref_chunk reference.now) (ref_room reference.now) }
     ensures arena { IsHandOf arena.now hand.new }
     ensures locks { locks_of hand.new ≡ locks_of hand.old }
-    ensures bumps { HoldsSlabs (Bumps (number_of hand.old) (ref_chunk reference.now)) (view hand.old) (view hand.new) }
+    ensures bumps { HoldsSlabs (Bumps (hand_number hand.old) (ref_chunk reference.now)) (view hand.old) (view hand.new) }
 {
     let mut slabs = arena.lock_slabs(rt, hand);
     arena.touch(hand, &mut slabs, reference.chunk());

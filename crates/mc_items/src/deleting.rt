@@ -3,13 +3,13 @@ ghost use Rattle.std.specs.Prelude.{◌≡◌, IfOk, OnErr, false};
 ghost use Rattle.mc_core.specs.Holdings.{has_fresh};
 ghost use Rattle.mc_words.specs.hand.Arenas.{IsHandOf, setup_of, view};
 ghost use Rattle.mc_words.specs.lock.Lent.{IsLentStripe};
-ghost use Rattle.mc_words.specs.hand.Observers.{locks_of, number_of, stripe_lent, stripe_number};
+ghost use Rattle.mc_words.specs.hand.Observers.{locks_of, hand_number, stripe_lent, stripe_number};
 ghost use Rattle.mc_words.specs.lock.Out.{without_stripe};
 ghost use Rattle.mc_words.specs.hand.Ready.{IsReady};
 ghost use Rattle.mc_words.specs.item.Refs.{KeepsRefs};
-ghost use Rattle.mc_items.specs.Calls.{Deletes, TellsNoCall, IsFull};
-ghost use Rattle.mc_items.specs.Keeping.{HoldsTheSame, SaysNothing};
-ghost use Rattle.mc_items.specs.OnKeys.{ActsOn, DoesOn, FindsNoRoomFor, GivesBack, TellsOn, stripe_of_key};
+ghost use Rattle.mc_items.specs.Calls.{Deletes, RecordsNoCall, IsFull};
+ghost use Rattle.mc_items.specs.Keeping.{HoldsTheSame, StoresNothing};
+ghost use Rattle.mc_items.specs.OnKeys.{ActsOn, DoesOn, FindsNoRoomFor, GivesBack, RecordsOn, stripe_of_key};
 ghost use Rattle.mc_stripe.specs.declared.history.Call.TheVariants as call;
 
 use mc_stripe::NoMemory;
@@ -24,14 +24,14 @@ pub fn delete<R: Wait>(rt: &R, arena: &Arena, hand: &mut Hand, key: u64) -> Resu
     ensures arena { IsHandOf arena.now hand.new }
     ensures ready { IsReady (view hand.new) }
     ensures locks { locks_of hand.new ≡ locks_of hand.old }
-    ensures number { number_of hand.new ≡ number_of hand.old }
+    ensures number { hand_number hand.new ≡ hand_number hand.old }
     ensures deletes { IfOk result (λ there. ActsOn (setup_of arena.now) key (λ number stripe. Deletes number stripe key there) hand.old hand.new) }
-    ensures calls { IfOk result (λ there. TellsOn (setup_of arena.now) key (λ number. call.Delete number key there) hand.old hand.new) }
-    ensures refused { OnErr result (TellsNoCall (view hand.old) (view hand.new)) }
+    ensures calls { IfOk result (λ there. RecordsOn (setup_of arena.now) key (λ number. call.Delete number key there) hand.old hand.new) }
+    ensures refused { OnErr result (RecordsNoCall (view hand.old) (view hand.new)) }
     ensures no_memory { OnErr result (FindsNoRoomFor (setup_of arena.now) key hand.old hand.new) }
     ensures holdings { HoldsTheSame (view hand.old) (view hand.new) }
     ensures keeps { KeepsRefs (view hand.old) (view hand.new) }
-    ensures unsaid { SaysNothing (view hand.old) (view hand.new) }
+    ensures unsaid { StoresNothing (view hand.old) (view hand.new) }
 {
     let stripe = key % arena.config().stripes;
     let held = arena.lock_stripe(rt, hand, stripe);

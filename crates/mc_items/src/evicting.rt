@@ -15,7 +15,7 @@ ghost use Rattle.mc_words.specs.hand.Arenas.{IsHandOf, setup_of, view};
 ghost use Rattle.mc_words.specs.item.Removal.{Condemns, knows_reason, stripe_read};
 ghost use Rattle.mc_words.specs.hand.Idle.{has_no_stripes};
 ghost use Rattle.mc_words.specs.lock.Lent.{IsLentStripe};
-ghost use Rattle.mc_words.specs.hand.Observers.{HasSlabs, locks_of, number_of, slabs_lent, stripe_lent, stripe_number};
+ghost use Rattle.mc_words.specs.hand.Observers.{HasSlabs, locks_of, hand_number, slabs_lent, stripe_lent, stripe_number};
 ghost use Rattle.mc_words.specs.lock.Out.{without_stripe};
 ghost use Rattle.mc_items.specs.Calls.{IsFull};
 ghost use Rattle.mc_items.specs.Evicting.{FreesChunk, FreesOneCandidate, LacksEntryAtCandidate, PassesCandidates, PassesOne};
@@ -94,10 +94,10 @@ pub(crate) fn condemn_if_free(
     ensures locks { locks_of hand.new ≡ locks_of hand.old }
     ensures slabs { HasSlabs hand.new slabs.new }
     ensures same_slabs { slabs.new ≡ slabs.old }
-    ensures taken { result ≡ Ok true → TakesAtOnce (number_of hand.old) chunk (view hand.old) (view hand.new) }
+    ensures taken { result ≡ Ok true → TakesAtOnce (hand_number hand.old) chunk (view hand.old) (view hand.new) }
     ensures dead { result ≡ Ok true → option_map is_dead (seen_head (view hand.new).row.looks chunk) ≡ Some true }
     ensures no_memory { OnErr result (LacksCall chunk (view hand.old) (view hand.new)) }
-    ensures passed { result ≡ Ok false → PassesItem (number_of hand.old) chunk (view hand.old) (view hand.new) }
+    ensures passed { result ≡ Ok false → PassesItem (hand_number hand.old) chunk (view hand.old) (view hand.new) }
 {
     let head = arena.head(hand, chunk);
     if !header::is_unheld(head) {
@@ -127,7 +127,7 @@ pub(crate) fn free_evicted(
     ensures arena { IsHandOf arena.now hand.new }
     ensures locks { locks_of hand.new ≡ locks_of hand.old }
     ensures slabs { HasSlabs hand.new slabs.new }
-    ensures freed { Acts (FreesEvicted (number_of hand.old) class chunk) hand.old slabs.old hand.new slabs.new }
+    ensures freed { Acts (FreesEvicted (hand_number hand.old) class chunk) hand.old slabs.old hand.new slabs.new }
 {
     arena.evicted(hand, slabs, class);
     let _ = arena.put_back(hand, slabs, chunk);
@@ -166,9 +166,9 @@ fn free_one(
     ensures arena { IsHandOf arena.now hand.new }
     ensures locks { locks_of hand.new ≡ locks_of hand.old }
     ensures slabs { HasSlabs hand.new slabs.new }
-    ensures frees { IfOk result (λ freed. IfSome freed (λ supply. Acts (FreesChunk (number_of hand.old) class chunk supply) hand.old slabs.old hand.new slabs.new)) }
+    ensures frees { IfOk result (λ freed. IfSome freed (λ supply. Acts (FreesChunk (hand_number hand.old) class chunk supply) hand.old slabs.old hand.new slabs.new)) }
     ensures free { IfOk result (λ freed. IfSome freed (λ supply. is_some (first_free (class_at (slabs_lent slabs.new) class)) ≡ true)) }
-    ensures passes { result ≡ Ok None → PassesOne (number_of hand.old) chunk (view hand.old) (view hand.new) × AreUnchanged slabs.old slabs.new }
+    ensures passes { result ≡ Ok None → PassesOne (hand_number hand.old) chunk (view hand.old) (view hand.new) × AreUnchanged slabs.old slabs.new }
     ensures no_memory { OnErr result (LacksCall chunk (view hand.old) (view hand.new) × AreUnchanged slabs.old slabs.new) }
 {
     if condemn_if_free(arena, hand, slabs, class, chunk)? {
@@ -201,12 +201,12 @@ pub(crate) fn evict_one(
     ensures arena { IsHandOf arena.now hand.new }
     ensures locks { locks_of hand.new ≡ locks_of hand.old }
     ensures slabs { HasSlabs hand.new slabs.new }
-    ensures frees { IfOk result (λ freed. IfSome freed (λ supply. Acts (FreesOneCandidate (number_of hand.old) class supply) hand.old slabs.old hand.new slabs.new)) }
+    ensures frees { IfOk result (λ freed. IfSome freed (λ supply. Acts (FreesOneCandidate (hand_number hand.old) class supply) hand.old slabs.old hand.new slabs.new)) }
     ensures free { IfOk result (λ freed. IfSome freed (λ supply. is_some (first_free (class_at (slabs_lent slabs.new) class)) ≡ true)) }
-    ensures none { result ≡ Ok None → Acts (PassesCandidates (number_of hand.old) class) hand.old slabs.old hand.new slabs.new }
+    ensures none { result ≡ Ok None → Acts (PassesCandidates (hand_number hand.old) class) hand.old slabs.old hand.new slabs.new }
     ensures alive { result ≡ Ok None → list_all (is_found_alive (view hand.new).row.looks) (class_at (slabs_lent slabs.old) class).order ≡ true }
     ensures whole { (slabs_lent slabs.new).uncut ≡ None }
-    ensures no_memory { OnErr result (Acts (LacksEntryAtCandidate (number_of hand.old) class) hand.old slabs.old hand.new slabs.new) }
+    ensures no_memory { OnErr result (Acts (LacksEntryAtCandidate (hand_number hand.old) class) hand.old slabs.old hand.new slabs.new) }
 {
     let mut next = slabs.slabs().first_out(class);
     for _ in 0..EVICTION_TRIES {

@@ -1,9 +1,9 @@
 //! Fresh chunks that are filled with items.
 ghost use Rattle.std.specs.Prelude.{◌+◌, ◌≡◌, ◌≤◌, length};
-ghost use Rattle.mc_core.specs.Holdings.{all_known, item_in};
+ghost use Rattle.mc_core.specs.Holdings.{all_known, words_of_item};
 ghost use Rattle.mc_words.specs.hand.Arenas.{IsHandOf, view};
 ghost use Rattle.mc_words.specs.item.Fresh.{IsFreshOf};
-ghost use Rattle.mc_words.specs.item.Items.{item_with, words_in};
+ghost use Rattle.mc_words.specs.item.Items.{item_with, known_words_in};
 ghost use Rattle.mc_words.specs.hand.Observers.{fresh_chunk, fresh_key, fresh_room, fresh_stamp, locks_of};
 ghost use Rattle.mc_items.specs.FreshChunks.{IsFilledWith, filled_with};
 ghost use Rattle.mc_items.specs.Storing.{IsOwnItem};
@@ -32,7 +32,7 @@ pub(crate) fn fill_item(
     ensures filled { view hand.new ≡ filled_with fresh.old key stamp words.now (view hand.old) }
     ensures fresh { IsFreshOf (view hand.new) (fresh_chunk fresh.new) (fresh_room fresh.new) }
     ensures item { IsFilledWith (view hand.new) fresh.new key stamp }
-    ensures words { item_in (words_in (view hand.new) (fresh_chunk fresh.new)) ≡ all_known (item_with key stamp words.now) }
+    ensures words { words_of_item (known_words_in (view hand.new) (fresh_chunk fresh.new)) ≡ all_known (item_with key stamp words.now) }
 {
     arena.fill(hand, fresh, 0, key);
     arena.fill(hand, fresh, 1, stamp);

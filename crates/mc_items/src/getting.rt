@@ -6,14 +6,14 @@ ghost use Rattle.mc_core.specs.State.{has_chunk};
 ghost use Rattle.mc_core.specs.Chunks.{most_holdings};
 ghost use Rattle.mc_words.specs.hand.Arenas.{IsHandOf, setup_of, view};
 ghost use Rattle.mc_words.specs.lock.Lent.{IsLentStripe};
-ghost use Rattle.mc_words.specs.hand.Observers.{locks_of, number_of, stripe_lent, stripe_number};
+ghost use Rattle.mc_words.specs.hand.Observers.{locks_of, hand_number, stripe_lent, stripe_number};
 ghost use Rattle.mc_words.specs.lock.Out.{without_stripe};
 ghost use Rattle.mc_words.specs.hand.Ready.{IsReady};
 ghost use Rattle.mc_words.specs.item.Refs.{KeepsRefs};
-ghost use Rattle.mc_items.specs.Calls.{LooksUp, TellsNoCall, IsFull};
+ghost use Rattle.mc_items.specs.Calls.{LooksUp, RecordsNoCall, IsFull};
 ghost use Rattle.mc_items.specs.ItemRefs.{IsItemRef, item_chunk, item_key, item_stamp};
-ghost use Rattle.mc_items.specs.Keeping.{HoldsTheSame, HoldsToo, IsAsSaid, SaysNothing};
-ghost use Rattle.mc_items.specs.OnKeys.{DoesOn, FindsNoRoomFor, FindsStripeHeld, Gets, GetsAt, GivesBack, IsRefToKey, TellsAt, TellsOn, stamp_there};
+ghost use Rattle.mc_items.specs.Keeping.{HoldsTheSame, HoldsToo, HasStoredWords, StoresNothing};
+ghost use Rattle.mc_items.specs.OnKeys.{DoesOn, FindsNoRoomFor, FindsStripeHeld, Gets, GetsAt, GivesBack, IsRefToKey, RecordsAt, RecordsOn, stamp_there};
 ghost use Rattle.mc_items.specs.OnKeys.{stripe_of_key};
 ghost use Rattle.mc_stripe.specs.StripeState as stripes;
 ghost use Rattle.mc_stripe.specs.declared.history.Call.TheVariants as call;
@@ -51,20 +51,20 @@ pub fn get<R: Wait>(
     ensures arena { IsHandOf arena.now hand.new }
     ensures ready { IsReady (view hand.new) }
     ensures locks { locks_of hand.new ≡ locks_of hand.old }
-    ensures number { number_of hand.new ≡ number_of hand.old }
+    ensures number { hand_number hand.new ≡ hand_number hand.old }
     ensures gets { IfOk result (λ found. Gets (setup_of arena.now) key found hand.old hand.new) }
     ensures item { IfOk result (λ found. IfSome found (λ item. IsItemRef (view hand.new) item × (item_key item ≡ key))) }
     ensures near { IfOk result (λ found. IfSome found (λ item. has_chunk (setup_of arena.now).table (item_chunk item) ≡ true)) }
-    ensures said { IfOk result (λ found. IfSome found (IsAsSaid (view hand.new))) }
-    ensures calls { IfOk result (λ found. TellsOn (setup_of arena.now) key (λ number. call.Get number key (option_map item_stamp found)) hand.old hand.new) }
-    ensures refused { OnErr result (TellsNoCall (view hand.old) (view hand.new)) }
+    ensures said { IfOk result (λ found. IfSome found (HasStoredWords (view hand.new))) }
+    ensures calls { IfOk result (λ found. RecordsOn (setup_of arena.now) key (λ number. call.Get number key (option_map item_stamp found)) hand.old hand.new) }
+    ensures refused { OnErr result (RecordsNoCall (view hand.old) (view hand.new)) }
     ensures many { (result ≡ Err GetError.TooManyRefs) ↔ (most_refs ≤ length (view hand.old).row.holdings) }
     ensures same { result ≡ Err GetError.TooManyRefs → view hand.new ≡ view hand.old }
     ensures no_memory { result ≡ Err (GetError.NoMemory tt) → FindsNoRoomFor (setup_of arena.now) key hand.old hand.new }
     ensures holdings { IfOk result (λ found. HoldsToo found (view hand.old) (view hand.new)) }
     ensures no_more { OnErr result (HoldsTheSame (view hand.old) (view hand.new)) }
     ensures keeps { KeepsRefs (view hand.old) (view hand.new) }
-    ensures unsaid { SaysNothing (view hand.old) (view hand.new) }
+    ensures unsaid { StoresNothing (view hand.old) (view hand.new) }
 {
     if hand.refs() >= MOST_REFS {
         return Err(GetError::TooManyRefs);
@@ -99,13 +99,13 @@ pub fn try_get(arena: &Arena, hand: &mut Hand, key: u64) -> Result<Option<Ref>, 
     ensures arena { IsHandOf arena.now hand.new }
     ensures ready { IsReady (view hand.new) }
     ensures locks { locks_of hand.new ≡ locks_of hand.old }
-    ensures number { number_of hand.new ≡ number_of hand.old }
+    ensures number { hand_number hand.new ≡ hand_number hand.old }
     ensures gets { IfOk result (λ found. Gets (setup_of arena.now) key found hand.old hand.new) }
     ensures item { IfOk result (λ found. IfSome found (λ item. IsItemRef (view hand.new) item × (item_key item ≡ key))) }
     ensures near { IfOk result (λ found. IfSome found (λ item. has_chunk (setup_of arena.now).table (item_chunk item) ≡ true)) }
-    ensures said { IfOk result (λ found. IfSome found (IsAsSaid (view hand.new))) }
-    ensures calls { IfOk result (λ found. TellsOn (setup_of arena.now) key (λ number. call.Get number key (option_map item_stamp found)) hand.old hand.new) }
-    ensures refused { OnErr result (TellsNoCall (view hand.old) (view hand.new)) }
+    ensures said { IfOk result (λ found. IfSome found (HasStoredWords (view hand.new))) }
+    ensures calls { IfOk result (λ found. RecordsOn (setup_of arena.now) key (λ number. call.Get number key (option_map item_stamp found)) hand.old hand.new) }
+    ensures refused { OnErr result (RecordsNoCall (view hand.old) (view hand.new)) }
     ensures many { (result ≡ Err TryGetError.TooManyRefs) ↔ (most_refs ≤ length (view hand.old).row.holdings) }
     ensures same { result ≡ Err TryGetError.TooManyRefs → view hand.new ≡ view hand.old }
     ensures held { result ≡ Err TryGetError.Held → FindsStripeHeld (setup_of arena.now) key hand.old hand.new }
@@ -113,7 +113,7 @@ pub fn try_get(arena: &Arena, hand: &mut Hand, key: u64) -> Result<Option<Ref>, 
     ensures holdings { IfOk result (λ found. HoldsToo found (view hand.old) (view hand.new)) }
     ensures no_more { OnErr result (HoldsTheSame (view hand.old) (view hand.new)) }
     ensures keeps { KeepsRefs (view hand.old) (view hand.new) }
-    ensures unsaid { SaysNothing (view hand.old) (view hand.new) }
+    ensures unsaid { StoresNothing (view hand.old) (view hand.new) }
 {
     if hand.refs() >= MOST_REFS {
         return Err(TryGetError::TooManyRefs);
@@ -144,7 +144,7 @@ fn look_up(
     ensures locks { locks_of hand.new ≡ without_stripe (locks_of hand.old) }
     ensures done { IfOk result (λ found. GetsAt held key found hand.old hand.new) }
     ensures item { IfOk result (λ found. IfSome found (λ item. IsItemRef (view hand.new) item × (item_key item ≡ key))) }
-    ensures calls { IfOk result (λ found. TellsAt held (λ number. call.Get number key (option_map item_stamp found)) hand.old hand.new) }
+    ensures calls { IfOk result (λ found. RecordsAt held (λ number. call.Get number key (option_map item_stamp found)) hand.old hand.new) }
     ensures given { OnErr result (GivesBack hand.old held hand.new) }
     ensures full { OnErr result (IsFull (stripe_lent held)) }
 {
@@ -170,7 +170,7 @@ pub(crate) fn refer_at(
     ensures arena { IsHandOf arena.now hand.new }
     ensures locks { locks_of hand.new ≡ without_stripe (locks_of hand.old) }
     ensures done { IfOk result (λ found. DoesOn (λ number stripe. LooksUp number stripe key found) hand.old held hand.new) }
-    ensures stamp { IfOk result (λ found. stripes.stamp_of (stripe_lent held).state key ≡ option_map (stamp_there (view hand.new)) found) }
+    ensures stamp { IfOk result (λ found. stripes.stamp_of_key (stripe_lent held).state key ≡ option_map (stamp_there (view hand.new)) found) }
     ensures reference { IfOk result (λ found. IfSome found (IsRefToKey (view hand.new) key)) }
     ensures given { OnErr result (GivesBack hand.old held hand.new) }
     ensures full { OnErr result (IsFull (stripe_lent held)) }

@@ -5,11 +5,11 @@ ghost use Rattle.mc_core.specs.State.{has_chunk};
 ghost use Rattle.mc_words.specs.hand.Arenas.{IsHandOf, setup_of, view};
 ghost use Rattle.mc_words.specs.item.Again.{FindsContended, FindsGone};
 ghost use Rattle.mc_words.specs.item.Items.{held_item};
-ghost use Rattle.mc_words.specs.hand.Observers.{hint_chunk, hint_issue, locks_of, number_of};
+ghost use Rattle.mc_words.specs.hand.Observers.{hint_chunk, hint_issue, locks_of, hand_number};
 ghost use Rattle.mc_words.specs.hand.Ready.{IsReady};
 ghost use Rattle.mc_words.specs.item.Refs.{KeepsRefs};
 ghost use Rattle.mc_items.specs.ItemRefs.{IsItemRef, item_chunk, item_issue};
-ghost use Rattle.mc_items.specs.Keeping.{HoldsTheSame, HoldsToo, IsAsSaid, SaysNothing};
+ghost use Rattle.mc_items.specs.Keeping.{HoldsTheSame, HoldsToo, HasStoredWords, StoresNothing};
 ghost use Rattle.mc_items.specs.OnKeys.{GetsByHint, IsAsKnown};
 ghost use Rattle.mc_items.specs.Current.{GetsCurrent};
 
@@ -35,12 +35,12 @@ pub fn again(arena: &Arena, hand: &mut Hand, hint: Hint) -> Result<Ref, Again>
     ensures arena { IsHandOf arena.now hand.new }
     ensures ready { IsReady (view hand.new) }
     ensures locks { locks_of hand.new ≡ locks_of hand.old }
-    ensures number { number_of hand.new ≡ number_of hand.old }
+    ensures number { hand_number hand.new ≡ hand_number hand.old }
     ensures hinted { IfOk result (λ item. (item_chunk item ≡ hint_chunk hint) × (item_issue item ≡ hint_issue hint)) }
     ensures gets { IfOk result (λ item. GetsByHint hint item (view hand.old) (view hand.new)) }
     ensures current { IfOk result (λ item. GetsCurrent hint item (view hand.old) (view hand.new)) }
     ensures item { IfOk result (λ item. IsItemRef (view hand.new) item) }
-    ensures said { IfOk result (IsAsSaid (view hand.new)) }
+    ensures said { IfOk result (HasStoredWords (view hand.new)) }
     ensures known { IfOk result (λ item. IsAsKnown (view hand.old) hint (held_item (view hand.new) (item_chunk item))) }
     ensures gone { result ≡ Err Again.Gone → FindsGone (view hand.old) (hint_chunk hint) (hint_issue hint) (view hand.new) }
     ensures contended { result ≡ Err Again.Contended → FindsContended (view hand.old) (hint_chunk hint) (hint_issue hint) (view hand.new) }
@@ -49,7 +49,7 @@ pub fn again(arena: &Arena, hand: &mut Hand, hint: Hint) -> Result<Ref, Again>
     ensures holdings { IfOk result (λ item. HoldsToo (Some item) (view hand.old) (view hand.new)) }
     ensures no_more { OnErr result (HoldsTheSame (view hand.old) (view hand.new)) }
     ensures keeps { KeepsRefs (view hand.old) (view hand.new) }
-    ensures unsaid { SaysNothing (view hand.old) (view hand.new) }
+    ensures unsaid { StoresNothing (view hand.old) (view hand.new) }
 {
     match arena.again(hand, hint) {
         Ok(reference) => Ok(look_at(arena, hand, reference)),

@@ -3,12 +3,12 @@ ghost use Rattle.std.specs.Prelude.{◌≡◌, ◌+◌, ◌<◌, [], IfOk, OnErr
 ghost use Rattle.mc_words.specs.hand.Arenas.{IsHandOf, view};
 ghost use Rattle.mc_words.specs.rule.Happens.{Happens};
 ghost use Rattle.mc_words.specs.item.Items.{item_with};
-ghost use Rattle.mc_words.specs.hand.Observers.{locks_of, number_of};
+ghost use Rattle.mc_words.specs.hand.Observers.{locks_of, hand_number};
 ghost use Rattle.mc_words.specs.hand.Ready.{IsReady};
-ghost use Rattle.mc_words.specs.item.Refs.{KeepsHeld, KeepsRefs};
+ghost use Rattle.mc_words.specs.item.Refs.{KeepsRemainingRefs, KeepsRefs};
 ghost use Rattle.mc_words.specs.hand.Views.{chunk_released, word_seen};
 ghost use Rattle.mc_items.specs.ItemRefs.{IsItemRef, item_chunk, item_key, item_len, item_stamp, item_words};
-ghost use Rattle.mc_items.specs.Keeping.{AreSaid, HoldsLess, HoldsTheSame, SaysNothing};
+ghost use Rattle.mc_items.specs.Keeping.{WordsWereStored, HoldsLess, HoldsTheSame, StoresNothing};
 ghost use Rattle.mc_items.specs.Reading.{words_seen};
 ghost use Rattle.mc_core.specs.declared.event.Step.TheVariants as step;
 
@@ -25,15 +25,15 @@ pub fn read(alloc: Global, arena: &Arena, hand: &mut Hand, item: &Ref) -> Result
     ensures arena { IsHandOf arena.now hand.new }
     ensures ready { IsReady (view hand.new) }
     ensures locks { locks_of hand.new ≡ locks_of hand.old }
-    ensures number { number_of hand.new ≡ number_of hand.old }
+    ensures number { hand_number hand.new ≡ hand_number hand.old }
     ensures item { IsItemRef (view hand.new) item.now }
     ensures view { IfOk result (λ words. view hand.new ≡ words_seen (item_chunk item.now) 3 (item_len item.now) (view hand.old)) }
     ensures same { OnErr result (view hand.new ≡ view hand.old) }
     ensures words { IfOk result (λ words. words.items ≡ item_words (view hand.old) item.now) }
-    ensures said { IfOk result (λ words. AreSaid (view hand.new) (item_stamp item.now) (item_with (item_key item.now) (item_stamp item.now) words.items)) }
+    ensures said { IfOk result (λ words. WordsWereStored (view hand.new) (item_stamp item.now) (item_with (item_key item.now) (item_stamp item.now) words.items)) }
     ensures holdings { HoldsTheSame (view hand.old) (view hand.new) }
     ensures keeps { KeepsRefs (view hand.old) (view hand.new) }
-    ensures unsaid { SaysNothing (view hand.old) (view hand.new) }
+    ensures unsaid { StoresNothing (view hand.old) (view hand.new) }
 {
     let mut words = with_capacity(alloc, item.len as usize)?;
     for place in 0..item.len {
@@ -53,16 +53,16 @@ pub fn word(arena: &Arena, hand: &mut Hand, item: &Ref, place: u64) -> u64
     ensures arena { IsHandOf arena.now hand.new }
     ensures ready { IsReady (view hand.new) }
     ensures locks { locks_of hand.new ≡ locks_of hand.old }
-    ensures number { number_of hand.new ≡ number_of hand.old }
+    ensures number { hand_number hand.new ≡ hand_number hand.old }
     ensures item { IsItemRef (view hand.new) item.now }
     ensures happens { Happens (view hand.old) [] (step.Word (item_chunk item.now) (3 + place)) (view hand.new) }
     ensures view { view hand.new ≡ word_seen (item_chunk item.now) (3 + place) (view hand.old) }
     ensures word { result ≡ slice_index (item_words (view hand.old) item.now) place }
     ensures words { item_words (view hand.new) item.now ≡ item_words (view hand.old) item.now }
-    ensures said { AreSaid (view hand.new) (item_stamp item.now) (item_with (item_key item.now) (item_stamp item.now) (item_words (view hand.old) item.now)) }
+    ensures said { WordsWereStored (view hand.new) (item_stamp item.now) (item_with (item_key item.now) (item_stamp item.now) (item_words (view hand.old) item.now)) }
     ensures holdings { HoldsTheSame (view hand.old) (view hand.new) }
     ensures keeps { KeepsRefs (view hand.old) (view hand.new) }
-    ensures unsaid { SaysNothing (view hand.old) (view hand.new) }
+    ensures unsaid { StoresNothing (view hand.old) (view hand.new) }
 {
     arena.word(hand, &item.reference, 3 + place)
 }
@@ -77,12 +77,12 @@ pub fn release(arena: &Arena, hand: &mut Hand, item: Ref)
     ensures arena { IsHandOf arena.now hand.new }
     ensures ready { IsReady (view hand.new) }
     ensures locks { locks_of hand.new ≡ locks_of hand.old }
-    ensures number { number_of hand.new ≡ number_of hand.old }
+    ensures number { hand_number hand.new ≡ hand_number hand.old }
     ensures happens { Happens (view hand.old) [] (step.Release (item_chunk item)) (view hand.new) }
     ensures dropped { view hand.new ≡ chunk_released (item_chunk item) (view hand.old) }
     ensures holdings { HoldsLess item (view hand.old) (view hand.new) }
-    ensures keeps { KeepsHeld (view hand.old) (view hand.new) }
-    ensures unsaid { SaysNothing (view hand.old) (view hand.new) }
+    ensures keeps { KeepsRemainingRefs (view hand.old) (view hand.new) }
+    ensures unsaid { StoresNothing (view hand.old) (view hand.new) }
 {
     let Ref { reference, .. } = item;
     arena.release(hand, reference);

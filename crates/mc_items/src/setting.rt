@@ -6,14 +6,14 @@ ghost use Rattle.mc_core.specs.State.{is_class};
 ghost use Rattle.mc_words.specs.hand.Arenas.{IsHandOf, setup_of, view};
 ghost use Rattle.mc_words.specs.hand.Idle.{is_unlocked};
 ghost use Rattle.mc_words.specs.item.Items.{item_with};
-ghost use Rattle.mc_words.specs.hand.Observers.{fresh_chunk, locks_of, number_of};
+ghost use Rattle.mc_words.specs.hand.Observers.{fresh_chunk, locks_of, hand_number};
 ghost use Rattle.mc_words.specs.hand.Ready.{IsReady};
 ghost use Rattle.mc_words.specs.item.Refs.{KeepsRefs};
-ghost use Rattle.mc_items.specs.Evicting.{TellsEvict};
+ghost use Rattle.mc_items.specs.Evicting.{RecordsEviction};
 ghost use Rattle.mc_items.specs.FreshChunks.{IsFreshFor};
-ghost use Rattle.mc_items.specs.Keeping.{HoldsTheSame, Says, SaysNothing};
+ghost use Rattle.mc_items.specs.Keeping.{HoldsTheSame, StoresWithStamp, StoresNothing};
 ghost use Rattle.mc_items.specs.OnKeys.{ActsOnce};
-ghost use Rattle.mc_items.specs.Setting.{RefusesSet, SetsItem, TellsSet};
+ghost use Rattle.mc_items.specs.Setting.{RefusesSet, SetsItem, RecordsSet};
 ghost use Rattle.mc_items.specs.Sources.{SuppliesChunk, SuppliesNone};
 ghost use Rattle.mc_items.specs.Storing.{IsOwnItem};
 
@@ -59,13 +59,13 @@ pub fn set<R: Wait>(
     ensures arena { IsHandOf arena.now hand.new }
     ensures ready { IsReady (view hand.new) }
     ensures locks { locks_of hand.new ≡ locks_of hand.old }
-    ensures number { number_of hand.new ≡ number_of hand.old }
-    ensures sets { IfOk result (λ stamp. SetsItem (number_of hand.old) key stamp words.now (view hand.old) (view hand.new)) }
-    ensures calls { IfOk result (λ stamp. TellsSet (number_of hand.old) key stamp (view hand.old) (view hand.new)) }
-    ensures said { IfOk result (λ stamp. Says (item_with key stamp words.now) stamp (view hand.old) (view hand.new)) }
-    ensures refused { IfErr result (λ error. RefusesSet (number_of hand.old) key words.now error (view hand.old) (view hand.new)) }
-    ensures evicts { OnErr result (TellsEvict (number_of hand.old) (view hand.old) (view hand.new)) }
-    ensures unsaid { OnErr result (SaysNothing (view hand.old) (view hand.new)) }
+    ensures number { hand_number hand.new ≡ hand_number hand.old }
+    ensures sets { IfOk result (λ stamp. SetsItem (hand_number hand.old) key stamp words.now (view hand.old) (view hand.new)) }
+    ensures calls { IfOk result (λ stamp. RecordsSet (hand_number hand.old) key stamp (view hand.old) (view hand.new)) }
+    ensures said { IfOk result (λ stamp. StoresWithStamp (item_with key stamp words.now) stamp (view hand.old) (view hand.new)) }
+    ensures refused { IfErr result (λ error. RefusesSet (hand_number hand.old) key words.now error (view hand.old) (view hand.new)) }
+    ensures evicts { OnErr result (RecordsEviction (hand_number hand.old) (view hand.old) (view hand.new)) }
+    ensures unsaid { OnErr result (StoresNothing (view hand.old) (view hand.new)) }
     ensures stamps { OnErr result ((view hand.new).row.ids ≡ (view hand.old).row.ids) }
     ensures holdings { HoldsTheSame (view hand.old) (view hand.new) }
     ensures keeps { KeepsRefs (view hand.old) (view hand.new) }
@@ -100,10 +100,10 @@ fn chunk_of<R: Wait>(
     requires few { length (view hand.old).row.holdings ≤ most_refs }
     ensures arena { IsHandOf arena.now hand.new }
     ensures locks { locks_of hand.new ≡ locks_of hand.old }
-    ensures supplies { IfOk result (λ fresh. ActsOnce (SuppliesChunk (number_of hand.old) class (fresh_chunk fresh)) hand.old hand.new) }
+    ensures supplies { IfOk result (λ fresh. ActsOnce (SuppliesChunk (hand_number hand.old) class (fresh_chunk fresh)) hand.old hand.new) }
     ensures fresh { IfOk result (IsFreshFor (setup_of arena.now) class (view hand.new)) }
     ensures own { IfOk result (λ fresh. IsOwnItem (view hand.new) (fresh_chunk fresh)) }
-    ensures none { IfErr result (λ error. ActsOnce (SuppliesNone (number_of hand.old) class error) hand.old hand.new) }
+    ensures none { IfErr result (λ error. ActsOnce (SuppliesNone (hand_number hand.old) class error) hand.old hand.new) }
 {
     let mut slabs = arena.lock_slabs(rt, hand);
     let supplied = supply_chunk(arena, hand, &mut slabs, class);

@@ -1,20 +1,20 @@
 //! Items that are linked to their keys, in place of those that were there.
 ghost use Rattle.std.specs.Prelude.{◌+◌, ◌≡◌, ◌≤◌, IfOk, None, OnErr, OnOk, Some, false, length, true};
-ghost use Rattle.mc_core.specs.Holdings.{has_fresh, item_in, numbers};
+ghost use Rattle.mc_core.specs.Holdings.{has_fresh, words_of_item, numbers_of_known};
 ghost use Rattle.mc_words.specs.hand.Arenas.{IsHandOf, setup_of, view};
 ghost use Rattle.mc_words.specs.item.Fresh.{IsFreshOf};
 ghost use Rattle.mc_words.specs.hand.Idle.{is_unlocked};
-ghost use Rattle.mc_words.specs.item.Items.{item_with, words_in};
+ghost use Rattle.mc_words.specs.item.Items.{item_with, known_words_in};
 ghost use Rattle.mc_words.specs.lock.Lent.{IsLentStripe};
-ghost use Rattle.mc_words.specs.hand.Observers.{HasStripe, fresh_chunk, fresh_key, fresh_room, fresh_stamp, locks_of, number_of, ref_chunk, ref_room, stripe_lent};
+ghost use Rattle.mc_words.specs.hand.Observers.{HasStripe, fresh_chunk, fresh_key, fresh_room, fresh_stamp, locks_of, hand_number, ref_chunk, ref_room, stripe_lent};
 ghost use Rattle.mc_words.specs.hand.Observers.{stripe_number};
 ghost use Rattle.mc_words.specs.lock.Out.{without_stripe};
 ghost use Rattle.mc_words.specs.item.Refs.{IsRefOf};
 ghost use Rattle.mc_words.specs.hand.Tallies.{next_stamp};
-ghost use Rattle.mc_items.specs.Calls.{TellsNoCall, IsFullToStore};
+ghost use Rattle.mc_items.specs.Calls.{RecordsNoCall, IsFullToStore};
 ghost use Rattle.mc_items.specs.FreshChunks.{GivesBackBoth, IsFilledWith, IsRefInto, LosesFresh, StoresFresh, filled_with};
-ghost use Rattle.mc_items.specs.Keeping.{Says};
-ghost use Rattle.mc_items.specs.OnKeys.{StoresOn, TellsOn, stripe_of_key};
+ghost use Rattle.mc_items.specs.Keeping.{StoresWithStamp};
+ghost use Rattle.mc_items.specs.OnKeys.{StoresOn, RecordsOn, stripe_of_key};
 ghost use Rattle.mc_items.specs.Storing.{IsOwnItem, Stores, key_put_aside, stripe_lifted};
 ghost use Rattle.mc_stripe.specs.declared.history.Call.TheVariants as call;
 
@@ -42,11 +42,11 @@ pub(crate) fn store_words<R: Wait>(
     requires stamp { next_stamp (view hand.old).row.ids ≡ Some stamp }
     ensures arena { IsHandOf arena.now hand.new }
     ensures locks { locks_of hand.new ≡ locks_of hand.old }
-    ensures stores { OnOk result (StoresFresh (setup_of arena.now) key stamp fresh (number_of hand.old) (filled_with fresh key stamp words.now (view hand.old)) (view hand.new)) }
-    ensures calls { OnOk result (TellsOn (setup_of arena.now) key (λ number. call.Set number key stamp) hand.old hand.new) }
-    ensures said { OnOk result (Says (item_with key stamp words.now) stamp (view hand.old) (view hand.new)) }
+    ensures stores { OnOk result (StoresFresh (setup_of arena.now) key stamp fresh (hand_number hand.old) (filled_with fresh key stamp words.now (view hand.old)) (view hand.new)) }
+    ensures calls { OnOk result (RecordsOn (setup_of arena.now) key (λ number. call.Set number key stamp) hand.old hand.new) }
+    ensures said { OnOk result (StoresWithStamp (item_with key stamp words.now) stamp (view hand.old) (view hand.new)) }
     ensures no_memory { OnErr result (LosesFresh (setup_of arena.now) key fresh (filled_with fresh key stamp words.now (view hand.old)) (view hand.new)) }
-    ensures refused { OnErr result (TellsNoCall (view hand.old) (view hand.new)) }
+    ensures refused { OnErr result (RecordsNoCall (view hand.old) (view hand.new)) }
 {
     let mut fresh = fresh;
     fill_item(arena, hand, &mut fresh, key, stamp, words);
@@ -71,11 +71,11 @@ fn store<R: Wait>(
     requires stamp { next_stamp (view hand.old).row.ids ≡ Some (fresh_stamp fresh) }
     ensures arena { IsHandOf arena.now hand.new }
     ensures locks { locks_of hand.new ≡ locks_of hand.old }
-    ensures stores { OnOk result (StoresFresh (setup_of arena.now) key (fresh_stamp fresh) fresh (number_of hand.old) (view hand.old) (view hand.new)) }
-    ensures calls { OnOk result (TellsOn (setup_of arena.now) key (λ number. call.Set number key (fresh_stamp fresh)) hand.old hand.new) }
-    ensures said { OnOk result (Says (numbers (item_in (words_in (view hand.old) (fresh_chunk fresh)))) (fresh_stamp fresh) (view hand.old) (view hand.new)) }
+    ensures stores { OnOk result (StoresFresh (setup_of arena.now) key (fresh_stamp fresh) fresh (hand_number hand.old) (view hand.old) (view hand.new)) }
+    ensures calls { OnOk result (RecordsOn (setup_of arena.now) key (λ number. call.Set number key (fresh_stamp fresh)) hand.old hand.new) }
+    ensures said { OnOk result (StoresWithStamp (numbers_of_known (words_of_item (known_words_in (view hand.old) (fresh_chunk fresh)))) (fresh_stamp fresh) (view hand.old) (view hand.new)) }
     ensures no_memory { OnErr result (LosesFresh (setup_of arena.now) key fresh (view hand.old) (view hand.new)) }
-    ensures refused { OnErr result (TellsNoCall (view hand.old) (view hand.new)) }
+    ensures refused { OnErr result (RecordsNoCall (view hand.old) (view hand.new)) }
 {
     let stripe = key % arena.config().stripes;
     let held = arena.lock_stripe(rt, hand, stripe);

@@ -3,14 +3,14 @@ ghost use Rattle.std.specs.List.{list_all};
 ghost use Rattle.std.specs.Prelude.{◌≡◌, ◌≤◌, IfErr, IfOk, IfSome, None, Ok, OnErr, false, is_some, length, true};
 ghost use Rattle.mc_classes.specs.Limits.{most_refs};
 ghost use Rattle.mc_pages.specs.Changes.{HasNoPageFor, next_page};
-ghost use Rattle.mc_pages.specs.ClassState.{first_free, popped};
+ghost use Rattle.mc_pages.specs.ClassState.{first_free, class_after_pop};
 ghost use Rattle.mc_pages.specs.SlabState.{class_at};
 ghost use Rattle.mc_core.specs.Holdings.{has_fresh};
 ghost use Rattle.mc_core.specs.Looks.{is_found_alive};
 ghost use Rattle.mc_core.specs.State.{is_class};
 ghost use Rattle.mc_words.specs.hand.Arenas.{IsHandOf, setup_of, view};
 ghost use Rattle.mc_words.specs.hand.Idle.{has_no_stripes};
-ghost use Rattle.mc_words.specs.hand.Observers.{HasSlabs, fresh_chunk, fresh_room, locks_of, number_of, slabs_lent};
+ghost use Rattle.mc_words.specs.hand.Observers.{HasSlabs, fresh_chunk, fresh_room, locks_of, hand_number, slabs_lent};
 ghost use Rattle.mc_items.specs.FreshChunks.{IsFreshFor};
 ghost use Rattle.mc_items.specs.OnKeys.{Acts, AreUnchanged, SeesMore};
 ghost use Rattle.mc_items.specs.Sources.{AsksMove, LacksMore, MakesFree, MakesNone, SuppliesChunk, SuppliesNone};
@@ -76,7 +76,7 @@ pub(crate) fn grow_for(
     ensures arena { IsHandOf arena.now hand.new }
     ensures locks { locks_of hand.new ≡ locks_of hand.old }
     ensures held { HasSlabs hand.new held.new }
-    ensures grows { result ≡ Ok true → Acts (Grows (number_of hand.old) class) hand.old held.old hand.new held.new }
+    ensures grows { result ≡ Ok true → Acts (Grows (hand_number hand.old) class) hand.old held.old hand.new held.new }
     ensures free { result ≡ Ok true → is_some (first_free (class_at (slabs_lent held.new) class)) ≡ true }
     ensures whole { (slabs_lent held.new).uncut ≡ None }
     ensures seen { SeesMore hand.old hand.new }
@@ -114,11 +114,11 @@ fn make_free(
     ensures arena { IsHandOf arena.now hand.new }
     ensures locks { locks_of hand.new ≡ locks_of hand.old }
     ensures held { HasSlabs hand.new held.new }
-    ensures makes { IfOk result (λ made. IfSome made (λ supply. Acts (MakesFree (number_of hand.old) class supply) hand.old held.old hand.new held.new)) }
+    ensures makes { IfOk result (λ made. IfSome made (λ supply. Acts (MakesFree (hand_number hand.old) class supply) hand.old held.old hand.new held.new)) }
     ensures free { IfOk result (λ made. IfSome made (λ supply. is_some (first_free (class_at (slabs_lent held.new) class)) ≡ true)) }
-    ensures none { result ≡ Ok None → Acts (MakesNone (number_of hand.old) class) hand.old held.old hand.new held.new }
+    ensures none { result ≡ Ok None → Acts (MakesNone (hand_number hand.old) class) hand.old held.old hand.new held.new }
     ensures whole { (slabs_lent held.new).uncut ≡ None }
-    ensures no_memory { OnErr result (Acts (LacksMore (number_of hand.old) class) hand.old held.old hand.new held.new) }
+    ensures no_memory { OnErr result (Acts (LacksMore (hand_number hand.old) class) hand.old held.old hand.new held.new) }
 {
     match grow_for(arena, hand, held, class) {
         Ok(true) => Ok(Some(Supply::Page)),
@@ -135,7 +135,7 @@ fn ask_move(arena: &Arena, hand: &mut Hand, held: &mut SlabsHeld, class: ClassId
     ensures arena { IsHandOf arena.now hand.new }
     ensures locks { locks_of hand.new ≡ locks_of hand.old }
     ensures held { HasSlabs hand.new held.new }
-    ensures asks { Acts (AsksMove (number_of hand.old) class supply) hand.old held.old hand.new held.new }
+    ensures asks { Acts (AsksMove (hand_number hand.old) class supply) hand.old held.old hand.new held.new }
     ensures holdings { (view hand.new).row.holdings ≡ (view hand.old).row.holdings }
     ensures uncut { (slabs_lent held.new).uncut ≡ (slabs_lent held.old).uncut }
 {
@@ -164,10 +164,10 @@ pub(crate) fn supply_chunk(
     ensures arena { IsHandOf arena.now hand.new }
     ensures locks { locks_of hand.new ≡ locks_of hand.old }
     ensures held { HasSlabs hand.new held.new }
-    ensures supplies { IfOk result (λ fresh. Acts (SuppliesChunk (number_of hand.old) class (fresh_chunk fresh)) hand.old held.old hand.new held.new) }
+    ensures supplies { IfOk result (λ fresh. Acts (SuppliesChunk (hand_number hand.old) class (fresh_chunk fresh)) hand.old held.old hand.new held.new) }
     ensures fresh { IfOk result (IsFreshFor (setup_of arena.now) class (view hand.new)) }
     ensures own { IfOk result (λ fresh. IsOwnItem (view hand.new) (fresh_chunk fresh)) }
-    ensures none { IfErr result (λ error. Acts (SuppliesNone (number_of hand.old) class error) hand.old held.old hand.new held.new) }
+    ensures none { IfErr result (λ error. Acts (SuppliesNone (hand_number hand.old) class error) hand.old held.old hand.new held.new) }
     ensures whole { (slabs_lent held.new).uncut ≡ None }
 {
     match pop_or_sweep(arena, hand, held, class) {

@@ -1,12 +1,12 @@
 //! The touch of a key: its item becomes the newest of its class.
 ghost use Rattle.std.specs.Prelude.{◌≡◌, IfOk, Ok, OnErr, false, true};
 ghost use Rattle.mc_words.specs.hand.Arenas.{IsHandOf, setup_of, view};
-ghost use Rattle.mc_words.specs.hand.Observers.{locks_of, number_of};
+ghost use Rattle.mc_words.specs.hand.Observers.{locks_of, hand_number};
 ghost use Rattle.mc_words.specs.hand.Ready.{IsReady};
 ghost use Rattle.mc_words.specs.item.Refs.{KeepsRefs};
-ghost use Rattle.mc_items.specs.Calls.{FindsNone, TellsNoCall, Touches};
-ghost use Rattle.mc_items.specs.Keeping.{HoldsAsOften, SaysNothing};
-ghost use Rattle.mc_items.specs.OnKeys.{ActsOn, FindsNoRoomFor, TellsOfGet, stripe_of_key};
+ghost use Rattle.mc_items.specs.Calls.{FindsNone, RecordsNoCall, Touches};
+ghost use Rattle.mc_items.specs.Keeping.{HoldsAsOften, StoresNothing};
+ghost use Rattle.mc_items.specs.OnKeys.{ActsOn, FindsNoRoomFor, RecordsGet, stripe_of_key};
 
 use crate::bumping::bump_chunk;
 use crate::getting::refer_at;
@@ -23,15 +23,15 @@ pub fn touch<R: Wait>(rt: &R, arena: &Arena, hand: &mut Hand, key: u64) -> Resul
     ensures arena { IsHandOf arena.now hand.new }
     ensures ready { IsReady (view hand.new) }
     ensures locks { locks_of hand.new ≡ locks_of hand.old }
-    ensures number { number_of hand.new ≡ number_of hand.old }
-    ensures touches { result ≡ Ok true → Touches (number_of hand.old) (stripe_of_key (setup_of arena.now) key) key (view hand.old) (view hand.new) }
+    ensures number { hand_number hand.new ≡ hand_number hand.old }
+    ensures touches { result ≡ Ok true → Touches (hand_number hand.old) (stripe_of_key (setup_of arena.now) key) key (view hand.old) (view hand.new) }
     ensures none { result ≡ Ok false → ActsOn (setup_of arena.now) key (λ number stripe. FindsNone number stripe key) hand.old hand.new }
-    ensures calls { IfOk result (λ there. TellsOfGet (setup_of arena.now) key there hand.old hand.new) }
-    ensures refused { OnErr result (TellsNoCall (view hand.old) (view hand.new)) }
+    ensures calls { IfOk result (λ there. RecordsGet (setup_of arena.now) key there hand.old hand.new) }
+    ensures refused { OnErr result (RecordsNoCall (view hand.old) (view hand.new)) }
     ensures no_memory { OnErr result (FindsNoRoomFor (setup_of arena.now) key hand.old hand.new) }
     ensures holdings { HoldsAsOften (view hand.old) (view hand.new) }
     ensures keeps { KeepsRefs (view hand.old) (view hand.new) }
-    ensures unsaid { SaysNothing (view hand.old) (view hand.new) }
+    ensures unsaid { StoresNothing (view hand.old) (view hand.new) }
 {
     let stripe = key % arena.config().stripes;
     let held = arena.lock_stripe(rt, hand, stripe);

@@ -1,23 +1,23 @@
 //! Items that are set without a wait: a hand tries for each lock n times. A caller that can't wait uses these calls: a static library can't. (own)
 ghost use Rattle.std.specs.Prelude.{◌+◌, ◌≡◌, ◌≤◌, IfErr, IfOk, OnErr, OnOk, Some, false, length, true};
 ghost use Rattle.mc_classes.specs.Limits.{most_refs};
-ghost use Rattle.mc_core.specs.Holdings.{has_fresh, item_in, numbers};
+ghost use Rattle.mc_core.specs.Holdings.{has_fresh, words_of_item, numbers_of_known};
 ghost use Rattle.mc_core.specs.State.{is_class};
 ghost use Rattle.mc_words.specs.hand.Arenas.{IsHandOf, setup_of, view};
 ghost use Rattle.mc_words.specs.hand.Idle.{is_unlocked};
-ghost use Rattle.mc_words.specs.hand.Observers.{fresh_chunk, fresh_key, fresh_room, fresh_stamp, locks_of, number_of};
+ghost use Rattle.mc_words.specs.hand.Observers.{fresh_chunk, fresh_key, fresh_room, fresh_stamp, locks_of, hand_number};
 ghost use Rattle.mc_words.specs.hand.Ready.{IsReady};
 ghost use Rattle.mc_words.specs.hand.Tallies.{next_stamp};
 ghost use Rattle.mc_words.specs.item.Fresh.{IsFreshOf};
-ghost use Rattle.mc_words.specs.item.Items.{item_with, words_in};
+ghost use Rattle.mc_words.specs.item.Items.{item_with, known_words_in};
 ghost use Rattle.mc_words.specs.item.Refs.{KeepsRefs};
 ghost use Rattle.mc_words.specs.lock.Wait.{MissesSlabsEachTime};
-ghost use Rattle.mc_items.specs.Calls.{TellsNoCall};
-ghost use Rattle.mc_items.specs.Evicting.{TellsEvict};
+ghost use Rattle.mc_items.specs.Calls.{RecordsNoCall};
+ghost use Rattle.mc_items.specs.Evicting.{RecordsEviction};
 ghost use Rattle.mc_items.specs.FreshChunks.{IsFilledWith, IsFreshFor, LosesFresh, StoresFresh, filled_with};
-ghost use Rattle.mc_items.specs.Keeping.{HoldsTheSame, Says, SaysNothing};
-ghost use Rattle.mc_items.specs.OnKeys.{ActsOnce, TellsOn};
-ghost use Rattle.mc_items.specs.Setting.{SetsItem, TellsSet};
+ghost use Rattle.mc_items.specs.Keeping.{HoldsTheSame, StoresWithStamp, StoresNothing};
+ghost use Rattle.mc_items.specs.OnKeys.{ActsOnce, RecordsOn};
+ghost use Rattle.mc_items.specs.Setting.{SetsItem, RecordsSet};
 ghost use Rattle.mc_items.specs.Sources.{SuppliesChunk, SuppliesNone};
 ghost use Rattle.mc_items.specs.Storing.{IsOwnItem};
 ghost use Rattle.mc_items.specs.Within.{MissesFor, RefusesWithin};
@@ -59,13 +59,13 @@ pub fn set_within(
     ensures arena { IsHandOf arena.now hand.new }
     ensures ready { IsReady (view hand.new) }
     ensures locks { locks_of hand.new ≡ locks_of hand.old }
-    ensures number { number_of hand.new ≡ number_of hand.old }
-    ensures sets { IfOk result (λ stamp. SetsItem (number_of hand.old) key stamp words.now (view hand.old) (view hand.new)) }
-    ensures calls { IfOk result (λ stamp. TellsSet (number_of hand.old) key stamp (view hand.old) (view hand.new)) }
-    ensures said { IfOk result (λ stamp. Says (item_with key stamp words.now) stamp (view hand.old) (view hand.new)) }
-    ensures refused { IfErr result (λ error. RefusesWithin (number_of hand.old) tries key words.now error (view hand.old) (view hand.new)) }
-    ensures evicts { OnErr result (TellsEvict (number_of hand.old) (view hand.old) (view hand.new)) }
-    ensures unsaid { OnErr result (SaysNothing (view hand.old) (view hand.new)) }
+    ensures number { hand_number hand.new ≡ hand_number hand.old }
+    ensures sets { IfOk result (λ stamp. SetsItem (hand_number hand.old) key stamp words.now (view hand.old) (view hand.new)) }
+    ensures calls { IfOk result (λ stamp. RecordsSet (hand_number hand.old) key stamp (view hand.old) (view hand.new)) }
+    ensures said { IfOk result (λ stamp. StoresWithStamp (item_with key stamp words.now) stamp (view hand.old) (view hand.new)) }
+    ensures refused { IfErr result (λ error. RefusesWithin (hand_number hand.old) tries key words.now error (view hand.old) (view hand.new)) }
+    ensures evicts { OnErr result (RecordsEviction (hand_number hand.old) (view hand.old) (view hand.new)) }
+    ensures unsaid { OnErr result (StoresNothing (view hand.old) (view hand.new)) }
     ensures stamps { OnErr result ((view hand.new).row.ids ≡ (view hand.old).row.ids) }
     ensures holdings { HoldsTheSame (view hand.old) (view hand.new) }
     ensures keeps { KeepsRefs (view hand.old) (view hand.new) }
@@ -102,10 +102,10 @@ fn chunk_within(
     requires few { length (view hand.old).row.holdings ≤ most_refs }
     ensures arena { IsHandOf arena.now hand.new }
     ensures locks { locks_of hand.new ≡ locks_of hand.old }
-    ensures supplies { IfOk result (λ supplied. IfOk supplied (λ fresh. ActsOnce (SuppliesChunk (number_of hand.old) class (fresh_chunk fresh)) hand.old hand.new)) }
+    ensures supplies { IfOk result (λ supplied. IfOk supplied (λ fresh. ActsOnce (SuppliesChunk (hand_number hand.old) class (fresh_chunk fresh)) hand.old hand.new)) }
     ensures fresh { IfOk result (λ supplied. IfOk supplied (IsFreshFor (setup_of arena.now) class (view hand.new))) }
     ensures own { IfOk result (λ supplied. IfOk supplied (λ fresh. IsOwnItem (view hand.new) (fresh_chunk fresh))) }
-    ensures none { IfOk result (λ supplied. IfErr supplied (λ error. ActsOnce (SuppliesNone (number_of hand.old) class error) hand.old hand.new)) }
+    ensures none { IfOk result (λ supplied. IfErr supplied (λ error. ActsOnce (SuppliesNone (hand_number hand.old) class error) hand.old hand.new)) }
     ensures missed { OnErr result (MissesSlabsEachTime tries (view hand.old) (view hand.new)) }
 {
     let Ok(held) = arena.slabs_within(hand, tries) else {
@@ -136,11 +136,11 @@ fn store_words_within(
     requires stamp { next_stamp (view hand.old).row.ids ≡ Some stamp }
     ensures arena { IsHandOf arena.now hand.new }
     ensures locks { locks_of hand.new ≡ locks_of hand.old }
-    ensures stores { IfOk result (λ stored. OnOk stored (StoresFresh (setup_of arena.now) key stamp fresh (number_of hand.old) (filled_with fresh key stamp words.now (view hand.old)) (view hand.new))) }
-    ensures calls { IfOk result (λ stored. OnOk stored (TellsOn (setup_of arena.now) key (λ number. call.Set number key stamp) hand.old hand.new)) }
-    ensures said { IfOk result (λ stored. OnOk stored (Says (item_with key stamp words.now) stamp (view hand.old) (view hand.new))) }
+    ensures stores { IfOk result (λ stored. OnOk stored (StoresFresh (setup_of arena.now) key stamp fresh (hand_number hand.old) (filled_with fresh key stamp words.now (view hand.old)) (view hand.new))) }
+    ensures calls { IfOk result (λ stored. OnOk stored (RecordsOn (setup_of arena.now) key (λ number. call.Set number key stamp) hand.old hand.new)) }
+    ensures said { IfOk result (λ stored. OnOk stored (StoresWithStamp (item_with key stamp words.now) stamp (view hand.old) (view hand.new))) }
     ensures no_memory { IfOk result (λ stored. OnErr stored (LosesFresh (setup_of arena.now) key fresh (filled_with fresh key stamp words.now (view hand.old)) (view hand.new))) }
-    ensures refused { IfOk result (λ stored. OnErr stored (TellsNoCall (view hand.old) (view hand.new))) }
+    ensures refused { IfOk result (λ stored. OnErr stored (RecordsNoCall (view hand.old) (view hand.new))) }
     ensures missed { OnErr result (MissesFor (setup_of arena.now) tries key fresh (filled_with fresh key stamp words.now (view hand.old)) (view hand.new)) }
 {
     let mut fresh = fresh;
@@ -164,11 +164,11 @@ fn store_within(
     requires stamp { next_stamp (view hand.old).row.ids ≡ Some (fresh_stamp fresh) }
     ensures arena { IsHandOf arena.now hand.new }
     ensures locks { locks_of hand.new ≡ locks_of hand.old }
-    ensures stores { IfOk result (λ stored. OnOk stored (StoresFresh (setup_of arena.now) key (fresh_stamp fresh) fresh (number_of hand.old) (view hand.old) (view hand.new))) }
-    ensures calls { IfOk result (λ stored. OnOk stored (TellsOn (setup_of arena.now) key (λ number. call.Set number key (fresh_stamp fresh)) hand.old hand.new)) }
-    ensures said { IfOk result (λ stored. OnOk stored (Says (numbers (item_in (words_in (view hand.old) (fresh_chunk fresh)))) (fresh_stamp fresh) (view hand.old) (view hand.new))) }
+    ensures stores { IfOk result (λ stored. OnOk stored (StoresFresh (setup_of arena.now) key (fresh_stamp fresh) fresh (hand_number hand.old) (view hand.old) (view hand.new))) }
+    ensures calls { IfOk result (λ stored. OnOk stored (RecordsOn (setup_of arena.now) key (λ number. call.Set number key (fresh_stamp fresh)) hand.old hand.new)) }
+    ensures said { IfOk result (λ stored. OnOk stored (StoresWithStamp (numbers_of_known (words_of_item (known_words_in (view hand.old) (fresh_chunk fresh)))) (fresh_stamp fresh) (view hand.old) (view hand.new))) }
     ensures no_memory { IfOk result (λ stored. OnErr stored (LosesFresh (setup_of arena.now) key fresh (view hand.old) (view hand.new))) }
-    ensures refused { IfOk result (λ stored. OnErr stored (TellsNoCall (view hand.old) (view hand.new))) }
+    ensures refused { IfOk result (λ stored. OnErr stored (RecordsNoCall (view hand.old) (view hand.new))) }
     ensures missed { OnErr result (MissesFor (setup_of arena.now) tries key fresh (view hand.old) (view hand.new)) }
 {
     let stripe = key % arena.config().stripes;

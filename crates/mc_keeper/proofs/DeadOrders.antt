@@ -7,16 +7,16 @@ use Rattle.std.proofs.lemmas.List.Sums.{count_by-le-length, length-filter, sum_b
 use Rattle.std.specs.BTreeMap.{is_at}
 use Rattle.mc_pages.specs.declared.ids.ChunkId.{ChunkId}
 use Rattle.mc_pages.specs.declared.ledger.Owner.{Owner}
-use Rattle.mc_pages.specs.ClassState.{is_chunk, times, without}
+use Rattle.mc_pages.specs.ClassState.{is_chunk, times_in, without}
 use Rattle.mc_pages.specs.Ledger.{owner_at}
-use Rattle.mc_pages.specs.SlabState.{IsClass, class_at, class_of_owner, class_of_page}
+use Rattle.mc_pages.specs.SlabState.{HasClass, class_at, class_of_owner, class_of_page}
 use Rattle.mc_pages.specs.Accounted.{truth}
 use Rattle.mc_pages.proofs.Chunks.{is_chunk-same, same_from_is_chunk, times-cons, times-without}
 use Rattle.mc_serial_spec.specs.Holds.{Holds, is_held}
 use Rattle.mc_serial_spec.specs.Item.{Item}
-use Rattle.mc_serial_spec.specs.Items.{Items, chunk_cmp, item_at, is_unlinked}
-use Rattle.mc_serial_spec.specs.Machine.{Machine, dead_chunks, is_dead}
-use Rattle.mc_serial_spec.specs.Consistent.{places, IsConsistent}
+use Rattle.mc_serial_spec.specs.Items.{Items, chunk_cmp, item_in_chunk, has_unlinked_item}
+use Rattle.mc_serial_spec.specs.Machine.{Machine, dead_chunks, is_dead_in}
+use Rattle.mc_serial_spec.specs.Consistent.{place_count, IsConsistent}
 use Rattle.mc_keeper.specs.Kept.{dead_items}
 use Rattle.mc_serial_spec.proofs.Bounds.{order_short}
 use Rattle.mc_serial_spec.proofs.Chunks.{chunk_cmp-self}
@@ -27,7 +27,7 @@ use Rattle.mc_pages.proofs.ListedChunks.{page_of_listed}
 
 -- ---- two lists in which each chunk stands as often have as many chunks that pass a test
 
-count_by-without : (p : ChunkId → Bool) (x : ChunkId) (chunks : List ChunkId) → 1 ≤ times x chunks
+count_by-without : (p : ChunkId → Bool) (x : ChunkId) (chunks : List ChunkId) → 1 ≤ times_in x chunks
     → count_by p chunks ≡ truth (p x) + count_by p (without x chunks)
 count_by-without p x [] some = absurd (omega arith)
 count_by-without p x (c ∷ chunks) some = elim (cases_Bool (is_chunk c x)) [
@@ -35,7 +35,7 @@ count_by-without p x (c ∷ chunks) some = elim (cases_Bool (is_chunk c x)) [
       let here : c ≡ x = same_from_is_chunk c x same in
       sum_by-cons (λ (y : ChunkId). truth (p y)) c chunks ∙ rw (same, here) refl
   | inr other ↦
-      let rest : 1 ≤ times x chunks = omega (arith, some, times-cons x c chunks, ap truth other) in
+      let rest : 1 ≤ times_in x chunks = omega (arith, some, times-cons x c chunks, ap truth other) in
       rw other (omega (
         arith,
         sum_by-cons (λ (y : ChunkId). truth (p y)) c chunks,
@@ -44,11 +44,11 @@ count_by-without p x (c ∷ chunks) some = elim (cases_Bool (is_chunk c x)) [
       ))
 ]
 
-pub count_by-times : (p : ChunkId → Bool) (xs ys : List ChunkId) → ((x : ChunkId) → times x xs ≡ times x ys) → count_by p xs ≡ count_by p ys
+pub count_by-times : (p : ChunkId → Bool) (xs ys : List ChunkId) → ((x : ChunkId) → times_in x xs ≡ times_in x ys) → count_by p xs ≡ count_by p ys
 count_by-times p [] [] same = refl
 count_by-times p [] (y ∷ ys) same = absurd (omega (arith, same y, times-cons y y ys, ap truth (is_chunk-same y)))
 count_by-times p (x ∷ xs) ys same =
-    let some : 1 ≤ times x ys = omega (arith, same x, times-cons x x xs, ap truth (is_chunk-same x)) in
+    let some : 1 ≤ times_in x ys = omega (arith, same x, times-cons x x xs, ap truth (is_chunk-same x)) in
     let rest = count_by-times p xs (without x ys) (λ z. omega (arith, same z, times-cons z x xs, times-without z x ys some)) in
     omega (arith, sum_by-cons (λ (y : ChunkId). truth (p y)) x xs, count_by-without p x ys some, rest)
 
@@ -64,7 +64,7 @@ place_truth : (x c : ChunkId) → truth (is_at (chunk_cmp x) c) ≡ truth (is_ch
 place_truth x c = grind (arith, nat_tests)
 
 times_own : (owners : List Owner) (class : ℕ) (x : ChunkId) (items : Items) → (class_of_owner (owner_at owners x.page) == class) ≡ true
-    → times x (chunks_in owners class items) ≡ places x items
+    → times_in x (chunks_in owners class items) ≡ place_count x items
 times_own owners class x [] own = refl
 times_own owners class x (e ∷ items) own = elim (cases_Bool (class_of_owner (owner_at owners e.chunk.page) == class)) [
   | inl in_class ↦ rw in_class (omega (arith, times-cons x e.chunk (chunks_in owners class items), place_truth x e.chunk, times_own owners class x items own))
@@ -75,7 +75,7 @@ times_own owners class x (e ∷ items) own = elim (cases_Bool (class_of_owner (o
 ]
 
 times_other : (owners : List Owner) (class : ℕ) (x : ChunkId) (items : Items) → (class_of_owner (owner_at owners x.page) == class) ≡ false
-    → times x (chunks_in owners class items) ≡ 0
+    → times_in x (chunks_in owners class items) ≡ 0
 times_other owners class x [] other = refl
 times_other owners class x (e ∷ items) other = elim (cases_Bool (class_of_owner (owner_at owners e.chunk.page) == class)) [
   | inl in_class ↦ rw in_class (elim (cases_Bool (is_chunk e.chunk x)) [
@@ -96,25 +96,25 @@ dead_step false true p c chunks count is rest = omega (arith, rest)
 dead_step false false p c chunks count is rest = omega (arith, rest)
 
 dead_in_chunks : (owners : List Owner) (holds : Holds) (class : ℕ) (p : ChunkId → Bool) (items : Items)
-    → ((y : ChunkId) (item : Item) → item_at items y ≡ Some item → p y ≡ (not item.linked && not (is_held holds y)))
-    → ((y : ChunkId) → places y items ≤ 1)
+    → ((y : ChunkId) (item : Item) → item_in_chunk items y ≡ Some item → p y ≡ (not item.linked && not (is_held holds y)))
+    → ((y : ChunkId) → place_count y items ≤ 1)
     → dead_items owners holds items class ≡ count_by p (chunks_in owners class items)
 dead_in_chunks owners holds class p [] is once = refl
 dead_in_chunks owners holds class p (e ∷ items) is once =
-    let here : item_at (e ∷ items) e.chunk ≡ Some e.item = rw (chunk_cmp-self e.chunk) refl in
-    let none : places e.chunk items ≡ 0 = own_once (once e.chunk) in
+    let here : item_in_chunk (e ∷ items) e.chunk ≡ Some e.item = rw (chunk_cmp-self e.chunk) refl in
+    let none : place_count e.chunk items ≡ 0 = own_once (once e.chunk) in
     let rest : dead_items owners holds items class ≡ count_by p (chunks_in owners class items)
     = dead_in_chunks owners holds class p items
     (λ y item there. is y item (below y item there none)) (λ y. omega (arith, once y)) in
     parts (not e.item.linked) (not (is_held holds e.chunk)) (class_of_owner (owner_at owners e.chunk.page) == class) (is e.chunk e.item here) rest
   where
-    own_once : places e.chunk (e ∷ items) ≤ 1 → places e.chunk items ≡ 0
+    own_once : place_count e.chunk (e ∷ items) ≤ 1 → place_count e.chunk items ≡ 0
     own_once few = let self : is_at (chunk_cmp e.chunk) e.chunk ≡ true = rw (chunk_cmp-self e.chunk) refl in omega (arith, few, ap truth self)
 
-    below : (y : ChunkId) (item : Item) → item_at items y ≡ Some item → places e.chunk items ≡ 0 → item_at (e ∷ items) y ≡ Some item
+    below : (y : ChunkId) (item : Item) → item_in_chunk items y ≡ Some item → place_count e.chunk items ≡ 0 → item_in_chunk (e ∷ items) y ≡ Some item
     below y item there none = elim (is_at-tells y e.chunk) [
       | inl same ↦
-          let some : 1 ≤ places e.chunk items = rw (← same.1) (some_places y item items there) in
+          let some : 1 ≤ place_count e.chunk items = rw (← same.1) (some_places y item items there) in
           absurd (omega (arith, some, none))
       | inr other ↦ rw other.0 there
     ]
@@ -128,55 +128,55 @@ dead_in_chunks owners holds class p (e ∷ items) is once =
 
 -- ---- the two counts
 
-dead_there : (items : Items) (holds : Holds) (y : ChunkId) (item : Item) → item_at items y ≡ Some item
-    → (is_unlinked items y && not (is_held holds y)) ≡ (not item.linked && not (is_held holds y))
+dead_there : (items : Items) (holds : Holds) (y : ChunkId) (item : Item) → item_in_chunk items y ≡ Some item
+    → (has_unlinked_item items y && not (is_held holds y)) ≡ (not item.linked && not (is_held holds y))
 dead_there items holds y item there = rw there refl
 
-pub dead_in_order : (m : Machine) (class : ℕ) → IsConsistent m.table m.slabs m.items → IsClass m.slabs class
+pub dead_in_order : (m : Machine) (class : ℕ) → IsConsistent m.table m.slabs m.items → HasClass m.slabs class
     → dead_items m.slabs.owners m.holds m.items class ≡ length (dead_chunks m class)
 dead_in_order m class kept valid =
     let owners : List Owner = m.slabs.owners in
     let order : List ChunkId = (class_at m.slabs class).order in
-    let as_often : (x : ChunkId) → times x (chunks_in owners class m.items) ≡ times x order = λ x.
+    let as_often : (x : ChunkId) → times_in x (chunks_in owners class m.items) ≡ times_in x order = λ x.
     elim (cases_Bool (class_of_page m.slabs x.page == class)) [
       | inl own ↦
           let is : class_of_page m.slabs x.page ≡ class = grind (arith, nat_tests) in
-          let most : places x m.items ≤ times x order = rw is at (kept.handed_out x) in
+          let most : place_count x m.items ≤ times_in x order = rw is at (kept.handed_out x) in
           omega (arith, times_own owners class x m.items own, most, kept.stored class x valid)
-      | inr other ↦ elim (leb_tells 1 (times x order)) [
+      | inr other ↦ elim (leb_tells 1 (times_in x order)) [
         | inl some ↦
             let is : class_of_page m.slabs x.page ≡ class = page_of_listed m.slabs class x kept.accounted valid (omega (arith, some.1)) in
             absurd (grind (arith, nat_tests))
         | inr none ↦ omega (arith, times_other owners class x m.items other, none.1)
       ]
     ] in
-    dead_in_chunks owners m.holds class (is_dead m) m.items (λ y item there. dead_there m.items m.holds y item there)
+    dead_in_chunks owners m.holds class (is_dead_in m) m.items (λ y item there. dead_there m.items m.holds y item there)
     (λ y. place_once m.table m.slabs m.items y kept)
-    ∙ count_by-times (is_dead m) (chunks_in owners class m.items) order as_often
-    ∙ sym (length-filter (is_dead m) order)
+    ∙ count_by-times (is_dead_in m) (chunks_in owners class m.items) order as_often
+    ∙ sym (length-filter (is_dead_in m) order)
 
 -- they are few
-pub dead_few : (m : Machine) (class : ℕ) → IsConsistent m.table m.slabs m.items → IsClass m.slabs class
+pub dead_few : (m : Machine) (class : ℕ) → IsConsistent m.table m.slabs m.items → HasClass m.slabs class
     → dead_items m.slabs.owners m.holds m.items class ≤ 32512
 dead_few m class kept valid =
     omega (
       arith,
       dead_in_order m class kept valid,
-      length-filter (is_dead m) (class_at m.slabs class).order,
-      count_by-le-length (is_dead m) (class_at m.slabs class).order,
+      length-filter (is_dead_in m) (class_at m.slabs class).order,
+      count_by-le-length (is_dead_in m) (class_at m.slabs class).order,
       order_short m.table m.slabs m.items class kept valid,
     )
 
 -- ---- a dead chunk is the only one where there is one
 
-some_pass : (p : ChunkId → Bool) (x : ChunkId) (chunks : List ChunkId) → 1 ≤ times x chunks → p x ≡ true → 1 ≤ length (filter p chunks)
+some_pass : (p : ChunkId → Bool) (x : ChunkId) (chunks : List ChunkId) → 1 ≤ times_in x chunks → p x ≡ true → 1 ≤ length (filter p chunks)
 some_pass p x chunks some passes = omega (arith, length-filter p chunks, count_by-without p x chunks some, ap truth passes)
 
 none_left : (chunks : List ChunkId) → length chunks ≡ 0 → chunks ≡ []
 none_left [] none = refl
 none_left (c ∷ chunks) none = absurd (omega (arith, none))
 
-only_one : (p : ChunkId → Bool) (x : ChunkId) (chunks : List ChunkId) → 1 ≤ times x chunks → p x ≡ true → length (filter p chunks) ≡ 1 → filter p chunks ≡ x ∷ []
+only_one : (p : ChunkId → Bool) (x : ChunkId) (chunks : List ChunkId) → 1 ≤ times_in x chunks → p x ≡ true → length (filter p chunks) ≡ 1 → filter p chunks ≡ x ∷ []
 only_one p x [] some passes one = absurd (omega (arith, one))
 only_one p x (c ∷ chunks) some passes one = elim (cases_Bool (is_chunk c x)) [
   | inl same ↦
@@ -185,7 +185,7 @@ only_one p x (c ∷ chunks) some passes one = elim (cases_Bool (is_chunk c x)) [
       let rest : filter p chunks ≡ [] = none_left (filter p chunks) (let all : length (c ∷ filter p chunks) ≡ 1 = rw first at one in omega (arith, all)) in
       rw (first, rest, here) refl
   | inr apart ↦
-      let below : 1 ≤ times x chunks = omega (arith, some, times-cons x c chunks, ap truth apart) in
+      let below : 1 ≤ times_in x chunks = omega (arith, some, times-cons x c chunks, ap truth apart) in
       elim (cases_Bool (p c)) [
         | inl first ↦
             let all : length (c ∷ filter p chunks) ≡ 1 = rw first at one in
@@ -196,7 +196,7 @@ only_one p x (c ∷ chunks) some passes one = elim (cases_Bool (is_chunk c x)) [
       ]
 ]
 
-pub only_dead : (m : Machine) (class : ℕ) (x : ChunkId) → IsConsistent m.table m.slabs m.items → IsClass m.slabs class
-    → dead_items m.slabs.owners m.holds m.items class ≡ 1 → is_dead m x ≡ true → 1 ≤ times x (class_at m.slabs class).order → dead_chunks m class ≡ x ∷ []
+pub only_dead : (m : Machine) (class : ℕ) (x : ChunkId) → IsConsistent m.table m.slabs m.items → HasClass m.slabs class
+    → dead_items m.slabs.owners m.holds m.items class ≡ 1 → is_dead_in m x ≡ true → 1 ≤ times_in x (class_at m.slabs class).order → dead_chunks m class ≡ x ∷ []
 only_dead m class x kept valid one dead some =
-    only_one (is_dead m) x (class_at m.slabs class).order some dead (sym (dead_in_order m class kept valid) ∙ one)
+    only_one (is_dead_in m) x (class_at m.slabs class).order some dead (sym (dead_in_order m class kept valid) ∙ one)

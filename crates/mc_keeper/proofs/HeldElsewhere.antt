@@ -6,16 +6,16 @@ use Rattle.std.proofs.lemmas.Bool.Decides.{nat_tests}
 use Rattle.std.proofs.lemmas.List.{set_past, get_or_past}
 use Rattle.std.proofs.lemmas.List.Sums.{sum_by-set, get_or-le-sum_by}
 use Rattle.mc_pages.specs.declared.ids.ChunkId.{ChunkId}
-use Rattle.mc_pages.specs.ClassState.{is_chunk, times, without}
+use Rattle.mc_pages.specs.ClassState.{is_chunk, times_in, without}
 use Rattle.mc_pages.specs.Accounted.{truth}
 use Rattle.mc_pages.proofs.Chunks.{times-cons, times-without, times_from_Contains}
 use Rattle.mc_serial_spec.specs.Holds.{Holds, held_by, hold_count, is_held, with_hold, without_hold}
 
 -- a worker's list changes, and has another chunk as often
-count_same : (holds : Holds) (worker : ℕ) (chunks : List ChunkId) (y : ChunkId) → times y chunks ≡ times y (held_by holds worker)
+count_same : (holds : Holds) (worker : ℕ) (chunks : List ChunkId) (y : ChunkId) → times_in y chunks ≡ times_in y (held_by holds worker)
     → hold_count (set holds worker chunks) y ≡ hold_count holds y
 count_same holds worker chunks y same = elim (cases_lt worker (length holds)) [
-  | inl inside ↦ omega (arith, same, sum_by-set (times y) holds worker chunks [] inside)
+  | inl inside ↦ omega (arith, same, sum_by-set (times_in y) holds worker chunks [] inside)
   | inr past ↦ rw (set_past holds worker chunks past) refl
 ]
 
@@ -40,13 +40,13 @@ held-given_back holds worker x y there apart =
 -- what a worker holds is held
 pub is_held-Contains : (holds : Holds) (worker : ℕ) (x : ChunkId) → Contains (held_by holds worker) x → is_held holds x ≡ true
 is_held-Contains holds worker x there =
-    let some : 1 ≤ times x (held_by holds worker) = times_from_Contains x (held_by holds worker) there in
+    let some : 1 ≤ times_in x (held_by holds worker) = times_from_Contains x (held_by holds worker) there in
     elim (cases_lt worker (length holds)) [
       | inl inside ↦
-          let count : 1 ≤ hold_count holds x = omega (arith, some, get_or-le-sum_by (times x) holds worker [] inside) in
+          let count : 1 ≤ hold_count holds x = omega (arith, some, get_or-le-sum_by (times_in x) holds worker [] inside) in
           grind (arith, nat_tests, count)
       | inr past ↦
           let none : held_by holds worker ≡ [] = get_or_past holds worker [] past in
-          let bad : 1 ≤ times x [] = rw none at some in
+          let bad : 1 ≤ times_in x [] = rw none at some in
           absurd (omega (arith, bad))
     ]

@@ -7,13 +7,13 @@ use Rattle.std.specs.Map.{set_value}
 use Rattle.std.proofs.lemmas.Bool.Decides.{nat_tests}
 use Rattle.mc_pages.specs.declared.ids.ChunkId.{ChunkId}
 use Rattle.mc_pages.specs.Accounted.{truth}
-use Rattle.mc_serial_spec.specs.Consistent.{links}
+use Rattle.mc_serial_spec.specs.Consistent.{links_of_key}
 use Rattle.mc_serial_spec.specs.Item.{Item, is_linked_to, new_item}
-use Rattle.mc_serial_spec.specs.Items.{Items, item_at, linked_chunk, unlinked_items, with_item, without_item}
+use Rattle.mc_serial_spec.specs.Items.{Items, item_in_chunk, linked_chunk, unlinked_items, with_item, without_item}
 use Rattle.mc_serial_spec.proofs.KeptMoverClear.{leads_nowhere, leads_without, links_without}
 use Rattle.mc_serial_spec.proofs.KeptMoverRescue.{leads_from, leads_on, leads_to}
 use Rattle.mc_serial_spec.proofs.Links.{linked_chunk-unlinked_items, linked_chunk-with_item}
-use Rattle.mc_serial_parts.specs.Leads.{chunk_of, IsLed}
+use Rattle.mc_serial_parts.specs.Leads.{chunk_led_to, IsLed}
 use Rattle.mc_keeper.specs.Kept.{IsIndexed}
 
 -- nothing is stored yet
@@ -22,20 +22,20 @@ indexed_fresh index items no_keys no_items = rw (no_keys, no_items) (λ key. ref
 
 -- an item that no key leads to is gone
 pub indexed_dead : (index : List (ℕ × ChunkId)) (items : Items) (chunk : ChunkId) (item : Item) → IsIndexed index items
-    → item_at items chunk ≡ Some item → item.linked ≡ false → IsIndexed index (without_item items chunk)
+    → item_in_chunk items chunk ≡ Some item → item.linked ≡ false → IsIndexed index (without_item items chunk)
 indexed_dead index items chunk item indexed there dead key =
     indexed key ∙ sym (leads_without key chunk item items there (rw dead refl))
 
 -- an item that its key leads to is gone, and the key with it
 pub indexed_gone : (index new : List (ℕ × ChunkId)) (items : Items) (chunk : ChunkId) (item : Item) (gone : ℕ) → IsIndexed index items
-    → ((key : ℕ) → links key items ≤ 1) → item_at items chunk ≡ Some item → item.linked ≡ true → gone ≡ item.key → IsLed index new gone None
+    → ((key : ℕ) → links_of_key key items ≤ 1) → item_in_chunk items chunk ≡ Some item → item.linked ≡ true → gone ≡ item.key → IsLed index new gone None
     → IsIndexed new (without_item items chunk)
 indexed_gone index new items chunk item gone indexed one_link there linked its led key = leads_step (item.key == key) refl
   where
-    leads_step : (b : Bool) → (item.key == key) ≡ b → chunk_of new key ≡ linked_chunk (without_item items chunk) key
+    leads_step : (b : Bool) → (item.key == key) ≡ b → chunk_led_to new key ≡ linked_chunk (without_item items chunk) key
     leads_step true same =
         let to : is_linked_to key item ≡ true = rw (linked, same) refl in
-        let none : links key (without_item items chunk) ≡ 0 = omega (arith, one_link key, links_without key chunk item items there, ap truth to) in
+        let none : links_of_key key (without_item items chunk) ≡ 0 = omega (arith, one_link key, links_without key chunk item items there, ap truth to) in
         let at : is_at (nat_cmp gone) key ≡ true = grind (arith, nat_tests) in
         led key ∙ rw at (sym (leads_nowhere key (without_item items chunk) none))
     leads_step false other =
@@ -51,7 +51,7 @@ indexed_unlinked index new items key indexed led = λ q.
 
 -- a new item is there, and its key's old one unlinked
 pub indexed_stored : (index new : List (ℕ × ChunkId)) (items : Items) (key : ℕ) (words : List ℕ) (chunk : ChunkId) → IsIndexed index items
-    → IsLed index new key (Some chunk) → item_at (unlinked_items items key) chunk ≡ None → linked_chunk (unlinked_items items key) key ≡ None
+    → IsLed index new key (Some chunk) → item_in_chunk (unlinked_items items key) chunk ≡ None → linked_chunk (unlinked_items items key) key ≡ None
     → IsIndexed new (with_item (unlinked_items items key) chunk (new_item key words))
 indexed_stored index new items key words chunk indexed led empty nowhere = λ q.
     grind (
@@ -64,27 +64,27 @@ indexed_stored index new items key words chunk indexed led empty nowhere = λ q.
     )
 
 -- what a look-up finds after a value was set
-found_set : (q key : ℕ) (old new : ChunkId) (index : List (ℕ × ChunkId)) → chunk_of index key ≡ Some old
-    → chunk_of (set_value (is_at (nat_cmp key)) index new) q ≡ (if key == q then Some new else chunk_of index q)
+found_set : (q key : ℕ) (old new : ChunkId) (index : List (ℕ × ChunkId)) → chunk_led_to index key ≡ Some old
+    → chunk_led_to (set_value (is_at (nat_cmp key)) index new) q ≡ (if key == q then Some new else chunk_led_to index q)
 found_set q key old new [] h = cc
 found_set q key old new (e ∷ index) h = grind (arith, nat_tests, found_set q key old new index)
 
 -- an item comes from one chunk into another, which is empty: its key leads to the new one, and each other where it led
 pub indexed_moved : (index : List (ℕ × ChunkId)) (items : Items) (old new : ChunkId) (item : Item) → IsIndexed index items
-    → ((key : ℕ) → links key items ≤ 1) → item_at items old ≡ Some item → item.linked ≡ true → item_at (without_item items old) new ≡ None
+    → ((key : ℕ) → links_of_key key items ≤ 1) → item_in_chunk items old ≡ Some item → item.linked ≡ true → item_in_chunk (without_item items old) new ≡ None
     → IsIndexed (set_value (is_at (nat_cmp item.key)) index new) (with_item (without_item items old) new item)
 indexed_moved index items old new item indexed one_link there linked vacant key = leads_case (item.key == key) refl
   where
-    found : chunk_of index item.key ≡ Some old
+    found : chunk_led_to index item.key ≡ Some old
     found =
         let to : is_linked_to item.key item ≡ true = rw (linked, eq-eqb item.key item.key refl) refl in
         indexed item.key ∙ leads_from item.key old item items there to (one_link item.key)
 
     leads_case : (b : Bool) → (item.key == key) ≡ b
-        → chunk_of (set_value (is_at (nat_cmp item.key)) index new) key ≡ linked_chunk (with_item (without_item items old) new item) key
+        → chunk_led_to (set_value (is_at (nat_cmp item.key)) index new) key ≡ linked_chunk (with_item (without_item items old) new item) key
     leads_case true same =
         let to : is_linked_to key item ≡ true = rw (linked, same) refl in
-        let none : links key (without_item items old) ≡ 0 = omega (arith, one_link key, links_without key old item items there, ap truth to) in
+        let none : links_of_key key (without_item items old) ≡ 0 = omega (arith, one_link key, links_without key old item items there, ap truth to) in
         found_set key item.key old new index found ∙ rw same
         (sym (leads_to key new item (without_item items old) vacant to (leads_nowhere key (without_item items old) none)))
     leads_case false other =

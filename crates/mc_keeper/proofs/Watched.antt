@@ -8,14 +8,14 @@ use Rattle.std.proofs.lemmas.List.{get_or-map, length-map, length-set, map-set}
 use Rattle.mc_classes.specs.Classes.{Classes}
 use Rattle.mc_pages.specs.declared.ids.ChunkId.{ChunkId}
 use Rattle.mc_pages.specs.declared.ids.Moving.{Moving}
-use Rattle.mc_pages.specs.ClassState.{ClassState, new_class, handed_out, popped, put_back, touched, replaced, cleared, counted, evicted, with_page, without_page}
-use Rattle.mc_pages.specs.SlabState.{SlabState, IsClass, class_at, class_of_page, class_of_chunk, fresh_slabs}
+use Rattle.mc_pages.specs.ClassState.{ClassState, new_class, class_after_hand_out, class_after_pop, put_back, class_after_touch, class_after_replacement, class_after_clear, counter_after, class_after_eviction, with_page, without_page}
+use Rattle.mc_pages.specs.SlabState.{SlabState, HasClass, class_at, class_of_page, class_of_chunk, fresh_slabs}
 use Rattle.mc_pages.specs.Changes.{with_class, with_given, after_back, after_clear, after_cut, after_evicted, after_grow, after_pop, after_replace, after_touch}
 use Rattle.mc_pages.specs.declared.moves.Reassign.{Reassign}
 use Rattle.mc_pages.specs.Answer.{answer_of, MayAnswer}
-use Rattle.mc_pages.specs.Moves.{after_begin, released, finished}
-use Rattle.mc_watch.specs.Decider.{DeciderState, Window, after_window, evictions_of, fresh_decider, has_fallen, number_of, refusal_of}
-use Rattle.mc_serial_spec.specs.Automove.{eviction_counts, free_counts, page_counts}
+use Rattle.mc_pages.specs.Moves.{after_begin, after_page_release, after_move_end}
+use Rattle.mc_watch.specs.Decider.{DeciderState, Window, after_window, evictions_of, fresh_decider, has_fallen, class_value, feed_refusal}
+use Rattle.mc_serial_spec.specs.Automove.{eviction_counts, free_counts, class_page_counts}
 use Rattle.mc_serial_spec.specs.Machine.{with_mode}
 use Rattle.mc_keeper.specs.Kept.{IsWatched}
 use Rattle.mc_pages.proofs.NextPage.{classes-grown}
@@ -26,12 +26,12 @@ evictions-with_class : (slabs : SlabState) (class : ℕ) (state : ClassState) �
     → eviction_counts (with_class slabs class state) ≡ eviction_counts slabs
 evictions-with_class slabs class state same = map-set_same (λ (c : ClassState). c.evictions) slabs.classes (class - 1) state (new_class 0 0) same
 
-evictions-handed : (class : ClassState) (free : List ChunkId) → (handed_out class free).evictions ≡ class.evictions
+evictions-handed : (class : ClassState) (free : List ChunkId) → (class_after_hand_out class free).evictions ≡ class.evictions
 evictions-handed class [] = refl
 evictions-handed class (c ∷ free) = refl
 
 evictions-pop : (slabs : SlabState) (class : ℕ) → eviction_counts (after_pop slabs class) ≡ eviction_counts slabs
-evictions-pop slabs class = evictions-with_class slabs class (popped (class_at slabs class)) (evictions-handed (class_at slabs class) (class_at slabs class).free)
+evictions-pop slabs class = evictions-with_class slabs class (class_after_pop (class_at slabs class)) (evictions-handed (class_at slabs class) (class_at slabs class).free)
 
 evictions-cuts : (slabs : SlabState) (chunks : List ChunkId) → eviction_counts (fold after_cut slabs chunks) ≡ eviction_counts slabs
 evictions-cuts slabs [] = refl
@@ -43,19 +43,19 @@ evictions-grown slabs class page chunks =
     ∙ ap (λ cs. map (λ (c : ClassState). c.evictions) cs) (classes-grown slabs class page)
     ∙ evictions-with_class slabs class (with_page (class_at slabs class) page) refl
 
-evictions-released : (slabs : SlabState) (page src : ℕ) → eviction_counts (released slabs page src) ≡ eviction_counts slabs
+evictions-released : (slabs : SlabState) (page src : ℕ) → eviction_counts (after_page_release slabs page src) ≡ eviction_counts slabs
 evictions-released slabs page src = evictions-with_class slabs src (without_page (class_at slabs src) page) refl
 
-evictions-given : (slabs : SlabState) (page src dst : ℕ) → eviction_counts (with_given (released slabs page src) dst page) ≡ eviction_counts slabs
+evictions-given : (slabs : SlabState) (page src dst : ℕ) → eviction_counts (with_given (after_page_release slabs page src) dst page) ≡ eviction_counts slabs
 evictions-given slabs page src dst =
-    let pool : SlabState = released slabs page src in
+    let pool : SlabState = after_page_release slabs page src in
     evictions-with_class pool dst (with_page (class_at pool dst) page) refl ∙ evictions-released slabs page src
 
-finished_way : (b : Bool) (slabs : SlabState) (move : Moving) → (move.dst == 0) ≡ b → eviction_counts (finished slabs move) ≡ eviction_counts slabs
+finished_way : (b : Bool) (slabs : SlabState) (move : Moving) → (move.dst == 0) ≡ b → eviction_counts (after_move_end slabs move) ≡ eviction_counts slabs
 finished_way true slabs move pool = rw pool (evictions-released slabs move.page move.src)
 finished_way false slabs move class = rw class (evictions-given slabs move.page move.src move.dst)
 
-evictions-finished : (slabs : SlabState) (move : Moving) → eviction_counts (finished slabs move) ≡ eviction_counts slabs
+evictions-finished : (slabs : SlabState) (move : Moving) → eviction_counts (after_move_end slabs move) ≡ eviction_counts slabs
 evictions-finished slabs move = finished_way (move.dst == 0) slabs move refl
 
 -- ---- what is kept
@@ -76,15 +76,15 @@ module _ (slabs : SlabState) (decider : DeciderState) (was : IsWatched slabs dec
 
   pub watched-touch : (chunk : ChunkId) → IsWatched (after_touch slabs chunk) decider
   watched-touch chunk =
-      watched-same slabs _ decider (evictions-with_class slabs (class_of_page slabs chunk.page) (touched (class_of_chunk slabs chunk) chunk) refl) was
+      watched-same slabs _ decider (evictions-with_class slabs (class_of_page slabs chunk.page) (class_after_touch (class_of_chunk slabs chunk) chunk) refl) was
 
   pub watched-replace : (new old : ChunkId) → IsWatched (after_replace slabs new old) decider
   watched-replace new old =
-      watched-same slabs _ decider (evictions-with_class slabs (class_of_page slabs old.page) (replaced (class_of_chunk slabs old) new old) refl) was
+      watched-same slabs _ decider (evictions-with_class slabs (class_of_page slabs old.page) (class_after_replacement (class_of_chunk slabs old) new old) refl) was
 
   pub watched-clear : (chunk : ChunkId) → IsWatched (after_clear slabs chunk) decider
   watched-clear chunk =
-      watched-same slabs _ decider (evictions-with_class slabs (class_of_page slabs chunk.page) (cleared (class_of_chunk slabs chunk) chunk) refl) was
+      watched-same slabs _ decider (evictions-with_class slabs (class_of_page slabs chunk.page) (class_after_clear (class_of_chunk slabs chunk) chunk) refl) was
 
   pub watched-pop : (class : ℕ) → IsWatched (after_pop slabs class) decider
   watched-pop class = watched-same slabs _ decider (evictions-pop slabs class) was
@@ -92,11 +92,11 @@ module _ (slabs : SlabState) (decider : DeciderState) (was : IsWatched slabs dec
   pub watched-grown : (class page : ℕ) (chunks : List ChunkId) → IsWatched (fold after_cut (after_grow slabs class page) chunks) decider
   watched-grown class page chunks = watched-same slabs _ decider (evictions-grown slabs class page chunks) was
 
-  pub watched-finished : (move : Moving) → IsWatched (finished slabs move) decider
+  pub watched-finished : (move : Moving) → IsWatched (after_move_end slabs move) decider
   watched-finished move = watched-same slabs _ decider (evictions-finished slabs move) was
 
-  pub watched-recut : (move : Moving) (chunks : List ChunkId) → IsWatched (fold after_cut (finished slabs move) chunks) decider
-  watched-recut move chunks = watched-same slabs _ decider (evictions-cuts (finished slabs move) chunks ∙ evictions-finished slabs move) was
+  pub watched-recut : (move : Moving) (chunks : List ChunkId) → IsWatched (fold after_cut (after_move_end slabs move) chunks) decider
+  watched-recut move chunks = watched-same slabs _ decider (evictions-cuts (after_move_end slabs move) chunks ∙ evictions-finished slabs move) was
 
 -- a page begins to move, or doesn't
 module _ (slabs new : SlabState) (decider : DeciderState) (src : Option ℕ) (dst : ℕ) (was : IsWatched slabs decider) where
@@ -127,20 +127,20 @@ small-set (c ∷ counts) (suc place) count zero few small = small
 small-set (c ∷ counts) (suc place) count (suc other) few small = small-set counts place count other few small
 
 -- one more item of a class was evicted
-pub watched-evicted : (slabs : SlabState) (class : ℕ) (decider : DeciderState) → IsClass slabs class → IsWatched slabs decider → IsWatched (after_evicted slabs class) decider
+pub watched-evicted : (slabs : SlabState) (class : ℕ) (decider : DeciderState) → HasClass slabs class → IsWatched slabs decider → IsWatched (after_evicted slabs class) decider
 watched-evicted slabs class decider valid was =
     let count : ℕ = (class_at slabs class).evictions in
     let inside : class - 1 < length slabs.classes = omega (arith, valid.0, valid.1) in
     let here : get_or (eviction_counts slabs) (class - 1) 0 ≡ count = get_or-map (λ (c : ClassState). c.evictions) slabs.classes (class - 1) (new_class 0 0) 0 inside in
     let few : count < 2 ^ 64 = rw here at (was.small (class - 1)) in
-    let above : get_or (eviction_counts slabs) (class - 1) 0 ≤ counted count 1 = rw here (grind (arith, nat_tests)) in
-    let less : counted count 1 < 2 ^ 64 = grind (arith, nat_tests) in
-    let now : eviction_counts (after_evicted slabs class) ≡ set (eviction_counts slabs) (class - 1) (counted count 1)
-    = map-set (λ (c : ClassState). c.evictions) slabs.classes (class - 1) (evicted (class_at slabs class)) in
+    let above : get_or (eviction_counts slabs) (class - 1) 0 ≤ counter_after count 1 = rw here (grind (arith, nat_tests)) in
+    let less : counter_after count 1 < 2 ^ 64 = grind (arith, nat_tests) in
+    let now : eviction_counts (after_evicted slabs class) ≡ set (eviction_counts slabs) (class - 1) (counter_after count 1)
+    = map-set (λ (c : ClassState). c.evictions) slabs.classes (class - 1) (class_after_eviction (class_at slabs class)) in
     record {
-      of_each = was.of_each ∙ sym (length-set slabs.classes (class - 1) (evicted (class_at slabs class)));
-      risen = λ other. rw now (risen-set (eviction_counts slabs) (class - 1) (counted count 1) (other - 1) (evictions_of decider.windows other) above (was.risen other));
-      small = λ place. rw now (small-set (eviction_counts slabs) (class - 1) (counted count 1) place less (was.small place));
+      of_each = was.of_each ∙ sym (length-set slabs.classes (class - 1) (class_after_eviction (class_at slabs class)));
+      risen = λ other. rw now (risen-set (eviction_counts slabs) (class - 1) (counter_after count 1) (other - 1) (evictions_of decider.windows other) above (was.risen other));
+      small = λ place. rw now (small-set (eviction_counts slabs) (class - 1) (counter_after count 1) place less (was.small place));
     }
 
 -- no counter of a table is too large
@@ -162,35 +162,35 @@ watched_fresh table mode slabs decider slabs_is decider_is = rw (slabs_is, decid
 -- ---- a window
 
 -- where no class has fewer evictions, none has fallen
-none_fallen : (evictions : List ℕ) (windows : List Window) (class count : ℕ) → ((c : ℕ) → evictions_of windows c ≤ number_of evictions c)
-    → list_any (λ c. nat_lt (number_of evictions c) (evictions_of windows c)) (range_with_len class count) ≡ false
+none_fallen : (evictions : List ℕ) (windows : List Window) (class count : ℕ) → ((c : ℕ) → evictions_of windows c ≤ class_value evictions c)
+    → list_any (λ c. nat_lt (class_value evictions c) (evictions_of windows c)) (range_with_len class count) ≡ false
 none_fallen evictions windows class zero risen = refl
 none_fallen evictions windows class (suc count) risen =
-    rw (le-ltb (number_of evictions class) (evictions_of windows class) (risen class)) (none_fallen evictions windows (class + 1) count risen)
+    rw (le-ltb (class_value evictions class) (evictions_of windows class) (risen class)) (none_fallen evictions windows (class + 1) count risen)
 
 -- the numbers are taken
 pub taken : (slabs : SlabState) (decider : DeciderState) → IsWatched slabs decider
-    → refusal_of decider (eviction_counts slabs) (page_counts slabs) (free_counts slabs) ≡ None
+    → feed_refusal decider (eviction_counts slabs) (class_page_counts slabs) (free_counts slabs) ≡ None
 taken slabs decider was =
     let evictions : length (eviction_counts slabs) ≡ length decider.per_page = length-map slabs.classes (λ (c : ClassState). c.evictions) ∙ sym was.of_each in
-    let pages : length (page_counts slabs) ≡ length decider.per_page = length-map slabs.classes (λ (c : ClassState). length c.pages) ∙ sym was.of_each in
+    let pages : length (class_page_counts slabs) ≡ length decider.per_page = length-map slabs.classes (λ (c : ClassState). length c.pages) ∙ sym was.of_each in
     let free : length (free_counts slabs) ≡ length decider.per_page = length-map slabs.classes (λ (c : ClassState). length c.free) ∙ sym was.of_each in
     let risen : has_fallen decider (eviction_counts slabs) ≡ false = none_fallen (eviction_counts slabs) decider.windows 1 (length decider.per_page) was.risen in
     grind (arith, nat_tests, evictions, pages, free, risen)
 
 -- and none has fallen since
 pub watched-window : (slabs : SlabState) (decider : DeciderState) → IsWatched slabs decider
-    → IsWatched slabs (after_window decider (eviction_counts slabs) (page_counts slabs) (free_counts slabs))
+    → IsWatched slabs (after_window decider (eviction_counts slabs) (class_page_counts slabs) (free_counts slabs))
 watched-window slabs decider was = record { of_each = was.of_each; risen = λ class. omega arith; small = was.small }
 
 -- the decider has learned the numbers of a window, as the counts tell them
 pub watched_fed : (slabs seen : SlabState) (decider fed : DeciderState) (evictions pages free : List ℕ) → IsWatched slabs decider → seen ≡ slabs
-    → evictions ≡ eviction_counts seen → pages ≡ page_counts seen → free ≡ free_counts seen
+    → evictions ≡ eviction_counts seen → pages ≡ class_page_counts seen → free ≡ free_counts seen
     → fed ≡ after_window decider evictions pages free → IsWatched slabs fed
 watched_fed slabs seen decider fed evictions pages free was same e p f is =
     rw (is, e, p, f, same) (watched-window slabs decider was)
 
 -- and doesn't refuse them
 pub taken_fed : (slabs seen : SlabState) (decider : DeciderState) (evictions pages free : List ℕ) → IsWatched slabs decider → seen ≡ slabs
-    → evictions ≡ eviction_counts seen → pages ≡ page_counts seen → free ≡ free_counts seen → refusal_of decider evictions pages free ≡ None
+    → evictions ≡ eviction_counts seen → pages ≡ class_page_counts seen → free ≡ free_counts seen → feed_refusal decider evictions pages free ≡ None
 taken_fed slabs seen decider evictions pages free was same e p f = rw (e, p, f, same) (taken slabs decider was)

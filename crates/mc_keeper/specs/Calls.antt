@@ -7,7 +7,7 @@ use Rattle.mc_pages.specs.declared.moves.Reassign.{Reassign}
 use Rattle.mc_pages.specs.Answer.{answer_of}
 use Rattle.mc_watch.specs.declared.decider.Decision.{Decision}
 use Rattle.mc_serial_spec.specs.Holds.{is_full}
-use Rattle.mc_serial_spec.specs.Items.{item_at, linked_chunk}
+use Rattle.mc_serial_spec.specs.Items.{item_in_chunk, linked_chunk}
 use Rattle.mc_serial_spec.specs.Lines.{last_hold}
 use Rattle.mc_serial_spec.specs.Machine.{Machine}
 use Rattle.mc_serial_spec.specs.Supply.{supply}
@@ -24,8 +24,8 @@ stored_answer m None = TooLarge
 stored_answer m (Some class) = if is_some (supply m class) then Yes else NoRoom
 
 -- the words of the key's item
-abbrev pub words_of : Machine → ℕ → Option (List ℕ)
-words_of m key = option_map (λ item. item.words) (option_and_then (item_at m.items) (linked_chunk m.items key))
+abbrev pub item_words_of_key : Machine → ℕ → Option (List ℕ)
+item_words_of_key m key = option_map (λ item. item.words) (option_and_then (item_in_chunk m.items) (linked_chunk m.items key))
 
 -- whether the key has an item that the worker holds then, or that the worker can hold no more
 abbrev pub hold_answer : Machine → ℕ → ℕ → Result Bool HoldError
@@ -38,18 +38,18 @@ MayHold (Ok false) result = result ≡ Ok false
 MayHold (Ok true) result = (result ≡ Ok true) ⊎ (result ≡ Err (NoMemory tt))
 
 -- the words of the item that the worker's last hold of the key is of
-abbrev pub held_words : Machine → ℕ → ℕ → Option (List ℕ)
-held_words m worker key = option_map (λ item. item.words) (option_and_then (item_at m.items) (last_hold m worker key))
+abbrev pub words_of_last_hold : Machine → ℕ → ℕ → Option (List ℕ)
+words_of_last_hold m worker key = option_map (λ item. item.words) (option_and_then (item_in_chunk m.items) (last_hold m worker key))
 
 -- the answer without the source: a page begins to move, or why none does
-abbrev pub told_answer : Result ℕ Reassign → Result (Unit {0}) Reassign
-told_answer (Err refusal) = Err refusal
-told_answer (Ok source) = Ok tt
+abbrev pub reassign_answer : Result ℕ Reassign → Result (Unit {0}) Reassign
+reassign_answer (Err refusal) = Err refusal
+reassign_answer (Ok source) = Ok tt
 
 -- what became of the decision, if there was one
 abbrev pub acted_answer : Machine → Option Decision → Option Acted
 acted_answer m None = None
-acted_answer m (Some d) = Some (record { decision = d; answer = told_answer (answer_of m.slabs (Some d.src) d.dst) })
+acted_answer m (Some d) = Some (record { decision = d; answer = reassign_answer (answer_of m.slabs (Some d.src) d.dst) })
 
 -- once what the keeper lent is given back, the keeper is this machine
 abbrev pub EndsAs : MutBor Machine → Machine → Fml

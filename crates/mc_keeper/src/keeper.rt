@@ -56,11 +56,11 @@ impl Model for Keeper {
 
     ghost Value = { Machine };
 
-    ghost use Rattle.mc_keeper.specs.Kept.{AreKept};
+    ghost use Rattle.mc_keeper.specs.Kept.{KeeperIsInOrder};
 
     ghost view = { λ k. record { table = k.table; bulk = k.bulk; slabs = k.slabs.state; items = k.items; holds = k.holds; turns = k.turns; decider = k.decider } };
 
-    ghost invariant = { AreKept };
+    ghost invariant = { KeeperIsInOrder };
 }
 
 impl Keeper {

@@ -1,6 +1,6 @@
 -- What the books record of all pages, and what each change adds to that.
 use Rattle.std.specs.Prelude.{ℕ, ◌-◌, ◌/◌, ◌==◌, ◌||◌, nat_le, nat_lt, if◌then◌else◌, List, [], ◌∷◌, ◌++◌, length, take, position, slice_get, slice_set, Option, Some, None}
-use Rattle.mc_classes.specs.Classes.{Classes, arena_pages_of, pages_of}
+use Rattle.mc_classes.specs.Classes.{Classes, arena_pages_of, page_limit}
 use Rattle.mc_pages.specs.declared.ids.Moving.{Moving}
 use Rattle.mc_pages.specs.declared.ledger.Owner.{Owner}
 use Rattle.mc_pages.specs.declared.ledger.Owner.TheVariants.{Pool, Class}
@@ -20,7 +20,7 @@ pub record Book : Type 0 where
 
 -- the book of a memory of which no page was granted
 abbrev pub fresh_books : Classes → Book
-fresh_books table = record { within = pages_of table; owners = all_untouched (arena_pages_of table); pool = []; ledger = [] }
+fresh_books table = record { within = page_limit table; owners = all_untouched (arena_pages_of table); pool = []; ledger = [] }
 
 -- the book of a slab memory
 abbrev pub book_of : SlabState → Book
@@ -31,33 +31,33 @@ abbrev pub glance_of : SlabState → Glance
 glance_of slabs = record { granted = granted_count slabs; pool = length slabs.pool; moving = slabs.moving }
 
 -- the page that came last into the pool
-abbrev pub pooled : Book → Option ℕ
-pooled book = slice_get book.pool (length book.pool - 1)
+abbrev pub last_pooled_page : Book → Option ℕ
+last_pooled_page book = slice_get book.pool (length book.pool - 1)
 
 -- a page has this owner now, by this entry
-abbrev pub changed : Book → ℕ → Entry → Owner → Book
-changed book page entry owner = record book { owners = slice_set book.owners page owner; ledger = book.ledger ++ entry ∷ [] }
+abbrev pub book_after_change : Book → ℕ → Entry → Owner → Book
+book_after_change book page entry owner = record book { owners = slice_set book.owners page owner; ledger = book.ledger ++ entry ∷ [] }
 
 -- the class got the page that came last into the pool; or else this untouched one, if there is one. Pages are granted in the order of their
 -- numbers, those within the limit first
-abbrev pub grown : Book → ℕ → Option ℕ → Option ℕ → Book
-grown book class (Some page) untouched = record (changed book page (Taken page class) (Class class)) { pool = take (length book.pool - 1) book.pool }
-grown book class None (Some page) = changed book page (Granted page class (nat_le book.within page)) (Class class)
-grown book class None None = book
+abbrev pub book_after_growth : Book → ℕ → Option ℕ → Option ℕ → Book
+book_after_growth book class (Some page) untouched = record (book_after_change book page (Taken page class) (Class class)) { pool = take (length book.pool - 1) book.pool }
+book_after_growth book class None (Some page) = book_after_change book page (Granted page class (nat_le book.within page)) (Class class)
+book_after_growth book class None None = book
 
 -- the class got the page that comes next
 abbrev pub grown_next : Book → ℕ → Book
-grown_next book class = grown book class (pooled book) (position is_untouched book.owners)
+grown_next book class = book_after_growth book class (last_pooled_page book) (position is_untouched book.owners)
 
 -- a page began to move
 abbrev pub with_began : Book → Moving → Book
-with_began book move = changed book move.page (Began move.page move.src move.dst) (owner.Moving move.src move.dst)
+with_began book move = book_after_change book move.page (Began move.page move.src move.dst) (owner.Moving move.src move.dst)
 
 -- a moving page has come to its class, or to the pool
 abbrev pub with_ended : Book → Moving → Book
 with_ended book move =
-    if move.dst == 0 then record (changed book move.page (Ended move.page move.dst) Pool) { pool = book.pool ++ move.page ∷ [] }
-    else changed book move.page (Ended move.page move.dst) (Class move.dst)
+    if move.dst == 0 then record (book_after_change book move.page (Ended move.page move.dst) Pool) { pool = book.pool ++ move.page ∷ [] }
+    else book_after_change book move.page (Ended move.page move.dst) (Class move.dst)
 
 -- the books after no page was given: a page began to move, or a moving one came to its end
 abbrev pub noted_move : Book → Option Moving → Option Moving → Book
@@ -67,7 +67,7 @@ noted_move book None None = book
 noted_move book (Some move) (Some later) = book
 
 -- what is noted of two glances between which at most one page changed hands: a page that was given went to this class
-abbrev pub noted : Book → ℕ → Glance → Glance → Book
-noted book class before after =
+abbrev pub book_after : Book → ℕ → Glance → Glance → Book
+book_after book class before after =
     if nat_lt before.granted after.granted || nat_lt after.pool before.pool then grown_next book class
     else noted_move book before.moving after.moving

@@ -6,32 +6,32 @@ use Rattle.mc_pages.specs.ClassState.{numbers_of}
 use Rattle.mc_pages.specs.SlabState.{class_at}
 use Rattle.mc_serial_spec.specs.Item.{item_bytes}
 use Rattle.mc_serial_spec.specs.Machine.{Machine}
-use Rattle.mc_keeper.specs.Calls.{words_of}
+use Rattle.mc_keeper.specs.Calls.{item_words_of_key}
 use Rattle.mc_map.specs.declared.kept.ClassLine.{ClassLine}
 
 -- an item of n words goes to the class
-abbrev pub is_of : Classes → ℕ → ℕ → Bool
-is_of table class words = option_map_or (λ own. own == class) (class_of table (item_bytes words)) false
+abbrev pub fits_class : Classes → ℕ → ℕ → Bool
+fits_class table class words = option_map_or (λ own. own == class) (class_of table (item_bytes words)) false
 
 -- the bytes that an item of n words asks for, if the item goes to the class
 abbrev pub bytes_as : Classes → ℕ → ℕ → Option ℕ
-bytes_as table class words = if is_of table class words then Some (item_bytes words) else None
+bytes_as table class words = if fits_class table class words then Some (item_bytes words) else None
 
 -- the bytes that the key's item asks for, if the key has one in the class
-abbrev pub bytes_in : Machine → ℕ → ℕ → Option ℕ
-bytes_in m class key = option_and_then (λ words. bytes_as m.table class (length words)) (words_of m key)
+abbrev pub bytes_of_key : Machine → ℕ → ℕ → Option ℕ
+bytes_of_key m class key = option_and_then (λ words. bytes_as m.table class (length words)) (item_words_of_key m key)
 
 -- how many of the keys have an item in the class
 abbrev pub linked_count : Machine → ℕ → List ℕ → ℕ
-linked_count m class keys = count_by (λ key. is_some (bytes_in m class key)) keys
+linked_count m class keys = count_by (λ key. is_some (bytes_of_key m class key)) keys
 
 -- the bytes that the items of these keys ask for in the class
 abbrev pub asked_bytes : Machine → ℕ → List ℕ → ℕ
-asked_bytes m class keys = sum_by (λ key. unwrap_or (bytes_in m class key) 0) keys
+asked_bytes m class keys = sum_by (λ key. unwrap_or (bytes_of_key m class key) 0) keys
 
 -- how many chunks a page of the class has, and none where there is no such class
-abbrev pub chunks_of : Classes → ℕ → ℕ
-chunks_of table class = if class == 0 || nat_lt (length table.sizes) class then 0 else per_page_of table class
+abbrev pub chunks_a_page : Classes → ℕ → ℕ
+chunks_a_page table class = if class == 0 || nat_lt (length table.sizes) class then 0 else per_page_of table class
 
 -- the line has the class's numbers, with the items of these keys; each chunk of its pages is free, cleared, linked, held without a key, or
 -- dead

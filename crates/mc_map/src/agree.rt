@@ -1,7 +1,7 @@
 //! Whether the books agree with a keeper's numbers.
 ghost use Rattle.std.specs.Prelude.{◌≡◌, true, count_by, length};
 ghost use Rattle.mc_pages.specs.Accounted.{is_of_class, is_pool};
-ghost use Rattle.mc_map.specs.Agree.{Agrees};
+ghost use Rattle.mc_map.specs.Agree.{AgreesOnPages};
 
 use mc_classes::ClassId;
 use mc_keeper::Keeper;
@@ -9,7 +9,7 @@ use mc_pages::Owner;
 
 /// Whether each class has as many of these pages as the keeper counts, and the pool, too.
 pub(crate) fn agrees(keeper: &Keeper, owners: &[Owner]) -> bool
-    ensures { result ≡ true → Agrees keeper.now.slabs owners.now }
+    ensures { result ≡ true → AgreesOnPages keeper.now.slabs owners.now }
 {
     if pooled_count(owners) != keeper.totals().pool {
         return false;

@@ -1,6 +1,6 @@
 //! What became of each page: who owns it, which pages the pool has, and the entries that record how it came there.
 ghost use Rattle.std.specs.Prelude.{◌≡◌, position, IfOk, OnOk};
-ghost use Rattle.mc_map.specs.Books.{changed, fresh_books, grown_next, noted, with_began, with_ended};
+ghost use Rattle.mc_map.specs.Books.{book_after_change, fresh_books, grown_next, book_after, with_began, with_ended};
 ghost use Rattle.mc_pages.specs.SlabState.{is_untouched};
 
 use crate::glance::Glance;
@@ -65,7 +65,7 @@ impl Books {
 
     /// Notes which page changed hands between two glances, if one did. A page that was given went to this class.
     pub fn note(&mut self, class: ClassId, before: Glance, after: Glance) -> Result<(), Refused>
-        ensures noted { OnOk result (self.new ≡ noted self.old class before after) }
+        ensures noted { OnOk result (self.new ≡ book_after self.old class before after) }
     {
         if before.granted < after.granted || after.pool < before.pool {
             return self.grow(class);
@@ -127,7 +127,7 @@ impl Books {
 
     /// The page has this owner now, by this entry.
     fn change(&mut self, page: PageId, entry: Entry, owner: Owner) -> Result<(), Refused>
-        ensures changed { OnOk result (self.new ≡ changed self.old page entry owner) }
+        ensures changed { OnOk result (self.new ≡ book_after_change self.old page entry owner) }
     {
         if page < self.owners.len() as u64 {
             self.owners[page as usize] = owner;

@@ -4,7 +4,7 @@
 //! turn, and there the held items are let go one after another: the chunk that can be cleared then is the item's.
 ghost use Rattle.std.specs.Prelude.{◌≡◌, ◌≤◌, ◌/◌, All};
 ghost use Rattle.mc_script.specs.Command.{IsValid};
-ghost use Rattle.mc_map.specs.Kept.{chunks_of};
+ghost use Rattle.mc_map.specs.Kept.{chunks_a_page};
 
 use crate::items::{HeldItem, Items};
 use crate::map::MapError;
@@ -169,7 +169,7 @@ impl Probe {
 
 /// How many chunks a page of the class has, and none where there is no such class.
 pub(crate) fn chunks_of(table: &ClassTable, class: ClassId) -> u64
-    ensures { result ≡ chunks_of table.now class }
+    ensures { result ≡ chunks_a_page table.now class }
 {
     if class == 0 || class > table.count() {
         return 0;

@@ -1,8 +1,8 @@
 //! The numbers of a class on a map: its pages, and what is in its chunks.
 ghost use Rattle.std.specs.Prelude.{◌≡◌, ℕ, ◌≤◌, ◌^◌, length, IfOk, IfSome};
-ghost use Rattle.mc_pages.specs.SlabState.{IsClass};
+ghost use Rattle.mc_pages.specs.SlabState.{HasClass};
 ghost use Rattle.mc_serial_spec.specs.Item.{item_bytes};
-ghost use Rattle.mc_map.specs.Kept.{asked_bytes, bytes_as, bytes_in, linked_count, IsLine};
+ghost use Rattle.mc_map.specs.Kept.{asked_bytes, bytes_as, bytes_of_key, linked_count, IsLine};
 
 use crate::items::Items;
 use crate::map::MapError;
@@ -79,7 +79,7 @@ fn bytes_as(table: &ClassTable, class: ClassId, words: u64) -> Option<u64>
 
 /// The bytes that the key's item asks for, if it has one in the class.
 fn bytes_in(keeper: &Keeper, class: ClassId, key: u64) -> Result<Option<u64>, MapError>
-    ensures bytes { IfOk result (λ bytes. bytes ≡ bytes_in keeper.now class key) }
+    ensures bytes { IfOk result (λ bytes. bytes ≡ bytes_of_key keeper.now class key) }
     ensures most { IfOk result (λ bytes. IfSome bytes (λ n. n ≤ 16384)) }
 {
     match keeper.get(0, key) {
@@ -130,7 +130,7 @@ pub(crate) fn class_line(
     items: &Items,
     cleared: u64,
 ) -> Result<ClassLine, MapError>
-    requires class { IsClass keeper.now.slabs class }
+    requires class { HasClass keeper.now.slabs class }
     requires few { length items.now.keys.items ≤ 2 ^ 32 }
     ensures line { IfOk result (IsLine keeper.now items.now.keys.items) }
     ensures class { IfOk result (λ line. line.class ≡ class) }

@@ -2,18 +2,18 @@
 ghost use Rattle.std.specs.Prelude.{◌≡◌, ◌≤◌, ◌<◌, ◌^◌, None, Some, Ok, Err, ◌++◌, All, IfOk, IfErr, OnOk, length, map, unwrap_or};
 ghost use Rattle.std.specs.Option.{option_map};
 ghost use Rattle.mc_classes.specs.Classes.{IsTableOf, class_of};
-ghost use Rattle.mc_classes.specs.Refusals.{refusal_of};
+ghost use Rattle.mc_classes.specs.Refusals.{config_refusal};
 ghost use Rattle.mc_pages.specs.Answer.{answer_of};
 ghost use Rattle.mc_script.specs.Command.{IsValid};
-ghost use Rattle.mc_serial_spec.specs.Automove.{begun, decision, with_window};
-ghost use Rattle.mc_serial_spec.specs.Item.{item_bytes, words_from};
+ghost use Rattle.mc_serial_spec.specs.Automove.{machine_after_begin, decision, with_window};
+ghost use Rattle.mc_serial_spec.specs.Item.{item_bytes, counting_words};
 ghost use Rattle.mc_serial_spec.specs.Items.{linked_chunk};
-ghost use Rattle.mc_serial_spec.specs.Lines.{acted, deleted, dropped, kept, last_hold, made_youngest, serve, set_in};
+ghost use Rattle.mc_serial_spec.specs.Lines.{decision_outcome, delete_outcome, release_outcome, hold_outcome, last_hold, touch_outcome, serve, set_outcome_of};
 ghost use Rattle.mc_serial_spec.specs.Machine.{all_swept, fresh_machine, with_mode};
 ghost use Rattle.mc_serial_spec.specs.Mover.{after_turns};
-ghost use Rattle.mc_map.specs.Books.{fresh_books, glance_of, noted};
+ghost use Rattle.mc_map.specs.Books.{fresh_books, glance_of, book_after};
 ghost use Rattle.mc_map.specs.Kept.{IsLine};
-ghost use Rattle.mc_map.specs.Map.{books_after, given_class, told_classes, told_line, IsMap};
+ghost use Rattle.mc_map.specs.Map.{books_after, given_class, shown_classes, shown_line, IsMap};
 
 use crate::agree::agrees;
 use crate::books::Books;
@@ -50,7 +50,7 @@ impl Player {
         ensures fresh { IfOk result (λ player. player.keeper ≡ fresh_machine player.keeper.table run.now.config.bulk run.now.automove) }
         ensures table { IfOk result (λ player. IsTableOf run.now.config player.keeper.table) }
         ensures books { IfOk result (λ player. player.books ≡ fresh_books player.keeper.table) }
-        ensures refused { IfErr result (λ error. error ≡ unwrap_or (refusal_of run.now.config) (ConfigError.NoMemory tt)) }
+        ensures refused { IfErr result (λ error. error ≡ unwrap_or (config_refusal run.now.config) (ConfigError.NoMemory tt)) }
     {
         let table = ClassTable::build(alloc, &run.config)?;
         let books = Books::new(alloc, &table)?;
@@ -119,8 +119,8 @@ impl Player {
     /// Stores n words that count up from `base`, and notes the page that its class got or asked for.
     fn set(&mut self, key: u64, words: u64, base: u64) -> Result<(), Stop>
         requires { words ≤ 4096 }
-        ensures machine { OnOk result (self.new.keeper ≡ (set_in self.old.keeper (class_of self.old.keeper.table (item_bytes words)) key (words_from base words)).machine) }
-        ensures books { OnOk result (self.new.books ≡ noted self.old.books (given_class self.old.keeper.table words) (glance_of self.old.keeper.slabs) (glance_of self.new.keeper.slabs)) }
+        ensures machine { OnOk result (self.new.keeper ≡ (set_outcome_of self.old.keeper (class_of self.old.keeper.table (item_bytes words)) key (counting_words base words)).machine) }
+        ensures books { OnOk result (self.new.books ≡ book_after self.old.books (given_class self.old.keeper.table words) (glance_of self.old.keeper.slabs) (glance_of self.new.keeper.slabs)) }
         ensures memory { result ≡ Err Stop.Turns → ⊥ }
     {
         let class = given_class(self.keeper.table(), words);
@@ -132,7 +132,7 @@ impl Player {
 
     /// Deletes the key's item.
     fn delete(&mut self, worker: u64, key: u64)
-        ensures machine { self.new.keeper ≡ (deleted self.old.keeper key (linked_chunk self.old.keeper.items key)).machine }
+        ensures machine { self.new.keeper ≡ (delete_outcome self.old.keeper key (linked_chunk self.old.keeper.items key)).machine }
         ensures books { self.new.books ≡ self.old.books }
     {
         let _had = self.keeper.delete(worker, key);
@@ -141,7 +141,7 @@ impl Player {
     /// The worker holds the key's item.
     fn hold(&mut self, worker: u64, key: u64) -> Result<(), Stop>
         requires { worker < 64 }
-        ensures machine { OnOk result (self.new.keeper ≡ (kept self.old.keeper worker key).machine) }
+        ensures machine { OnOk result (self.new.keeper ≡ (hold_outcome self.old.keeper worker key).machine) }
         ensures books { OnOk result (self.new.books ≡ self.old.books) }
         ensures memory { result ≡ Err Stop.Turns → ⊥ }
     {
@@ -156,7 +156,7 @@ impl Player {
     /// The worker gives back its last hold of the key.
     fn drop(&mut self, worker: u64, key: u64)
         requires { worker < 64 }
-        ensures machine { self.new.keeper ≡ (dropped self.old.keeper worker key (last_hold self.old.keeper worker key)).machine }
+        ensures machine { self.new.keeper ≡ (release_outcome self.old.keeper worker key (last_hold self.old.keeper worker key)).machine }
         ensures books { self.new.books ≡ self.old.books }
     {
         if self.keeper.drop(worker, key).is_some() {
@@ -166,7 +166,7 @@ impl Player {
 
     /// The key's item becomes the youngest of its class.
     fn touch(&mut self, worker: u64, key: u64)
-        ensures machine { self.new.keeper ≡ (made_youngest self.old.keeper key (linked_chunk self.old.keeper.items key)).machine }
+        ensures machine { self.new.keeper ≡ (touch_outcome self.old.keeper key (linked_chunk self.old.keeper.items key)).machine }
         ensures books { self.new.books ≡ self.old.books }
     {
         let _had = self.keeper.touch(worker, key);
@@ -174,8 +174,8 @@ impl Player {
 
     /// A page is to go to another class, or to the pool.
     fn reassign(&mut self, src: Option<u64>, dst: u64) -> Result<(), Stop>
-        ensures machine { OnOk result (self.new.keeper ≡ begun self.old.keeper src dst (answer_of self.old.keeper.slabs src dst)) }
-        ensures books { OnOk result (self.new.books ≡ noted self.old.books 0 (glance_of self.old.keeper.slabs) (glance_of self.new.keeper.slabs)) }
+        ensures machine { OnOk result (self.new.keeper ≡ machine_after_begin self.old.keeper src dst (answer_of self.old.keeper.slabs src dst)) }
+        ensures books { OnOk result (self.new.books ≡ book_after self.old.books 0 (glance_of self.old.keeper.slabs) (glance_of self.new.keeper.slabs)) }
         ensures memory { result ≡ Err Stop.Turns → ⊥ }
     {
         let before = Glance::of(&self.keeper);
@@ -196,8 +196,8 @@ impl Player {
 
     /// A window of the automover ends.
     fn window(&mut self) -> Result<(), Stop>
-        ensures machine { OnOk result (self.new.keeper ≡ (acted (with_window (all_swept self.old.keeper)) (decision (with_window (all_swept self.old.keeper)))).machine) }
-        ensures books { OnOk result (self.new.books ≡ noted self.old.books 0 (glance_of self.old.keeper.slabs) (glance_of self.new.keeper.slabs)) }
+        ensures machine { OnOk result (self.new.keeper ≡ (decision_outcome (with_window (all_swept self.old.keeper)) (decision (with_window (all_swept self.old.keeper)))).machine) }
+        ensures books { OnOk result (self.new.books ≡ book_after self.old.books 0 (glance_of self.old.keeper.slabs) (glance_of self.new.keeper.slabs)) }
         ensures memory { result ≡ Err Stop.Turns → ⊥ }
     {
         let before = Glance::of(&self.keeper);
@@ -209,7 +209,7 @@ impl Player {
     fn turn(&mut self, turns: u64) -> Result<(), Stop>
         requires { turns ≤ 1000000 }
         ensures machine { OnOk result (option_map (λ turned. turned.machine) (after_turns self.old.keeper turns) ≡ Some self.new.keeper) }
-        ensures books { OnOk result (self.new.books ≡ noted self.old.books 0 (glance_of self.old.keeper.slabs) (glance_of self.new.keeper.slabs)) }
+        ensures books { OnOk result (self.new.books ≡ book_after self.old.books 0 (glance_of self.old.keeper.slabs) (glance_of self.new.keeper.slabs)) }
         ensures stopped { result ≡ Err Stop.Turns → after_turns self.old.keeper turns ≡ None }
     {
         let before = Glance::of(&self.keeper);
@@ -229,7 +229,7 @@ impl Player {
     /// Notes which page changed hands since the glance, if one did. A page that was given went to this class.
     fn note(&mut self, class: u64, before: Glance) -> Result<(), Stop>
         ensures machine { OnOk result (self.new.keeper ≡ self.old.keeper) }
-        ensures books { OnOk result (self.new.books ≡ noted self.old.books class before (glance_of self.old.keeper.slabs)) }
+        ensures books { OnOk result (self.new.books ≡ book_after self.old.books class before (glance_of self.old.keeper.slabs)) }
         ensures memory { result ≡ Err Stop.Turns → ⊥ }
     {
         let after = Glance::of(&self.keeper);
@@ -258,7 +258,7 @@ fn store_words(
     base: u64,
 ) -> Result<bool, Refused>
     requires { words ≤ 4096 }
-    ensures { OnOk result (keeper.new ≡ (set_in keeper.old (class_of keeper.old.table (item_bytes words)) key (words_from base words)).machine) }
+    ensures { OnOk result (keeper.new ≡ (set_outcome_of keeper.old (class_of keeper.old.table (item_bytes words)) key (counting_words base words)).machine) }
 {
     let counted = counted_words(alloc, base, words)?;
     let stored = keeper.set(0, key, &counted)?;
@@ -267,7 +267,7 @@ fn store_words(
 
 /// The n words that count up from `base`, modulo 2^64.
 fn counted_words(alloc: Global, base: u64, count: u64) -> Result<Vec<u64>, Refused>
-    ensures { IfOk result (λ words. words.items ≡ words_from base count) }
+    ensures { IfOk result (λ words. words.items ≡ counting_words base count) }
 {
     let mut words = filled(alloc, 0, count as usize)?;
     count_up(&mut words, base);
@@ -276,7 +276,7 @@ fn counted_words(alloc: Global, base: u64, count: u64) -> Result<Vec<u64>, Refus
 
 /// Writes base, base + 1 and so on, modulo 2^64.
 fn count_up(words: &mut [u64], base: u64)
-    ensures words { words.new ≡ words_from base (length words.old) }
+    ensures words { words.new ≡ counting_words base (length words.old) }
 {
     let mut next = base;
     for word in words.iter_mut() {
@@ -317,7 +317,7 @@ impl Player {
     /// What each class has that has pages, or of which an item was ever evicted.
     fn classes(&self) -> Result<Vec<ClassLine>, MapError>
         ensures lines { IfOk result (λ lines. All (IsLine self.now.keeper self.now.items.keys.items) lines.items) }
-        ensures told { IfOk result (λ lines. map (λ line. line.class) lines.items ≡ told_classes self.now.keeper.slabs (length self.now.keeper.table.sizes)) }
+        ensures told { IfOk result (λ lines. map (λ line. line.class) lines.items ≡ shown_classes self.now.keeper.slabs (length self.now.keeper.table.sizes)) }
     {
         if self.items.keys().len() > MOST_KEYS {
             return Err(MapError::Books);
@@ -342,7 +342,7 @@ impl Player {
 
 /// Adds a line of a class that is shown: the class has pages, or an item was evicted.
 fn push_told(lines: &mut Vec<ClassLine>, line: ClassLine) -> Result<(), Refused>
-    ensures { OnOk result (lines.new.items ≡ lines.old.items ++ told_line line) }
+    ensures { OnOk result (lines.new.items ≡ lines.old.items ++ shown_line line) }
 {
     if line.pages > 0 || line.evictions > 0 {
         push(lines, line)?;

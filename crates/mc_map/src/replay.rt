@@ -1,7 +1,7 @@
 //! The owners of all pages, as the entries of a ledger make them.
 ghost use Rattle.std.specs.Prelude.{◌≡◌, ◌+◌, ◌<◌, ◌^◌, true, false, Some, None, IfOk, OnOk, length, map, slice_set};
-ghost use Rattle.mc_pages.specs.Ledger.{all_untouched, fits, owner_after, page_of, replay};
-ghost use Rattle.mc_map.specs.Replays.{is_fitting, replays};
+ghost use Rattle.mc_pages.specs.Ledger.{all_untouched, fits_owner, owner_after, page_of, replay};
+ghost use Rattle.mc_map.specs.Replays.{is_fitting, replayed_owners};
 
 use mc_memory::{Refused, filled, push};
 use mc_pages::{Entry, Owner};
@@ -31,7 +31,7 @@ pub fn owners_after(alloc: Global, pages: usize, entries: &[Entry]) -> Result<Ve
 /// The owners before the first entry, after the first one, and so on: column k has what the first k entries make.
 pub fn columns(alloc: Global, pages: usize, entries: &[Entry]) -> Result<Vec<Vec<Owner>>, Misfit>
     requires { length entries.now < 2 ^ 60 }
-    ensures columns { IfOk result (λ columns. map (λ column. Some column.items) columns.items ≡ replays pages entries.now (length entries.now + 1)) }
+    ensures columns { IfOk result (λ columns. map (λ column. Some column.items) columns.items ≡ replayed_owners pages entries.now (length entries.now + 1)) }
 {
     let mut columns = Vec::new(alloc);
     for count in 0..entries.len() + 1 {
@@ -61,7 +61,7 @@ fn apply(owners: &mut [Owner], entry: Entry) -> Result<(), Misfit>
 
 /// Whether an entry fits the owner that it finds.
 fn fits(entry: Entry, owner: Owner) -> bool
-    ensures { result ≡ fits entry owner }
+    ensures { result ≡ fits_owner entry owner }
 {
     match (entry, owner) {
         (Entry::Granted(_, _, _), Owner::Untouched) | (Entry::Taken(_, _), Owner::Pool) => true,

@@ -4,7 +4,7 @@ ghost use Rattle.std.specs.Str.{bytes_eq};
 ghost use Rattle.std.specs.Str.Lines.{lines};
 ghost use Rattle.mc_script.specs.Command.{IsValid};
 ghost use Rattle.mc_script.specs.Script.{script_of};
-ghost use Rattle.mc_map.specs.Marks.{command_count, is_mark, mark_on, marks_of};
+ghost use Rattle.mc_map.specs.Marks.{command_count, is_mark, mark_on, script_marks};
 
 use mc_memory::{Refused, push};
 use mc_script::Command;
@@ -33,7 +33,7 @@ pub struct Script {
 pub fn read_script(alloc: Global, bytes: &[u8]) -> Result<Script, ScriptError>
     ensures commands { IfOk result (λ script. script_of bytes.now ≡ Ok script.commands.items) }
     ensures valid { IfOk result (λ script. All IsValid script.commands.items) }
-    ensures marks { IfOk result (λ script. script.marks.items ≡ marks_of 0 0 (lines bytes.now)) }
+    ensures marks { IfOk result (λ script. script.marks.items ≡ script_marks 0 0 (lines bytes.now)) }
     ensures refused { (n : ℕ) → result ≡ Err (ScriptError.Line n) → script_of bytes.now ≡ Err n }
 {
     let commands = match mc_script::read(alloc, bytes) {
@@ -48,7 +48,7 @@ pub fn read_script(alloc: Global, bytes: &[u8]) -> Result<Script, ScriptError>
 
 /// The marks of a script.
 fn marks(alloc: Global, bytes: &[u8]) -> Result<Vec<Mark>, Refused>
-    ensures { IfOk result (λ marks. marks.items ≡ marks_of 0 0 (lines bytes.now)) }
+    ensures { IfOk result (λ marks. marks.items ≡ script_marks 0 0 (lines bytes.now)) }
 {
     let mut marks = Vec::new(alloc);
     let mut number = 0;

@@ -4,7 +4,7 @@ use Rattle.std.specs.Option.{option_map}
 use Rattle.mc_pages.specs.declared.ids.ChunkId.{ChunkId}
 use Rattle.mc_pages.specs.declared.ids.Moving.{Moving}
 use Rattle.mc_pages.specs.Changes.{after_cut}
-use Rattle.mc_pages.specs.Moves.{after_finish, begun_anew, finished}
+use Rattle.mc_pages.specs.Moves.{after_finish, begun_anew, after_move_end}
 use Rattle.mc_pages.specs.SlabState.{SlabState}
 use Rattle.mc_core.proofs.SamePages.{arrived_if}
 use Rattle.mc_words.specs.hand.View.{View}
@@ -21,7 +21,7 @@ cuts_moving [] view slabs now left (same, is) = ap (λ (s : SlabState). s.moving
 cuts_moving (chunk ∷ chunks) view slabs now left (next, cuts, rest) = cuts_moving chunks next (after_cut slabs chunk) now left rest
 
 -- a move's end leaves none
-finished_none : (slabs : SlabState) (move : Moving) → (finished slabs move).moving ≡ None
+finished_none : (slabs : SlabState) (move : Moving) → (after_move_end slabs move).moving ≡ None
 finished_none slabs move = by (move.dst == 0)
   where
     by : (b : Bool) → (arrived_if slabs move b).moving ≡ None

@@ -8,7 +8,7 @@ use Rattle.mc_core.specs.declared.event.Change.{Change}
 use Rattle.mc_core.specs.declared.event.Change.TheVariants as change
 use Rattle.mc_core.specs.declared.holding.Holding.{Holding}
 use Rattle.mc_core.specs.Holdings.{has_fresh, holding_of}
-use Rattle.mc_core.specs.Past.{Known, known_by}
+use Rattle.mc_core.specs.Past.{KnownItem, known_by}
 use Rattle.mc_words.specs.declared.hand.Hand.{Hand}
 use Rattle.mc_words.specs.hand.View.{View}
 use Rattle.mc_words.specs.hand.Arenas.{view}
@@ -22,7 +22,7 @@ use Rattle.mc_words.specs.lock.Wait.{WaitsForSlabs}
 use Rattle.mc_words.proofs.Locks.Unlocked.{unlocked_from}
 use Rattle.mc_mover.specs.declared.counts.Turn.{Turn}
 use Rattle.mc_mover.specs.Answering.{AnswersMove, IsAnswerOf}
-use Rattle.mc_mover.specs.Turning.{LacksMemory, Turns}
+use Rattle.mc_mover.specs.Turning.{TurnLacksMemory, Turns}
 use Rattle.mc_mover.proofs.Grows.{Grows, Stays, lacks_grow, turns_grow}
 use Rattle.mc_mover.proofs.HoldsSlabs.{wait_keeps}
 
@@ -35,13 +35,13 @@ ready_still before now locks holdings ready = record {
 }
 
 -- what is held stays, and what is known grows: so each reference stays
-pub refs_kept : (view now : View) (more : List Known) → now.row.holdings ≡ view.row.holdings → now.row.knows.known ≡ view.row.knows.known ++ more → KeepsRefs view now
+pub refs_kept : (view now : View) (more : List KnownItem) → now.row.holdings ≡ view.row.holdings → now.row.knows.known ≡ view.row.knows.known ++ more → KeepsRefs view now
 refs_kept view now more same known = record {
   refers = λ chunk room ref. record {
     holding = ref.holding;
     found = ap (holding_of chunk) same ∙ ref.found;
     linked = ref.linked;
-    knows = subst (λ (l : List Known). Contains l (known_by room ref.holding)) (sym known) (Contains-append_left view.row.knows.known more (known_by room ref.holding) ref.knows);
+    knows = subst (λ (l : List KnownItem). Contains l (known_by room ref.holding)) (sym known) (Contains-append_left view.row.knows.known more (known_by room ref.holding) ref.knows);
   };
   same = λ chunk room ref. ap (holding_of chunk) same;
 }
@@ -63,9 +63,9 @@ module _ (view taken last now : View) (found left : SlabState) (waits : WaitsFor
   held_ids same = ap (λ (v : View). v.row.ids) given ∙ (same ∙ wait_keeps (λ (v : View). v.row.ids) (λ word v. refl) (λ slabs v. refl) view found taken waits)
 
   -- what is known grows
-  pub held_known : (more : List Known) → last.row.knows.known ≡ taken.row.knows.known ++ more → now.row.knows.known ≡ view.row.knows.known ++ more
+  pub held_known : (more : List KnownItem) → last.row.knows.known ≡ taken.row.knows.known ++ more → now.row.knows.known ≡ view.row.knows.known ++ more
   held_known more known =
-      ap (λ (v : View). v.row.knows.known) given ∙ (known ∙ ap (λ (l : List Known). l ++ more) (wait_keeps (λ (v : View). v.row.knows.known) (λ word v. refl) (λ slabs v. refl) view found taken waits))
+      ap (λ (v : View). v.row.knows.known) given ∙ (known ∙ ap (λ (l : List KnownItem). l ++ more) (wait_keeps (λ (v : View). v.row.knows.known) (λ word v. refl) (λ slabs v. refl) view found taken waits))
 
   pub held_known_same : last.row.knows.known ≡ taken.row.knows.known → now.row.knows.known ≡ view.row.knows.known
   held_known_same known = ap (λ (v : View). v.row.knows.known) given ∙ (known ∙ wait_keeps (λ (v : View). v.row.knows.known) (λ word v. refl) (λ slabs v. refl) view found taken waits)
@@ -82,7 +82,7 @@ module _ (view taken last now : View) (found left : SlabState) (waits : WaitsFor
 pub record Leaves (view now : View) : Type 0 where
   pub said : now.row.knows.said ≡ view.row.knows.said
   pub ids : now.row.ids ≡ view.row.ids
-  pub more : List Known
+  pub more : List KnownItem
   pub known : now.row.knows.known ≡ view.row.knows.known ++ more
 
 held_leaves : (view taken last now : View) (found left : SlabState) → WaitsForSlabs view found taken → now ≡ slabs_given left last → Grows taken last → Leaves view now
@@ -96,11 +96,11 @@ held_leaves view taken last now found left waits given grows = record {
 pub turn_leaves : (number : ℕ) (turn : Turn) (view now : View) → HoldsSlabs (Turns number turn) view now → Leaves view now
 turn_leaves number turn view now holds = held_leaves view holds.taken holds.last now holds.found holds.left holds.waits holds.given (turns_grow number turn holds.taken holds.found holds.last holds.left holds.does)
 
-pub lacks_leaves : (number : ℕ) (view now : View) → HoldsSlabs (LacksMemory number) view now → Leaves view now
+pub lacks_leaves : (number : ℕ) (view now : View) → HoldsSlabs (TurnLacksMemory number) view now → Leaves view now
 lacks_leaves number view now holds = held_leaves view holds.taken holds.last now holds.found holds.left holds.waits holds.given (lacks_grow number holds.taken holds.found holds.last holds.left holds.does)
 
 -- by either answer
-pub answer_leaves : {E : Type 0} (number : ℕ) (result : Result Turn E) (view now : View) → IfOk result (λ turn. HoldsSlabs (Turns number turn) view now) → OnErr result (HoldsSlabs (LacksMemory number) view now) → Leaves view now
+pub answer_leaves : {E : Type 0} (number : ℕ) (result : Result Turn E) (view now : View) → IfOk result (λ turn. HoldsSlabs (Turns number turn) view now) → OnErr result (HoldsSlabs (TurnLacksMemory number) view now) → Leaves view now
 answer_leaves number (Ok turn) view now turns lacks = turn_leaves number turn view now turns
 answer_leaves number (Err error) view now turns lacks = lacks_leaves number view now lacks
 

@@ -4,8 +4,8 @@ use Rattle.std.proofs.lemmas.Bool.{and_parts, cases_Bool}
 use Rattle.mc_pages.specs.declared.ids.ChunkId.{ChunkId}
 use Rattle.mc_pages.specs.Accounted.{IsAccounted, is_cleared, is_cut, places_in, truth}
 use Rattle.mc_pages.specs.Changes.{after_clear}
-use Rattle.mc_pages.specs.ClassState.{ClassState, cleared, times}
-use Rattle.mc_pages.specs.SlabState.{IsClass, SlabState, class_of_chunk, class_of_page}
+use Rattle.mc_pages.specs.ClassState.{ClassState, class_after_clear, times_in}
+use Rattle.mc_pages.specs.SlabState.{HasClass, SlabState, class_of_chunk, class_of_page}
 use Rattle.mc_pages.proofs.Chunks.{is_chunk-same}
 use Rattle.mc_pages.proofs.Cleared.{truth-le_one}
 use Rattle.mc_pages.proofs.HandedOut.{IsClass-placed}
@@ -30,18 +30,18 @@ use Rattle.mc_words.proofs.Pages.Owners.{slabs_here}
 cleared_after : (slabs : SlabState) (chunk : ChunkId) → IsAccounted slabs → IsAccounted (after_clear slabs chunk)
     → 1 ≤ places_in slabs (class_of_page slabs chunk.page) chunk → is_cleared (after_clear slabs chunk) (class_of_page slabs chunk.page) chunk ≡ true
 cleared_after slabs chunk accounted after placed =
-    let valid : IsClass slabs (class_of_page slabs chunk.page) = IsClass-placed slabs chunk accounted placed in
+    let valid : HasClass slabs (class_of_page slabs chunk.page) = IsClass-placed slabs chunk accounted placed in
     let state : ClassState = class_of_chunk slabs chunk in
     let sum = accounted.chunks (class_of_page slabs chunk.page) chunk valid in
-    let one : times chunk state.free + times chunk state.order ≡ 1 = omega (arith, sum, truth-le_one (is_cut slabs (class_of_page slabs chunk.page) chunk), placed) in
-    let here = class_at-with_class_same slabs (class_of_page slabs chunk.page) (cleared state chunk) valid in
+    let one : times_in chunk state.free + times_in chunk state.order ≡ 1 = omega (arith, sum, truth-le_one (is_cut slabs (class_of_page slabs chunk.page) chunk), placed) in
+    let here = class_at-with_class_same slabs (class_of_page slabs chunk.page) (class_after_clear state chunk) valid in
     let places : places_in (after_clear slabs chunk) (class_of_page slabs chunk.page) chunk ≡ 0
-    = ap (λ (c : ClassState). times chunk c.free + times chunk c.order) here
+    = ap (λ (c : ClassState). times_in chunk c.free + times_in chunk c.order) here
     ∙ omega (arith, times-without_one chunk chunk state.free state.order one, ap truth (is_chunk-same chunk)) in
     let cut : is_cut (after_clear slabs chunk) (class_of_page slabs chunk.page) chunk ≡ is_cut slabs (class_of_page slabs chunk.page) chunk
     = is_cut-kept slabs (after_clear slabs chunk) (class_of_page slabs chunk.page) chunk refl refl (ap (λ (c : ClassState). c.per_page) here) in
-    let valid_after : IsClass (after_clear slabs chunk) (class_of_page slabs chunk.page)
-    = (valid.0, omega (arith, valid.1, length-with_class slabs (class_of_page slabs chunk.page) (cleared state chunk))) in
+    let valid_after : HasClass (after_clear slabs chunk) (class_of_page slabs chunk.page)
+    = (valid.0, omega (arith, valid.1, length-with_class slabs (class_of_page slabs chunk.page) (class_after_clear state chunk))) in
     let sum_after = after.chunks (class_of_page slabs chunk.page) chunk valid_after in
     elim (cases_Bool (is_cleared (after_clear slabs chunk) (class_of_page slabs chunk.page) chunk)) [
       | inl there ↦ there
@@ -65,10 +65,10 @@ cleared_after_clear view now slabs left class chunk mine his was clears is own =
     (λ k. is_cleared (is k) (sym own k) chunk) ∙ cleared_after slabs chunk (accounted_in seen before slabs seen_mine) after some
 
 -- or before, where its header was seen out
-pub cleared_out : (view : View) (was : LawfulView view) (slabs : SlabState) → view.slabs ≡ Some slabs → (class : ℕ) (chunk : ChunkId) → IsClass slabs class → is_cut slabs class chunk ≡ true → is_out (head_at was.moment.state chunk).tag ≡ true → is_cleared slabs class chunk ≡ true
+pub cleared_out : (view : View) (was : LawfulView view) (slabs : SlabState) → view.slabs ≡ Some slabs → (class : ℕ) (chunk : ChunkId) → HasClass slabs class → is_cut slabs class chunk ≡ true → is_out (head_at was.moment.state chunk).tag ≡ true → is_cleared slabs class chunk ≡ true
 cleared_out view was slabs mine class chunk valid cut out =
     let here = (slabs_here view was slabs mine).1 in
-    let valid' : IsClass was.moment.state.slabs class = subst (λ (s : SlabState). IsClass s class) (sym here) valid in
+    let valid' : HasClass was.moment.state.slabs class = subst (λ (s : SlabState). HasClass s class) (sym here) valid in
     let free = was.lawful.placed.free class chunk valid' in
     let order = was.lawful.placed.order class chunk valid' in
     let cut' : is_cut was.moment.state.slabs class chunk ≡ true = ap (λ (s : SlabState). is_cut s class chunk) here ∙ cut in

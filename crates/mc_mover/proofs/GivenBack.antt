@@ -10,7 +10,7 @@ use Rattle.mc_words.specs.hand.View.{View}
 use Rattle.mc_words.specs.hand.Observers.{last_given, last_taken}
 use Rattle.mc_words.specs.lock.Doing.{Doing, HoldsSlabs, HoldsStripe}
 use Rattle.mc_words.proofs.Locks.Waited.{misses_keep}
-use Rattle.mc_mover.specs.Recording.{Changes, ChangesEach, GivesBackChanged, GivesBackUpToOne, IsFull, Leaves, StopsTrimming, TakesNotFull, TrimsLedger}
+use Rattle.mc_mover.specs.Recording.{Changes, ChangesEach, GivesBackChanged, GivesBackUpToOne, IsAtGreatestCount, Leaves, StopsTrimming, TakesNotFull, TrimsLedger}
 use Rattle.mc_mover.proofs.HoldsSlabs.{wait_keeps}
 
 -- the last hold of a stripe's lock
@@ -105,7 +105,7 @@ abbrev pub OnlyLeaves : Doing
 OnlyLeaves found taken left last = last.row.knows.hold ≡ taken.row.knows.hold
 
 -- a stripe that was taken wasn't full
-pub taken_unfull : (stripe : ℕ) (view now : View) → (holds : HoldsStripe stripe OnlyLeaves view now) → ¬ IsFull holds.found → TakesNotFull now stripe
+pub taken_unfull : (stripe : ℕ) (view now : View) → (holds : HoldsStripe stripe OnlyLeaves view now) → ¬ IsAtGreatestCount holds.found → TakesNotFull now stripe
 taken_unfull stripe view now holds unfull = (holds.found, own_taken OnlyLeaves (λ found taken left last does. does) stripe view now holds, unfull)
 
 -- one stripe more

@@ -9,13 +9,13 @@ use Rattle.mc_stripe.specs.Changes.{after_reserve}
 use Rattle.mc_stripe.specs.StripeState.{ReadyStripe}
 use Rattle.mc_core.specs.declared.head.Head.{Head}
 use Rattle.mc_core.specs.declared.ids.Ids.{Ids}
-use Rattle.mc_core.specs.Holdings.{item_in, numbers}
-use Rattle.mc_core.specs.Past.{Known, Saying, known_by}
+use Rattle.mc_core.specs.Holdings.{words_of_item, numbers_of_known}
+use Rattle.mc_core.specs.Past.{KnownItem, StoredItem, known_by}
 use Rattle.mc_core.specs.State.{room_in}
 use Rattle.mc_words.specs.hand.View.{View}
 use Rattle.mc_words.specs.item.Removal.{FindsHeld}
 use Rattle.mc_words.specs.page.Cuts.{CutsEach}
-use Rattle.mc_words.specs.item.Items.{issue_in, item_with, words_in}
+use Rattle.mc_words.specs.item.Items.{issue_in, item_with, known_words_in}
 use Rattle.mc_words.specs.item.References.{reference_to}
 use Rattle.mc_words.specs.chunk.Copies.{PassesAll, PopsOff}
 use Rattle.mc_words.specs.lock.Doing.{SlabsDoing}
@@ -29,20 +29,20 @@ use Rattle.mc_mover.specs.declared.sweep.Sweep.TheVariants.{Due}
 use Rattle.mc_mover.specs.Saving.{BothDoing, Evicts, FailsToEvict, FailsToRescue, Rescues, SweepsToEvict, SweepsToRescue}
 use Rattle.mc_mover.specs.Linked.{HoldsUp, ReachesStripe, SavesAndClears, SavesAs, SavesWith, StripeDoing}
 use Rattle.mc_mover.specs.Visiting.{Visits}
-use Rattle.mc_mover.specs.Turning.{GoesOn, LacksMemory, Sections, Turns}
+use Rattle.mc_mover.specs.Turning.{GoesOn, TurnLacksMemory, Sections, Turns}
 use Rattle.mc_mover.proofs.Copied.{copied_keeps}
 use Rattle.mc_mover.proofs.Kept.{finds_keep, passes_keep, swept_keep, to_evict_keeps, to_rescue_keeps}
 
 -- pages and lists as the hand took them, what was said, and number and stamps
 abbrev pub Stays : Type 0
-Stays = SlabState × List Saying × Ids
+Stays = SlabState × List StoredItem × Ids
 
 abbrev pub stays_of : View → Stays
 stays_of view = (view.row.knows.hold.found, view.row.knows.said, view.row.ids)
 
 -- and the items that it ever held
 abbrev Kept : Type 0
-Kept = Stays × List Known
+Kept = Stays × List KnownItem
 
 abbrev kept_of : View → Kept
 kept_of view = (stays_of view, view.row.knows.known)
@@ -50,7 +50,7 @@ kept_of view = (stays_of view, view.row.knows.known)
 -- these grow, and the others stay
 pub record Grows (view now : View) : Type 0 where
   pub stays : stays_of now ≡ stays_of view
-  pub more : List Known
+  pub more : List KnownItem
   pub known : now.row.knows.known ≡ view.row.knows.known ++ more
 
 grows_same : (view now : View) → kept_of now ≡ kept_of view → Grows view now
@@ -60,7 +60,7 @@ grows_on : (view next now : View) → Grows view next → Grows next now → Gro
 grows_on view next now first later = record {
   stays = later.stays ∙ first.stays;
   more = first.more ++ later.more;
-  known = later.known ∙ (ap (λ (l : List Known). l ++ later.more) first.known ∙ append_assoc view.row.knows.known first.more later.more);
+  known = later.known ∙ (ap (λ (l : List KnownItem). l ++ later.more) first.known ∙ append_assoc view.row.knows.known first.more later.more);
 }
 
 -- what only looks leaves all that
@@ -102,9 +102,9 @@ condemned_kept number stripe chunk slabs value view kept left now rescues =
     let moves = rescues.moves in
     ap kept_of moves.condemns.is ∙ (copies_kept chunk rescues.copy moves.key moves.stamp rescues.popped moves.filled moves.copies ∙ pops_kept view slabs chunk rescues.copy rescues.popped rescues.pops)
 
-abbrev pub known_copy : (number stripe : ℕ) (chunk : ChunkId) (slabs : SlabState) (value : ReadyStripe) (view : View) (kept : SlabState) (left : ReadyStripe) (now : View) → Rescues number stripe chunk slabs value view kept left now → Known
+abbrev pub known_copy : (number stripe : ℕ) (chunk : ChunkId) (slabs : SlabState) (value : ReadyStripe) (view : View) (kept : SlabState) (left : ReadyStripe) (now : View) → Rescues number stripe chunk slabs value view kept left now → KnownItem
 known_copy number stripe chunk slabs value view kept left now rescues =
-    known_by (room_in view.setup.table (class_of_page slabs chunk.page)) (reference_to rescues.copy (issue_in rescues.moves.condemned rescues.copy) (numbers (item_in (words_in rescues.moves.condemned rescues.copy))))
+    known_by (room_in view.setup.table (class_of_page slabs chunk.page)) (reference_to rescues.copy (issue_in rescues.moves.condemned rescues.copy) (numbers_of_known (words_of_item (known_words_in rescues.moves.condemned rescues.copy))))
 
 pub known_rescued : (number stripe : ℕ) (chunk : ChunkId) (slabs : SlabState) (value : ReadyStripe) (view : View) (kept : SlabState) (left : ReadyStripe) (now : View) → (rescues : Rescues number stripe chunk slabs value view kept left now)
     → now.row.knows.known ≡ view.row.knows.known ++ known_copy number stripe chunk slabs value view kept left now rescues ∷ []
@@ -208,7 +208,7 @@ turns_grow number (Finished counts) view slabs now left turns =
     grows_on view turns.looked now (sections_grow number Due looks.found looks.last view slabs turns.looked turns.kept looks.sections) (grows_same turns.looked now (cuts_kept _ ends.moved _ now left ends.cuts ∙ ap kept_of ends.is))
 
 -- and one that there was no memory for
-pub lacks_grow : (number : ℕ) (view : View) (slabs : SlabState) (now : View) (left : SlabState) → LacksMemory number view slabs now left → Grows view now
+pub lacks_grow : (number : ℕ) (view : View) (slabs : SlabState) (now : View) (left : SlabState) → TurnLacksMemory number view slabs now left → Grows view now
 lacks_grow number view slabs now left lacks =
     let reaches = lacks.lacks.does.1 in
     grows_on view lacks.looked now (sections_grow number Due lacks.found lacks.last view slabs lacks.looked lacks.kept lacks.sections)

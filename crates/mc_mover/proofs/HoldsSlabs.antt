@@ -9,7 +9,7 @@ use Rattle.mc_words.specs.hand.View.{View}
 use Rattle.mc_words.specs.hand.Arenas.{view}
 use Rattle.mc_words.specs.lock.Doing.{HoldsSlabs, SlabsDoing}
 use Rattle.mc_words.specs.hand.Idle.{is_unlocked}
-use Rattle.mc_words.specs.lock.Out.{is_neither, with_slabs, without_slabs}
+use Rattle.mc_words.specs.lock.Out.{is_neither, locks_with_slabs, without_slabs}
 use Rattle.mc_words.specs.hand.Views.{slabs_given, slabs_missed, slabs_taken}
 use Rattle.mc_words.specs.lock.Wait.{MissesSlabs, WaitsForSlabs}
 use Rattle.mc_words.proofs.Locks.Unlocked.{unlocked_from}
@@ -36,10 +36,10 @@ wait_number before now slabs waits =
     one e = cc
 
 -- a lock that came and went
-pub lock_back : (hand : Hand) → is_unlocked (view hand) ≡ true → without_slabs (with_slabs hand.locks) ≡ hand.locks
+pub lock_back : (hand : Hand) → is_unlocked (view hand) ≡ true → without_slabs (locks_with_slabs hand.locks) ≡ hand.locks
 lock_back hand unlocked = by hand.locks (unlocked_from hand.seat.me.0 hand.locks hand.noted.4 ∙ unlocked)
   where
-    by : (locks : Locks) → is_neither locks ≡ true → without_slabs (with_slabs locks) ≡ locks
+    by : (locks : Locks) → is_neither locks ≡ true → without_slabs (locks_with_slabs locks) ≡ locks
     by Neither none = refl
     by Slabs none = absurd (cc)
     by (Stripe other) none = absurd (cc)

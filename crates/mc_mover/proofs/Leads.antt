@@ -5,7 +5,7 @@ use Rattle.std.proofs.lemmas.Bool.{and_from, and_parts, cases_Bool, or_left}
 use Rattle.std.proofs.lemmas.List.Sums.{fold-append}
 use Rattle.mc_pages.specs.declared.ids.ChunkId.{ChunkId}
 use Rattle.mc_pages.specs.Changes.{after_back}
-use Rattle.mc_pages.specs.ClassState.{is_chunk, times}
+use Rattle.mc_pages.specs.ClassState.{is_chunk, times_in}
 use Rattle.mc_pages.specs.SlabState.{SlabState, class_of_chunk}
 use Rattle.mc_pages.proofs.Chunks.{same_from_is_chunk}
 use Rattle.mc_stripe.specs.StripeState.{ReadyStripe}
@@ -29,7 +29,7 @@ use Rattle.mc_words.specs.item.Items.{word_read}
 use Rattle.mc_words.specs.page.Owner.{PutsBack}
 use Rattle.mc_words.specs.chunk.Copies.{PassesAll, PassesOver}
 use Rattle.mc_words.specs.chunk.Sweeps.{SeesHeaders, Sweeps, SweepsEach, SweepsOne}
-use Rattle.mc_words.specs.hand.Views.{head_seen, looked, saw, with_event}
+use Rattle.mc_words.specs.hand.Views.{head_seen, view_after_look, view_after_sight, with_event}
 use Rattle.mc_core.specs.declared.event.Step.TheVariants as core
 use Rattle.mc_words.proofs.Chunks.Heads.{near_here}
 use Rattle.mc_words.proofs.Chunks.Judging.{seen_is}
@@ -38,7 +38,7 @@ use Rattle.mc_words.proofs.Pages.Owners.{needless, slabs_here}
 use Rattle.mc_words.proofs.Items.Refers.{LeadsTo, entry_near, leads_here}
 
 -- what is counted stands there
-among_once : (chunks : List ChunkId) (chunk : ChunkId) → times chunk chunks ≡ 1 → is_among chunks chunk ≡ true
+among_once : (chunks : List ChunkId) (chunk : ChunkId) → times_in chunk chunks ≡ 1 → is_among chunks chunk ≡ true
 among_once chunks chunk once = elim (cases_Bool (is_among chunks chunk)) [
   | inl is ↦ is
   | inr isnt ↦ absurd (let none = none_among chunks chunk isnt in omega arith)
@@ -89,7 +89,7 @@ module _ (stripe : ℕ) (value : ReadyStripe) (key : ℕ) (chunk : ChunkId) (sta
   -- so it is after a look at any header
   pub reaches_seen : (view now : View) (slabs : SlabState) (other : ChunkId) (head : Head) → now ≡ head_seen other head view → Reaches view slabs stripe value key chunk stamp read → Reaches now slabs stripe value key chunk stamp read
   reaches_seen view now slabs other head is at =
-      let all : now ≡ with_event [] (core.Head other) (looked (Saw other head) (saw (header other head) view)) = is ∙ seen_is view other head slabs at.mine in record {
+      let all : now ≡ with_event [] (core.Head other) (view_after_look (Saw other head) (view_after_sight (header other head) view)) = is ∙ seen_is view other head slabs at.mine in record {
         mine = ap (λ (v : View). v.slabs) all ∙ at.mine;
         leads = subst (λ (v : View). LeadsTo v stripe value key chunk stamp) (sym all) (record { mine = at.leads.mine; of_key = at.leads.of_key; leads = at.leads.leads });
         linked = ap (λ (v : View). was_linked v.row.looks chunk) all ∙ linked_seen view.row.looks other head chunk at.linked;

@@ -9,16 +9,16 @@ use Rattle.mc_words.specs.hand.View.{View}
 use Rattle.mc_words.specs.hand.Arenas.{view}
 use Rattle.mc_words.specs.rule.Happens.{Happens}
 use Rattle.mc_words.specs.hand.Idle.{is_unlocked}
-use Rattle.mc_words.specs.lock.Out.{has_no_stripe, is_neither, with_slabs}
+use Rattle.mc_words.specs.lock.Out.{locks_have_no_stripe, is_neither, locks_with_slabs}
 use Rattle.mc_words.specs.hand.Views.{slabs_taken}
 use Rattle.mc_words.specs.lock.Wait.{WaitsForSlabs}
 use Rattle.mc_words.proofs.Locks.Unlocked.{unlocked_from}
 
 -- a hand that took the lock of the slabs alone has no stripe's
-pub none_with_slabs : (hand : Hand) → is_unlocked (view hand) ≡ true → has_no_stripe (with_slabs hand.locks) ≡ true
+pub none_with_slabs : (hand : Hand) → is_unlocked (view hand) ≡ true → locks_have_no_stripe (locks_with_slabs hand.locks) ≡ true
 none_with_slabs hand unlocked = by hand.locks (unlocked_from hand.seat.me.0 hand.locks hand.noted.4 ∙ unlocked)
   where
-    by : (locks : Locks) → is_neither locks ≡ true → has_no_stripe (with_slabs locks) ≡ true
+    by : (locks : Locks) → is_neither locks ≡ true → locks_have_no_stripe (locks_with_slabs locks) ≡ true
     by Neither none = refl
     by Slabs none = absurd (cc)
     by (Stripe other) none = absurd (cc)

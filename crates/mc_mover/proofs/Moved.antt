@@ -9,15 +9,15 @@ use Rattle.mc_pages.specs.SlabState.{SlabState}
 use Rattle.mc_pages.proofs.Chunks.{is_chunk-same}
 use Rattle.mc_pages.specs.Pages.{is_on_the_move}
 use Rattle.mc_stripe.specs.Entries.{AreRising, entry_at}
-use Rattle.mc_stripe.specs.StripeState.{ReadyStripe, new_stripe, place_of, can_store}
+use Rattle.mc_stripe.specs.StripeState.{ReadyStripe, new_stripe, chunk_and_stamp, can_store}
 use Rattle.mc_stripe.specs.Changes.{after_rescue, stamp_aside}
 use Rattle.mc_stripe.proofs.Entries.{at_with_entry, at_without_entry, nat_eq_same}
 use Rattle.mc_core.specs.declared.holding.Holding.{Holding}
 use Rattle.mc_core.specs.declared.holding.Kind.TheVariants.{Fresh, Reference}
 use Rattle.mc_core.specs.declared.holding.Purpose.TheVariants.{Copy, Rescue}
-use Rattle.mc_core.specs.Chunks.{filled}
+use Rattle.mc_core.specs.Chunks.{holding_with_word}
 use Rattle.mc_core.specs.Evictions.{as_rescue, has_copy, lacks_room, none_dead}
-use Rattle.mc_core.specs.Holdings.{Words, all_known, change_each, holding_of, is_complete, is_copy_of, is_of, item_in, key_in, lose, numbers, stamp_in, stamp_of, words_of}
+use Rattle.mc_core.specs.Holdings.{Words, all_known, change_each, holding_of, is_complete, is_copy_of, is_of_chunk, words_of_item, known_key, without_first, numbers_of_known, stamp_in, stamp_in_words, holding_words}
 use Rattle.mc_core.specs.Items.{are_same}
 use Rattle.mc_core.specs.Judged.{sees_no_target}
 use Rattle.mc_core.specs.State.{State, holdings_at, item_at}
@@ -25,7 +25,7 @@ use Rattle.mc_words.specs.hand.View.{View}
 use Rattle.mc_words.specs.item.Removal.{key_read, key_seen, knows_reason, stripe_read}
 use Rattle.mc_words.specs.item.Fresh.{IsFreshIn}
 use Rattle.mc_words.specs.rule.Happens.{LawfulView}
-use Rattle.mc_words.specs.item.Items.{issue_in, item_with, word_read, words_in}
+use Rattle.mc_words.specs.item.Items.{issue_in, item_with, word_read, known_words_in}
 use Rattle.mc_words.specs.item.Links.{IsCopyFilled, copied_item, copy_linked}
 use Rattle.mc_words.specs.item.Originals.{CondemnsOriginal}
 use Rattle.mc_words.specs.item.References.{reference_to}
@@ -45,19 +45,19 @@ one_item : (old chunk : ChunkId) (issue : ℕ) (words : Words) (a b : List ℕ) 
 one_item old chunk issue words a b e = let kinds : Fresh (Rescue old a) words ≡ Fresh (Rescue old b) words = ap (λ (o : Option Holding). option_map_or (λ (h : Holding). h.kind) o (Reference [])) e in cc
 
 -- words that are known, as numbers
-numbers_known : (item : List ℕ) → numbers (all_known item) ≡ item
+numbers_known : (item : List ℕ) → numbers_of_known (all_known item) ≡ item
 numbers_known [] = refl
 numbers_known (word ∷ item) = ap (λ (l : List ℕ). word ∷ l) (numbers_known item)
 
 -- the copy's chunk has the words that were copied
-holdings_copied : (chunk copy : ChunkId) (done words : List ℕ) (place : ℕ) (view now : View) → now.row.holdings ≡ change_each (is_of copy) (holding_with done) view.row.holdings → place ≡ length done
-    → (words_copied chunk copy place words now).row.holdings ≡ change_each (is_of copy) (holding_with (done ++ words)) view.row.holdings
-holdings_copied chunk copy done [] place view now so at = so ∙ ap (λ (l : List ℕ). change_each (is_of copy) (holding_with l) view.row.holdings) (sym (append-nil done))
+holdings_copied : (chunk copy : ChunkId) (done words : List ℕ) (place : ℕ) (view now : View) → now.row.holdings ≡ change_each (is_of_chunk copy) (holding_with done) view.row.holdings → place ≡ length done
+    → (words_copied chunk copy place words now).row.holdings ≡ change_each (is_of_chunk copy) (holding_with (done ++ words)) view.row.holdings
+holdings_copied chunk copy done [] place view now so at = so ∙ ap (λ (l : List ℕ). change_each (is_of_chunk copy) (holding_with l) view.row.holdings) (sym (append-nil done))
 holdings_copied chunk copy done (word ∷ words) place view now so at =
-    let next : (word_copied chunk copy place word now).row.holdings ≡ change_each (is_of copy) (holding_with (done ++ word ∷ [])) view.row.holdings =
-    (λ k. change_each (is_of copy) (filled (at k) word) (so k)) ∙ all_more copy done word view.row.holdings in
+    let next : (word_copied chunk copy place word now).row.holdings ≡ change_each (is_of_chunk copy) (holding_with (done ++ word ∷ [])) view.row.holdings =
+    (λ k. change_each (is_of_chunk copy) (holding_with_word (at k) word) (so k)) ∙ all_more copy done word view.row.holdings in
     holdings_copied chunk copy (done ++ word ∷ []) words (place + 1) view (word_copied chunk copy place word now) next (let long = one_longer done word in omega (arith, at, long))
-    ∙ ap (λ (l : List ℕ). change_each (is_of copy) (holding_with l) view.row.holdings) (append_assoc done (word ∷ []) words)
+    ∙ ap (λ (l : List ℕ). change_each (is_of_chunk copy) (holding_with l) view.row.holdings) (append_assoc done (word ∷ []) words)
 
 module _ (chunk copy : ChunkId) (key stamp : ℕ) (words : List ℕ) (view filled : View) (is : filled ≡ words_copied chunk copy 0 (item_with key stamp words) view) where
   abbrev item : List ℕ
@@ -95,15 +95,15 @@ module _ (chunk copy : ChunkId) (key stamp : ℕ) (words : List ℕ) (view fille
   length_fits room fits = subst (λ (o : Option ℕ). IfSome o (λ count. 3 + count ≤ room)) (read_each 2 (omega arith)) fits
 
   -- the copy's holding has the words
-  holdings_are : filled.row.holdings ≡ change_each (is_of copy) (holding_with item) view.row.holdings
+  holdings_are : filled.row.holdings ≡ change_each (is_of_chunk copy) (holding_with item) view.row.holdings
   holdings_are = ap (λ (v : View). v.row.holdings) is ∙ holdings_copied chunk copy [] item 0 view view (sym (none_yet copy view.row.holdings)) refl
 
   -- what the hand holds beside the copy is as before
-  pub others_filled : holding_of copy (lose (is_of copy) view.row.holdings) ≡ None → lose (is_of copy) filled.row.holdings ≡ lose (is_of copy) view.row.holdings
+  pub others_filled : holding_of copy (without_first (is_of_chunk copy) view.row.holdings) ≡ None → without_first (is_of_chunk copy) filled.row.holdings ≡ without_first (is_of_chunk copy) view.row.holdings
   others_filled alone =
-      ap (lose (is_of copy)) holdings_are
-      ∙ (lose_changed copy (is_of copy) (holding_with item) (λ h. refl) view.row.holdings
-      ∙ unchanged (is_of copy) (holding_with item) (lose (is_of copy) view.row.holdings) (none_of copy (lose (is_of copy) view.row.holdings) alone))
+      ap (without_first (is_of_chunk copy)) holdings_are
+      ∙ (lose_changed copy (is_of_chunk copy) (holding_with item) (λ h. refl) view.row.holdings
+      ∙ unchanged (is_of_chunk copy) (holding_with item) (without_first (is_of_chunk copy) view.row.holdings) (none_of copy (without_first (is_of_chunk copy) view.row.holdings) alone))
 
   module _ (issue room : ℕ) (found : holding_of copy view.row.holdings ≡ Some (copy_holding chunk copy issue room)) where
     abbrev blank : Words
@@ -119,7 +119,7 @@ module _ (chunk copy : ChunkId) (key stamp : ℕ) (words : List ℕ) (view fille
     found_filled : holding_of copy filled.row.holdings ≡ Some copied
     found_filled =
         ap (holding_of copy) holdings_are
-        ∙ (found_changed copy (is_of copy) (holding_with item) (λ h. refl) view.row.holdings (copy_holding chunk copy issue room) found
+        ∙ (found_changed copy (is_of_chunk copy) (holding_with item) (λ h. refl) view.row.holdings (copy_holding chunk copy issue room) found
         ∙ ap (λ (b : Bool). Some (if b then copied else copy_holding chunk copy issue room)) (is_chunk-same copy))
 
     -- the hand has a copy, and so a reason
@@ -144,7 +144,7 @@ module _ (chunk copy : ChunkId) (key stamp : ℕ) (words : List ℕ) (view fille
           same_list took.item item long (λ i within. took.read_is i (slice_index item i) (read_each i (omega (arith, within, long))) within)
 
       same_stamp : took.stamp ≡ stamp
-      same_stamp = sym took.stamp_is ∙ ap stamp_of same_item
+      same_stamp = sym took.stamp_is ∙ ap stamp_in_words same_item
 
       -- the copy is to have the words of the item that was taken away
       holdings_now : now.row.holdings ≡ change_each (is_copy_of chunk) (as_rescue chunk took.item) filled.row.holdings
@@ -159,8 +159,8 @@ module _ (chunk copy : ChunkId) (key stamp : ℕ) (words : List ℕ) (view fille
       long_own : length own ≡ room
       long_own = written_long item blank ∙ length-replicate room None
 
-      words_are : words_in now copy ≡ own
-      words_are = ap (λ (o : Option Holding). option_map_or words_of o []) found_now
+      words_are : known_words_in now copy ≡ own
+      words_are = ap (λ (o : Option Holding). option_map_or holding_words o []) found_now
 
       issue_is : issue_in now copy ≡ issue
       issue_is = ap (λ (o : Option Holding). option_map_or (λ (h : Holding). h.issue) o 0) found_now
@@ -176,18 +176,18 @@ module _ (chunk copy : ChunkId) (key stamp : ℕ) (words : List ℕ) (view fille
           ∙ (ap (option_map (λ (place : ChunkId × ℕ). (took.key, place))) took.led ∙ (λ k. Some (same_key k, (chunk, same_stamp k))))
 
       -- so the copy may be linked
-      pub copy_filled : IsCopyFilled now left.state copy (issue_in now copy) (words_in now copy) key stamp
+      pub copy_filled : IsCopyFilled now left.state copy (issue_in now copy) (known_words_in now copy) key stamp
       copy_filled =
           let count : length blank ≡ room = length-replicate room None in
           let enough : 3 + length words ≤ length blank = omega (arith, count, fits) in
           let whole = whole_with key stamp words blank enough in
-          let known = ap item_in words_are ∙ item_is key stamp words blank enough in record {
+          let known = ap words_of_item words_are ∙ item_is key stamp words blank enough in record {
             old = chunk;
             item = took.item;
             found = found_now ∙ (λ k. Some (copied_item chunk copy (sym issue_is k) took.item (sym words_are k)));
             complete = ap is_complete words_are ∙ whole.0;
             same = (λ k. are_same (known k) (same_item k)) ∙ same_words item;
-            same_key = ap key_in words_are ∙ whole.1;
+            same_key = ap known_key words_are ∙ whole.1;
             same_stamp = ap stamp_in words_are ∙ whole.2;
             aside = ap (λ (o : Option (ℕ × (ChunkId × ℕ))). option_map_or (λ entry. entry.0 == key && is_chunk entry.1.0 chunk && entry.1.1 == stamp) o false) aside_is
                 ∙ (λ k. nat_eq_same key key refl k && is_chunk-same chunk k && nat_eq_same stamp stamp refl k);
@@ -202,31 +202,31 @@ module _ (chunk copy : ChunkId) (key stamp : ℕ) (words : List ℕ) (view fille
       room_still ready entry = and_from left.ready left.entry (ready_still ready) (ap (λ (v : ReadyStripe). v.entry) took.left_is ∙ entry)
 
       -- and its key leads nowhere
-      pub leads_nowhere : LawfulView filled → slice_index_or filled.stripes stripe None ≡ Some value → place_of left.state key ≡ None
+      pub leads_nowhere : LawfulView filled → slice_index_or filled.stripes stripe None ≡ Some value → chunk_and_stamp left.state key ≡ None
       leads_nowhere was mine =
           let here = stripe_here filled stripe value mine was in
           let near = stripe_near filled stripe value mine was in
           let long = was.stripes in
           let rising : AreRising value.state.index = subst (λ (v : ReadyStripe). AreRising v.state.index) here.1 (was.lawful.legal.legal stripe new_stripe (omega (arith, near, long))).rising in
-          (λ k. place_of (took.left_is k).state (sym same_key k))
+          (λ k. chunk_and_stamp (took.left_is k).state (sym same_key k))
           ∙ (at_without_entry value.state.index took.key took.key rising ∙ ap (λ (b : Bool). cond b None (entry_at value.state.index took.key)) (nat_eq_same took.key took.key refl))
 
       -- what the hand holds beside the copy is as before
-      pub others_now : holding_of copy (lose (is_of copy) view.row.holdings) ≡ None → has_copy (lose (is_of copy) view.row.holdings) chunk ≡ false → lose (is_of copy) now.row.holdings ≡ lose (is_of copy) view.row.holdings
+      pub others_now : holding_of copy (without_first (is_of_chunk copy) view.row.holdings) ≡ None → has_copy (without_first (is_of_chunk copy) view.row.holdings) chunk ≡ false → without_first (is_of_chunk copy) now.row.holdings ≡ without_first (is_of_chunk copy) view.row.holdings
       others_now alone only =
-          ap (lose (is_of copy)) holdings_now
+          ap (without_first (is_of_chunk copy)) holdings_now
           ∙ (lose_changed copy (is_copy_of chunk) (as_rescue chunk took.item) (λ h. refl) filled.row.holdings
           ∙ (ap (change_each (is_copy_of chunk) (as_rescue chunk took.item)) (others_filled alone)
-          ∙ unchanged (is_copy_of chunk) (as_rescue chunk took.item) (lose (is_of copy) view.row.holdings) only))
+          ∙ unchanged (is_copy_of chunk) (as_rescue chunk took.item) (without_first (is_of_chunk copy) view.row.holdings) only))
 
       -- and it is so still once the copy is linked and let go
-      pub dropped_holdings : (number : ℕ) (linked last : View) → linked ≡ copy_linked number stripe left key copy (issue_in now copy) (words_in now copy) room now → last ≡ chunk_released copy linked
-          → holding_of copy (lose (is_of copy) view.row.holdings) ≡ None → has_copy (lose (is_of copy) view.row.holdings) chunk ≡ false → last.row.holdings ≡ lose (is_of copy) view.row.holdings
+      pub dropped_holdings : (number : ℕ) (linked last : View) → linked ≡ copy_linked number stripe left key copy (issue_in now copy) (known_words_in now copy) room now → last ≡ chunk_released copy linked
+          → holding_of copy (without_first (is_of_chunk copy) view.row.holdings) ≡ None → has_copy (without_first (is_of_chunk copy) view.row.holdings) chunk ≡ false → last.row.holdings ≡ without_first (is_of_chunk copy) view.row.holdings
       dropped_holdings number linked last linked_is last_is alone only =
           ap (λ (v : View). v.row.holdings) last_is
-          ∙ (ap (λ (v : View). lose (is_of copy) v.row.holdings) linked_is
-          ∙ (ap (λ (hs : List Holding). lose (is_of copy) (hs ++ reference_to copy (issue_in now copy) (numbers (item_in (words_in now copy))) ∷ [])) (others_now alone only)
-          ∙ lose_last copy (lose (is_of copy) view.row.holdings) (reference_to copy (issue_in now copy) (numbers (item_in (words_in now copy)))) alone (is_chunk-same copy)))
+          ∙ (ap (λ (v : View). without_first (is_of_chunk copy) v.row.holdings) linked_is
+          ∙ (ap (λ (hs : List Holding). without_first (is_of_chunk copy) (hs ++ reference_to copy (issue_in now copy) (numbers_of_known (words_of_item (known_words_in now copy))) ∷ [])) (others_now alone only)
+          ∙ lose_last copy (without_first (is_of_chunk copy) view.row.holdings) (reference_to copy (issue_in now copy) (numbers_of_known (words_of_item (known_words_in now copy)))) alone (is_chunk-same copy)))
 
       -- memory had the words that were copied as the item was taken away
       item_bound : (words : List ℕ) → now.row.holdings ≡ change_each (is_copy_of chunk) (as_rescue chunk words) filled.row.holdings → holding_of copy now.row.holdings ≡ Some (copied_item chunk copy issue words own)
@@ -250,14 +250,14 @@ module _ (chunk copy : ChunkId) (key stamp : ℕ) (words : List ℕ) (view fille
       item_there = one_item chunk copy issue own (item_at then_state chunk) took.item (sym (item_bound (item_at then_state chunk) bound_there) ∙ item_bound took.item holdings_now) ∙ same_item
 
       -- so the copy has just these
-      pub words_known : numbers (item_in (words_in now copy)) ≡ item
-      words_known = ap numbers (ap item_in words_are ∙ item_is key stamp words blank (let count : length blank ≡ room = length-replicate room None in omega (arith, count, fits))) ∙ numbers_known item
+      pub words_known : numbers_of_known (words_of_item (known_words_in now copy)) ≡ item
+      words_known = ap numbers_of_known (ap words_of_item words_are ∙ item_is key stamp words blank (let count : length blank ≡ room = length-replicate room None in omega (arith, count, fits))) ∙ numbers_known item
 
       -- the key led to the original, and leads to the copy
-      pub led_before : place_of value.state key ≡ Some (chunk, stamp)
-      led_before = ap (place_of value.state) (sym same_key) ∙ (took.led ∙ (λ k. Some (chunk, same_stamp k)))
+      pub led_before : chunk_and_stamp value.state key ≡ Some (chunk, stamp)
+      led_before = ap (chunk_and_stamp value.state) (sym same_key) ∙ (took.led ∙ (λ k. Some (chunk, same_stamp k)))
 
-      pub leads_after : (number : ℕ) → place_of (after_rescue left.state number key copy) key ≡ Some (copy, stamp)
+      pub leads_after : (number : ℕ) → chunk_and_stamp (after_rescue left.state number key copy) key ≡ Some (copy, stamp)
       leads_after number =
           at_with_entry left.state.index key (copy, stamp_aside left.state) key
           ∙ (ap (λ (b : Bool). cond b (Some (copy, stamp_aside left.state)) (entry_at left.state.index key)) (nat_eq_same key key refl)

@@ -11,7 +11,7 @@ use Rattle.mc_core.specs.declared.event.Step.TheVariants as step
 use Rattle.mc_core.specs.declared.head.Tag.{Tag}
 use Rattle.mc_core.specs.declared.head.Tag.TheVariants.{Free, Linked, Out, Unlinked}
 use Rattle.mc_core.specs.declared.head.Head.{Head}
-use Rattle.mc_core.specs.Columns.{holders}
+use Rattle.mc_core.specs.Columns.{holder_count}
 use Rattle.mc_core.specs.Counts.{AreCounted}
 use Rattle.mc_core.specs.Evictions.{can_lose_entry, has_copy, has_reason, is_linked_unheld, key_at}
 use Rattle.mc_core.specs.Silent.{is_listed}
@@ -45,7 +45,7 @@ clear_unheld chunk view now h = by h.was.moment.state h.was.lawful.counted (head
         clear_parts (has_slabs state h.was.hand) (has_chunk state.table chunk) (is_on_the_move state.slabs chunk.page) (is_free (head_at state chunk).tag || is_dead (head_at state chunk))
         (is_listed state.slabs (class_of_page state.slabs chunk.page) chunk) (may_step h).allowed
 
-    by : (state : State) → AreCounted state.table state.heads state.holdings → (head : Head) → head_at state chunk ≡ head → has_chunk state.table chunk ≡ true → (is_free head.tag ≡ true) ⊎ (is_free head.tag ≡ false) → (is_free head.tag || is_dead head) ≡ true → holders chunk state.holdings ≡ 0
+    by : (state : State) → AreCounted state.table state.heads state.holdings → (head : Head) → head_at state chunk ≡ head → has_chunk state.table chunk ≡ true → (is_free head.tag ≡ true) ⊎ (is_free head.tag ≡ false) → (is_free head.tag || is_dead head) ≡ true → holder_count chunk state.holdings ≡ 0
     by state counted head is near (inl free) either =
         let sum = counted.counted chunk near in
         let none = counted.shut chunk near (inl (ap (λ (h : Head). is_free h.tag) is ∙ free)) in
@@ -69,7 +69,7 @@ condemn_unheld chunk view now h = by h.was.moment.state h.was.lawful.counted par
         condemn_parts (has_slabs state h.was.hand) (has_chunk state.table chunk) (is_linked_unheld (head_at state chunk)) (has_stripe state h.was.hand (stripe_of state key)) (can_lose_entry (stripe_at state (stripe_of state key)) key copies)
         (has_reason state.table state.heads state.slabs (looks_at state h.was.hand) (holdings_at state h.was.hand) chunk) (may_step h).allowed
 
-    by : (state : State) → AreCounted state.table state.heads state.holdings → has_chunk state.table chunk ≡ true → is_linked_unheld (head_at state chunk) ≡ true → holders chunk state.holdings ≡ 0
+    by : (state : State) → AreCounted state.table state.heads state.holdings → has_chunk state.table chunk ≡ true → is_linked_unheld (head_at state chunk) ≡ true → holder_count chunk state.holdings ≡ 0
     by state counted near alone =
         let both = and_parts (is_linked (head_at state chunk).tag) ((head_at state chunk).count == 1) alone in
         let sum = counted.counted chunk near in

@@ -11,13 +11,13 @@ use Rattle.mc_stripe.specs.declared.history.Call.{Call}
 use Rattle.mc_stripe.specs.declared.history.Call.TheVariants.{Set, Get, Delete, Evict, Rescue}
 use Rattle.mc_stripe.specs.StripeState.{ReadyStripe}
 use Rattle.mc_core.specs.Histories.{hand_of}
-use Rattle.mc_core.specs.Identities.{owns}
+use Rattle.mc_core.specs.Identities.{count_in_hand}
 use Rattle.mc_core.specs.Past.{Own, with_more}
 use Rattle.mc_core.proofs.Base.{each_row}
 use Rattle.mc_words.specs.hand.View.{View}
 use Rattle.mc_words.specs.item.Calls.{with_own_call}
 use Rattle.mc_words.specs.rule.Happens.{LawfulView}
-use Rattle.mc_mover.specs.Telling.{IsSaving, TellingsAreCounted, called_key, calls_told, is_eviction, is_other, is_rescue, with_own_calls}
+use Rattle.mc_mover.specs.Telling.{IsSaving, CallsAreCounted, called_key, count_of_calls, is_eviction, is_other, is_rescue, with_own_calls}
 
 -- one more
 module _ (number stripe : ℕ) (call : Call) where
@@ -39,7 +39,7 @@ module _ (number stripe : ℕ) (call : Call) where
       by false = refl
 
   -- as often as before
-  owns_after : (mine : List Own) → owns number (map after mine) ≡ owns number mine
+  owns_after : (mine : List Own) → count_in_hand number (map after mine) ≡ count_in_hand number mine
   owns_after [] = refl
   owns_after (own ∷ mine) =
       sum_by-cons (λ (o : Own). truth (o.number == number)) (after own) (map after mine)
@@ -63,10 +63,10 @@ module _ (number stripe : ℕ) (call : Call) where
     own_same : (own : Own) → (own.number == number) ≡ false → after own ≡ own
     own_same own other = ap (λ (b : Bool). if b then record own { calls = with_more own.calls stripe (call ∷ []) } else own) other
 
-    owns_cons : (own : Own) (mine : List Own) → owns number (own ∷ mine) ≡ truth (own.number == number) + owns number mine
+    owns_cons : (own : Own) (mine : List Own) → count_in_hand number (own ∷ mine) ≡ truth (own.number == number) + count_in_hand number mine
     owns_cons own mine = sum_by-cons (λ (o : Own). truth (o.number == number)) own mine
 
-    none_after : (mine : List Own) → owns number mine ≡ 0 → total (map after mine) ≡ total mine
+    none_after : (mine : List Own) → count_in_hand number mine ≡ 0 → total (map after mine) ≡ total mine
     none_after [] none = refl
     none_after (own ∷ mine) none =
         let split = owns_cons own mine in
@@ -78,8 +78,8 @@ module _ (number stripe : ℕ) (call : Call) where
         ]
 
     -- one call more, where the number is one's own
-    one_after : (mine : List Own) → owns number mine ≡ 1 → All (λ (own : Own). stripe < length own.calls) mine → total (map after mine) ≡ total mine + count_by is (call ∷ [])
-    one_after [] one within = absurd (let none : owns number [] ≡ 0 = refl in omega (arith, one, none))
+    one_after : (mine : List Own) → count_in_hand number mine ≡ 1 → All (λ (own : Own). stripe < length own.calls) mine → total (map after mine) ≡ total mine + count_by is (call ∷ [])
+    one_after [] one within = absurd (let none : count_in_hand number [] ≡ 0 = refl in omega (arith, one, none))
     one_after (own ∷ mine) one within =
         let split = owns_cons own mine in
         let now : total (map after (own ∷ mine)) ≡ count_of (after own) + total (map after mine) = sum_by-cons count_of (after own) (map after mine) in
@@ -98,7 +98,7 @@ module _ (number stripe : ℕ) (call : Call) where
         ]
 
 -- and with these
-calls_after : (number stripes : ℕ) (is : Call → Bool) (calls : List Call) (mine : List Own) → 1 ≤ stripes → owns number mine ≡ 1 → All (λ (own : Own). length own.calls ≡ stripes) mine
+calls_after : (number stripes : ℕ) (is : Call → Bool) (calls : List Call) (mine : List Own) → 1 ≤ stripes → count_in_hand number mine ≡ 1 → All (λ (own : Own). length own.calls ≡ stripes) mine
     → sum_by (λ (own : Own). sum_by (count_by is) own.calls) (with_own_calls number stripes calls mine) ≡ sum_by (λ (own : Own). sum_by (count_by is) own.calls) mine + count_by is calls
 calls_after number stripes is [] mine some one long = omega arith
 calls_after number stripes is (call ∷ calls) mine some one long =
@@ -114,12 +114,12 @@ calls_after number stripes is (call ∷ calls) mine some one long =
 
 -- what a hand knows has its number once, and a list for each stripe
 pub calls_more : (view now : View) → LawfulView view → (number : ℕ) → view.row.ids.number ≡ Some number → (calls : List Call) → now.row.knows.mine ≡ with_own_calls number view.setup.config.stripes calls view.row.knows.mine
-    → (is : Call → Bool) → calls_told is now ≡ calls_told is view + count_by is calls
+    → (is : Call → Bool) → count_of_calls is now ≡ count_of_calls is view + count_by is calls
 calls_more view now was number own calls come is =
     let m = was.moment in
     let mine : view.row.knows.mine ≡ slice_index_or m.past.mine was.hand [] = ap (λ (v : View). v.row.knows.mine) was.is in
-    let one : owns number view.row.knows.mine ≡ 1 =
-    ap (owns number) mine ∙ was.lawful.numbered.own was.hand number (sym (ap (λ (v : View). v.row.ids.number) was.is) ∙ own) in
+    let one : count_in_hand number view.row.knows.mine ≡ 1 =
+    ap (count_in_hand number) mine ∙ was.lawful.numbered.own was.hand number (sym (ap (λ (v : View). v.row.ids.number) was.is) ∙ own) in
     let rows = each_row (λ (own : Own). own.calls ≡ map (λ (value : ReadyStripe). filter (λ call. hand_of call == own.number) value.state.history) m.state.stripes) m.past.mine was.hand was.lawful.told.own_calls in
     let long : All (λ (own : Own). length own.calls ≡ view.setup.config.stripes) view.row.knows.mine =
     subst (λ (l : List Own). All (λ (own : Own). length own.calls ≡ view.setup.config.stripes) l) (sym mine)
@@ -145,9 +145,9 @@ no_others number (call ∷ calls) own =
     omega (arith, split, here, rest)
 
 -- so a hand's calls grow by what is counted
-pub tellings_counted : TellingsAreCounted
+pub tellings_counted : CallsAreCounted
 tellings_counted number counts view now tells = (
-  tells.more is_eviction ∙ ap (λ n. calls_told is_eviction view + n) tells.evicted,
-  tells.more is_rescue ∙ ap (λ n. calls_told is_rescue view + n) tells.rescued,
-  tells.more is_other ∙ (ap (λ n. calls_told is_other view + n) (no_others number tells.calls tells.own) ∙ add-zero (calls_told is_other view)),
+  tells.more is_eviction ∙ ap (λ n. count_of_calls is_eviction view + n) tells.evicted,
+  tells.more is_rescue ∙ ap (λ n. count_of_calls is_rescue view + n) tells.rescued,
+  tells.more is_other ∙ (ap (λ n. count_of_calls is_other view + n) (no_others number tells.calls tells.own) ∙ add-zero (count_of_calls is_other view)),
 )

@@ -8,7 +8,7 @@ use Rattle.mc_core.specs.declared.event.StripeChange.{StripeChange}
 use Rattle.mc_core.specs.declared.event.StripeChange.TheVariants.{Reserve, ReserveCall, Trim, Forget}
 use Rattle.mc_core.specs.declared.holding.Holding.{Holding}
 use Rattle.mc_core.specs.declared.ids.Ids.{Ids}
-use Rattle.mc_core.specs.Past.{Known, Own, Saying}
+use Rattle.mc_core.specs.Past.{KnownItem, Own, StoredItem}
 use Rattle.mc_core.specs.Silent.{stripe_after}
 use Rattle.mc_words.specs.declared.hand.Hand.{Hand}
 use Rattle.mc_words.specs.declared.lock.locks.Locks.{Locks}
@@ -17,7 +17,7 @@ use Rattle.mc_words.specs.hand.View.{View}
 use Rattle.mc_words.specs.hand.Arenas.{view}
 use Rattle.mc_words.specs.lock.Doing.{Doing, HoldsSlabs, HoldsStripe}
 use Rattle.mc_words.specs.hand.Idle.{is_unlocked}
-use Rattle.mc_words.specs.lock.Out.{is_neither, with_stripe, without_stripe}
+use Rattle.mc_words.specs.lock.Out.{is_neither, locks_with_stripe, without_stripe}
 use Rattle.mc_words.specs.hand.Views.{stripe_changed, stripe_given}
 use Rattle.mc_words.specs.lock.Wait.{WaitsForStripe}
 use Rattle.mc_words.specs.item.Refs.{KeepsRefs}
@@ -26,11 +26,11 @@ use Rattle.mc_words.proofs.Locks.Unlocked.{unlocked_from}
 use Rattle.mc_words.proofs.Locks.Waited.{waits_keep}
 use Rattle.mc_mover.proofs.HoldsSlabs.{wait_keeps}
 use Rattle.mc_mover.proofs.Chains.{refs_stay}
-use Rattle.mc_mover.specs.Recording.{Changes, ChangesEach, FindsFull, Leaves, TrimsLedger}
+use Rattle.mc_mover.specs.Recording.{Changes, ChangesEach, FindsStripeFull, Leaves, TrimsLedger}
 
 -- what is held, known and said, the hand's own calls, and who it is
 abbrev pub Kept : Type 0
-Kept = List Holding × List Known × List Saying × List Own × Ids
+Kept = List Holding × List KnownItem × List StoredItem × List Own × Ids
 
 abbrev pub kept_of : View → Kept
 kept_of view = (view.row.holdings, view.row.knows.known, view.row.knows.said, view.row.knows.mine, view.row.ids)
@@ -45,7 +45,7 @@ changes_quiet how number stripe found taken left last does = ap kept_of does.1
 pub leaves_quiet : IsQuiet Leaves
 leaves_quiet found taken left last does = ap kept_of does.1
 
-pub full_quiet : IsQuiet FindsFull
+pub full_quiet : IsQuiet FindsStripeFull
 full_quiet found taken left last does = ap kept_of does.1.1
 
 -- and so does the hold of its lock
@@ -78,10 +78,10 @@ numbers_more place =
     sym (map-id (range_with_len 0 (place + 1))) ∙ map-range_with_len_more (λ (i : ℕ). i) 0 place place (omega arith) ∙ ap (λ numbers. numbers ++ place ∷ []) (map-id (range_with_len 0 place))
 
 -- a stripe's lock that came and went
-pub stripe_back : (hand : Hand) (stripe : ℕ) → is_unlocked (view hand) ≡ true → without_stripe (with_stripe stripe hand.locks) ≡ hand.locks
+pub stripe_back : (hand : Hand) (stripe : ℕ) → is_unlocked (view hand) ≡ true → without_stripe (locks_with_stripe stripe hand.locks) ≡ hand.locks
 stripe_back hand stripe unlocked = by hand.locks (unlocked_from hand.seat.me.0 hand.locks hand.noted.4 ∙ unlocked)
   where
-    by : (locks : Locks) → is_neither locks ≡ true → without_stripe (with_stripe stripe locks) ≡ locks
+    by : (locks : Locks) → is_neither locks ≡ true → without_stripe (locks_with_stripe stripe locks) ≡ locks
     by Neither none = refl
     by Slabs none = absurd (cc)
     by (Stripe other) none = absurd (cc)

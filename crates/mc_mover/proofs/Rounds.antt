@@ -14,7 +14,7 @@ use Rattle.mc_pages.specs.Pages.{is_on_the_move}
 use Rattle.mc_pages.specs.declared.moves.Found.{Found}
 use Rattle.mc_pages.specs.declared.moves.Found.TheVariants.{Cleared, Rescued, Evicted, Busy, Locked, Already}
 use Rattle.mc_pages.specs.Moves.{chunk_at_position, moved_on}
-use Rattle.mc_pages.specs.SlabState.{SlabState, IsClass, class_at, class_of_owner, class_of_page}
+use Rattle.mc_pages.specs.SlabState.{SlabState, HasClass, class_at, class_of_owner, class_of_page}
 use Rattle.mc_core.specs.Past.{Moment}
 use Rattle.mc_core.specs.State.{has_chunk, is_class}
 use Rattle.mc_core.proofs.FreeChunks.{near_in}
@@ -29,8 +29,8 @@ use Rattle.mc_mover.specs.declared.counts.Turn.TheVariants.{Idle, Went, Finished
 use Rattle.mc_mover.specs.declared.sweep.Sweep.{Sweep}
 use Rattle.mc_mover.specs.declared.sweep.Sweep.TheVariants.{Due}
 use Rattle.mc_mover.specs.Answering.{RunsStill}
-use Rattle.mc_mover.specs.Visiting.{LacksCall}
-use Rattle.mc_mover.specs.Turning.{AreBelow, EndsTurn, LacksMemory, LooksFrom, Section, Sections, Turns, counted, counts_of, no_counts}
+use Rattle.mc_mover.specs.Visiting.{LacksCallToSave}
+use Rattle.mc_mover.specs.Turning.{AreBelow, EndsTurn, TurnLacksMemory, LooksFrom, Section, Sections, Turns, counts_with_found, counts_with_all, no_counts}
 
 -- the chunk at a move's position is one of the arena
 pub position_near : (view : View) → LawfulView view → (slabs : SlabState) → view.slabs ≡ Some slabs → (move : Moving) → slabs.moving ≡ Some move → move.at < (class_at slabs move.src).per_page
@@ -40,7 +40,7 @@ position_near view was slabs mine move runs within =
     let same : m.state.slabs ≡ slabs = (slabs_here view was slabs mine).1 in
     let is : IsMove m.state.slabs move = was.lawful.paged.of_table.accounted.move move (ap (λ (s : SlabState). s.moving) same ∙ runs) in
     let own : class_of_page m.state.slabs move.page ≡ move.src = ap class_of_owner is.owner in
-    let class : IsClass m.state.slabs (class_of_page m.state.slabs move.page) = subst (λ n. IsClass m.state.slabs n) (sym own) is.src in
+    let class : HasClass m.state.slabs (class_of_page m.state.slabs move.page) = subst (λ n. HasClass m.state.slabs n) (sym own) is.src in
     let chunks : (class_at m.state.slabs (class_of_page m.state.slabs move.page)).per_page ≡ (class_at slabs move.src).per_page =
     ap (λ (n : ℕ). (class_at m.state.slabs n).per_page) own ∙ ap (λ (s : SlabState). (class_at s move.src).per_page) same in
     ap (λ table. has_chunk table (chunk_at_position move)) (sym was.same_table) ∙ near_in m was.lawful (chunk_at_position move) class (omega arith)
@@ -104,11 +104,11 @@ sections_more : (number : ℕ) (sweep : Sweep) (found : List Found) (then : Swee
 sections_more number sweep found then one last view slabs between kept now left sections section =
     sections_on number sweep found then (one ∷ []) last view slabs between kept now left sections (now, left, last, section, (refl, refl, refl))
 
-counts_more : (found : List Found) (last : Found) (counts : Counts) → counts_of (found ++ last ∷ []) counts ≡ counted last (counts_of found counts)
+counts_more : (found : List Found) (last : Found) (counts : Counts) → counts_with_all (found ++ last ∷ []) counts ≡ counts_with_found last (counts_with_all found counts)
 counts_more [] last counts = refl
-counts_more (first ∷ found) last counts = counts_more found last (counted first counts)
+counts_more (first ∷ found) last counts = counts_more found last (counts_with_found first counts)
 
-small_more : (rounds : ℕ) (found : Found) (counts : Counts) → AreBelow (rounds + 1) counts → AreBelow (rounds + 1 + 1) (counted found counts)
+small_more : (rounds : ℕ) (found : Found) (counts : Counts) → AreBelow (rounds + 1) counts → AreBelow (rounds + 1 + 1) (counts_with_found found counts)
 small_more rounds Cleared counts (a, b, c, d, e) = (omega (arith, a), omega (arith, b), omega (arith, c), omega (arith, d), omega (arith, e))
 small_more rounds Rescued counts (a, b, c, d, e) = (omega (arith, a), omega (arith, b), omega (arith, c), omega (arith, d), omega (arith, e))
 small_more rounds Evicted counts (a, b, c, d, e) = (omega (arith, a), omega (arith, b), omega (arith, c), omega (arith, d), omega (arith, e))
@@ -125,7 +125,7 @@ some_move (Some move) runs = (move, refl)
 pub record GoneThrough (number rounds : ℕ) (counts : Counts) (sweep : Sweep) (view : View) (slabs : SlabState) (now : View) (left : SlabState) : Type 0 where
   pub found : List Found
   pub count : length found ≡ rounds
-  pub counts_are : counts ≡ counts_of found no_counts
+  pub counts_are : counts ≡ counts_with_all found no_counts
   pub small : AreBelow (rounds + 1) counts
   pub sections : Sections number Due found sweep view slabs now left
   pub move : Moving
@@ -161,13 +161,13 @@ gone_runs number rounds counts sweep view slabs now left gone = (gone.move, gone
 
 -- and after one more
 pub gone_more : (number rounds : ℕ) (counts more : Counts) (sweep : Sweep) (found : Found) (then : Sweep) (next : Moving) (view : View) (slabs : SlabState) (between : View) (kept : SlabState) (now : View) (left : SlabState)
-    → GoneThrough number rounds counts sweep view slabs between kept → kept.moving ≡ Some next → Section number sweep found then between kept now left → left.moving ≡ Some (moved_on next found) → more ≡ counted found counts
+    → GoneThrough number rounds counts sweep view slabs between kept → kept.moving ≡ Some next → Section number sweep found then between kept now left → left.moving ≡ Some (moved_on next found) → more ≡ counts_with_found found counts
     → GoneThrough number (rounds + 1) more then view slabs now left
 gone_more number rounds counts more sweep found then next view slabs between kept now left gone here section moves is =
     let same : gone.next ≡ next = same_Some gone.next next (sym gone.runs_on ∙ here) in record {
       found = gone.found ++ found ∷ [];
       count = length-append gone.found (found ∷ []) ∙ ap (λ n. n + 1) gone.count;
-      counts_are = is ∙ (ap (counted found) gone.counts_are ∙ sym (counts_more gone.found found no_counts));
+      counts_are = is ∙ (ap (counts_with_found found) gone.counts_are ∙ sym (counts_more gone.found found no_counts));
       small = subst (AreBelow (rounds + 1 + 1)) (sym is) (small_more rounds found counts gone.small);
       sections = sections_more number Due gone.found sweep found then view slabs between kept now left gone.sections section;
       move = gone.move;
@@ -183,7 +183,7 @@ gone_more number rounds counts more sweep found then next view slabs between kep
 -- and then there was no memory for the next chunk's item
 pub lacks_next : (number rounds : ℕ) (counts : Counts) (sweep : Sweep) (move : Moving) (view : View) (slabs : SlabState) (between : View) (kept : SlabState) (now : View) (left : SlabState)
     → GoneThrough number rounds counts sweep view slabs between kept → rounds < view.setup.config.bulk → kept.moving ≡ Some move → move.at < (class_at kept move.src).per_page
-    → LacksCall (chunk_at_position move) between kept now left → LacksMemory number view slabs now left
+    → LacksCallToSave (chunk_at_position move) between kept now left → TurnLacksMemory number view slabs now left
 lacks_next number rounds counts sweep move view slabs between kept now left gone few here within lacks =
     let same : move ≡ gone.next = same_Some move gone.next (sym here ∙ gone.runs_on) in
     let count : length gone.found ≡ rounds = gone.count in record {

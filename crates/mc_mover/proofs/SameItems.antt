@@ -9,13 +9,13 @@ use Rattle.mc_pages.specs.Accounted.{truth}
 use Rattle.mc_pages.specs.declared.ids.ChunkId.{ChunkId}
 use Rattle.mc_pages.specs.SlabState.{SlabState, class_of_page}
 use Rattle.mc_pages.proofs.Chunks.{is_chunk-same}
-use Rattle.mc_stripe.specs.StripeState.{ReadyStripe, place_of}
+use Rattle.mc_stripe.specs.StripeState.{ReadyStripe, chunk_and_stamp}
 use Rattle.mc_core.specs.declared.event.Event.{Event}
 use Rattle.mc_core.specs.declared.event.Step.TheVariants as step
 use Rattle.mc_core.specs.declared.head.Tag.TheVariants.{Unlinked}
 use Rattle.mc_core.specs.declared.holding.Holding.{Holding}
-use Rattle.mc_core.specs.Columns.{head_in, holders, holds}
-use Rattle.mc_core.specs.Holdings.{holding_of, is_fresh, is_of}
+use Rattle.mc_core.specs.Columns.{head_in, holder_count, count_of_holdings}
+use Rattle.mc_core.specs.Holdings.{holding_of, is_fresh, is_of_chunk}
 use Rattle.mc_core.specs.Past.{Moment, moment_after}
 use Rattle.mc_core.specs.State.{item_at, room_in}
 use Rattle.mc_core.proofs.Base.{each_row, holds_row}
@@ -32,11 +32,11 @@ use Rattle.mc_mover.proofs.Moved.{item_there, leads_after, led_before, words_kno
 use Rattle.mc_mover.proofs.Saves.{popped_holds}
 
 -- what is found is counted
-found_counts : (chunk : ChunkId) (holdings : List Holding) (holding : Holding) → holding_of chunk holdings ≡ Some holding → 1 ≤ holds chunk holdings
+found_counts : (chunk : ChunkId) (holdings : List Holding) (holding : Holding) → holding_of chunk holdings ≡ Some holding → 1 ≤ count_of_holdings chunk holdings
 found_counts chunk [] holding found = absurd (cc)
 found_counts chunk (first ∷ holdings) holding found =
-    let sum : holds chunk (first ∷ holdings) ≡ truth (is_of chunk first) + holds chunk holdings = sum_by-cons (λ (h : Holding). truth (is_of chunk h)) first holdings in
-    elim (cases_Bool (is_of chunk first)) [
+    let sum : count_of_holdings chunk (first ∷ holdings) ≡ truth (is_of_chunk chunk first) + count_of_holdings chunk holdings = sum_by-cons (λ (h : Holding). truth (is_of_chunk chunk h)) first holdings in
+    elim (cases_Bool (is_of_chunk chunk first)) [
       | inl here ↦ (let one = ap truth here in omega arith)
       | inr further ↦
           (let rest : holding_of chunk holdings ≡ Some holding = sym (ap (λ (b : Bool). cond b (Some first) (holding_of chunk holdings)) further) ∙ found in
@@ -60,15 +60,15 @@ module _ (view now : View) (slabs : SlabState) (old chunk : ChunkId) (pops : Pop
   row_is : slice_index_or after.state.holdings pops.happens.was.hand [] ≡ view.row.holdings ++ last ∷ []
   row_is = sym (ap (λ (v : View). v.row.holdings) pops.happens.is) ∙ popped_holds view now slabs old chunk pops
 
-  once : holds chunk (view.row.holdings ++ last ∷ []) ≤ 1
+  once : count_of_holdings chunk (view.row.holdings ++ last ∷ []) ≤ 1
   once =
       let lawful = lawful_events pops.happens.was.moment event pops.happens.was.lawful pops.happens.allowed in
-      let P : Holding → Type 0 = λ holding. is_fresh holding ≡ true → ((head_in after.state.table after.state.heads holding.chunk).tag ≡ Unlinked) × (holders holding.chunk after.state.holdings ≡ 1) in
+      let P : Holding → Type 0 = λ holding. is_fresh holding ≡ true → ((head_in after.state.table after.state.heads holding.chunk).tag ≡ Unlinked) × (holder_count holding.chunk after.state.holdings ≡ 1) in
       let row = each_row P after.state.holdings pops.happens.was.hand lawful.held.alone in
       let alone = All-contains P (slice_index_or after.state.holdings pops.happens.was.hand []) last row (subst (λ (l : List Holding). Rattle.std.specs.Prelude.Contains l last) (sym row_is) (Contains-push view.row.holdings last)) refl in
       let most = holds_row chunk after.state.holdings pops.happens.was.hand in
       let one = alone.1 in
-      subst (λ (l : List Holding). holds chunk l ≤ 1) row_is (omega (arith, most, one))
+      subst (λ (l : List Holding). count_of_holdings chunk l ≤ 1) row_is (omega (arith, most, one))
 
   none_yet : holding_of chunk view.row.holdings ≡ None
   none_yet = by (holding_of chunk view.row.holdings) refl
@@ -78,8 +78,8 @@ module _ (view now : View) (slabs : SlabState) (old chunk : ChunkId) (pops : Pop
       by (Some other) found =
           absurd (
           let some = found_counts chunk view.row.holdings other found in
-          let all : holds chunk (view.row.holdings ++ last ∷ []) ≡ holds chunk view.row.holdings + holds chunk (last ∷ []) = sum_by-append (λ (h : Holding). truth (is_of chunk h)) view.row.holdings (last ∷ []) in
-          let one : holds chunk (last ∷ []) ≡ 1 = ap (λ (b : Bool). count_by (λ (h : Holding). b) (last ∷ [])) (is_chunk-same chunk) in
+          let all : count_of_holdings chunk (view.row.holdings ++ last ∷ []) ≡ count_of_holdings chunk view.row.holdings + count_of_holdings chunk (last ∷ []) = sum_by-append (λ (h : Holding). truth (is_of_chunk chunk h)) view.row.holdings (last ∷ []) in
+          let one : count_of_holdings chunk (last ∷ []) ≡ 1 = ap (λ (b : Bool). count_by (λ (h : Holding). b) (last ∷ [])) (is_chunk-same chunk) in
           let most = once in
           omega (arith, some, all, one, most))
 
@@ -89,7 +89,7 @@ module _ (view now : View) (slabs : SlabState) (old chunk : ChunkId) (pops : Pop
   pub copy_found : holding_of chunk now.row.holdings ≡ Some (copy_holding old chunk (pops.finds.fit.head.issue + 1) (room_in view.setup.table (class_of_page slabs old.page)))
   copy_found =
       ap (holding_of chunk) (popped_holds view now slabs old chunk pops)
-      ∙ (find-append (is_of chunk) view.row.holdings (last ∷ [])
+      ∙ (find-append (is_of_chunk chunk) view.row.holdings (last ∷ [])
       ∙ (ap (λ (o : Option Holding). option_or o (holding_of chunk (last ∷ []))) none_yet
       ∙ (ap (λ (b : Bool). cond b (Some last) None) (is_chunk-same chunk)
       ∙ ap (λ (s : Setup). Some (copy_holding old chunk (pops.finds.fit.head.issue + 1) (room_in s.table (class_of_page slabs old.page)))) room_here)))
@@ -107,7 +107,7 @@ rescues_keep number stripe chunk slabs value view kept left now rescues =
     let there : item_at moves.condemns.happens.was.moment.state chunk ≡ item_with key stamp words =
     item_there chunk copy key stamp words rescues.popped moves.filled moves.copies.is issue room found moves.fits stripe value moves.lifted moves.condemned moves.condemns in
     let led = led_before chunk copy key stamp words rescues.popped moves.filled moves.copies.is issue room found moves.fits stripe value moves.lifted moves.condemned moves.condemns in
-    let leads = ap (λ (v : ReadyStripe). place_of v.state key) moves.left_is
+    let leads = ap (λ (v : ReadyStripe). chunk_and_stamp v.state key) moves.left_is
     ∙ leads_after chunk copy key stamp words rescues.popped moves.filled moves.copies.is issue room found moves.fits stripe value moves.lifted moves.condemned moves.condemns number in
     let known = words_known chunk copy key stamp words rescues.popped moves.filled moves.copies.is issue room found moves.fits stripe value moves.lifted moves.condemned moves.condemns in
     subst (λ (item : List ℕ). KeepsItem chunk copy item value left view now) (sym there) (record {

@@ -8,22 +8,22 @@ use Rattle.std.proofs.lemmas.List.Sums.{fold-append}
 use Rattle.mc_pages.specs.declared.ids.ChunkId.{ChunkId}
 use Rattle.mc_pages.specs.Accounted.{IsAccounted, is_cut, truth}
 use Rattle.mc_pages.specs.Changes.{after_back, after_replace}
-use Rattle.mc_pages.specs.ClassState.{is_chunk, times}
-use Rattle.mc_pages.specs.SlabState.{IsClass, SlabState, class_at}
+use Rattle.mc_pages.specs.ClassState.{is_chunk, times_in}
+use Rattle.mc_pages.specs.SlabState.{HasClass, SlabState, class_at}
 use Rattle.mc_pages.proofs.Chunks.{is_chunk-same, same_from_is_chunk, times-cons}
 use Rattle.mc_pages.proofs.Cleared.{truth-le_one}
 use Rattle.mc_stripe.specs.Changes.{after_reserve}
-use Rattle.mc_stripe.specs.StripeState.{ReadyStripe, place_of}
+use Rattle.mc_stripe.specs.StripeState.{ReadyStripe, chunk_and_stamp}
 use Rattle.mc_core.specs.declared.head.Head.{Head}
 use Rattle.mc_core.specs.declared.holding.Holding.{Holding}
 use Rattle.mc_core.specs.declared.holding.Kind.{Kind}
 use Rattle.mc_core.specs.declared.holding.Kind.TheVariants.{Fresh, Reference}
 use Rattle.mc_core.specs.declared.look.Look.{Look}
 use Rattle.mc_core.specs.declared.look.Look.TheVariants.{PoppedOff, Saw, SawStripe}
-use Rattle.mc_core.specs.Chunks.{handed_out}
+use Rattle.mc_core.specs.Chunks.{head_after_hand_out}
 use Rattle.mc_core.specs.Evictions.{has_copy}
 use Rattle.mc_core.specs.Head.{is_dead}
-use Rattle.mc_core.specs.Holdings.{has_fresh, holding_of, is_copy_kind, is_fresh, is_fresh_kind, is_of}
+use Rattle.mc_core.specs.Holdings.{has_fresh, holding_of, is_copy_kind, is_fresh, is_fresh_kind, is_of_chunk}
 use Rattle.mc_core.specs.Looks.{is_found_alive, stays_alive, stays_linked, was_linked}
 use Rattle.mc_core.specs.Seen.{last_read}
 use Rattle.mc_words.specs.hand.View.{View}
@@ -61,14 +61,14 @@ module _ (view made : View) (slabs : SlabState) (mine : view.slabs ≡ Some slab
   looks_are : made.row.looks ≡ view.row.looks ++ SawStripe number word ∷ []
   looks_are = ap (λ (v : View). v.row.looks) is ∙ ap (λ (b : Bool). if b then view.row.looks ++ SawStripe number word ∷ [] else view.row.looks) (ap is_some mine)
 
-  pub made_reaches : (number' : ℕ) (value' : ReadyStripe) → IsLentStripe view number value → place_of value.state key ≡ Some (chunk, stamp) → was_linked view.row.looks chunk ≡ true → number' ≡ number → value' ≡ after_reserve value → slice_index_or made.stripes number' None ≡ Some value'
+  pub made_reaches : (number' : ℕ) (value' : ReadyStripe) → IsLentStripe view number value → chunk_and_stamp value.state key ≡ Some (chunk, stamp) → was_linked view.row.looks chunk ≡ true → number' ≡ number → value' ≡ after_reserve value → slice_index_or made.stripes number' None ≡ Some value'
       → Reaches made slabs number' value' key chunk stamp (word_read view chunk 0)
   made_reaches number' value' lent leads linked numbers values held = record {
     mine = ap (λ (v : View). v.slabs) is ∙ mine;
     leads = record {
       mine = held;
       of_key = ap (λ (v : View). key % v.setup.config.stripes) is ∙ (lent.keys key (chunk, stamp) leads ∙ sym numbers);
-      leads = ap (λ (v : ReadyStripe). place_of v.state key) values ∙ leads;
+      leads = ap (λ (v : ReadyStripe). chunk_and_stamp v.state key) values ∙ leads;
     };
     linked = ap (λ (looks : List Look). was_linked looks chunk) looks_are ∙ (fold-append (stays_linked chunk) false view.row.looks (SawStripe number word ∷ []) ∙ linked);
     read_is = ap (λ (looks : List Look). fold (last_read chunk 0) None looks) looks_are ∙ fold-append (last_read chunk 0) None view.row.looks (SawStripe number word ∷ []);
@@ -88,8 +88,8 @@ module _ (view now : View) (slabs : SlabState) (chunk copy : ChunkId) (pops : Po
       let head = pops.finds.fit.head in record {
         mine = ap (λ (v : View). v.slabs) pops.is;
         leads = subst (λ (v : View). LeadsTo v number value key chunk stamp) (sym pops.is) (record { mine = seen.leads.mine; of_key = seen.leads.of_key; leads = seen.leads.leads });
-        linked = ap (λ (v : View). was_linked v.row.looks chunk) pops.is ∙ (fold-append (stays_linked chunk) false pops.seen.row.looks (PoppedOff copy chunk (handed_out head) ∷ []) ∙ seen.linked);
-        read_is = ap (λ (v : View). word_read v chunk 0) pops.is ∙ (fold-append (last_read chunk 0) None pops.seen.row.looks (PoppedOff copy chunk (handed_out head) ∷ []) ∙ seen.read_is);
+        linked = ap (λ (v : View). was_linked v.row.looks chunk) pops.is ∙ (fold-append (stays_linked chunk) false pops.seen.row.looks (PoppedOff copy chunk (head_after_hand_out head) ∷ []) ∙ seen.linked);
+        read_is = ap (λ (v : View). word_read v chunk 0) pops.is ∙ (fold-append (last_read chunk 0) None pops.seen.row.looks (PoppedOff copy chunk (head_after_hand_out head) ∷ []) ∙ seen.read_is);
       }
 
 same_holding : (a b : Holding) → Some a ≡ Some b → a ≡ b
@@ -98,7 +98,7 @@ same_holding a b e = cc
 -- a chunk that was got is the hand's last, and its only fresh one
 found_not_fresh : (chunk : ChunkId) (holdings : List Holding) (holding : Holding) → holding_of chunk holdings ≡ Some holding → has_fresh holdings ≡ false → is_fresh holding ≡ false
 found_not_fresh chunk [] holding found none = absurd (cc)
-found_not_fresh chunk (first ∷ holdings) holding found none = by (is_of chunk first) found (is_fresh first) refl none (found_not_fresh chunk holdings holding)
+found_not_fresh chunk (first ∷ holdings) holding found none = by (is_of_chunk chunk first) found (is_fresh first) refl none (found_not_fresh chunk holdings holding)
   where
     by : (b : Bool) → (if b then Some first else holding_of chunk holdings) ≡ Some holding → (f : Bool) → is_fresh first ≡ f → (f || has_fresh holdings) ≡ false → (holding_of chunk holdings ≡ Some holding → has_fresh holdings ≡ false → is_fresh holding ≡ false) → is_fresh holding ≡ false
     by true found false is none next = subst (λ (h : Holding). is_fresh h ≡ false) (same_holding first holding found) is
@@ -118,13 +118,13 @@ module _ (holdings : List Holding) (holding : Holding) (fresh : has_fresh holdin
       by None is_none = is_none
       by (Some other) found =
           absurd (
-          let same : Some is.holding ≡ Some other = sym is.found ∙ (find-append (is_of own_chunk) holdings (holding ∷ []) ∙ ap (λ (o : Option Holding). option_or o (holding_of own_chunk (holding ∷ []))) found) in
+          let same : Some is.holding ≡ Some other = sym is.found ∙ (find-append (is_of_chunk own_chunk) holdings (holding ∷ []) ∙ ap (λ (o : Option Holding). option_or o (holding_of own_chunk (holding ∷ []))) found) in
           let stale : is_fresh other ≡ false = found_not_fresh own_chunk holdings other found fresh in
           let never : true ≡ false = sym is.fresh ∙ (ap is_fresh (same_holding is.holding other same) ∙ stale) in cc)
 
   pub found_last : holding_of own_chunk (holdings ++ holding ∷ []) ≡ Some holding
   found_last =
-      find-append (is_of own_chunk) holdings (holding ∷ [])
+      find-append (is_of_chunk own_chunk) holdings (holding ∷ [])
       ∙ (ap (λ (o : Option Holding). option_or o (holding_of own_chunk (holding ∷ []))) none_before ∙ ap (λ (b : Bool). if b then Some holding else None) (is_chunk-same own_chunk))
 
 -- what the hand holds then
@@ -134,7 +134,7 @@ popped_holds view now slabs chunk copy pops =
     ap (λ (v : View). v.row.holdings) pops.is ∙ ap (λ (hs : List Holding). hs ++ copy_holding chunk copy (pops.finds.fit.head.issue + 1) (Rattle.mc_core.specs.State.room_in pops.seen.setup.table (Rattle.mc_pages.specs.SlabState.class_of_page slabs chunk.page)) ∷ []) seen
 
 -- a look at a free chunk finds no handed-out one dead
-others_alive : (looks : List Look) (other : ChunkId) (head : Head) (chunks : List ChunkId) → times other chunks ≡ 0 → list_all (is_found_alive looks) chunks ≡ true → list_all (is_found_alive (looks ++ Saw other head ∷ [])) chunks ≡ true
+others_alive : (looks : List Look) (other : ChunkId) (head : Head) (chunks : List ChunkId) → times_in other chunks ≡ 0 → list_all (is_found_alive looks) chunks ≡ true → list_all (is_found_alive (looks ++ Saw other head ∷ [])) chunks ≡ true
 others_alive looks other head [] none all = refl
 others_alive looks other head (chunk ∷ chunks) none all =
     let parts = and_parts (is_found_alive looks chunk) (list_all (is_found_alive looks) chunks) all in
@@ -149,7 +149,7 @@ same_chunk : (a b : ChunkId) → Some a ≡ Some b → b ≡ a
 same_chunk a b e = cc
 
 -- nor does a walk along the free list
-pub alive_passed : (page : ℕ) (slabs : SlabState) (order chunks : List ChunkId) (view now : View) → view.slabs ≡ Some slabs → ((other : ChunkId) → 1 ≤ times other chunks → times other order ≡ 0) → list_all (is_found_alive view.row.looks) order ≡ true → PassesAll page chunks view now
+pub alive_passed : (page : ℕ) (slabs : SlabState) (order chunks : List ChunkId) (view now : View) → view.slabs ≡ Some slabs → ((other : ChunkId) → 1 ≤ times_in other chunks → times_in other order ≡ 0) → list_all (is_found_alive view.row.looks) order ≡ true → PassesAll page chunks view now
     → list_all (is_found_alive now.row.looks) order ≡ true
 alive_passed page slabs order [] view now mine apart all same = ap (λ (v : View). list_all (is_found_alive v.row.looks) order) same ∙ all
 alive_passed page slabs order (chunk ∷ chunks) view now mine apart all (next, over, rest) =
@@ -160,15 +160,15 @@ alive_passed page slabs order (chunk ∷ chunks) view now mine apart all (next, 
     by (inl (on, same)) = (ap (λ (v : View). v.slabs) same ∙ mine, ap (λ (v : View). list_all (is_found_alive v.row.looks) order) same ∙ all)
     by (inr (off, sees)) =
         let asked : sees.chunk ≡ chunk = same_chunk chunk sees.chunk sees.is_asked in
-        let first : 1 ≤ times chunk (chunk ∷ chunks) = let sum = times-cons chunk chunk chunks in let one = ap truth (is_chunk-same chunk) in omega arith in
-        let none : times sees.chunk order ≡ 0 = ap (λ (c : ChunkId). times c order) asked ∙ apart chunk first in
+        let first : 1 ≤ times_in chunk (chunk ∷ chunks) = let sum = times-cons chunk chunk chunks in let one = ap truth (is_chunk-same chunk) in omega arith in
+        let none : times_in sees.chunk order ≡ 0 = ap (λ (c : ChunkId). times_in c order) asked ∙ apart chunk first in
         let looks : next.row.looks ≡ view.row.looks ++ Saw sees.chunk sees.head ∷ [] = ap (λ (v : View). v.row.looks) (sees.is ∙ seen_is view sees.chunk sees.head slabs mine) in (
           ap (λ (v : View). v.slabs) sees.is ∙ seen_slabs view sees.chunk sees.head slabs mine,
           ap (λ (l : List Look). list_all (is_found_alive l) order) looks ∙ others_alive view.row.looks sees.chunk sees.head order none all,
         )
 
 -- a free chunk isn't handed out
-pub free_apart : (view : View) → LawfulView view → (slabs : SlabState) → view.slabs ≡ Some slabs → (class : ℕ) → IsClass slabs class → (chunk : ChunkId) → 1 ≤ times chunk (class_at slabs class).free → times chunk (class_at slabs class).order ≡ 0
+pub free_apart : (view : View) → LawfulView view → (slabs : SlabState) → view.slabs ≡ Some slabs → (class : ℕ) → HasClass slabs class → (chunk : ChunkId) → 1 ≤ times_in chunk (class_at slabs class).free → times_in chunk (class_at slabs class).order ≡ 0
 free_apart view was slabs mine class is chunk there =
     let all : IsAccounted slabs = subst IsAccounted (slabs_here view was slabs mine).1 was.lawful.paged.of_table.accounted in
     let sum = all.chunks class chunk is in

@@ -7,7 +7,7 @@ use Rattle.mc_pages.specs.declared.moves.Found.{Found}
 use Rattle.mc_pages.specs.declared.moves.Found.TheVariants.{Cleared, Rescued, Evicted, Busy, Locked, Already}
 use Rattle.mc_pages.specs.Accounted.{is_cleared, is_cut}
 use Rattle.mc_pages.specs.ClassState.{is_chunk}
-use Rattle.mc_pages.specs.SlabState.{IsClass, SlabState}
+use Rattle.mc_pages.specs.SlabState.{HasClass, SlabState}
 use Rattle.mc_pages.proofs.Chunks.{is_chunk-same}
 use Rattle.mc_core.specs.declared.head.Head.{Head}
 use Rattle.mc_core.specs.declared.look.Look.{Look}
@@ -38,7 +38,7 @@ module _ (view now : View) (slabs : SlabState) (mine : view.slabs ≡ Some slabs
       ∙ (fold-append (stays_linked chunk) false view.row.looks (Saw chunk head ∷ []) ∙ or_right (was_linked view.row.looks chunk) (is_chunk chunk chunk && is_linked head.tag) (and_from _ _ (is_chunk-same chunk) linked))
 
   -- one that was found out
-  pub out_found : LawfulView now → has_chunk now.setup.table chunk ≡ true → (class : ℕ) → IsClass slabs class → is_cut slabs class chunk ≡ true → is_out head.tag ≡ true → is_cleared slabs class chunk ≡ true
+  pub out_found : LawfulView now → has_chunk now.setup.table chunk ≡ true → (class : ℕ) → HasClass slabs class → is_cut slabs class chunk ≡ true → is_out head.tag ≡ true → is_cleared slabs class chunk ≡ true
   out_found was near class valid cut out =
       let mine' : now.slabs ≡ Some slabs = ap (λ (v : View). v.slabs) is ∙ seen_slabs view chunk head slabs mine in
       let last : seen_head now.row.looks chunk ≡ Some head = ap (λ (v : View). seen_head v.row.looks chunk) is ∙ seen_last view chunk head slabs mine in

@@ -10,9 +10,9 @@ use Rattle.mc_pages.specs.SlabState.{SlabState}
 use Rattle.mc_stripe.specs.Changes.{after_reserve}
 use Rattle.mc_stripe.specs.declared.history.Call.{Call}
 use Rattle.mc_stripe.specs.declared.history.Call.TheVariants.{Evict, Rescue}
-use Rattle.mc_stripe.specs.StripeState.{ReadyStripe, place_of}
+use Rattle.mc_stripe.specs.StripeState.{ReadyStripe, chunk_and_stamp}
 use Rattle.mc_core.specs.declared.ids.Ids.{Ids}
-use Rattle.mc_core.specs.Past.{Own, Saying}
+use Rattle.mc_core.specs.Past.{Own, StoredItem}
 use Rattle.mc_words.specs.hand.View.{Setup, View}
 use Rattle.mc_words.specs.item.Calls.{with_own_call}
 use Rattle.mc_words.specs.item.Removal.{FindsHeld}
@@ -30,8 +30,8 @@ use Rattle.mc_mover.specs.declared.sweep.Sweep.TheVariants.{Due}
 use Rattle.mc_mover.specs.Saving.{BothDoing, Evicts, FailsToEvict, FailsToMove, FailsToRescue, Rescues, SweepsToEvict, SweepsToRescue}
 use Rattle.mc_mover.specs.Linked.{HoldsUp, ReachesStripe, SavesAndClears, SavesAs, SavesWith, StripeDoing}
 use Rattle.mc_mover.specs.Visiting.{Visits}
-use Rattle.mc_mover.specs.Turning.{GoesOn, Finishes, LacksMemory, Section, Sections, Turns, counted, counts_of, no_counts}
-use Rattle.mc_mover.specs.Telling.{IsSaving, TellsAsCounted, TellsOfFewer, called_key, counts_in, is_eviction, is_rescue, with_own_calls}
+use Rattle.mc_mover.specs.Turning.{GoesOn, Finishes, TurnLacksMemory, Section, Sections, Turns, counts_with_found, counts_with_all, no_counts}
+use Rattle.mc_mover.specs.Telling.{IsSaving, RecordsAsCounted, RecordsFewer, called_key, counts_in, is_eviction, is_rescue, with_own_calls}
 use Rattle.mc_mover.proofs.Copied.{copied_keeps}
 use Rattle.mc_mover.proofs.HoldsSlabs.{wait_keeps}
 use Rattle.mc_mover.proofs.Kept.{finds_keep, passes_keep, swept_keep, to_evict_keeps, to_rescue_keeps}
@@ -40,7 +40,7 @@ use Rattle.mc_mover.proofs.OwnCalls.{calls_more}
 
 -- the arena, the stamps, what was said, and the own calls
 abbrev Told : Type 0
-Told = Setup × Ids × List Saying × List Own
+Told = Setup × Ids × List StoredItem × List Own
 
 abbrev told_of : View → Told
 told_of view = (view.setup, view.row.ids, view.row.knows.said, view.row.knows.mine)
@@ -78,7 +78,7 @@ pops_told view slabs old chunk now pops = ap told_of pops.is ∙ (ap told_of pop
 
 -- a call on a key that leads somewhere was told
 abbrev TellsKey : ℕ → ℕ → (ℕ → Call) → ReadyStripe → View → View → Type 0
-TellsKey number stripe call value view now = (key : ℕ) × (place : ChunkId × ℕ) × (place_of value.state key ≡ Some place) × (told_of now ≡ told_call number stripe (call key) (told_of view))
+TellsKey number stripe call value view now = (key : ℕ) × (place : ChunkId × ℕ) × (chunk_and_stamp value.state key ≡ Some place) × (told_of now ≡ told_call number stripe (call key) (told_of view))
 
 evicts_tell : (number stripe : ℕ) (chunk : ChunkId) (slabs : SlabState) (value : ReadyStripe) (view : View) (kept : SlabState) (left : ReadyStripe) (now : View)
     → Evicts number stripe chunk slabs value view kept left now → TellsKey number stripe (λ key. Evict number key) value view now
@@ -102,7 +102,7 @@ rescues_tell number stripe chunk slabs value view kept left now rescues =
     ap told_of copies.is ∙ copied_keeps chunk rescues.copy told_of (λ place word v. refl) 0 (item_with moves.key moves.stamp copies.words) rescues.popped in (
       moves.key,
       (chunk, took.stamp),
-      ap (λ k. place_of value.state k) (sym same) ∙ took.led,
+      ap (λ k. chunk_and_stamp value.state k) (sym same) ∙ took.led,
       ap told_of moves.is ∙ ap (told_call number stripe (Rescue number moves.key)) (ap told_of took.is ∙ (filled ∙ pops_told view slabs chunk rescues.copy rescues.popped rescues.pops)),
     )
   where
@@ -202,18 +202,18 @@ section_tells number sweep found next view slabs now left section =
 record TellsAll (number : ℕ) (found : List Found) (view now : View) : Type 0 where
   pub calls : List Call
   pub own : All (IsSaving number) calls
-  pub evicted : (counts : Counts) → (counts_of found counts).evicted ≡ counts.evicted + count_by is_eviction calls
-  pub rescued : (counts : Counts) → (counts_of found counts).rescued ≡ counts.rescued + count_by is_rescue calls
+  pub evicted : (counts : Counts) → (counts_with_all found counts).evicted ≡ counts.evicted + count_by is_eviction calls
+  pub rescued : (counts : Counts) → (counts_with_all found counts).rescued ≡ counts.rescued + count_by is_rescue calls
   pub come : told_of now ≡ told_calls number calls (told_of view)
 
 -- what was found first, which tells of nothing
-quiet_first : (number : ℕ) (first : Found) (found : List Found) (view next now : View) → ((counts : Counts) → (counted first counts).evicted ≡ counts.evicted) → ((counts : Counts) → (counted first counts).rescued ≡ counts.rescued)
+quiet_first : (number : ℕ) (first : Found) (found : List Found) (view next now : View) → ((counts : Counts) → (counts_with_found first counts).evicted ≡ counts.evicted) → ((counts : Counts) → (counts_with_found first counts).rescued ≡ counts.rescued)
     → told_of next ≡ told_of view → TellsAll number found next now → TellsAll number (first ∷ found) view now
 quiet_first number first found view next now no_eviction no_rescue same rest = record {
   calls = rest.calls;
   own = rest.own;
-  evicted = λ counts. rest.evicted (counted first counts) ∙ ap (λ n. n + count_by is_eviction rest.calls) (no_eviction counts);
-  rescued = λ counts. rest.rescued (counted first counts) ∙ ap (λ n. n + count_by is_rescue rest.calls) (no_rescue counts);
+  evicted = λ counts. rest.evicted (counts_with_found first counts) ∙ ap (λ n. n + count_by is_eviction rest.calls) (no_eviction counts);
+  rescued = λ counts. rest.rescued (counts_with_found first counts) ∙ ap (λ n. n + count_by is_rescue rest.calls) (no_rescue counts);
   come = rest.come ∙ ap (told_calls number rest.calls) same;
 }
 
@@ -229,18 +229,18 @@ found_first number Evicted found view next now (key, tells) rest = record {
   calls = Evict number key ∷ rest.calls;
   own = All-cons (IsSaving number) (Evict number key) rest.calls refl rest.own;
   evicted = λ counts.
-      let more = rest.evicted (counted Evicted counts) in
+      let more = rest.evicted (counts_with_found Evicted counts) in
       let count : count_by is_eviction (Evict number key ∷ rest.calls) ≡ 1 + count_by is_eviction rest.calls = sum_by-cons (λ (call : Call). truth (is_eviction call)) (Evict number key) rest.calls in
       omega (arith, more, count);
-  rescued = λ counts. rest.rescued (counted Evicted counts) ∙ ap (λ n. counts.rescued + n) (sym (count_other is_rescue (Evict number key) rest.calls refl));
+  rescued = λ counts. rest.rescued (counts_with_found Evicted counts) ∙ ap (λ n. counts.rescued + n) (sym (count_other is_rescue (Evict number key) rest.calls refl));
   come = rest.come ∙ ap (told_calls number rest.calls) tells;
 }
 found_first number Rescued found view next now (key, tells) rest = record {
   calls = Rescue number key ∷ rest.calls;
   own = All-cons (IsSaving number) (Rescue number key) rest.calls refl rest.own;
-  evicted = λ counts. rest.evicted (counted Rescued counts) ∙ ap (λ n. counts.evicted + n) (sym (count_other is_eviction (Rescue number key) rest.calls refl));
+  evicted = λ counts. rest.evicted (counts_with_found Rescued counts) ∙ ap (λ n. counts.evicted + n) (sym (count_other is_eviction (Rescue number key) rest.calls refl));
   rescued = λ counts.
-      let more = rest.rescued (counted Rescued counts) in
+      let more = rest.rescued (counts_with_found Rescued counts) in
       let count : count_by is_rescue (Rescue number key ∷ rest.calls) ≡ 1 + count_by is_rescue rest.calls = sum_by-cons (λ (call : Call). truth (is_rescue call)) (Rescue number key) rest.calls in
       omega (arith, more, count);
   come = rest.come ∙ ap (told_calls number rest.calls) tells;
@@ -274,7 +274,7 @@ finishes_told number view slabs now left finishes = cuts_told _ finishes.moved _
 
 -- what was told under one hold of the slabs' lock, and of what was found, as the hand knows it afterwards
 module _ (number : ℕ) (view : View) (was : LawfulView view) (own : view.row.ids.number ≡ Some number) (now taken last : View) (before : told_of taken ≡ told_of view) (after : told_of now ≡ told_of last) where
-  tells_found : (found : List Found) (looked : View) → TellsAll number found taken looked → told_of last ≡ told_of looked → (counts : Counts) → counts ≡ counts_of found no_counts → TellsAsCounted number counts view now
+  tells_found : (found : List Found) (looked : View) → TellsAll number found taken looked → told_of last ≡ told_of looked → (counts : Counts) → counts ≡ counts_with_all found no_counts → RecordsAsCounted number counts view now
   tells_found found looked tells ends counts are =
       let all : told_of now ≡ told_calls number tells.calls (told_of view) = after ∙ (ends ∙ (tells.come ∙ ap (told_calls number tells.calls) before)) in
       let come = ap (λ (t : Told). t.3) all in record {
@@ -288,7 +288,7 @@ module _ (number : ℕ) (view : View) (was : LawfulView view) (own : view.row.id
         ids = ap (λ (t : Told). t.1) all;
       }
 
-  tells_turn : (turn : Turn) (slabs left : SlabState) → Turns number turn taken slabs last left → TellsAsCounted number (counts_in turn) view now
+  tells_turn : (turn : Turn) (slabs left : SlabState) → Turns number turn taken slabs last left → RecordsAsCounted number (counts_in turn) view now
   tells_turn Idle slabs left (none, same, is) = tells_found [] taken (sections_tell number Due [] Due taken slabs taken slabs (refl, refl, refl)) (ap told_of same) no_counts refl
   tells_turn (Went counts) slabs left turns =
       let looks = turns.looks in
@@ -297,17 +297,17 @@ module _ (number : ℕ) (view : View) (was : LawfulView view) (own : view.row.id
       let looks = turns.looks in
       tells_found looks.found turns.looked (sections_tell number Due looks.found looks.last taken slabs turns.looked turns.kept looks.sections) (finishes_told number turns.looked turns.kept last left turns.ends) counts looks.counts_are
 
-  tells_fewer : (slabs left : SlabState) → LacksMemory number taken slabs last left → TellsOfFewer number view now
+  tells_fewer : (slabs left : SlabState) → TurnLacksMemory number taken slabs last left → RecordsFewer number view now
   tells_fewer slabs left lacks =
       let few : length lacks.found < view.setup.config.bulk = subst (λ (t : Told). length lacks.found < t.0.config.bulk) before lacks.few in
       let given : told_of last ≡ told_of lacks.looked = ap told_of lacks.lacks.does.1.does.2.0 ∙ taken_told _ _ _ lacks.kept last left lacks.lacks.does.1 in
-      (lacks.found, few, tells_found lacks.found lacks.looked (sections_tell number Due lacks.found lacks.last taken slabs lacks.looked lacks.kept lacks.sections) given (counts_of lacks.found no_counts) refl)
+      (lacks.found, few, tells_found lacks.found lacks.looked (sections_tell number Due lacks.found lacks.last taken slabs lacks.looked lacks.kept lacks.sections) given (counts_with_all lacks.found no_counts) refl)
 
 -- a turn tells as many evictions and rescues as it counts
-pub turn_told : (number : ℕ) (turn : Turn) (view now : View) → LawfulView view → view.row.ids.number ≡ Some number → HoldsSlabs (Turns number turn) view now → TellsAsCounted number (counts_in turn) view now
+pub turn_told : (number : ℕ) (turn : Turn) (view now : View) → LawfulView view → view.row.ids.number ≡ Some number → HoldsSlabs (Turns number turn) view now → RecordsAsCounted number (counts_in turn) view now
 turn_told number turn view now was own holds =
     tells_turn number view was own now holds.taken holds.last (wait_keeps told_of (λ word v. refl) (λ slabs v. refl) view holds.found holds.taken holds.waits) (ap told_of holds.given) turn holds.found holds.left holds.does
 
-pub fewer_told : (number : ℕ) (view now : View) → LawfulView view → view.row.ids.number ≡ Some number → HoldsSlabs (LacksMemory number) view now → TellsOfFewer number view now
+pub fewer_told : (number : ℕ) (view now : View) → LawfulView view → view.row.ids.number ≡ Some number → HoldsSlabs (TurnLacksMemory number) view now → RecordsFewer number view now
 fewer_told number view now was own holds =
     tells_fewer number view was own now holds.taken holds.last (wait_keeps told_of (λ word v. refl) (λ slabs v. refl) view holds.found holds.taken holds.waits) (ap told_of holds.given) holds.found holds.left holds.does

@@ -10,7 +10,7 @@ use Rattle.mc_pages.specs.declared.moves.Found.TheVariants.{Cleared, Rescued, Ev
 use Rattle.mc_pages.specs.Moves.{is_held_up}
 use Rattle.mc_pages.specs.SlabState.{SlabState}
 use Rattle.mc_pages.proofs.Chunks.{is_chunk-same}
-use Rattle.mc_stripe.specs.StripeState.{ReadyStripe, place_of}
+use Rattle.mc_stripe.specs.StripeState.{ReadyStripe, chunk_and_stamp}
 use Rattle.mc_core.specs.declared.head.Head.{Head}
 use Rattle.mc_core.specs.Head.{is_dead, is_free}
 use Rattle.mc_core.specs.declared.look.Look.{Look}
@@ -26,19 +26,19 @@ use Rattle.mc_words.specs.rule.Happens.{Happens}
 use Rattle.mc_words.specs.hand.Idle.{has_no_stripes}
 use Rattle.mc_words.specs.item.Items.{word_read}
 use Rattle.mc_words.specs.lock.Lent.{BeginsWithSeen, IsLentStripe}
-use Rattle.mc_words.specs.lock.Out.{has_no_stripe, with_stripe, without_stripe}
+use Rattle.mc_words.specs.lock.Out.{locks_have_no_stripe, locks_with_stripe, without_stripe}
 use Rattle.mc_words.specs.page.Owner.{is_unused}
 use Rattle.mc_words.specs.hand.Views.{stripe_given, stripe_taken}
 use Rattle.mc_words.proofs.Locks.Unlocked.{no_stripe_from}
 use Rattle.mc_mover.specs.declared.sweep.Sweep.{Sweep}
 use Rattle.mc_mover.specs.declared.sweep.Sweep.TheVariants.{Done}
-use Rattle.mc_mover.specs.Linked.{FindsGone, HoldsUp, OnlyGives, ReachesStripe, ReadsKey, SavesAs, SavesAndClears, StripeDoing, VisitsLinked}
+use Rattle.mc_mover.specs.Linked.{FindsKeyElsewhere, HoldsUp, OnlyGives, ReachesStripe, ReadsKey, SavesAs, SavesAndClears, StripeDoing, VisitsLinked}
 
 -- a stripe's lock that came and went
-pub stripe_back : (hand : Hand) (stripe : ℕ) → has_no_stripes hand.seat.me.0 ≡ true → without_stripe (with_stripe stripe hand.locks) ≡ hand.locks
+pub stripe_back : (hand : Hand) (stripe : ℕ) → has_no_stripes hand.seat.me.0 ≡ true → without_stripe (locks_with_stripe stripe hand.locks) ≡ hand.locks
 stripe_back hand stripe none = by hand.locks (no_stripe_from hand.seat.me.0 hand.locks hand.noted.4 none)
   where
-    by : (locks : Locks) → has_no_stripe locks ≡ true → without_stripe (with_stripe stripe locks) ≡ locks
+    by : (locks : Locks) → locks_have_no_stripe locks ≡ true → without_stripe (locks_with_stripe stripe locks) ≡ locks
     by Neither none = refl
     by Slabs none = refl
     by (Stripe other) none = absurd (cc)
@@ -126,11 +126,11 @@ dead_unused (Some head) dead = ap Some (or_right (is_free head.tag) (is_dead hea
 -- the chunk was held, or its key leads elsewhere, and the lock was given back
 module _ (chunk : ChunkId) (view read taken : View) (slabs : SlabState) (key stripe : ℕ) (value : ReadyStripe) (reads : ReadsKey chunk key view read) (at : stripe ≡ key % view.setup.config.stripes) (takes : Happens read [] (step.TakeStripe stripe) taken)
     (is_taken : taken ≡ stripe_taken stripe value read) (lent : IsLentStripe taken stripe value) (begins : BeginsWithSeen read stripe value) where
-  pub held_up : (number class : ℕ) (sweep : Sweep) (unheld : Bool) (now : View) → now ≡ stripe_given stripe value taken → ((unheld ≡ false) ⊎ ((unheld ≡ true) × (option_map (λ (place : ChunkId × ℕ). place.0) (place_of value.state key) ≢ Some chunk)))
+  pub held_up : (number class : ℕ) (sweep : Sweep) (unheld : Bool) (now : View) → now ≡ stripe_given stripe value taken → ((unheld ≡ false) ⊎ ((unheld ≡ true) × (option_map (λ (place : ChunkId × ℕ). place.0) (chunk_and_stamp value.state key) ≢ Some chunk)))
       → HoldsUp number class chunk sweep unheld sweep view slabs now slabs
   held_up number class sweep unheld now given (inl held) =
       subst (λ (b : Bool). HoldsUp number class chunk sweep b sweep view slabs now slabs) (sym held)
       (reached chunk view read taken slabs key stripe value reads at takes is_taken lent begins (λ key. OnlyGives) now slabs (given, refl), refl)
   held_up number class sweep unheld now given (inr (free, gone)) =
       subst (λ (b : Bool). HoldsUp number class chunk sweep b sweep view slabs now slabs) (sym free)
-      (inl (reached chunk view read taken slabs key stripe value reads at takes is_taken lent begins (FindsGone chunk) now slabs (gone, (given, refl)), refl))
+      (inl (reached chunk view read taken slabs key stripe value reads at takes is_taken lent begins (FindsKeyElsewhere chunk) now slabs (gone, (given, refl)), refl))

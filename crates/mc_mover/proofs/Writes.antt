@@ -10,8 +10,8 @@ use Rattle.mc_stripe.proofs.Entries.{nat_eq_same}
 use Rattle.mc_core.specs.declared.holding.Holding.{Holding}
 use Rattle.mc_core.specs.declared.holding.Kind.{Kind}
 use Rattle.mc_core.specs.declared.holding.Kind.TheVariants.{Reference, Fresh}
-use Rattle.mc_core.specs.Chunks.{filled, filled_kind}
-use Rattle.mc_core.specs.Holdings.{Words, all_known, change_each, holding_of, is_complete, is_of, item_in, key_in, lose, stamp_in}
+use Rattle.mc_core.specs.Chunks.{holding_with_word, filled_kind}
+use Rattle.mc_core.specs.Holdings.{Words, all_known, change_each, holding_of, is_complete, is_of_chunk, words_of_item, known_key, without_first, stamp_in}
 use Rattle.mc_core.specs.Items.{are_same}
 use Rattle.mc_words.specs.item.Items.{item_with}
 
@@ -54,7 +54,7 @@ all_are_known [] = refl
 all_are_known (a ∷ item) = all_are_known item
 
 -- the item that was written is the chunk's
-pub item_is : (key stamp : ℕ) (item : List ℕ) (words : Words) → 3 + length item ≤ length words → item_in (written_over (item_with key stamp item) words) ≡ all_known (item_with key stamp item)
+pub item_is : (key stamp : ℕ) (item : List ℕ) (words : Words) → 3 + length item ≤ length words → words_of_item (written_over (item_with key stamp item) words) ≡ all_known (item_with key stamp item)
 item_is key stamp item [] fits = absurd (omega arith)
 item_is key stamp item (a ∷ []) fits = absurd (omega arith)
 item_is key stamp item (a ∷ b ∷ []) fits = absurd (omega arith)
@@ -64,7 +64,7 @@ item_is key stamp item (a ∷ b ∷ c ∷ words) fits =
 
 -- and it is whole, with this key and stamp
 pub whole_with : (key stamp : ℕ) (item : List ℕ) (words : Words) → 3 + length item ≤ length words
-    → (is_complete (written_over (item_with key stamp item) words) ≡ true) × (key_in (written_over (item_with key stamp item) words) ≡ key) × (stamp_in (written_over (item_with key stamp item) words) ≡ stamp)
+    → (is_complete (written_over (item_with key stamp item) words) ≡ true) × (known_key (written_over (item_with key stamp item) words) ≡ key) × (stamp_in (written_over (item_with key stamp item) words) ≡ stamp)
 whole_with key stamp item [] fits = absurd (omega arith)
 whole_with key stamp item (a ∷ []) fits = absurd (omega arith)
 whole_with key stamp item (a ∷ b ∷ []) fits = absurd (omega arith)
@@ -101,29 +101,29 @@ kind_none (Fresh purpose words) = refl
 
 module _ (chunk : ChunkId) where
   abbrev turned : (Holding → Holding) → Holding → Holding
-  turned change holding = if is_of chunk holding then change holding else holding
+  turned change holding = if is_of_chunk chunk holding then change holding else holding
 
-  one_more : (item : List ℕ) (word : ℕ) (holding : Holding) → turned (filled (length item) word) (turned (holding_with item) holding) ≡ turned (holding_with (item ++ word ∷ [])) holding
-  one_more item word holding = by (is_of chunk holding) refl
+  one_more : (item : List ℕ) (word : ℕ) (holding : Holding) → turned (holding_with_word (length item) word) (turned (holding_with item) holding) ≡ turned (holding_with (item ++ word ∷ [])) holding
+  one_more item word holding = by (is_of_chunk chunk holding) refl
     where
-      by : (test : Bool) → is_of chunk holding ≡ test → turned (filled (length item) word) (turned (holding_with item) holding) ≡ turned (holding_with (item ++ word ∷ [])) holding
+      by : (test : Bool) → is_of_chunk chunk holding ≡ test → turned (holding_with_word (length item) word) (turned (holding_with item) holding) ≡ turned (holding_with (item ++ word ∷ [])) holding
       by true is =
-          ap (λ (b : Bool). turned (filled (length item) word) (if b then holding_with item holding else holding)) is
-          ∙ (ap (λ (b : Bool). if b then filled (length item) word (holding_with item holding) else holding_with item holding) is
+          ap (λ (b : Bool). turned (holding_with_word (length item) word) (if b then holding_with item holding else holding)) is
+          ∙ (ap (λ (b : Bool). if b then holding_with_word (length item) word (holding_with item holding) else holding_with item holding) is
           ∙ (ap (λ (k : Kind). record holding { kind = k }) (kind_more item word holding.kind) ∙ sym (ap (λ (b : Bool). if b then holding_with (item ++ word ∷ []) holding else holding) is)))
       by false is =
-          ap (λ (b : Bool). turned (filled (length item) word) (if b then holding_with item holding else holding)) is
-          ∙ (ap (λ (b : Bool). if b then filled (length item) word holding else holding) is ∙ sym (ap (λ (b : Bool). if b then holding_with (item ++ word ∷ []) holding else holding) is))
+          ap (λ (b : Bool). turned (holding_with_word (length item) word) (if b then holding_with item holding else holding)) is
+          ∙ (ap (λ (b : Bool). if b then holding_with_word (length item) word holding else holding) is ∙ sym (ap (λ (b : Bool). if b then holding_with (item ++ word ∷ []) holding else holding) is))
 
   -- one word more is written
-  pub all_more : (item : List ℕ) (word : ℕ) (holdings : List Holding) → change_each (is_of chunk) (filled (length item) word) (change_each (is_of chunk) (holding_with item) holdings) ≡ change_each (is_of chunk) (holding_with (item ++ word ∷ [])) holdings
+  pub all_more : (item : List ℕ) (word : ℕ) (holdings : List Holding) → change_each (is_of_chunk chunk) (holding_with_word (length item) word) (change_each (is_of_chunk chunk) (holding_with item) holdings) ≡ change_each (is_of_chunk chunk) (holding_with (item ++ word ∷ [])) holdings
   all_more item word [] = refl
   all_more item word (holding ∷ holdings) = λ k. one_more item word holding k ∷ all_more item word holdings k
 
   -- nothing was written so far
-  pub none_yet : (holdings : List Holding) → change_each (is_of chunk) (holding_with []) holdings ≡ holdings
+  pub none_yet : (holdings : List Holding) → change_each (is_of_chunk chunk) (holding_with []) holdings ≡ holdings
   none_yet [] = refl
-  none_yet (holding ∷ holdings) = λ k. by (is_of chunk holding) k ∷ none_yet holdings k
+  none_yet (holding ∷ holdings) = λ k. by (is_of_chunk chunk holding) k ∷ none_yet holdings k
     where
       by : (test : Bool) → (if test then holding_with [] holding else holding) ≡ holding
       by true = ap (λ (kind : Kind). record holding { kind = kind }) (kind_none holding.kind)
@@ -134,17 +134,17 @@ module _ (chunk : ChunkId) (test : Holding → Bool) (change : Holding → Holdi
   abbrev turn : Holding → Holding
   turn holding = if test holding then change holding else holding
 
-  still_of : (holding : Holding) → is_of chunk (turn holding) ≡ is_of chunk holding
+  still_of : (holding : Holding) → is_of_chunk chunk (turn holding) ≡ is_of_chunk chunk holding
   still_of holding = by (test holding)
     where
-      by : (b : Bool) → is_of chunk (if b then change holding else holding) ≡ is_of chunk holding
+      by : (b : Bool) → is_of_chunk chunk (if b then change holding else holding) ≡ is_of_chunk chunk holding
       by true = ap (λ (c : ChunkId). is_chunk c chunk) (same holding)
       by false = refl
 
   -- what is found of the chunk is changed
   pub found_changed : (holdings : List Holding) (holding : Holding) → holding_of chunk holdings ≡ Some holding → holding_of chunk (change_each test change holdings) ≡ Some (turn holding)
   found_changed [] holding found = absurd (none-some holding found)
-  found_changed (first ∷ holdings) holding found = ap (λ (b : Bool). cond b (Some (turn first)) more) (still_of first) ∙ by (is_of chunk first) found (found_changed holdings holding)
+  found_changed (first ∷ holdings) holding found = ap (λ (b : Bool). cond b (Some (turn first)) more) (still_of first) ∙ by (is_of_chunk chunk first) found (found_changed holdings holding)
     where
       more : Option Holding
       more = holding_of chunk (change_each test change holdings)
@@ -154,15 +154,15 @@ module _ (chunk : ChunkId) (test : Holding → Bool) (change : Holding → Holdi
       by false found later = later found
 
   -- and the others are changed as they would be without it
-  pub lose_changed : (holdings : List Holding) → lose (is_of chunk) (change_each test change holdings) ≡ change_each test change (lose (is_of chunk) holdings)
+  pub lose_changed : (holdings : List Holding) → without_first (is_of_chunk chunk) (change_each test change holdings) ≡ change_each test change (without_first (is_of_chunk chunk) holdings)
   lose_changed [] = refl
-  lose_changed (first ∷ holdings) = ap (λ (b : Bool). if b then changed else turn first ∷ lose (is_of chunk) changed) (still_of first) ∙ by (is_of chunk first) (lose_changed holdings)
+  lose_changed (first ∷ holdings) = ap (λ (b : Bool). if b then changed else turn first ∷ without_first (is_of_chunk chunk) changed) (still_of first) ∙ by (is_of_chunk chunk first) (lose_changed holdings)
     where
       changed : List Holding
       changed = change_each test change holdings
 
-      by : (b : Bool) → lose (is_of chunk) changed ≡ change_each test change (lose (is_of chunk) holdings)
-          → (if b then changed else turn first ∷ lose (is_of chunk) changed) ≡ change_each test change (if b then holdings else first ∷ lose (is_of chunk) holdings)
+      by : (b : Bool) → without_first (is_of_chunk chunk) changed ≡ change_each test change (without_first (is_of_chunk chunk) holdings)
+          → (if b then changed else turn first ∷ without_first (is_of_chunk chunk) changed) ≡ change_each test change (if b then holdings else first ∷ without_first (is_of_chunk chunk) holdings)
       by true later = refl
       by false later = λ k. turn first ∷ later k
 
@@ -176,28 +176,28 @@ unchanged test change (first ∷ holdings) none = by (test first) (list_any test
     by false others none later = λ k. first ∷ later none k
 
 -- a chunk of which no holding is found
-pub none_of : (chunk : ChunkId) (holdings : List Holding) → holding_of chunk holdings ≡ None → list_any (is_of chunk) holdings ≡ false
+pub none_of : (chunk : ChunkId) (holdings : List Holding) → holding_of chunk holdings ≡ None → list_any (is_of_chunk chunk) holdings ≡ false
 none_of chunk [] none = refl
-none_of chunk (first ∷ holdings) none = by (is_of chunk first) none (none_of chunk holdings)
+none_of chunk (first ∷ holdings) none = by (is_of_chunk chunk first) none (none_of chunk holdings)
   where
-    by : (b : Bool) → cond b (Some first) (holding_of chunk holdings) ≡ None → (holding_of chunk holdings ≡ None → list_any (is_of chunk) holdings ≡ false) → (b || list_any (is_of chunk) holdings) ≡ false
+    by : (b : Bool) → cond b (Some first) (holding_of chunk holdings) ≡ None → (holding_of chunk holdings ≡ None → list_any (is_of_chunk chunk) holdings ≡ false) → (b || list_any (is_of_chunk chunk) holdings) ≡ false
     by true none later = absurd (cc)
     by false none later = later none
 
 -- one that comes last, and goes again
-pub lose_last : (chunk : ChunkId) (holdings : List Holding) (last : Holding) → holding_of chunk holdings ≡ None → is_of chunk last ≡ true → lose (is_of chunk) (holdings ++ last ∷ []) ≡ holdings
+pub lose_last : (chunk : ChunkId) (holdings : List Holding) (last : Holding) → holding_of chunk holdings ≡ None → is_of_chunk chunk last ≡ true → without_first (is_of_chunk chunk) (holdings ++ last ∷ []) ≡ holdings
 lose_last chunk [] last none is = ap (λ (b : Bool). if b then [] else last ∷ []) is
-lose_last chunk (first ∷ holdings) last none is = by (is_of chunk first) none (λ none. lose_last chunk holdings last none is)
+lose_last chunk (first ∷ holdings) last none is = by (is_of_chunk chunk first) none (λ none. lose_last chunk holdings last none is)
   where
-    by : (b : Bool) → cond b (Some first) (holding_of chunk holdings) ≡ None → (holding_of chunk holdings ≡ None → lose (is_of chunk) (holdings ++ last ∷ []) ≡ holdings)
-        → (if b then holdings ++ last ∷ [] else first ∷ lose (is_of chunk) (holdings ++ last ∷ [])) ≡ first ∷ holdings
+    by : (b : Bool) → cond b (Some first) (holding_of chunk holdings) ≡ None → (holding_of chunk holdings ≡ None → without_first (is_of_chunk chunk) (holdings ++ last ∷ []) ≡ holdings)
+        → (if b then holdings ++ last ∷ [] else first ∷ without_first (is_of_chunk chunk) (holdings ++ last ∷ [])) ≡ first ∷ holdings
     by true none later = absurd (cc)
     by false none later = λ k. first ∷ later none k
 
 -- what is found passes its tests among all
 pub found_among : (chunk : ChunkId) (test : Holding → Bool) (holdings : List Holding) (holding : Holding) → holding_of chunk holdings ≡ Some holding → test holding ≡ true → list_any test holdings ≡ true
 found_among chunk test [] holding found is = absurd (none-some holding found)
-found_among chunk test (first ∷ holdings) holding found is = by (is_of chunk first) found (found_among chunk test holdings holding)
+found_among chunk test (first ∷ holdings) holding found is = by (is_of_chunk chunk first) found (found_among chunk test holdings holding)
   where
     or_true : (b : Bool) → (b || true) ≡ true
     or_true true = refl

@@ -6,11 +6,11 @@ use Rattle.mc_pages.specs.declared.moves.Found.{Found}
 use Rattle.mc_pages.specs.declared.moves.Found.TheVariants.{Rescued, Evicted, Busy, Locked}
 use Rattle.mc_pages.specs.Changes.{after_clear}
 use Rattle.mc_pages.specs.SlabState.{SlabState}
-use Rattle.mc_stripe.specs.StripeState.{ReadyStripe, place_of, can_store}
+use Rattle.mc_stripe.specs.StripeState.{ReadyStripe, chunk_and_stamp, can_store}
 use Rattle.mc_core.specs.declared.event.Step.TheVariants as step
 use Rattle.mc_words.specs.hand.View.{View}
 use Rattle.mc_words.specs.item.Removal.{key_seen}
-use Rattle.mc_words.specs.lock.Doing.{IsStored, SlabsDoing}
+use Rattle.mc_words.specs.lock.Doing.{UsesRoomForEntry, SlabsDoing}
 use Rattle.mc_words.specs.rule.Happens.{Happens}
 use Rattle.mc_words.specs.lock.Lent.{BeginsWithSeen, IsLentStripe}
 use Rattle.mc_words.specs.page.Owner.{Clears}
@@ -56,13 +56,13 @@ abbrev pub OnlyGives : StripeDoing
 OnlyGives stripe value taken slabs now left = (now ≡ stripe_given stripe value taken) × (left ≡ slabs)
 
 -- the lock was given back, and nothing was changed, since the key leads to another chunk by now, or nowhere
-abbrev pub FindsGone : ChunkId → ℕ → StripeDoing
-FindsGone chunk key stripe value taken slabs now left = (option_map (λ place. place.0) (place_of value.state key) ≢ Some chunk) × OnlyGives stripe value taken slabs now left
+abbrev pub FindsKeyElsewhere : ChunkId → ℕ → StripeDoing
+FindsKeyElsewhere chunk key stripe value taken slabs now left = (option_map (λ place. place.0) (chunk_and_stamp value.state key) ≢ Some chunk) × OnlyGives stripe value taken slabs now left
 
 -- the hand made room for a call on the key and its entry, swept the class if a sweep was due, and then did this
 abbrev pub SavesWith : ℕ → SlabsDoing → (ℕ → BothDoing) → StripeDoing
 SavesWith number Swept Does stripe value taken slabs now left =
-    IsStored number stripe value (λ ready view last after. Sweeping Swept (Does stripe) slabs ready view left last after) taken now
+    UsesRoomForEntry number stripe value (λ ready view last after. Sweeping Swept (Does stripe) slabs ready view left last after) taken now
 
 -- a copy was given up: then its chunk was put back, or seen in use
 pub record GivesCopyUp (number class : ℕ) (chunk : ChunkId) (sweep : Sweep) (stripe : ℕ) (value : ReadyStripe) (taken : View) (slabs : SlabState) (now : View) (left : SlabState) : Type 0 where
@@ -96,7 +96,7 @@ pub record SavesAndClears (number class : ℕ) (chunk : ChunkId) (sweep : Sweep)
 abbrev pub HoldsUp : ℕ → ℕ → ChunkId → Sweep → Bool → Sweep → SlabsDoing
 HoldsUp number class chunk sweep false next view slabs now left = ReachesStripe chunk (λ key. OnlyGives) view slabs now left × (next ≡ sweep)
 HoldsUp number class chunk sweep true next view slabs now left =
-    (ReachesStripe chunk (FindsGone chunk) view slabs now left × (next ≡ sweep))
+    (ReachesStripe chunk (FindsKeyElsewhere chunk) view slabs now left × (next ≡ sweep))
     ⊎ (ReachesStripe chunk (λ key. SavesAs number class chunk sweep Busy) view slabs now left × (next ≡ Done))
 
 -- what was done with a linked chunk that was seen unheld or held, by what was found; and whether the turn's sweep is due or done, before
@@ -112,8 +112,8 @@ VisitsLinked number class chunk sweep unheld found next view slabs now left = �
 
 -- the lock was given back, and nothing was changed, though the key leads to the chunk
 abbrev pub GivesThere : ChunkId → ℕ → StripeDoing
-GivesThere chunk key stripe value taken slabs now left = (option_map (λ place. place.0) (place_of value.state key) ≡ Some chunk) × (can_store value ≡ false) × OnlyGives stripe value taken slabs now left
+GivesThere chunk key stripe value taken slabs now left = (option_map (λ place. place.0) (chunk_and_stamp value.state key) ≡ Some chunk) × (can_store value ≡ false) × OnlyGives stripe value taken slabs now left
 
 -- the chunk, which was seen unheld, is to be saved, but there was no memory for a call on its key
-abbrev pub LacksCall : ChunkId → Bool → SlabsDoing
-LacksCall chunk unheld view slabs now left = (unheld ≡ true) × ReachesStripe chunk (GivesThere chunk) view slabs now left
+abbrev pub LacksCallOnKey : ChunkId → Bool → SlabsDoing
+LacksCallOnKey chunk unheld view slabs now left = (unheld ≡ true) × ReachesStripe chunk (GivesThere chunk) view slabs now left

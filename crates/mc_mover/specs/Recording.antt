@@ -10,7 +10,7 @@ use Rattle.mc_core.specs.Silent.{stripe_after}
 use Rattle.mc_words.specs.declared.hand.Hand.{Hand}
 use Rattle.mc_words.specs.hand.View.{View}
 use Rattle.mc_words.specs.hand.Arenas.{view}
-use Rattle.mc_words.specs.hand.Observers.{last_given, last_taken, number_of}
+use Rattle.mc_words.specs.hand.Observers.{last_given, last_taken, hand_number}
 use Rattle.mc_words.specs.lock.Doing.{Doing, HoldsSlabs, HoldsStripe, SlabsDoing}
 use Rattle.mc_words.specs.page.Moves.{ChangesOnce}
 use Rattle.mc_words.specs.hand.Views.{stripe_changed}
@@ -24,16 +24,16 @@ abbrev pub Leaves : Doing
 Leaves found taken left last = (left ≡ found) × (last ≡ taken)
 
 -- the stripe records calls, and the place of its next one can't be counted
-abbrev pub IsFull : ReadyStripe → Type 0
-IsFull stripe = (is_some stripe.state.recorded_from ≡ true) × (2 ^ 64 ≤ length stripe.state.history)
+abbrev pub IsAtGreatestCount : ReadyStripe → Type 0
+IsAtGreatestCount stripe = (is_some stripe.state.recorded_from ≡ true) × (2 ^ 64 ≤ length stripe.state.history)
 
 -- the stripe was found recording calls and unable to count one more, and nothing was done
-abbrev pub FindsFull : Doing
-FindsFull found taken left last = IsFull found × Leaves found taken left last
+abbrev pub FindsStripeFull : Doing
+FindsStripeFull found taken left last = IsAtGreatestCount found × Leaves found taken left last
 
 -- the stripe was found not to be full, and nothing was done
 abbrev pub FindsNotFull : Doing
-FindsNotFull found taken left last = (¬ IsFull found) × Leaves found taken left last
+FindsNotFull found taken left last = (¬ IsAtGreatestCount found) × Leaves found taken left last
 
 -- each of these stripes got this change, one after another
 abbrev pub ChangesEach : StripeChange → ℕ → List ℕ → View → View → Type 0
@@ -42,7 +42,7 @@ ChangesEach how number (stripe ∷ stripes) view now = (next : View) × HoldsStr
 
 -- the stripe wasn't full as the hand last took it
 abbrev pub TakesNotFull : View → ℕ → Type 0
-TakesNotFull view stripe = (value : ReadyStripe) × (last_taken view stripe ≡ Some value) × (¬ IsFull value)
+TakesNotFull view stripe = (value : ReadyStripe) × (last_taken view stripe ≡ Some value) × (¬ IsAtGreatestCount value)
 
 -- all stripes below one were trimmed, of which none was full, and this was done with that one
 pub record StopsTrimming (number : ℕ) (Does : Doing) (view now : View) : Type 0 where
@@ -77,4 +77,4 @@ pub record TrimsAll (number count : ℕ) (view now : View) : Type 0 where
 
 -- the hand trimmed all stripes and the ledger, or the first stripes, up to one that was refused
 abbrev pub Trims : Hand → Hand → Type 0
-Trims before now = TrimsAll (number_of before) (view before).setup.config.stripes (view before) (view now) ⊎ StopsTrimming (number_of before) Leaves (view before) (view now)
+Trims before now = TrimsAll (hand_number before) (view before).setup.config.stripes (view before) (view now) ⊎ StopsTrimming (hand_number before) Leaves (view before) (view now)

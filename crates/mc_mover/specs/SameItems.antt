@@ -2,9 +2,9 @@
 use Rattle.std.specs.Prelude.{◌≡◌, ℕ, List, [], ◌∷◌, ◌++◌, Some}
 use Rattle.mc_pages.specs.declared.ids.ChunkId.{ChunkId}
 use Rattle.mc_pages.specs.SlabState.{SlabState}
-use Rattle.mc_stripe.specs.StripeState.{ReadyStripe, place_of}
-use Rattle.mc_core.specs.Holdings.{key_of, stamp_of}
-use Rattle.mc_core.specs.Past.{Known}
+use Rattle.mc_stripe.specs.StripeState.{ReadyStripe, chunk_and_stamp}
+use Rattle.mc_core.specs.Holdings.{key_of, stamp_in_words}
+use Rattle.mc_core.specs.Past.{KnownItem}
 use Rattle.mc_core.specs.State.{item_at}
 use Rattle.mc_words.specs.hand.View.{View}
 use Rattle.mc_mover.specs.Saving.{Rescues}
@@ -12,10 +12,10 @@ use Rattle.mc_mover.specs.Saving.{Rescues}
 -- the item went from the one chunk to the other, under its key and with its stamp
 pub record KeepsItem (chunk copy : ChunkId) (item : List ℕ) (value left : ReadyStripe) (view now : View) : Type 0 where
   -- the item's key led to the one chunk, and leads to the other
-  pub led : place_of value.state (key_of item) ≡ Some (chunk, stamp_of item)
-  pub leads : place_of left.state (key_of item) ≡ Some (copy, stamp_of item)
+  pub led : chunk_and_stamp value.state (key_of item) ≡ Some (chunk, stamp_in_words item)
+  pub leads : chunk_and_stamp left.state (key_of item) ≡ Some (copy, stamp_in_words item)
   -- the hand held the copy with just the item's words
-  pub known : Known
+  pub known : KnownItem
   pub is_copy : known.chunk ≡ copy
   pub has_words : known.words ≡ item
   pub come : now.row.knows.known ≡ view.row.knows.known ++ known ∷ []

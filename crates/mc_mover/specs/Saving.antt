@@ -12,7 +12,7 @@ use Rattle.mc_core.specs.State.{room_in}
 use Rattle.mc_words.specs.hand.View.{View}
 use Rattle.mc_words.specs.item.Removal.{Condemns, FindsHeld}
 use Rattle.mc_words.specs.lock.Doing.{SlabsDoing}
-use Rattle.mc_words.specs.item.Items.{issue_in, words_in}
+use Rattle.mc_words.specs.item.Items.{issue_in, known_words_in}
 use Rattle.mc_words.specs.item.Links.{copy_linked}
 use Rattle.mc_words.specs.item.Originals.{CondemnsOriginal}
 use Rattle.mc_words.specs.chunk.Copies.{PassesAll, PopsOff}
@@ -79,7 +79,7 @@ pub record MovesItem (number stripe : ℕ) (chunk copy : ChunkId) (room : ℕ) (
   pub condemned : View
   pub lifted : ReadyStripe
   pub condemns : CondemnsOriginal stripe chunk value filled lifted condemned
-  pub is : now ≡ chunk_released copy (copy_linked number stripe lifted key copy (issue_in condemned copy) (words_in condemned copy) room condemned)
+  pub is : now ≡ chunk_released copy (copy_linked number stripe lifted key copy (issue_in condemned copy) (known_words_in condemned copy) room condemned)
   pub left_is : left ≡ used_up (after_rescue lifted.state number key copy)
 
 -- the item was copied, but then found unlinked or held, and the copy was given up

@@ -10,7 +10,7 @@ use Rattle.mc_words.specs.item.Calls.{with_own_call}
 use Rattle.mc_mover.specs.declared.counts.Counts.{Counts}
 use Rattle.mc_mover.specs.declared.counts.Turn.{Turn}
 use Rattle.mc_mover.specs.declared.counts.Turn.TheVariants.{Idle, Went, Finished}
-use Rattle.mc_mover.specs.Turning.{counts_of, no_counts}
+use Rattle.mc_mover.specs.Turning.{counts_with_all, no_counts}
 
 -- the call evicted a key's item
 abbrev pub is_eviction : Call → Bool
@@ -46,11 +46,11 @@ with_own_calls number stripes [] mine = mine
 with_own_calls number stripes (call ∷ calls) mine = with_own_calls number stripes calls (map (with_own_call number (called_key call % stripes) call) mine)
 
 -- how many of a hand's own calls pass the test
-abbrev pub calls_told : (Call → Bool) → View → ℕ
-calls_told is view = sum_by (λ (own : Own). sum_by (count_by is) own.calls) view.row.knows.mine
+abbrev pub count_of_calls : (Call → Bool) → View → ℕ
+count_of_calls is view = sum_by (λ (own : Own). sum_by (count_by is) own.calls) view.row.knows.mine
 
 -- the hand's own calls got as many evictions and rescues as counted, and no other; the hand stored no words, and gave out no stamp
-pub record TellsAsCounted (number : ℕ) (counts : Counts) (view now : View) : Type 0 where
+pub record RecordsAsCounted (number : ℕ) (counts : Counts) (view now : View) : Type 0 where
   pub calls : List Call
   pub own : All (IsSaving number) calls
   pub evicted : count_by is_eviction calls ≡ counts.evicted
@@ -58,16 +58,16 @@ pub record TellsAsCounted (number : ℕ) (counts : Counts) (view now : View) : T
   -- the hand's own calls got just these calls
   pub come : now.row.knows.mine ≡ with_own_calls number view.setup.config.stripes calls view.row.knows.mine
   -- the hand's own calls of each kind grew by those of that kind that came
-  pub more : (is : Call → Bool) → calls_told is now ≡ calls_told is view + count_by is calls
+  pub more : (is : Call → Bool) → count_of_calls is now ≡ count_of_calls is view + count_by is calls
   pub said : now.row.knows.said ≡ view.row.knows.said
   pub ids : now.row.ids ≡ view.row.ids
 
 -- the hand's own calls have as many more evictions and rescues as counted, and as many others as before
-abbrev pub TellingsAreCounted : Type 0
-TellingsAreCounted = (number : ℕ) (counts : Counts) (view now : View) → TellsAsCounted number counts view now →
-    (calls_told is_eviction now ≡ calls_told is_eviction view + counts.evicted)
-    × (calls_told is_rescue now ≡ calls_told is_rescue view + counts.rescued)
-    × (calls_told is_other now ≡ calls_told is_other view)
+abbrev pub CallsAreCounted : Type 0
+CallsAreCounted = (number : ℕ) (counts : Counts) (view now : View) → RecordsAsCounted number counts view now →
+    (count_of_calls is_eviction now ≡ count_of_calls is_eviction view + counts.evicted)
+    × (count_of_calls is_rescue now ≡ count_of_calls is_rescue view + counts.rescued)
+    × (count_of_calls is_other now ≡ count_of_calls is_other view)
 
 -- a number's own calls on keys of two stripes
 abbrev pub own_of : ℕ → List Call → List Call → Own
@@ -87,5 +87,5 @@ counts_in (Went counts) = counts
 counts_in (Finished counts) = counts
 
 -- a turn that stopped early added what it found to the hand's own calls, in fewer sections than a turn has
-abbrev pub TellsOfFewer : ℕ → View → View → Type 0
-TellsOfFewer number view now = (found : List Found) × (length found < view.setup.config.bulk) × TellsAsCounted number (counts_of found no_counts) view now
+abbrev pub RecordsFewer : ℕ → View → View → Type 0
+RecordsFewer number view now = (found : List Found) × (length found < view.setup.config.bulk) × RecordsAsCounted number (counts_with_all found no_counts) view now

@@ -18,29 +18,29 @@ use Rattle.mc_mover.specs.declared.counts.Turn.{Turn}
 use Rattle.mc_mover.specs.declared.counts.Turn.TheVariants.{Idle, Went, Finished}
 use Rattle.mc_mover.specs.declared.sweep.Sweep.{Sweep}
 use Rattle.mc_mover.specs.declared.sweep.Sweep.TheVariants.{Due}
-use Rattle.mc_mover.specs.Visiting.{LacksCall, Visits}
+use Rattle.mc_mover.specs.Visiting.{LacksCallToSave, Visits}
 
 -- nothing was counted yet
 abbrev pub no_counts : Counts
 no_counts = record { cleared = 0; rescued = 0; evicted = 0; busy = 0; locked = 0 }
 
 -- the counts after one more chunk was found; a rescued or evicted one counts as cleared, too
-abbrev pub counted : Found → Counts → Counts
-counted Cleared counts = record counts { cleared = counts.cleared + 1 }
-counted Rescued counts = record counts { cleared = counts.cleared + 1; rescued = counts.rescued + 1 }
-counted Evicted counts = record counts { cleared = counts.cleared + 1; evicted = counts.evicted + 1 }
-counted Busy counts = record counts { busy = counts.busy + 1 }
-counted Locked counts = record counts { locked = counts.locked + 1 }
-counted Already counts = counts
+abbrev pub counts_with_found : Found → Counts → Counts
+counts_with_found Cleared counts = record counts { cleared = counts.cleared + 1 }
+counts_with_found Rescued counts = record counts { cleared = counts.cleared + 1; rescued = counts.rescued + 1 }
+counts_with_found Evicted counts = record counts { cleared = counts.cleared + 1; evicted = counts.evicted + 1 }
+counts_with_found Busy counts = record counts { busy = counts.busy + 1 }
+counts_with_found Locked counts = record counts { locked = counts.locked + 1 }
+counts_with_found Already counts = counts
 
 -- each of the counts is below n
 abbrev pub AreBelow : ℕ → Counts → Type 0
 AreBelow most counts = (counts.cleared < most) × (counts.rescued < most) × (counts.evicted < most) × (counts.busy < most) × (counts.locked < most)
 
 -- how many chunks were found of each kind, the first first
-abbrev pub counts_of : List Found → Counts → Counts
-counts_of [] counts = counts
-counts_of (found ∷ more) counts = counts_of more (counted found counts)
+abbrev pub counts_with_all : List Found → Counts → Counts
+counts_with_all [] counts = counts
+counts_with_all (found ∷ more) counts = counts_with_all more (counts_with_found found counts)
 
 -- one section of a turn: the chunk at the move's position was dealt with, and the position is one further; and whether the turn's sweep is
 -- due or done, before and afterwards
@@ -93,7 +93,7 @@ pub record LooksFrom (number : ℕ) (counts : Counts) (view : View) (slabs : Sla
   pub runs : slabs.moving ≡ Some move
   pub found : List Found
   pub count : length found ≡ min view.setup.config.bulk ((class_at slabs move.src).per_page - move.at)
-  pub counts_are : counts ≡ counts_of found no_counts
+  pub counts_are : counts ≡ counts_with_all found no_counts
   pub last : Sweep
   pub sections : Sections number Due found last view slabs now left
 
@@ -112,7 +112,7 @@ Turns number (Finished counts) view slabs now left = Looks number counts (Finish
 
 -- fewer sections than a turn has were done from the move's position, with the sweep due at first. Then there was no memory for the next
 -- chunk's item, and the chunk is as before
-pub record LacksMemory (number : ℕ) (view : View) (slabs : SlabState) (now : View) (left : SlabState) : Type 0 where
+pub record TurnLacksMemory (number : ℕ) (view : View) (slabs : SlabState) (now : View) (left : SlabState) : Type 0 where
   pub first : Moving
   pub began : slabs.moving ≡ Some first
   pub found : List Found
@@ -126,4 +126,4 @@ pub record LacksMemory (number : ℕ) (view : View) (slabs : SlabState) (now : V
   -- the move is further on the same page, by a chunk for each section
   pub further : (move.page ≡ first.page) × (move.src ≡ first.src) × (move.at ≡ first.at + length found)
   pub within : move.at < (class_at kept move.src).per_page
-  pub lacks : LacksCall (chunk_at_position move) looked kept now left
+  pub lacks : LacksCallToSave (chunk_at_position move) looked kept now left

@@ -8,7 +8,7 @@ use Rattle.mc_pages.specs.SlabState.{SlabState}
 use Rattle.mc_core.specs.declared.event.Step.{Step}
 use Rattle.mc_core.specs.declared.event.Step.TheVariants as step
 use Rattle.mc_core.specs.declared.head.Head.{Head}
-use Rattle.mc_core.specs.Columns.{holders}
+use Rattle.mc_core.specs.Columns.{holder_count}
 use Rattle.mc_core.specs.Head.{is_out}
 use Rattle.mc_words.specs.hand.View.{View}
 use Rattle.mc_words.specs.rule.Happens.{Happens}
@@ -19,7 +19,7 @@ use Rattle.mc_mover.specs.Visiting.{Visits}
 
 -- in the lawful moment in which this step was made no hand had a holding of the chunk
 abbrev pub IsUnheldAt : (chunk : ChunkId) (view : View) (step : Step) (now : View) → Happens view [] step now → Type 0
-IsUnheldAt chunk view step now happens = holders chunk happens.was.moment.state.holdings ≡ 0
+IsUnheldAt chunk view step now happens = holder_count chunk happens.was.moment.state.holdings ≡ 0
 
 -- no hand held the chunk in the lawful moment in which it was cleared, nor when its item was taken away before
 abbrev pub NobodyHolds : (number class : ℕ) (chunk : ChunkId) (sweep : Sweep) (found : Found) (next : Sweep) (view : View) (slabs : SlabState) (now : View) (left : SlabState) →

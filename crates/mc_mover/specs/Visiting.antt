@@ -64,5 +64,5 @@ Visits number class chunk sweep Busy next view slabs now left =
 Visits number class chunk sweep Locked next view slabs now left = SeesLinked chunk (λ unheld. VisitsLinked number class chunk sweep unheld Locked next) view slabs now left
 
 -- the chunk is to be saved, but there was no memory for a call on its key, and nothing was changed
-abbrev pub LacksCall : ChunkId → SlabsDoing
-LacksCall chunk view slabs now left = SeesLinked chunk (linked.LacksCall chunk) view slabs now left
+abbrev pub LacksCallToSave : ChunkId → SlabsDoing
+LacksCallToSave chunk view slabs now left = SeesLinked chunk (linked.LacksCallOnKey chunk) view slabs now left

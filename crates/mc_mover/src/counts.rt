@@ -1,6 +1,6 @@
 //! The answers of a turn of the mover, and its counts.
 ghost use Rattle.std.specs.Prelude.{◌≡◌, ◌^◌};
-ghost use Rattle.mc_mover.specs.Turning.{AreBelow, counted, no_counts};
+ghost use Rattle.mc_mover.specs.Turning.{AreBelow, counts_with_found, no_counts};
 
 use mc_memory::Refused;
 use mc_pages::Found;
@@ -37,7 +37,7 @@ impl Counts {
     // Counts one more chunk, that was found so.
     pub(crate) fn count(&mut self, found: Found)
         requires below { AreBelow (2 ^ 32) self.old }
-        ensures counted { self.new ≡ counted found self.old }
+        ensures counted { self.new ≡ counts_with_found found self.old }
     {
         match found {
             Found::Cleared => self.cleared += 1,

@@ -2,7 +2,7 @@
 ghost use Rattle.std.specs.Prelude.{◌≡◌, is_some, true, None, Some};
 ghost use Rattle.mc_words.specs.hand.Arenas.{IsHandOf, view};
 ghost use Rattle.mc_words.specs.hand.Observers.{HasSlabs, locks_of, slabs_lent};
-ghost use Rattle.mc_mover.specs.Acting.{Acts};
+ghost use Rattle.mc_mover.specs.Acting.{ActsByNumber};
 ghost use Rattle.mc_mover.specs.Turning.{EndsTurn, Finishes, IsAtEnd};
 
 use crate::counts::{Counts, Turn};
@@ -18,7 +18,7 @@ pub(crate) fn end_turn(arena: &Arena, hand: &mut Hand, held: &mut SlabsHeld, cou
     ensures arena { IsHandOf arena.now hand.new }
     ensures locks { locks_of hand.new ≡ locks_of hand.old }
     ensures held { HasSlabs hand.new held.new }
-    ensures ends { Acts (λ number. EndsTurn number counts result) hand.old held.old hand.new held.new }
+    ensures ends { ActsByNumber (λ number. EndsTurn number counts result) hand.old held.old hand.new held.new }
     ensures whole { (slabs_lent held.new).uncut ≡ None }
     ensures holdings { (view hand.new).row.holdings ≡ (view hand.old).row.holdings }
     ensures ids { (view hand.new).row.ids ≡ (view hand.old).row.ids }
@@ -47,7 +47,7 @@ fn finish(arena: &Arena, hand: &mut Hand, held: &mut SlabsHeld, moving: Moving)
     ensures arena { IsHandOf arena.now hand.new }
     ensures locks { locks_of hand.new ≡ locks_of hand.old }
     ensures held { HasSlabs hand.new held.new }
-    ensures finishes { Acts Finishes hand.old held.old hand.new held.new }
+    ensures finishes { ActsByNumber Finishes hand.old held.old hand.new held.new }
     ensures whole { (slabs_lent held.new).uncut ≡ None }
     ensures holdings { (view hand.new).row.holdings ≡ (view hand.old).row.holdings }
     ensures ids { (view hand.new).row.ids ≡ (view hand.old).row.ids }

@@ -1,7 +1,7 @@
 //! Laws of what a turn does and returns, each the contract of a function with nothing to do.
 ghost use Rattle.mc_mover.specs.Answering.{FinishesExactly};
 ghost use Rattle.mc_mover.specs.SameItems.{RescuesKeepItems};
-ghost use Rattle.mc_mover.specs.Telling.{OwnCallsComeApart, TellingsAreCounted};
+ghost use Rattle.mc_mover.specs.Telling.{OwnCallsComeApart, CallsAreCounted};
 ghost use Rattle.mc_mover.specs.Unheld.{BusyIsUncleared, ClearsUnheld};
 
 /// A hand of number 7 that took number 5 over: each call comes behind those on keys of the same stripe, in their order, under its own
@@ -12,7 +12,7 @@ pub fn worked_tellings()
 
 /// After a turn the hand's own calls have as many more evictions and rescues as it counted, and no other call more.
 pub fn tellings_are_counted()
-    ensures { TellingsAreCounted }
+    ensures { CallsAreCounted }
 {}
 
 /// A turn answers `Finished` exactly where a page moved as the turn began, and none moves any more.

@@ -6,7 +6,7 @@ ghost use Rattle.mc_pages.specs.Accounted.{is_cleared, is_cut};
 ghost use Rattle.mc_pages.specs.Moves.{is_held_up};
 ghost use Rattle.mc_pages.specs.Pages.{is_on_the_move};
 ghost use Rattle.mc_pages.specs.SlabState.{class_at, class_of_page};
-ghost use Rattle.mc_stripe.specs.StripeState.{place_of, can_store};
+ghost use Rattle.mc_stripe.specs.StripeState.{chunk_and_stamp, can_store};
 ghost use Rattle.mc_core.specs.Holdings.{has_fresh};
 ghost use Rattle.mc_core.specs.Judged.{sees_no_target};
 ghost use Rattle.mc_core.specs.Looks.{was_linked};
@@ -18,8 +18,8 @@ ghost use Rattle.mc_words.specs.lock.Lent.{IsLentStripe};
 ghost use Rattle.mc_words.specs.hand.Observers.{HasSlabs, HasStripe, locks_of, slabs_lent, stripe_lent, stripe_number};
 ghost use Rattle.mc_words.specs.lock.Out.{without_stripe};
 ghost use Rattle.mc_mover.specs.declared.sweep.Sweep.TheVariants.{Done};
-ghost use Rattle.mc_mover.specs.Acting.{Acts, ActsOnStripe, IsLedTo, SeesDead};
-ghost use Rattle.mc_mover.specs.Linked.{LacksCall, OnlyGives, SavesAs, VisitsLinked};
+ghost use Rattle.mc_mover.specs.Acting.{ActsByNumber, ActsOnStripe, IsLedTo, SeesDead};
+ghost use Rattle.mc_mover.specs.Linked.{LacksCallOnKey, OnlyGives, SavesAs, VisitsLinked};
 ghost use Rattle.mc_mover.specs.Saving.{FindsNoTarget, RescuesToTarget, SweepsAndSaves};
 
 use crate::saving::{evict, rescue};
@@ -55,9 +55,9 @@ pub(crate) fn visit_linked(
     ensures arena { IsHandOf arena.now hand.new }
     ensures locks { locks_of hand.new ≡ locks_of hand.old }
     ensures held { HasSlabs hand.new held.new }
-    ensures visits { IfOk result (λ found. Acts (λ n. VisitsLinked n class chunk sweep.old unheld found sweep.new) hand.old held.old hand.new held.new) }
+    ensures visits { IfOk result (λ found. ActsByNumber (λ n. VisitsLinked n class chunk sweep.old unheld found sweep.new) hand.old held.old hand.new held.new) }
     ensures clears { IfOk result (λ found. is_held_up found ≡ false → is_cleared (slabs_lent held.new) class chunk ≡ true) }
-    ensures lacks { OnErr result (Acts (λ number. LacksCall chunk unheld) hand.old held.old hand.new held.new) }
+    ensures lacks { OnErr result (ActsByNumber (λ number. LacksCallOnKey chunk unheld) hand.old held.old hand.new held.new) }
     ensures moving { (slabs_lent held.new).moving ≡ (slabs_lent held.old).moving }
     ensures uncut { (slabs_lent held.new).uncut ≡ (slabs_lent held.old).uncut }
     ensures per_page { (class_at (slabs_lent held.new) class).per_page ≡ (class_at (slabs_lent held.old) class).per_page }
@@ -82,8 +82,8 @@ pub(crate) fn visit_linked(
 
 // Whether the key leads to the chunk.
 fn leads_to(held: &StripeHeld, key: Key, chunk: ChunkId) -> bool
-    ensures leads { result ≡ true → (stamp : ℕ) × (place_of (stripe_lent held.now).state key ≡ Some (chunk, stamp)) }
-    ensures other { result ≡ false → option_map (λ place. place.0) (place_of (stripe_lent held.now).state key) ≢ Some chunk }
+    ensures leads { result ≡ true → (stamp : ℕ) × (chunk_and_stamp (stripe_lent held.now).state key ≡ Some (chunk, stamp)) }
+    ensures other { result ≡ false → option_map (λ place. place.0) (chunk_and_stamp (stripe_lent held.now).state key) ≢ Some chunk }
 {
     match held.stripe().find(key) {
         Some((found, _)) => found == chunk,
@@ -110,7 +110,7 @@ fn save(
     requires lent { IsLentStripe (view hand.old) (stripe_number stripe) (stripe_lent stripe) }
     requires inside { stripe_number stripe < (setup_of arena.now).config.stripes }
     requires key { stripe_read (view hand.old) chunk ≡ Some (stripe_number stripe) }
-    requires leads { (key : ℕ) × (stamp : ℕ) × (place_of (stripe_lent stripe).state key ≡ Some (chunk, stamp)) }
+    requires leads { (key : ℕ) × (stamp : ℕ) × (chunk_and_stamp (stripe_lent stripe).state key ≡ Some (chunk, stamp)) }
     requires own { class_of_page (slabs_lent slabs.old) chunk.page ≡ class }
     requires moving { is_on_the_move (slabs_lent slabs.old) chunk.page ≡ true }
     requires linked { was_linked (view hand.old).row.looks chunk ≡ true }

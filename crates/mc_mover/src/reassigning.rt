@@ -1,11 +1,11 @@
 //! Moves that begin, and the automover's mode.
 ghost use Rattle.std.specs.Prelude.{◌≡◌, ◌≤◌};
 ghost use Rattle.mc_words.specs.hand.Arenas.{IsHandOf, view};
-ghost use Rattle.mc_words.specs.hand.Observers.{locks_of, number_of};
+ghost use Rattle.mc_words.specs.hand.Observers.{locks_of, hand_number};
 ghost use Rattle.mc_words.specs.hand.Ready.{IsReady};
 ghost use Rattle.mc_words.specs.page.Moves.{Reassigns};
 ghost use Rattle.mc_words.specs.item.Refs.{KeepsRefs};
-ghost use Rattle.mc_mover.specs.Acting.{ActsOnce};
+ghost use Rattle.mc_mover.specs.Acting.{ActsOnceByNumber};
 ghost use Rattle.mc_mover.specs.Reassigning.{SetsMode};
 
 use mc_pages::Reassign;
@@ -33,8 +33,8 @@ pub fn reassign<R: Wait>(
     ensures arena { IsHandOf arena.now hand.new }
     ensures ready { IsReady (view hand.new) }
     ensures locks { locks_of hand.new ≡ locks_of hand.old }
-    ensures number { number_of hand.new ≡ number_of hand.old }
-    ensures reassigns { ActsOnce (λ number. Reassigns number src dst result) hand.old hand.new }
+    ensures number { hand_number hand.new ≡ hand_number hand.old }
+    ensures reassigns { ActsOnceByNumber (λ number. Reassigns number src dst result) hand.old hand.new }
     ensures holdings { (view hand.new).row.holdings ≡ (view hand.old).row.holdings }
     ensures keeps { KeepsRefs (view hand.old) (view hand.new) }
     ensures unsaid { (view hand.new).row.knows.said ≡ (view hand.old).row.knows.said }
@@ -55,8 +55,8 @@ pub fn set_mode<R: Wait>(rt: &R, arena: &Arena, hand: &mut Hand, mode: u64)
     ensures arena { IsHandOf arena.now hand.new }
     ensures ready { IsReady (view hand.new) }
     ensures locks { locks_of hand.new ≡ locks_of hand.old }
-    ensures number { number_of hand.new ≡ number_of hand.old }
-    ensures sets { ActsOnce (λ number. SetsMode number mode) hand.old hand.new }
+    ensures number { hand_number hand.new ≡ hand_number hand.old }
+    ensures sets { ActsOnceByNumber (λ number. SetsMode number mode) hand.old hand.new }
     ensures holdings { (view hand.new).row.holdings ≡ (view hand.old).row.holdings }
     ensures keeps { KeepsRefs (view hand.old) (view hand.new) }
     ensures unsaid { (view hand.new).row.knows.said ≡ (view hand.old).row.knows.said }

@@ -4,11 +4,11 @@ ghost use Rattle.std.specs.Prelude.{◌≡◌, ◌<◌, ℕ, Err, OnErr, OnOk};
 ghost use Rattle.mc_core.specs.declared.event.StripeChange.TheVariants.{Forget, Trim as Trimmed};
 ghost use Rattle.mc_words.specs.hand.Arenas.{IsHandOf, setup_of, view};
 ghost use Rattle.mc_words.specs.lock.Doing.{HoldsStripe};
-ghost use Rattle.mc_words.specs.hand.Observers.{locks_of, number_of};
+ghost use Rattle.mc_words.specs.hand.Observers.{locks_of, hand_number};
 ghost use Rattle.mc_words.specs.hand.Ready.{IsReady};
 ghost use Rattle.mc_words.specs.item.Refs.{KeepsRefs};
-ghost use Rattle.mc_mover.specs.Acting.{ActsOnce};
-ghost use Rattle.mc_mover.specs.Recording.{Changes, ChangesEach, FindsFull, FindsNotFull, GivesBackChanged, GivesBackUpToOne, Leaves, StopsTrimming, TakesNotFull, TrimsAll, TrimsLedger};
+ghost use Rattle.mc_mover.specs.Acting.{ActsOnceByNumber};
+ghost use Rattle.mc_mover.specs.Recording.{Changes, ChangesEach, FindsStripeFull, FindsNotFull, GivesBackChanged, GivesBackUpToOne, Leaves, StopsTrimming, TakesNotFull, TrimsAll, TrimsLedger};
 
 use mc_stripe::Trim;
 use mc_words::{Arena, Hand};
@@ -25,14 +25,14 @@ pub fn trim<R: Wait>(rt: &R, arena: &Arena, hand: &mut Hand) -> Result<(), Trim>
     ensures arena { IsHandOf arena.now hand.new }
     ensures ready { IsReady (view hand.new) }
     ensures locks { locks_of hand.new ≡ locks_of hand.old }
-    ensures number { number_of hand.new ≡ number_of hand.old }
-    ensures trims { OnOk result (TrimsAll (number_of hand.old) (setup_of arena.now).config.stripes (view hand.old) (view hand.new)) }
-    ensures stops { OnErr result (StopsTrimming (number_of hand.old) Leaves (view hand.old) (view hand.new)) }
+    ensures number { hand_number hand.new ≡ hand_number hand.old }
+    ensures trims { OnOk result (TrimsAll (hand_number hand.old) (setup_of arena.now).config.stripes (view hand.old) (view hand.new)) }
+    ensures stops { OnErr result (StopsTrimming (hand_number hand.old) Leaves (view hand.old) (view hand.new)) }
     ensures given { OnOk result ((stripe : ℕ) → stripe < (setup_of arena.now).config.stripes → GivesBackChanged Trimmed (view hand.new) stripe) }
     ensures same { OnErr result (GivesBackUpToOne (view hand.new)) }
-    ensures full { result ≡ Err Trim.Full → StopsTrimming (number_of hand.old) FindsFull (view hand.old) (view hand.new) }
+    ensures full { result ≡ Err Trim.Full → StopsTrimming (hand_number hand.old) FindsStripeFull (view hand.old) (view hand.new) }
     ensures first { result ≡ Err (Trim.NoMemory tt)
-        → StopsTrimming (number_of hand.old) FindsNotFull (view hand.old) (view hand.new) }
+        → StopsTrimming (hand_number hand.old) FindsNotFull (view hand.old) (view hand.new) }
     ensures holdings { (view hand.new).row.holdings ≡ (view hand.old).row.holdings }
     ensures keeps { KeepsRefs (view hand.old) (view hand.new) }
     ensures unsaid { (view hand.new).row.knows.said ≡ (view hand.old).row.knows.said }
@@ -51,8 +51,8 @@ pub fn trim_ledger<R: Wait>(rt: &R, arena: &Arena, hand: &mut Hand)
     ensures arena { IsHandOf arena.now hand.new }
     ensures ready { IsReady (view hand.new) }
     ensures locks { locks_of hand.new ≡ locks_of hand.old }
-    ensures number { number_of hand.new ≡ number_of hand.old }
-    ensures trims { ActsOnce TrimsLedger hand.old hand.new }
+    ensures number { hand_number hand.new ≡ hand_number hand.old }
+    ensures trims { ActsOnceByNumber TrimsLedger hand.old hand.new }
     ensures holdings { (view hand.new).row.holdings ≡ (view hand.old).row.holdings }
     ensures keeps { KeepsRefs (view hand.old) (view hand.new) }
     ensures unsaid { (view hand.new).row.knows.said ≡ (view hand.old).row.knows.said }
@@ -72,8 +72,8 @@ pub fn forget<R: Wait>(rt: &R, arena: &Arena, hand: &mut Hand)
     ensures arena { IsHandOf arena.now hand.new }
     ensures ready { IsReady (view hand.new) }
     ensures locks { locks_of hand.new ≡ locks_of hand.old }
-    ensures number { number_of hand.new ≡ number_of hand.old }
-    ensures forgets { ChangesEach Forget (number_of hand.old) (range_with_len 0 (setup_of arena.now).config.stripes) (view hand.old) (view hand.new) }
+    ensures number { hand_number hand.new ≡ hand_number hand.old }
+    ensures forgets { ChangesEach Forget (hand_number hand.old) (range_with_len 0 (setup_of arena.now).config.stripes) (view hand.old) (view hand.new) }
     ensures given { (stripe : ℕ) → stripe < (setup_of arena.now).config.stripes → GivesBackChanged Forget (view hand.new) stripe }
     ensures holdings { (view hand.new).row.holdings ≡ (view hand.old).row.holdings }
     ensures keeps { KeepsRefs (view hand.old) (view hand.new) }
@@ -92,14 +92,14 @@ fn trim_stripes<R: Wait>(rt: &R, arena: &Arena, hand: &mut Hand) -> Result<(), T
     ensures arena { IsHandOf arena.now hand.new }
     ensures ready { IsReady (view hand.new) }
     ensures locks { locks_of hand.new ≡ locks_of hand.old }
-    ensures number { number_of hand.new ≡ number_of hand.old }
-    ensures trims { OnOk result (ChangesEach Trimmed (number_of hand.old) (range_with_len 0 (setup_of arena.now).config.stripes) (view hand.old) (view hand.new)) }
+    ensures number { hand_number hand.new ≡ hand_number hand.old }
+    ensures trims { OnOk result (ChangesEach Trimmed (hand_number hand.old) (range_with_len 0 (setup_of arena.now).config.stripes) (view hand.old) (view hand.new)) }
     ensures unfull { OnOk result ((stripe : ℕ) → stripe < (setup_of arena.now).config.stripes
         → TakesNotFull (view hand.new) stripe) }
-    ensures stops { OnErr result (StopsTrimming (number_of hand.old) Leaves (view hand.old) (view hand.new)) }
-    ensures full { result ≡ Err Trim.Full → StopsTrimming (number_of hand.old) FindsFull (view hand.old) (view hand.new) }
+    ensures stops { OnErr result (StopsTrimming (hand_number hand.old) Leaves (view hand.old) (view hand.new)) }
+    ensures full { result ≡ Err Trim.Full → StopsTrimming (hand_number hand.old) FindsStripeFull (view hand.old) (view hand.new) }
     ensures first { result ≡ Err (Trim.NoMemory tt)
-        → StopsTrimming (number_of hand.old) FindsNotFull (view hand.old) (view hand.new) }
+        → StopsTrimming (hand_number hand.old) FindsNotFull (view hand.old) (view hand.new) }
     ensures holdings { (view hand.new).row.holdings ≡ (view hand.old).row.holdings }
     ensures keeps { KeepsRefs (view hand.old) (view hand.new) }
     ensures unsaid { (view hand.new).row.knows.said ≡ (view hand.old).row.knows.said }
@@ -119,11 +119,11 @@ fn trim_stripe<R: Wait>(rt: &R, arena: &Arena, hand: &mut Hand, stripe: u64) -> 
     ensures arena { IsHandOf arena.now hand.new }
     ensures ready { IsReady (view hand.new) }
     ensures locks { locks_of hand.new ≡ locks_of hand.old }
-    ensures number { number_of hand.new ≡ number_of hand.old }
-    ensures trims { OnOk result (HoldsStripe stripe (Changes Trimmed (number_of hand.old) stripe) (view hand.old) (view hand.new)) }
+    ensures number { hand_number hand.new ≡ hand_number hand.old }
+    ensures trims { OnOk result (HoldsStripe stripe (Changes Trimmed (hand_number hand.old) stripe) (view hand.old) (view hand.new)) }
     ensures leaves { OnErr result (HoldsStripe stripe Leaves (view hand.old) (view hand.new)) }
     ensures unfull { OnOk result (TakesNotFull (view hand.new) stripe) }
-    ensures full { result ≡ Err Trim.Full → HoldsStripe stripe FindsFull (view hand.old) (view hand.new) }
+    ensures full { result ≡ Err Trim.Full → HoldsStripe stripe FindsStripeFull (view hand.old) (view hand.new) }
     ensures first { result ≡ Err (Trim.NoMemory tt)
         → HoldsStripe stripe FindsNotFull (view hand.old) (view hand.new) }
 {
@@ -144,8 +144,8 @@ fn forget_stripe<R: Wait>(rt: &R, arena: &Arena, hand: &mut Hand, stripe: u64)
     ensures arena { IsHandOf arena.now hand.new }
     ensures ready { IsReady (view hand.new) }
     ensures locks { locks_of hand.new ≡ locks_of hand.old }
-    ensures number { number_of hand.new ≡ number_of hand.old }
-    ensures forgets { HoldsStripe stripe (Changes Forget (number_of hand.old) stripe) (view hand.old) (view hand.new) }
+    ensures number { hand_number hand.new ≡ hand_number hand.old }
+    ensures forgets { HoldsStripe stripe (Changes Forget (hand_number hand.old) stripe) (view hand.old) (view hand.new) }
 {
     let mut held = arena.lock_stripe(rt, hand, stripe);
     arena.forget(hand, &mut held);

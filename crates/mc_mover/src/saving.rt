@@ -4,7 +4,7 @@ ghost use Rattle.mc_pages.specs.Moves.{is_held_up};
 ghost use Rattle.mc_pages.specs.Pages.{is_on_the_move};
 ghost use Rattle.mc_pages.specs.SlabState.{class_of_page};
 ghost use Rattle.mc_core.specs.Evictions.{has_copy};
-ghost use Rattle.mc_core.specs.Holdings.{holding_of, is_of, lose};
+ghost use Rattle.mc_core.specs.Holdings.{holding_of, is_of_chunk, without_first};
 ghost use Rattle.mc_core.specs.Looks.{was_linked};
 ghost use Rattle.mc_core.specs.State.{has_chunk, room_in};
 ghost use Rattle.mc_words.specs.hand.Arenas.{IsHandOf, setup_of, view};
@@ -80,15 +80,15 @@ pub(crate) fn rescue(
     requires linked { was_linked (view hand.old).row.looks chunk ≡ true }
     requires fresh { IsFreshOf (view hand.old) (fresh_chunk fresh) (fresh_room fresh) }
     requires copy { HasBlankCopy hand.old chunk fresh }
-    requires alone { holding_of (fresh_chunk fresh) (lose (is_of (fresh_chunk fresh)) (view hand.old).row.holdings) ≡ None }
-    requires only { has_copy (lose (is_of (fresh_chunk fresh)) (view hand.old).row.holdings) chunk ≡ false }
+    requires alone { holding_of (fresh_chunk fresh) (without_first (is_of_chunk (fresh_chunk fresh)) (view hand.old).row.holdings) ≡ None }
+    requires only { has_copy (without_first (is_of_chunk (fresh_chunk fresh)) (view hand.old).row.holdings) chunk ≡ false }
     requires room { fresh_room fresh ≡ room_in (setup_of arena.now).table (class_of_page (slabs_lent slabs.old) chunk.page) }
     ensures arena { IsHandOf arena.now hand.new }
     ensures locks { locks_of hand.new ≡ without_stripe (locks_of hand.old) }
     ensures slabs { HasSlabs hand.new slabs.new }
     ensures rescues { ActsOnStripe (RescuesAs chunk fresh result) hand.old stripe slabs.old hand.new slabs.new }
     ensures dead { is_held_up result ≡ false → SeesDead hand.new chunk }
-    ensures holdings { (view hand.new).row.holdings ≡ lose (is_of (fresh_chunk fresh)) (view hand.old).row.holdings }
+    ensures holdings { (view hand.new).row.holdings ≡ without_first (is_of_chunk (fresh_chunk fresh)) (view hand.old).row.holdings }
     ensures ids { (view hand.new).row.ids ≡ (view hand.old).row.ids }
 {
     let copy = fresh.chunk();
@@ -127,8 +127,8 @@ pub(crate) fn move_item(
     requires linked { was_linked (view hand.old).row.looks chunk ≡ true }
     requires fresh { IsFreshOf (view hand.old) (fresh_chunk fresh) (fresh_room fresh) }
     requires copy { HasBlankCopy hand.old chunk fresh }
-    requires alone { holding_of (fresh_chunk fresh) (lose (is_of (fresh_chunk fresh)) (view hand.old).row.holdings) ≡ None }
-    requires only { has_copy (lose (is_of (fresh_chunk fresh)) (view hand.old).row.holdings) chunk ≡ false }
+    requires alone { holding_of (fresh_chunk fresh) (without_first (is_of_chunk (fresh_chunk fresh)) (view hand.old).row.holdings) ≡ None }
+    requires only { has_copy (without_first (is_of_chunk (fresh_chunk fresh)) (view hand.old).row.holdings) chunk ≡ false }
     requires room { fresh_room fresh ≡ room_in (setup_of arena.now).table (class_of_page (slabs_lent slabs.old) chunk.page) }
     ensures arena { IsHandOf arena.now hand.new }
     ensures locks { locks_of hand.new ≡ locks_of hand.old }
@@ -140,7 +140,7 @@ pub(crate) fn move_item(
     ensures moves { OnOk result (MovesInto chunk fresh hand.old stripe.old hand.new stripe.new) }
     ensures dead { OnOk result (SeesDead hand.new chunk) }
     ensures fails { OnErr result (FailsToMove chunk (fresh_chunk fresh) (view hand.old) (view hand.new) × (stripe.new ≡ stripe.old)) }
-    ensures holdings { (view hand.new).row.holdings ≡ lose (is_of (fresh_chunk fresh)) (view hand.old).row.holdings }
+    ensures holdings { (view hand.new).row.holdings ≡ without_first (is_of_chunk (fresh_chunk fresh)) (view hand.old).row.holdings }
     ensures ids { (view hand.new).row.ids ≡ (view hand.old).row.ids }
 {
     let mut fresh = fresh;

@@ -2,11 +2,11 @@
 ghost use Rattle.std.specs.Prelude.{◌≡◌, ◌≤◌, [], length, map, vec_capacity, IfOk, OnErr};
 ghost use Rattle.mc_pages.specs.ClassState.{numbers_of};
 ghost use Rattle.mc_words.specs.hand.Arenas.{IsHandOf, view};
-ghost use Rattle.mc_words.specs.hand.Observers.{HasSlabs, locks_of, number_of, slabs_lent};
+ghost use Rattle.mc_words.specs.hand.Observers.{HasSlabs, locks_of, hand_number, slabs_lent};
 ghost use Rattle.mc_words.specs.hand.Ready.{IsReady};
 ghost use Rattle.mc_words.specs.item.Refs.{KeepsRefs};
 ghost use Rattle.mc_words.specs.chunk.Sweeps.{with_seen};
-ghost use Rattle.mc_mover.specs.Acting.{Acts, ActsOnce};
+ghost use Rattle.mc_mover.specs.Acting.{ActsByNumber, ActsOnceByNumber};
 ghost use Rattle.mc_mover.specs.Surveying.{IsSurvey, Surveys, SweepsClasses, classes_swept};
 
 use crate::numbers::Survey;
@@ -32,8 +32,8 @@ pub fn survey<R: Wait>(
     ensures arena { IsHandOf arena.now hand.new }
     ensures ready { IsReady (view hand.new) }
     ensures locks { locks_of hand.new ≡ locks_of hand.old }
-    ensures number { number_of hand.new ≡ number_of hand.old }
-    ensures surveys { IfOk result (λ survey. ActsOnce (λ number. Surveys sweep survey) hand.old hand.new) }
+    ensures number { hand_number hand.new ≡ hand_number hand.old }
+    ensures surveys { IfOk result (λ survey. ActsOnceByNumber (λ number. Surveys sweep survey) hand.old hand.new) }
     ensures no_memory { OnErr result (view hand.new ≡ view hand.old) }
     ensures holdings { (view hand.new).row.holdings ≡ (view hand.old).row.holdings }
     ensures keeps { KeepsRefs (view hand.old) (view hand.new) }
@@ -56,7 +56,7 @@ fn sweep_classes(arena: &Arena, hand: &mut Hand, held: &mut SlabsHeld, sweep: bo
     ensures arena { IsHandOf arena.now hand.new }
     ensures locks { locks_of hand.new ≡ locks_of hand.old }
     ensures held { HasSlabs hand.new held.new }
-    ensures swept { Acts (λ number. SweepsClasses (classes_swept sweep (slabs_lent held.old))) hand.old held.old hand.new held.new }
+    ensures swept { ActsByNumber (λ number. SweepsClasses (classes_swept sweep (slabs_lent held.old))) hand.old held.old hand.new held.new }
     ensures view { view hand.new ≡ with_seen (view hand.old) (view hand.new) }
     ensures whole { (slabs_lent held.new).uncut ≡ (slabs_lent held.old).uncut }
 {

@@ -4,12 +4,12 @@ ghost use Rattle.mc_classes.specs.Limits.{most_refs};
 ghost use Rattle.mc_core.specs.Holdings.{has_fresh};
 ghost use Rattle.mc_words.specs.hand.Arenas.{IsHandOf, view};
 ghost use Rattle.mc_words.specs.hand.Idle.{has_no_stripes};
-ghost use Rattle.mc_words.specs.hand.Observers.{HasSlabs, locks_of, number_of, slabs_lent};
+ghost use Rattle.mc_words.specs.hand.Observers.{HasSlabs, locks_of, hand_number, slabs_lent};
 ghost use Rattle.mc_words.specs.hand.Ready.{IsReady};
 ghost use Rattle.mc_words.specs.item.Refs.{KeepsRefs};
-ghost use Rattle.mc_mover.specs.Acting.{Acts, ActsOnce, FindsSlabsHeld, TellsTurn, TellsUntilStopped};
+ghost use Rattle.mc_mover.specs.Acting.{ActsByNumber, ActsOnceByNumber, FindsSlabsHeld, RecordsTurn, RecordsUntilStopped};
 ghost use Rattle.mc_mover.specs.Answering.{AnswersMove, IsAnswerOf};
-ghost use Rattle.mc_mover.specs.Turning.{LacksMemory, Turns};
+ghost use Rattle.mc_mover.specs.Turning.{TurnLacksMemory, Turns};
 
 use crate::counts::{TryTurn, Turn};
 use crate::ending::end_turn;
@@ -41,12 +41,12 @@ pub fn turn<R: Wait>(rt: &R, arena: &Arena, hand: &mut Hand) -> Result<Turn, NoM
     ensures arena { IsHandOf arena.now hand.new }
     ensures ready { IsReady (view hand.new) }
     ensures locks { locks_of hand.new ≡ locks_of hand.old }
-    ensures number { number_of hand.new ≡ number_of hand.old }
-    ensures turns { IfOk result (λ turn. ActsOnce (λ number. Turns number turn) hand.old hand.new) }
-    ensures lacks { OnErr result (ActsOnce LacksMemory hand.old hand.new) }
+    ensures number { hand_number hand.new ≡ hand_number hand.old }
+    ensures turns { IfOk result (λ turn. ActsOnceByNumber (λ number. Turns number turn) hand.old hand.new) }
+    ensures lacks { OnErr result (ActsOnceByNumber TurnLacksMemory hand.old hand.new) }
     ensures answers { IfOk result (AnswersMove (view hand.new)) }
-    ensures told { IfOk result (TellsTurn hand.old hand.new) }
-    ensures told_before { OnErr result (TellsUntilStopped hand.old hand.new) }
+    ensures told { IfOk result (RecordsTurn hand.old hand.new) }
+    ensures told_before { OnErr result (RecordsUntilStopped hand.old hand.new) }
     ensures holdings { (view hand.new).row.holdings ≡ (view hand.old).row.holdings }
     ensures keeps { KeepsRefs (view hand.old) (view hand.new) }
     ensures unsaid { (view hand.new).row.knows.said ≡ (view hand.old).row.knows.said }
@@ -65,13 +65,13 @@ pub fn try_turn(arena: &Arena, hand: &mut Hand) -> Result<Turn, TryTurn>
     ensures arena { IsHandOf arena.now hand.new }
     ensures ready { IsReady (view hand.new) }
     ensures locks { locks_of hand.new ≡ locks_of hand.old }
-    ensures number { number_of hand.new ≡ number_of hand.old }
-    ensures turns { IfOk result (λ turn. ActsOnce (λ number. Turns number turn) hand.old hand.new) }
+    ensures number { hand_number hand.new ≡ hand_number hand.old }
+    ensures turns { IfOk result (λ turn. ActsOnceByNumber (λ number. Turns number turn) hand.old hand.new) }
     ensures held { result ≡ Err TryTurn.Held → FindsSlabsHeld hand.old hand.new }
-    ensures lacks { result ≡ Err (TryTurn.NoMemory tt) → ActsOnce LacksMemory hand.old hand.new }
+    ensures lacks { result ≡ Err (TryTurn.NoMemory tt) → ActsOnceByNumber TurnLacksMemory hand.old hand.new }
     ensures answers { IfOk result (AnswersMove (view hand.new)) }
-    ensures told { IfOk result (TellsTurn hand.old hand.new) }
-    ensures told_before { result ≡ Err (TryTurn.NoMemory tt) → TellsUntilStopped hand.old hand.new }
+    ensures told { IfOk result (RecordsTurn hand.old hand.new) }
+    ensures told_before { result ≡ Err (TryTurn.NoMemory tt) → RecordsUntilStopped hand.old hand.new }
     ensures holdings { (view hand.new).row.holdings ≡ (view hand.old).row.holdings }
     ensures keeps { KeepsRefs (view hand.old) (view hand.new) }
     ensures unsaid { (view hand.new).row.knows.said ≡ (view hand.old).row.knows.said }
@@ -99,9 +99,9 @@ fn turn_held(arena: &Arena, hand: &mut Hand, held: &mut SlabsHeld) -> Result<Tur
     ensures locks { locks_of hand.new ≡ locks_of hand.old }
     ensures held { HasSlabs hand.new held.new }
     ensures whole { (slabs_lent held.new).uncut ≡ None }
-    ensures turns { IfOk result (λ turn. Acts (λ number. Turns number turn) hand.old held.old hand.new held.new) }
+    ensures turns { IfOk result (λ turn. ActsByNumber (λ number. Turns number turn) hand.old held.old hand.new held.new) }
     ensures answers { IfOk result (λ turn. IsAnswerOf turn (slabs_lent held.old).moving (slabs_lent held.new).moving) }
-    ensures lacks { OnErr result (Acts LacksMemory hand.old held.old hand.new held.new) }
+    ensures lacks { OnErr result (ActsByNumber TurnLacksMemory hand.old held.old hand.new held.new) }
     ensures holdings { (view hand.new).row.holdings ≡ (view hand.old).row.holdings }
 {
     if held.moving().is_none() {

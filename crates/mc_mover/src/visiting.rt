@@ -10,8 +10,8 @@ ghost use Rattle.mc_core.specs.State.{has_chunk, is_class};
 ghost use Rattle.mc_words.specs.hand.Arenas.{IsHandOf, setup_of, view};
 ghost use Rattle.mc_words.specs.hand.Idle.{has_no_stripes};
 ghost use Rattle.mc_words.specs.hand.Observers.{HasSlabs, locks_of, slabs_lent};
-ghost use Rattle.mc_mover.specs.Acting.{Acts};
-ghost use Rattle.mc_mover.specs.Visiting.{LacksCall, Visits};
+ghost use Rattle.mc_mover.specs.Acting.{ActsByNumber};
+ghost use Rattle.mc_mover.specs.Visiting.{LacksCallToSave, Visits};
 
 use crate::linked::visit_linked;
 use crate::sweep::Sweep;
@@ -44,9 +44,9 @@ pub(crate) fn visit(
     ensures arena { IsHandOf arena.now hand.new }
     ensures locks { locks_of hand.new ≡ locks_of hand.old }
     ensures held { HasSlabs hand.new held.new }
-    ensures visits { IfOk result (λ found. Acts (λ number. Visits number class chunk sweep.old found sweep.new) hand.old held.old hand.new held.new) }
+    ensures visits { IfOk result (λ found. ActsByNumber (λ number. Visits number class chunk sweep.old found sweep.new) hand.old held.old hand.new held.new) }
     ensures clears { IfOk result (λ found. is_held_up found ≡ false → is_cleared (slabs_lent held.new) class chunk ≡ true) }
-    ensures lacks { OnErr result (Acts (λ number. LacksCall chunk) hand.old held.old hand.new held.new) }
+    ensures lacks { OnErr result (ActsByNumber (λ number. LacksCallToSave chunk) hand.old held.old hand.new held.new) }
     ensures moving { (slabs_lent held.new).moving ≡ (slabs_lent held.old).moving }
     ensures uncut { (slabs_lent held.new).uncut ≡ (slabs_lent held.old).uncut }
     ensures per_page { (class_at (slabs_lent held.new) class).per_page ≡ (class_at (slabs_lent held.old) class).per_page }

@@ -3,7 +3,7 @@ use Rattle.std.proofs.Common.{◌≡◌, ◌∙◌, ℕ, suc, ◌+◌, ◌==◌,
 use Rattle.std.specs.Prelude.{unwrap_or}
 use Rattle.std.specs.List.{position_or_len}
 use Rattle.clap.specs.Lexer.{has_byte, name_and_value, long_of}
-use Rattle.mc_options.specs.Options.{after, value_from}
+use Rattle.mc_options.specs.Options.{text_behind, value_from}
 
 abbrev pub Text : Type 0
 Text = List ℕ
@@ -62,7 +62,7 @@ cut_as : (r : Text) (q : Text × Option Text) (id : Text) (o : Option (Option Te
 cut_as r q id o e h = h ∙ sym (ap (λ (w : Text × Option Text). given w id) e)
 
 -- an option whose name has no `=` gets what the cut says
-pub cut_is : (id rest : Text) → has_byte 61 id ≡ false → read (after id rest) ≡ given (name_and_value rest) id
+pub cut_is : (id rest : Text) → has_byte 61 id ≡ false → read (text_behind id rest) ≡ given (name_and_value rest) id
 cut_is [] [] h = refl
 cut_is [] (c ∷ r) h = go (c == 61) refl
   where
@@ -72,26 +72,26 @@ cut_is [] (c ∷ r) h = go (c == 61) refl
 cut_is (i ∷ is) [] h = refl
 cut_is (i ∷ is) (c ∷ r) h = go (cut_is is r) (i == 61) (c == 61) refl refl
   where
-    last : (has_byte 61 is ≡ false → read (after is r) ≡ given (name_and_value r) is) → (b : Bool) → (i == c) ≡ b → (i == 61) ≡ false → (c == 61) ≡ false → read (after (i ∷ is) (c ∷ r)) ≡ given (name_and_value (c ∷ r)) (i ∷ is)
+    last : (has_byte 61 is ≡ false → read (text_behind is r) ≡ given (name_and_value r) is) → (b : Bool) → (i == c) ≡ b → (i == 61) ≡ false → (c == 61) ≡ false → read (text_behind (i ∷ is) (c ∷ r)) ≡ given (name_and_value (c ∷ r)) (i ∷ is)
     last rest true k d e = cut_as (c ∷ r) _ (i ∷ is) _ (next_name c r e) (rw (k, sym (same_byte i c) ∙ k) (rest (rw d at h)))
     last rest false k d e = cut_as (c ∷ r) _ (i ∷ is) _ (next_name c r e) (rw (k, sym (same_byte i c) ∙ k) refl)
 
-    go : (has_byte 61 is ≡ false → read (after is r) ≡ given (name_and_value r) is) → (b t : Bool) → (i == 61) ≡ b → (c == 61) ≡ t → read (after (i ∷ is) (c ∷ r)) ≡ given (name_and_value (c ∷ r)) (i ∷ is)
+    go : (has_byte 61 is ≡ false → read (text_behind is r) ≡ given (name_and_value r) is) → (b t : Bool) → (i == 61) ≡ b → (c == 61) ≡ t → read (text_behind (i ∷ is) (c ∷ r)) ≡ given (name_and_value (c ∷ r)) (i ∷ is)
     go rest true t d e = let bad : true ≡ false = rw d at h in cc
     go rest false true d e = cut_as (c ∷ r) _ (i ∷ is) _ (first_name c r e) (rw (other_byte i c d e) refl)
     go rest false false d e = last rest (i == c) refl d e
 
 -- the word is `--name` or `--name=..`, as clap reads it
-pub long_cut : (id word : Text) (p : Text × Option Text) → has_byte 61 id ≡ false → long_of word ≡ Some p → read (after (45 ∷ 45 ∷ id) word) ≡ given p id
+pub long_cut : (id word : Text) (p : Text × Option Text) → has_byte 61 id ≡ false → long_of word ≡ Some p → read (text_behind (45 ∷ 45 ∷ id) word) ≡ given p id
 long_cut id [] p h e = cc
 long_cut id (x ∷ []) p h e = go (x == 45) refl
   where
-    go : (b : Bool) → (x == 45) ≡ b → read (after (45 ∷ 45 ∷ id) (x ∷ [])) ≡ given p id
+    go : (b : Bool) → (x == 45) ≡ b → read (text_behind (45 ∷ 45 ∷ id) (x ∷ [])) ≡ given p id
     go true d = let bad : None ≡ Some p = rw d at e in cc
     go false d = let bad : None ≡ Some p = rw d at e in cc
 long_cut id (x ∷ y ∷ rest) p h e = go (x == 45) (y == 45) refl refl rest e
   where
-    go : (b t : Bool) → (x == 45) ≡ b → (y == 45) ≡ t → (r : Text) → long_of (x ∷ y ∷ r) ≡ Some p → read (after (45 ∷ 45 ∷ id) (x ∷ y ∷ r)) ≡ given p id
+    go : (b t : Bool) → (x == 45) ≡ b → (y == 45) ≡ t → (r : Text) → long_of (x ∷ y ∷ r) ≡ Some p → read (text_behind (45 ∷ 45 ∷ id) (x ∷ y ∷ r)) ≡ given p id
     go false t d k r f = let bad : None ≡ Some p = rw d at f in cc
     go true false d k r f = let bad : None ≡ Some p = rw (d, k) at f in cc
     go true true d k [] f = let bad : None ≡ Some p = rw (d, k) at f in cc
@@ -100,21 +100,21 @@ long_cut id (x ∷ y ∷ rest) p h e = go (x == 45) (y == 45) refl refl rest e
         rw (same_byte 45 x, d, same_byte 45 y, k) (cut_is id (c ∷ r) h ∙ ap (λ (q : Text × Option Text). given q id) same)
 
 -- a word that is neither that nor `--` is no option
-pub plain_cut : (id word : Text) → long_of word ≡ None → bytes_eq word (45 ∷ 45 ∷ []) ≡ false → read (after (45 ∷ 45 ∷ id) word) ≡ None
+pub plain_cut : (id word : Text) → long_of word ≡ None → bytes_eq word (45 ∷ 45 ∷ []) ≡ false → read (text_behind (45 ∷ 45 ∷ id) word) ≡ None
 plain_cut id [] h e = refl
 plain_cut id (x ∷ []) h e = go (x == 45) refl
   where
-    go : (b : Bool) → (x == 45) ≡ b → read (after (45 ∷ 45 ∷ id) (x ∷ [])) ≡ None
+    go : (b : Bool) → (x == 45) ≡ b → read (text_behind (45 ∷ 45 ∷ id) (x ∷ [])) ≡ None
     go true d = rw (same_byte 45 x, d) refl
     go false d = rw (same_byte 45 x, d) refl
 plain_cut id (x ∷ y ∷ rest) h e = go (x == 45) (y == 45) refl refl rest h e
   where
-    go : (b t : Bool) → (x == 45) ≡ b → (y == 45) ≡ t → (r : Text) → long_of (x ∷ y ∷ r) ≡ None → bytes_eq (x ∷ y ∷ r) (45 ∷ 45 ∷ []) ≡ false → read (after (45 ∷ 45 ∷ id) (x ∷ y ∷ r)) ≡ None
+    go : (b t : Bool) → (x == 45) ≡ b → (y == 45) ≡ t → (r : Text) → long_of (x ∷ y ∷ r) ≡ None → bytes_eq (x ∷ y ∷ r) (45 ∷ 45 ∷ []) ≡ false → read (text_behind (45 ∷ 45 ∷ id) (x ∷ y ∷ r)) ≡ None
     go false t d k r f g = rw (same_byte 45 x, d) refl
     go true false d k r f g = rw (same_byte 45 x, d, same_byte 45 y, k) refl
     go true true d k [] f g = let bad : true ≡ false = rw (d, k) at g in cc
     go true true d k (c ∷ r) f g = let bad : Some (name_and_value (c ∷ r)) ≡ None = rw (d, k) at f in cc
 
 -- `--` alone is no option
-pub dashes_cut : (i : ℕ) (is : Text) → after (45 ∷ 45 ∷ i ∷ is) (45 ∷ 45 ∷ []) ≡ None
+pub dashes_cut : (i : ℕ) (is : Text) → text_behind (45 ∷ 45 ∷ i ∷ is) (45 ∷ 45 ∷ []) ≡ None
 dashes_cut i is = refl

@@ -15,7 +15,7 @@ use Rattle.clap.proofs.ValueTestLemmas.{accepts-Accepts}
 use Rattle.clap.proofs.WalkLemmas.{first_value-rows, one_text-rows}
 use Rattle.clap.specs.declared.builder.value_parser.ValueParser.TheVariants as vp
 use Rattle.clap.specs.declared.error.kind.ErrorKind.TheVariants as kind
-use Rattle.mc_options.specs.Options.{has_threads, value_of}
+use Rattle.mc_options.specs.Options.{has_threads, option_value}
 use Rattle.mc_options.proofs.OptionCut.{IsName, Text}
 use Rattle.mc_options.proofs.OptionRows.{IsFlag, IsValued, any_found, at_none, has_id, new_row}
 use Rattle.mc_options.proofs.OptionValues.{threads_in, value_in}
@@ -158,24 +158,24 @@ not_threads id v = go (bytes_eq (codes "threads") id) refl
     go false e = e
 
 -- the rows of the matches are the values of the words
-pub row_found : (words : List Text) (id : Text) → fault_of mcslab words ≡ [] → IsName id → HasValue id → find (has_id id) (matches_of mcslab words) ≡ option_map (new_row id) (value_of id (drop 1 words))
+pub row_found : (words : List Text) (id : Text) → fault_of mcslab words ≡ [] → IsName id → HasValue id → find (has_id id) (matches_of mcslab words) ≡ option_map (new_row id) (option_value id (drop 1 words))
 row_found words id q n v =
     let last = (end top are_options refl (walk_from (holds [] None)) (drop 1 words)).held in
     ap (find (has_id id)) (defaults_are (settled top.rules last).rows) ∙ default_left (settled top.rules last).rows id (not_threads id v) ∙ (says words q).finds id n
     ∙ ap (λ (b : Bool). option_map (new_row id) (value_in b id (drop 1 words))) v
 
 -- what the getters read
-pub text_found : (words : List Text) (id : Text) → fault_of mcslab words ≡ [] → IsName id → HasValue id → first_of id (matches_of mcslab words) ≡ value_of id (drop 1 words)
+pub text_found : (words : List Text) (id : Text) → fault_of mcslab words ≡ [] → IsName id → HasValue id → first_of id (matches_of mcslab words) ≡ option_value id (drop 1 words)
 text_found words id q n v =
-    ap (option_and_then (λ (r : Row). slice_get r.values 0)) (row_found words id q n v) ∙ go (value_of id (drop 1 words))
+    ap (option_and_then (λ (r : Row). slice_get r.values 0)) (row_found words id q n v) ∙ go (option_value id (drop 1 words))
   where
     go : (o : Option Text) → option_and_then (λ (r : Row). slice_get r.values 0) (option_map (new_row id) o) ≡ o
     go None = refl
     go (Some v) = refl
 
-pub one_found : (words : List Text) (id : Text) → fault_of mcslab words ≡ [] → IsName id → HasValue id → one_of id (matches_of mcslab words) ≡ value_of id (drop 1 words)
+pub one_found : (words : List Text) (id : Text) → fault_of mcslab words ≡ [] → IsName id → HasValue id → one_of id (matches_of mcslab words) ≡ option_value id (drop 1 words)
 one_found words id q n v =
-    ap (option_and_then row_text) (row_found words id q n v) ∙ go (value_of id (drop 1 words))
+    ap (option_and_then row_text) (row_found words id q n v) ∙ go (option_value id (drop 1 words))
   where
     go : (o : Option Text) → option_and_then row_text (option_map (new_row id) o) ≡ o
     go None = refl
@@ -197,9 +197,9 @@ flag_found words q =
 
 -- a number's value passes clap's reader
 pub number_found : (words : List Text) (id : Text) (a : Rule) (most : ℕ) → fault_of mcslab words ≡ [] → IsName id → HasValue id → arg_by_id top.rules id ≡ Some a → a.parser ≡ Some (vp.Unsigned 0 most)
-    → IfSome (value_of id (drop 1 words)) (IsUnsignedIn 0 most)
+    → IfSome (option_value id (drop 1 words)) (IsUnsignedIn 0 most)
 number_found words id a most q n takes found parser =
-    go (value_of id (drop 1 words))
+    go (option_value id (drop 1 words))
     (subst (λ (b : Bool). IfSome (value_in b id (drop 1 words)) (λ v. IfSome (arg_by_id top.rules id) (λ r. values_fault r (v ∷ []) ≡ []))) takes ((says words q).passes id n))
   where
     passed : (v : Text) → values_fault a (v ∷ []) ≡ [] → IsUnsignedIn 0 most v
@@ -223,10 +223,10 @@ no_fault a words is kinds = subst (λ (b : App). is_simple_and_free b ≡ true �
 same_rows : (a : App) (words : List Text) (m : ArgMatches) → a ≡ mcslab → HasMatchesOf a words m → rows_of (found_of m) ≡ matches_of mcslab words
 same_rows a words m is h = (subst (λ (b : App). HasMatchesOf b words m) is h refl).0
 
-pub first_is : (a : App) (words : List Text) (m : ArgMatches) (id : Text) → a ≡ mcslab → HasMatchesOf a words m → fault_of mcslab words ≡ [] → IsName id → HasValue id → first_value (found_of m) id ≡ value_of id (drop 1 words)
+pub first_is : (a : App) (words : List Text) (m : ArgMatches) (id : Text) → a ≡ mcslab → HasMatchesOf a words m → fault_of mcslab words ≡ [] → IsName id → HasValue id → first_value (found_of m) id ≡ option_value id (drop 1 words)
 first_is a words m id is h q n v = first_value-rows (found_of m) id ∙ ap (first_of id) (same_rows a words m is h) ∙ text_found words id q n v
 
-pub one_is : (a : App) (words : List Text) (m : ArgMatches) (id : Text) → a ≡ mcslab → HasMatchesOf a words m → fault_of mcslab words ≡ [] → IsName id → HasValue id → one_text (found_of m) id ≡ value_of id (drop 1 words)
+pub one_is : (a : App) (words : List Text) (m : ArgMatches) (id : Text) → a ≡ mcslab → HasMatchesOf a words m → fault_of mcslab words ≡ [] → IsName id → HasValue id → one_text (found_of m) id ≡ option_value id (drop 1 words)
 one_is a words m id is h q n v = one_text-rows (found_of m) id ∙ ap (one_of id) (same_rows a words m is h) ∙ one_found words id q n v
 
 pub flag_is : (a : App) (words : List Text) (m : ArgMatches) → a ≡ mcslab → HasMatchesOf a words m → fault_of mcslab words ≡ []

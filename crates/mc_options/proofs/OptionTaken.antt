@@ -12,7 +12,7 @@ use Rattle.clap.specs.Values.{IsUnsignedIn}
 use Rattle.clap.proofs.ValueTestLemmas.{Accepts-accepts}
 use Rattle.clap.specs.declared.builder.value_parser.ValueParser.TheVariants as vp
 use Rattle.mc_options.specs.CommandLine.{mcslab}
-use Rattle.mc_options.specs.Options.{AreTaken, Choice, IsCommandLine, IsMode, IsNewTo, IsNumber, IsNumberName, TakesValue, apart, flag, is_hyphenated, joined, name_of, words_of}
+use Rattle.mc_options.specs.Options.{AreTaken, Choice, IsCommandLine, IsMode, IsNewTo, IsNumber, IsNumberName, AllowsValue, apart, flag, is_hyphenated, joined, option_name, choice_words}
 use Rattle.mc_options.proofs.OptionCut.{IsName, Text, first_name, next_name}
 use Rattle.mc_options.proofs.OptionRows.{IsFlag, IsValued, new_row, used_flag, used_new}
 use Rattle.mc_options.proofs.OptionWalk.{AreOptions, IsQuiet, apart_next, apart_turn, attached_next, end, ends, flag_next, flag_one, flag_turn, found_option, holds, joined_turn, more_quiet, next, pending_used, takes_nothing, takes_valued, turn, valued_one, value_next, value_turn, waits_from}
@@ -68,7 +68,7 @@ factor_takes value = record {
   passes = refl;
 }
 
-pub takes : (name value : Text) → TakesValue name value → Takes top.rules name value
+pub takes : (name value : Text) → AllowsValue name value → Takes top.rules name value
 takes name value t = elim t [
   | inl e ↦ subst (λ (n : Text). Takes top.rules n value) (sym e) (factor_takes value)
   | inr (inl mode) ↦ subst (λ (n : Text). Takes top.rules n value) (sym mode.0) (automove_takes value mode.1)
@@ -128,7 +128,7 @@ plain_word (x ∷ y ∷ rest) h = record { long = rw h refl; short = rw h refl; 
 
 abbrev AreFresh : List Choice → List Row → Type 0
 AreFresh [] rows = Unit {0}
-AreFresh (choice ∷ rest) rows = (has_row (name_of choice) rows ≡ false) × AreFresh rest rows
+AreFresh (choice ∷ rest) rows = (has_row (option_name choice) rows ≡ false) × AreFresh rest rows
 
 none_fresh : (choices : List Choice) → AreFresh choices []
 none_fresh [] = tt
@@ -144,21 +144,21 @@ other_name a b differ = go (bytes_eq b a) refl
 fresh_more : (choices : List Choice) (rows : List Row) (name value : Text) → AreFresh choices rows → IsNewTo name choices → AreFresh choices (rows ++ new_row name value ∷ [])
 fresh_more [] rows name value f n = tt
 fresh_more (choice ∷ rest) rows name value f n = (
-  list_any-append (λ (r : Row). bytes_eq r.id (name_of choice)) rows (new_row name value ∷ []) ∙ rw (f.0, other_name (name_of choice) name n.0) refl,
+  list_any-append (λ (r : Row). bytes_eq r.id (option_name choice)) rows (new_row name value ∷ []) ∙ rw (f.0, other_name (option_name choice) name n.0) refl,
   fresh_more rest rows name value f.1 n.1,
 )
 
-module _ (s : Shape) (options : AreOptions s.rules) (once : s.args_override_self ≡ false) (known : (name value : Text) → TakesValue name value → Takes s.rules name value) (flags : HasFlag s.rules (codes "threads")) where
+module _ (s : Shape) (options : AreOptions s.rules) (once : s.args_override_self ≡ false) (known : (name value : Text) → AllowsValue name value → Takes s.rules name value) (flags : HasFlag s.rules (codes "threads")) where
   -- a first use passes
   use_quiet : (a : Rule) (value : Text) (rows : List Row) → IsValued a → has_row a.id rows ≡ false → values_fault a (value ∷ []) ≡ [] → use_fault s.args_override_self a (value ∷ []) rows ≡ []
   use_quiet a value rows v fresh pass = valued_one s.args_override_self a value rows v ∙ rw (fresh, pass) refl
 
   abbrev Quiet : List Choice → Type 0
   Quiet choices = (rows : List Row) (p : Option (Text × List Text)) → ends s options once (holds rows p) ≡ [] → AreFresh choices (settled s.rules (holds rows p)).rows → AreTaken choices
-      → IsQuiet s options once (walk_from (holds rows p)) (words_of choices)
+      → IsQuiet s options once (walk_from (holds rows p)) (choice_words choices)
 
   joined_quiet : (name value : Text) (rest : List Choice) → Quiet rest → (rows : List Row) (p : Option (Text × List Text)) → ends s options once (holds rows p) ≡ [] → has_row name (settled s.rules (holds rows p)).rows ≡ false
-      → AreFresh rest (settled s.rules (holds rows p)).rows → Takes s.rules name value → IsNewTo name rest → AreTaken rest → IsQuiet s options once (walk_from (holds rows p)) (named_word (name ++ (61 ∷ value)) ∷ words_of rest)
+      → AreFresh rest (settled s.rules (holds rows p)).rows → Takes s.rules name value → IsNewTo name rest → AreTaken rest → IsQuiet s options once (walk_from (holds rows p)) (named_word (name ++ (61 ∷ value)) ∷ choice_words rest)
   joined_quiet name value rest later rows p settles fresh others t new taken =
       let h = holds rows p in
       let before = (settled s.rules h).rows in
@@ -172,11 +172,11 @@ module _ (s : Shape) (options : AreOptions s.rules) (once : s.args_override_self
       let step = attached_next s options once h word name value t.rule l.1 l.0 t.found (takes_valued s options once t.rule t.valued) in
       let fresh_rest : AreFresh rest (used t.rule (value ∷ []) before) = subst (AreFresh rest) (sym grown) (fresh_more rest before name value others new) in
       let said = later (used t.rule (value ∷ []) before) None refl fresh_rest taken in
-      more_quiet s options once (walk_from h) word (words_of rest) turn_ok (subst (λ (w : Walk). IsQuiet s options once w (words_of rest)) (sym step) said)
+      more_quiet s options once (walk_from h) word (choice_words rest) turn_ok (subst (λ (w : Walk). IsQuiet s options once w (choice_words rest)) (sym step) said)
 
   apart_quiet : (name value : Text) (rest : List Choice) → Quiet rest → (rows : List Row) (p : Option (Text × List Text)) → ends s options once (holds rows p) ≡ [] → has_row name (settled s.rules (holds rows p)).rows ≡ false
       → AreFresh rest (settled s.rules (holds rows p)).rows → Takes s.rules name value → IsNewTo name rest → AreTaken rest → is_hyphenated value ≡ false
-      → IsQuiet s options once (walk_from (holds rows p)) (named_word name ∷ value ∷ words_of rest)
+      → IsQuiet s options once (walk_from (holds rows p)) (named_word name ∷ value ∷ choice_words rest)
   apart_quiet name value rest later rows p settles fresh others t new taken plain =
       let h = holds rows p in
       let before = (settled s.rules h).rows in
@@ -196,13 +196,13 @@ module _ (s : Shape) (options : AreOptions s.rules) (once : s.args_override_self
       let value_step = value_next s options once before value name t.rule k.apart k.long t.found most id (rw k.short tt) in
       let settled_ok : ends s options once (holds before (Some (name, value ∷ []))) ≡ [] = rw t.found use_ok in
       let said = later before (Some (name, value ∷ [])) settled_ok (subst (AreFresh rest) (sym grown) (fresh_more rest before name value others new)) taken in
-      more_quiet s options once (walk_from h) word (value ∷ words_of rest) turn_ok
-      (subst (λ (w : Walk). IsQuiet s options once w (value ∷ words_of rest)) (sym step)
-      (more_quiet s options once (waits_from name (holds before (Some (name, [])))) value (words_of rest) value_ok
-      (subst (λ (w : Walk). IsQuiet s options once w (words_of rest)) (sym value_step) said)))
+      more_quiet s options once (walk_from h) word (value ∷ choice_words rest) turn_ok
+      (subst (λ (w : Walk). IsQuiet s options once w (value ∷ choice_words rest)) (sym step)
+      (more_quiet s options once (waits_from name (holds before (Some (name, [])))) value (choice_words rest) value_ok
+      (subst (λ (w : Walk). IsQuiet s options once w (choice_words rest)) (sym value_step) said)))
 
   flag_quiet : (rest : List Choice) → Quiet rest → (rows : List Row) (p : Option (Text × List Text)) → ends s options once (holds rows p) ≡ [] → has_row (codes "threads") (settled s.rules (holds rows p)).rows ≡ false
-      → AreFresh rest (settled s.rules (holds rows p)).rows → IsNewTo (codes "threads") rest → AreTaken rest → IsQuiet s options once (walk_from (holds rows p)) (codes "--threads" ∷ words_of rest)
+      → AreFresh rest (settled s.rules (holds rows p)).rows → IsNewTo (codes "threads") rest → AreTaken rest → IsQuiet s options once (walk_from (holds rows p)) (codes "--threads" ∷ choice_words rest)
   flag_quiet rest later rows p settles fresh others new taken =
       let h = holds rows p in
       let before = (settled s.rules h).rows in
@@ -219,7 +219,7 @@ module _ (s : Shape) (options : AreOptions s.rules) (once : s.args_override_self
       let step = flag_next s options once h word (codes "threads") a l.1 l.0 flags.found (takes_nothing s options once a flags.flag) in
       let fresh_rest : AreFresh rest (used a [] before) = subst (AreFresh rest) (sym grown) (fresh_more rest before (codes "threads") (codes "true") others new) in
       let said = later (used a [] before) None refl fresh_rest taken in
-      more_quiet s options once (walk_from h) word (words_of rest) turn_ok (subst (λ (w : Walk). IsQuiet s options once w (words_of rest)) (sym step) said)
+      more_quiet s options once (walk_from h) word (choice_words rest) turn_ok (subst (λ (w : Walk). IsQuiet s options once w (choice_words rest)) (sym step) said)
 
   pub words_quiet : (choices : List Choice) → Quiet choices
   unfolding walk_fault

@@ -1,7 +1,7 @@
 -- What the words give an option with a value, or a flag.
 use Rattle.std.proofs.Common.{◌≡◌, ◌∙◌, ◌==◌, ◌||◌, if◌then◌else◌, Bool, true, false, List, [], ◌∷◌, refl, ap, sym, bytes_eq, codes, Option, Some, None}
 use Rattle.clap.specs.Lexer.{long_of}
-use Rattle.mc_options.specs.Options.{after, has_threads, value_of}
+use Rattle.mc_options.specs.Options.{text_behind, has_threads, option_value}
 use Rattle.mc_options.proofs.OptionCut.{IsName, Text, given, long_cut, pick, plain_cut, read, same_byte, value_from_read}
 
 -- the value that a word with this reading gives an option, or a flag
@@ -14,20 +14,20 @@ got true (Some (Some value)) rest later = later
 -- `true` where one of the words is the flag
 abbrev pub flag_in : Text → List Text → Option Text
 flag_in id [] = None
-flag_in id (word ∷ rest) = got true (read (after (45 ∷ 45 ∷ id) word)) rest (flag_in id rest)
+flag_in id (word ∷ rest) = got true (read (text_behind (45 ∷ 45 ∷ id) word)) rest (flag_in id rest)
 
 -- what the words give, where `is_flag` says which of the two it is
 abbrev pub value_in : Bool → Text → List Text → Option Text
-value_in false id words = value_of id words
+value_in false id words = option_value id words
 value_in true id words = flag_in id words
 
 pub none_in : (is_flag : Bool) (id : Text) → value_in is_flag id [] ≡ None
 none_in true id = refl
 none_in false id = refl
 
-first_value_in : (is_flag : Bool) (id word : Text) (rest : List Text) → value_in is_flag id (word ∷ rest) ≡ got is_flag (read (after (45 ∷ 45 ∷ id) word)) rest (value_in is_flag id rest)
+first_value_in : (is_flag : Bool) (id word : Text) (rest : List Text) → value_in is_flag id (word ∷ rest) ≡ got is_flag (read (text_behind (45 ∷ 45 ∷ id) word)) rest (value_in is_flag id rest)
 first_value_in true id word rest = refl
-first_value_in false id word rest = value_from_read (after (45 ∷ 45 ∷ id) word) rest (value_of id rest)
+first_value_in false id word rest = value_from_read (text_behind (45 ∷ 45 ∷ id) word) rest (option_value id rest)
 
 long_value : (is_flag : Bool) (id word : Text) (rest : List Text) (p : Text × Option Text) → IsName id → long_of word ≡ Some p
     → value_in is_flag id (word ∷ rest) ≡ got is_flag (given p id) rest (value_in is_flag id rest)
@@ -93,13 +93,13 @@ is_whole (Some []) = true
 is_whole (Some (byte ∷ value)) = false
 
 -- a word that begins with the front and ends there is the front
-whole : (front word : Text) → bytes_eq word front ≡ is_whole (after front word)
+whole : (front word : Text) → bytes_eq word front ≡ is_whole (text_behind front word)
 whole [] [] = refl
 whole [] (y ∷ word) = refl
 whole (x ∷ front) [] = refl
 whole (x ∷ front) (y ∷ word) = go (x == y) refl (whole front word)
   where
-    go : (b : Bool) → (x == y) ≡ b → bytes_eq word front ≡ is_whole (after front word) → bytes_eq (y ∷ word) (x ∷ front) ≡ is_whole (after (x ∷ front) (y ∷ word))
+    go : (b : Bool) → (x == y) ≡ b → bytes_eq word front ≡ is_whole (text_behind front word) → bytes_eq (y ∷ word) (x ∷ front) ≡ is_whole (text_behind (x ∷ front) (y ∷ word))
     go true e h = rw (e, same_byte y x ∙ e) h
     go false e h = rw (e, same_byte y x ∙ e) refl
 
@@ -116,7 +116,7 @@ pub threads_in : (words : List Text) → flag_in (codes "threads") words ≡ (if
 threads_in [] = refl
 threads_in (word ∷ rest) =
     let later = flag_in (codes "threads") rest in
-    whole_gives (after (codes "--threads") word) rest later ∙ ap (λ (b : Bool). if b then Some (codes "true") else later) (sym (whole (codes "--threads") word))
+    whole_gives (text_behind (codes "--threads") word) rest later ∙ ap (λ (b : Bool). if b then Some (codes "true") else later) (sym (whole (codes "--threads") word))
     ∙ go (bytes_eq word (codes "--threads")) (threads_in rest)
   where
     go : (b : Bool) → flag_in (codes "threads") rest ≡ (if has_threads rest then Some (codes "true") else None)

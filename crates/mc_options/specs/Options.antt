@@ -9,10 +9,10 @@ use Rattle.mc_options.specs.declared.settings.Options.{Options}
 -- ---- the value of an option
 
 -- what follows this front in a text; none where the text doesn't begin with the front
-abbrev pub after : List ℕ → List ℕ → Option (List ℕ)
-after [] text = Some text
-after (x ∷ front) [] = None
-after (x ∷ front) (y ∷ text) = if x == y then after front text else None
+abbrev pub text_behind : List ℕ → List ℕ → Option (List ℕ)
+text_behind [] text = Some text
+text_behind (x ∷ front) [] = None
+text_behind (x ∷ front) (y ∷ text) = if x == y then text_behind front text else None
 
 -- the value of `--name` by what follows the name in its word. Nothing: the next word. `=` (61): what follows it. Anything else: the value
 -- that later words give
@@ -22,9 +22,9 @@ value_from (Some (byte ∷ value)) rest later = if byte == 61 then Some value el
 value_from None rest later = later
 
 -- the value of an option: the word behind the first `--name`, or what follows `--name=`
-abbrev pub value_of : List ℕ → List (List ℕ) → Option (List ℕ)
-value_of name [] = None
-value_of name (word ∷ rest) = value_from (after (codes "--" ++ name) word) rest (value_of name rest)
+abbrev pub option_value : List ℕ → List (List ℕ) → Option (List ℕ)
+option_value name [] = None
+option_value name (word ∷ rest) = value_from (text_behind (codes "--" ++ name) word) rest (option_value name rest)
 
 -- ---- the flag of the threads
 
@@ -79,29 +79,29 @@ pub data Choice : Type 0 where
   flag : Choice
 
 -- `--name=value`, or `--name` and `value`, or `--threads`
-abbrev pub written : Choice → List (List ℕ)
-written (joined name value) = (codes "--" ++ name ++ (61 ∷ value)) ∷ []
-written (apart name value) = (codes "--" ++ name) ∷ value ∷ []
-written flag = codes "--threads" ∷ []
+abbrev pub written_choice : Choice → List (List ℕ)
+written_choice (joined name value) = (codes "--" ++ name ++ (61 ∷ value)) ∷ []
+written_choice (apart name value) = (codes "--" ++ name) ∷ value ∷ []
+written_choice flag = codes "--threads" ∷ []
 
 -- the name behind the hyphens
-abbrev pub name_of : Choice → List ℕ
-name_of (joined name value) = name
-name_of (apart name value) = name
-name_of flag = codes "threads"
+abbrev pub option_name : Choice → List ℕ
+option_name (joined name value) = name
+option_name (apart name value) = name
+option_name flag = codes "threads"
 
 -- the words of many choices
-abbrev pub words_of : List Choice → List (List ℕ)
-words_of [] = []
-words_of (choice ∷ rest) = written choice ++ words_of rest
+abbrev pub choice_words : List Choice → List (List ℕ)
+choice_words [] = []
+choice_words (choice ∷ rest) = written_choice choice ++ choice_words rest
 
 -- the names of the options whose value is a number
 abbrev pub IsNumberName : List ℕ → Type 0
 IsNumberName name = (name ≡ codes "page") ⊎ ((name ≡ codes "limit") ⊎ ((name ≡ codes "first") ⊎ ((name ≡ codes "max") ⊎ ((name ≡ codes "stripes") ⊎ (name ≡ codes "bulk")))))
 
 -- the option takes the value: the factor takes any, and the automover a mode
-abbrev pub TakesValue : List ℕ → List ℕ → Type 0
-TakesValue name value = (name ≡ codes "factor") ⊎ (((name ≡ codes "automove") × IsMode value) ⊎ (IsNumberName name × IsNumber value))
+abbrev pub AllowsValue : List ℕ → List ℕ → Type 0
+AllowsValue name value = (name ≡ codes "factor") ⊎ (((name ≡ codes "automove") × IsMode value) ⊎ (IsNumberName name × IsNumber value))
 
 -- a hyphen (45) and more behind it
 abbrev pub is_hyphenated : List ℕ → Bool
@@ -111,42 +111,42 @@ is_hyphenated (byte ∷ more ∷ rest) = byte == 45
 
 -- the option takes the value; a value in a word of its own doesn't look like an option; the flag has no value
 abbrev pub IsTaken : Choice → Type 0
-IsTaken (joined name value) = TakesValue name value
-IsTaken (apart name value) = TakesValue name value × (is_hyphenated value ≡ false)
+IsTaken (joined name value) = AllowsValue name value
+IsTaken (apart name value) = AllowsValue name value × (is_hyphenated value ≡ false)
 IsTaken flag = Unit {0}
 
 -- none of the choices has the name
 abbrev pub IsNewTo : List ℕ → List Choice → Type 0
 IsNewTo name [] = Unit {0}
-IsNewTo name (choice ∷ rest) = (name_of choice ≢ name) × IsNewTo name rest
+IsNewTo name (choice ∷ rest) = (option_name choice ≢ name) × IsNewTo name rest
 
 -- each is taken, and none is named twice
 abbrev pub AreTaken : List Choice → Type 0
 AreTaken [] = Unit {0}
-AreTaken (choice ∷ rest) = IsTaken choice × IsNewTo (name_of choice) rest × AreTaken rest
+AreTaken (choice ∷ rest) = IsTaken choice × IsNewTo (option_name choice) rest × AreTaken rest
 
 -- the words are options with values that they take, and perhaps the flag, none named twice
 abbrev pub IsCommandLine : List (List ℕ) → Type 0
-IsCommandLine words = (choices : List Choice) × (words ≡ words_of choices) × AreTaken choices
+IsCommandLine words = (choices : List Choice) × (words ≡ choice_words choices) × AreTaken choices
 
 -- ---- the options
 
 -- the configuration that the words ask for
-abbrev pub config_of : List (List ℕ) → Config
-config_of words = record {
-  page = number_or 1024 (value_of (codes "page") words);
-  limit = number_or 4096 (value_of (codes "limit") words);
-  first = number_or 48 (value_of (codes "first") words);
-  num = (factor_or (value_of (codes "factor") words)).0;
-  den = (factor_or (value_of (codes "factor") words)).1;
-  max = number_or 512 (value_of (codes "max") words);
-  stripes = number_or 4 (value_of (codes "stripes") words);
-  bulk = number_or 64 (value_of (codes "bulk") words);
+abbrev pub chosen_config : List (List ℕ) → Config
+chosen_config words = record {
+  page = number_or 1024 (option_value (codes "page") words);
+  limit = number_or 4096 (option_value (codes "limit") words);
+  first = number_or 48 (option_value (codes "first") words);
+  num = (factor_or (option_value (codes "factor") words)).0;
+  den = (factor_or (option_value (codes "factor") words)).1;
+  max = number_or 512 (option_value (codes "max") words);
+  stripes = number_or 4 (option_value (codes "stripes") words);
+  bulk = number_or 64 (option_value (codes "bulk") words);
 }
 
 -- what the words behind the program's name ask for
 abbrev pub options_of : List (List ℕ) → Options
 options_of words = record {
-  run = record { config = config_of words; automove = number_or 0 (value_of (codes "automove") words) };
+  run = record { config = chosen_config words; automove = number_or 0 (option_value (codes "automove") words) };
   threads = has_threads words;
 }

@@ -1,6 +1,6 @@
 //! Whether words are a packing of a key, and the value that they pack.
 ghost use Rattle.std.specs.Prelude.{◌++◌, ◌≡◌, ◌≤◌, true, false, OnErr, OnOk, drop, length, slice_index};
-ghost use Rattle.mc_packing.specs.Packing.{IsPackingOf, bytes_of, value_in};
+ghost use Rattle.mc_packing.specs.Packing.{IsPackingOf, bytes_of_words, value_in};
 
 use crate::words::{are_whole, are_words_of, count_words, push_bytes};
 use mc_memory::Refused;
@@ -35,7 +35,7 @@ pub fn unpack(words: &[u64], key: &[u8], into: &mut Vec<u8>) -> Result<(), Refus
 fn push_value(words: &[u64], begin: usize, into: &mut Vec<u8>) -> Result<(), Refused>
     requires lengths { 2 ≤ begin }
     requires begin { begin ≤ length words.now }
-    ensures value { OnOk result (into.new.items ≡ into.old.items ++ bytes_of (slice_index words.now 1) (drop begin words.now)) }
+    ensures value { OnOk result (into.new.items ≡ into.old.items ++ bytes_of_words (slice_index words.now 1) (drop begin words.now)) }
     ensures refused { OnErr result (into.new.items ≡ into.old.items) }
 {
     let len = words[1] as usize;

@@ -1,6 +1,6 @@
 //! Bytes that become words, and words that become bytes.
 ghost use Rattle.std.specs.Prelude.{◌++◌, ◌+◌, ◌-◌, ◌≡◌, ◌≢◌, ◌≤◌, ◌^◌, ◌↔◌, IsTrue, true, false, OnErr, OnOk, drop, length, min, take, vec_capacity, vec_len};
-ghost use Rattle.mc_packing.specs.Packing.{AreWhole, EndsInZeros, bytes_in, bytes_of, word_of, words_for, words_of};
+ghost use Rattle.mc_packing.specs.Packing.{AreWordsOfBytes, EndsInZeros, bytes_of_word, bytes_of_words, packed_word, word_count_for, packed_words};
 
 use mc_memory::{Refused, extend_from_slice, reserve};
 
@@ -9,7 +9,7 @@ const WORD: usize = 8;
 
 /// How many words the bytes fill, the last one perhaps in part.
 pub(crate) fn count_words(bytes: &[u8]) -> usize
-    ensures words { result ≡ words_for (length bytes.now) }
+    ensures words { result ≡ word_count_for (length bytes.now) }
     ensures small { result ≤ 2 ^ 60 }
 {
     bytes.len().div_ceil(WORD)
@@ -18,7 +18,7 @@ pub(crate) fn count_words(bytes: &[u8]) -> usize
 /// How many words n bytes fill, the last one perhaps in part.
 #[inline(always)]
 pub fn words_for_bytes(bytes: u64) -> u64
-    ensures words { result ≡ words_for bytes }
+    ensures words { result ≡ word_count_for bytes }
     ensures small { result ≤ 2 ^ 61 }
 {
     bytes.div_ceil(WORD as u64)
@@ -26,9 +26,9 @@ pub fn words_for_bytes(bytes: u64) -> u64
 
 /// The word that the first eight of these bytes make, the first lowest. Where bytes are wanting, it has zeros.
 #[inline(always)]
-#[tactic(auto, unfolding(crate::specs::Packing::word_of))]
+#[tactic(auto, unfolding(crate::specs::Packing::packed_word))]
 pub fn first_word(bytes: &[u8]) -> u64
-    ensures { result ≡ word_of bytes.now }
+    ensures { result ≡ packed_word bytes.now }
 {
     if let Some(eight) = bytes.first_chunk::<WORD>() {
         return u64::from_le_bytes(*eight);
@@ -39,9 +39,9 @@ pub fn first_word(bytes: &[u8]) -> u64
 }
 
 /// The eight bytes of a word, the lowest first.
-#[tactic(auto, unfolding(crate::specs::Packing::bytes_in))]
+#[tactic(auto, unfolding(crate::specs::Packing::bytes_of_word))]
 fn eight_bytes(word: u64) -> [u8; WORD]
-    ensures { result ≡ bytes_in word }
+    ensures { result ≡ bytes_of_word word }
 {
     word.to_le_bytes()
 }
@@ -57,8 +57,8 @@ pub fn after_word(bytes: &[u8]) -> &[u8]
 /// Writes the bytes as words, over what is there.
 #[tactic(auto, using(crate::proofs::Loops::write_more, crate::proofs::Loops::all_written))]
 pub(crate) fn write_words(into: &mut [u64], bytes: &[u8])
-    requires { length into.old ≡ words_for (length bytes.now) }
-    ensures { into.new ≡ words_of bytes.now }
+    requires { length into.old ≡ word_count_for (length bytes.now) }
+    ensures { into.new ≡ packed_words bytes.now }
 {
     let mut rest = bytes;
     for word in into.iter_mut() {
@@ -70,9 +70,9 @@ pub(crate) fn write_words(into: &mut [u64], bytes: &[u8])
 /// Whether the words are those that the bytes make. It reads no further than the first that differs.
 #[tactic(auto, using(crate::proofs::Loops::same_more, crate::proofs::Loops::all_written, crate::proofs::Loops::differs))]
 pub(crate) fn are_words_of(words: &[u64], bytes: &[u8]) -> bool
-    requires { length words.now ≡ words_for (length bytes.now) }
-    ensures same { result ≡ true → words.now ≡ words_of bytes.now }
-    ensures other { result ≡ false → words.now ≢ words_of bytes.now }
+    requires { length words.now ≡ word_count_for (length bytes.now) }
+    ensures same { result ≡ true → words.now ≡ packed_words bytes.now }
+    ensures other { result ≡ false → words.now ≢ packed_words bytes.now }
 {
     let mut rest = bytes;
     for word in words {
@@ -87,8 +87,8 @@ pub(crate) fn are_words_of(words: &[u64], bytes: &[u8]) -> bool
 /// Whether the words have just n bytes: no word is missing or extra, and behind the last byte its word has zeros.
 #[tactic(auto, using(crate::proofs::Whole::full, crate::proofs::Whole::as_many, crate::proofs::Whole::last, crate::proofs::Whole::last_back))]
 pub(crate) fn are_whole(words: &[u64], count: u64) -> bool
-    ensures whole { result ≡ true → AreWhole count words.now }
-    ensures other { result ≡ false → ¬ AreWhole count words.now }
+    ensures whole { result ≡ true → AreWordsOfBytes count words.now }
+    ensures other { result ≡ false → ¬ AreWordsOfBytes count words.now }
 {
     let full = count / 8;
     let more = (count % 8) as usize;
@@ -113,7 +113,7 @@ pub fn ends_in_zeros(word: u64, bytes: usize) -> bool
 #[inline(always)]
 pub fn write_word(into: &mut [u8], place: usize, word: u64)
     requires { place + 8 ≤ length into.old }
-    ensures { into.new ≡ take place into.old ++ bytes_in word ++ drop 8 (drop place into.old) }
+    ensures { into.new ≡ take place into.old ++ bytes_of_word word ++ drop 8 (drop place into.old) }
 {
     into[place..place + WORD].copy_from_slice(&eight_bytes(word));
 }
@@ -122,7 +122,7 @@ pub fn write_word(into: &mut [u8], place: usize, word: u64)
 pub fn write_part(into: &mut [u8], place: usize, word: u64)
     requires near { place ≤ length into.old }
     requires few { length into.old ≤ place + 8 }
-    ensures { into.new ≡ take place into.old ++ take (length into.old - place) (bytes_in word) }
+    ensures { into.new ≡ take place into.old ++ take (length into.old - place) (bytes_of_word word) }
 {
     let part = into.len() - place;
     into[place..].copy_from_slice(&eight_bytes(word)[..part]);
@@ -132,7 +132,7 @@ pub fn write_part(into: &mut [u8], place: usize, word: u64)
 #[tactic(auto, using(crate::proofs::Bytes::all_eight))]
 pub(crate) fn push_word(into: &mut Vec<u8>, word: u64, count: usize)
     requires { vec_len into.old + count ≤ vec_capacity into.old }
-    ensures bytes { into.new.items ≡ into.old.items ++ take count (bytes_in word) }
+    ensures bytes { into.new.items ≡ into.old.items ++ take count (bytes_of_word word) }
     ensures len { vec_len into.new ≡ vec_len into.old + min 8 count }
     ensures capacity { vec_capacity into.old ≤ vec_capacity into.new }
 {
@@ -147,7 +147,7 @@ pub(crate) fn push_word(into: &mut Vec<u8>, word: u64, count: usize)
 /// Puts the first n bytes of the words behind those that are there, or all bytes of the words where they have fewer. Where there
 /// is no room, the bytes stay.
 pub(crate) fn push_bytes(into: &mut Vec<u8>, words: &[u64], count: usize) -> Result<(), Refused>
-    ensures bytes { OnOk result (into.new.items ≡ into.old.items ++ bytes_of count words.now) }
+    ensures bytes { OnOk result (into.new.items ≡ into.old.items ++ bytes_of_words count words.now) }
     ensures refused { OnErr result (into.new.items ≡ into.old.items) }
 {
     reserve(into, count)?;

@@ -2,7 +2,7 @@
 use Rattle.std.proofs.Common.{◌≡◌, ℕ, ◌≤◌, ◌<◌, Bool, true, cond, nat_lt, List, [], ◌∷◌, ◌++◌, sym, ap, subst, inl, inr, ◌⊎◌, arith, lt-ltb}
 use Rattle.std.proofs.lemmas.Bool.{cases_Bool, cases_lt}
 use Rattle.mc_pages.specs.declared.ids.ChunkId.{ChunkId}
-use Rattle.mc_pages.specs.ClassState.{is_chunk, times, without, with_before}
+use Rattle.mc_pages.specs.ClassState.{is_chunk, times_in, without, with_before}
 use Rattle.mc_pages.specs.Before.{comes_before}
 use Rattle.mc_pages.specs.Ages.{AreAged}
 use Rattle.mc_pages.specs.Accounted.{truth}
@@ -10,7 +10,7 @@ use Rattle.mc_pages.proofs.Chunks.{times-cons, times-tail, times-push, times-wit
 use Rattle.mc_pages.proofs.Lists.{times-with_before, without-absent}
 
 -- a chunk of a list is its head or stands behind it
-pub head_or_tail : (chunk c : ChunkId) (chunks : List ChunkId) → 1 ≤ times chunk (c ∷ chunks) → (c ≡ chunk) ⊎ (1 ≤ times chunk chunks)
+pub head_or_tail : (chunk c : ChunkId) (chunks : List ChunkId) → 1 ≤ times_in chunk (c ∷ chunks) → (c ≡ chunk) ⊎ (1 ≤ times_in chunk chunks)
 head_or_tail chunk c chunks there =
     elim (cases_Bool (is_chunk c chunk)) [
       | inl same ↦ inl (same_from_is_chunk c chunk same)
@@ -18,19 +18,19 @@ head_or_tail chunk c chunks there =
     ]
 
 -- what stands behind the head is in the list
-pub in_tail : (chunk c : ChunkId) (chunks : List ChunkId) → 1 ≤ times chunk chunks → 1 ≤ times chunk (c ∷ chunks)
+pub in_tail : (chunk c : ChunkId) (chunks : List ChunkId) → 1 ≤ times_in chunk chunks → 1 ≤ times_in chunk (c ∷ chunks)
 in_tail chunk c chunks there = omega (arith, times-cons chunk c chunks, there)
 
 -- a list without a chunk has no other than before
-pub times-without-le : (other chunk : ChunkId) (chunks : List ChunkId) → 1 ≤ times other (without chunk chunks) → 1 ≤ times other chunks
+pub times-without-le : (other chunk : ChunkId) (chunks : List ChunkId) → 1 ≤ times_in other (without chunk chunks) → 1 ≤ times_in other chunks
 times-without-le other chunk chunks there =
-    elim (cases_lt (times chunk chunks) 1) [
-      | inl absent ↦ omega (arith, ap (λ (cs : List ChunkId). times other cs) (without-absent chunk chunks (omega (arith, absent))), there)
+    elim (cases_lt (times_in chunk chunks) 1) [
+      | inl absent ↦ omega (arith, ap (λ (cs : List ChunkId). times_in other cs) (without-absent chunk chunks (omega (arith, absent))), there)
       | inr one ↦ omega (arith, times-without other chunk chunks one, there)
     ]
 
 -- no chunk's age is past the clock
-pub within_clock : (age : ChunkId → ℕ) (clock : ℕ) (chunks : List ChunkId) (chunk : ChunkId) → AreAged age clock chunks → 1 ≤ times chunk chunks → age chunk ≤ clock
+pub within_clock : (age : ChunkId → ℕ) (clock : ℕ) (chunks : List ChunkId) (chunk : ChunkId) → AreAged age clock chunks → 1 ≤ times_in chunk chunks → age chunk ≤ clock
 within_clock age clock [] chunk aged there = absurd (omega (arith, there))
 within_clock age clock (c ∷ chunks) chunk aged there =
     elim (head_or_tail chunk c chunks there) [
@@ -39,7 +39,7 @@ within_clock age clock (c ∷ chunks) chunk aged there =
     ]
 
 -- a list goes by age where its chunks' ages are as before, and the clock is no lower
-pub aged-same : (age now : ChunkId → ℕ) (clock after : ℕ) (chunks : List ChunkId) → AreAged age clock chunks → clock ≤ after → ((chunk : ChunkId) → 1 ≤ times chunk chunks → now chunk ≡ age chunk) → AreAged now after chunks
+pub aged-same : (age now : ChunkId → ℕ) (clock after : ℕ) (chunks : List ChunkId) → AreAged age clock chunks → clock ≤ after → ((chunk : ChunkId) → 1 ≤ times_in chunk chunks → now chunk ≡ age chunk) → AreAged now after chunks
 aged-same age now clock after [] aged on same = tt
 aged-same age now clock after (c ∷ chunks) aged on same =
     let here = same c (omega (arith, times-cons c c chunks, ap truth (is_chunk-same c))) in (
@@ -73,7 +73,7 @@ aged-push age clock now chunk (c ∷ chunks) aged on youngest = (
 )
 
 -- and with a chunk before one that is as old
-pub aged-with_before : (age : ChunkId → ℕ) (clock : ℕ) (new old : ChunkId) (chunks : List ChunkId) → AreAged age clock chunks → 1 ≤ times old chunks → age new ≡ age old → AreAged age clock (with_before new old chunks)
+pub aged-with_before : (age : ChunkId → ℕ) (clock : ℕ) (new old : ChunkId) (chunks : List ChunkId) → AreAged age clock chunks → 1 ≤ times_in old chunks → age new ≡ age old → AreAged age clock (with_before new old chunks)
 aged-with_before age clock new old [] aged there equal = absurd (omega (arith, there))
 aged-with_before age clock new old (c ∷ chunks) aged there equal =
     let is = λ (b : Bool). AreAged age clock (cond b (new ∷ c ∷ chunks) (c ∷ with_before new old chunks)) in
@@ -90,7 +90,7 @@ aged-with_before age clock new old (c ∷ chunks) aged there equal =
             aged,
           )
       | inr other ↦
-          let rest : 1 ≤ times old chunks = omega (arith, times-tail old c chunks other, there) in
+          let rest : 1 ≤ times_in old chunks = omega (arith, times-tail old c chunks other, there) in
           subst is (sym other) (
             aged.0,
             λ behind in_list.
@@ -103,20 +103,20 @@ aged-with_before age clock new old (c ∷ chunks) aged there equal =
     ]
 
 -- the older of two chunks of such a list stands before the other
-pub older_comes_before : (age : ChunkId → ℕ) (clock : ℕ) (first second : ChunkId) (chunks : List ChunkId) → AreAged age clock chunks → 1 ≤ times first chunks → 1 ≤ times second chunks → age first < age second → comes_before first second chunks ≡ true
+pub older_comes_before : (age : ChunkId → ℕ) (clock : ℕ) (first second : ChunkId) (chunks : List ChunkId) → AreAged age clock chunks → 1 ≤ times_in first chunks → 1 ≤ times_in second chunks → age first < age second → comes_before first second chunks ≡ true
 older_comes_before age clock first second [] aged there there-2 older = absurd (omega (arith, there))
 older_comes_before age clock first second (c ∷ chunks) aged there there-2 older =
-    let is = λ (b : Bool). cond b (nat_lt 0 (times second chunks)) (comes_before first second chunks) ≡ true in
+    let is = λ (b : Bool). cond b (nat_lt 0 (times_in second chunks)) (comes_before first second chunks) ≡ true in
     elim (cases_Bool (is_chunk c first)) [
       | inl same ↦
           let at = ap age (same_from_is_chunk c first same) in
           subst is (sym same)
           (elim (head_or_tail second c chunks there-2) [
             | inl here ↦ absurd (omega (arith, at, ap age here, older))
-            | inr rest ↦ lt-ltb 0 (times second chunks) (omega (arith, rest))
+            | inr rest ↦ lt-ltb 0 (times_in second chunks) (omega (arith, rest))
           ])
       | inr other ↦
-          let rest : 1 ≤ times first chunks = omega (arith, times-tail first c chunks other, there) in
+          let rest : 1 ≤ times_in first chunks = omega (arith, times-tail first c chunks other, there) in
           subst is (sym other)
           (elim (head_or_tail second c chunks there-2) [
             | inl here ↦ absurd (omega (arith, ap age here, aged.1 first rest, older))

@@ -9,10 +9,10 @@ use Rattle.mc_pages.specs.declared.ledger.Owner.TheVariants.{Untouched, Pool, Cl
 use Rattle.mc_pages.specs.declared.ledger.BasePage.{BasePage}
 use Rattle.mc_pages.specs.declared.ledger.Entry.{Entry}
 use Rattle.mc_pages.specs.declared.ledger.Entry.TheVariants.{Granted, Taken, Began, Ended}
-use Rattle.mc_pages.specs.Ledger.{all_untouched, fits, grace_count, is_grace, is_ordinary, ordinary_count, owner_after, owner_at, page_of, replay}
+use Rattle.mc_pages.specs.Ledger.{all_untouched, fits_owner, grace_count, is_grace, is_ordinary, ordinary_count, owner_after, owner_at, page_of, replay}
 use Rattle.mc_pages.specs.SlabState.{SlabState, page_count}
 use Rattle.mc_pages.specs.Accounted.{truth, IsAccounted}
-use Rattle.mc_pages.specs.Base.{base_of, is_grace_of, is_within_limit, left_by, left_by_one, never_granted, owners_in, page_after, tail_of}
+use Rattle.mc_pages.specs.Base.{base_pages, is_grace_of, is_within_limit, pages_after_entries, left_by_one, never_granted, owners_in, page_after, ledger_tail}
 use Rattle.mc_pages.proofs.Replays.{None≢Some}
 
 -- the page of this number
@@ -21,7 +21,7 @@ page_at pages page = slice_index_or pages page never_granted
 
 -- whether an entry finds its page, and finds it so
 abbrev is_fitting : List Owner → Entry → Bool
-is_fitting owners entry = nat_lt (page_of entry) (length owners) && fits entry (owner_at owners (page_of entry))
+is_fitting owners entry = nat_lt (page_of entry) (length owners) && fits_owner entry (owner_at owners (page_of entry))
 
 -- its owner
 owner_in : (pages : List BasePage) (page : ℕ) → owner_at (owners_in pages) page ≡ (page_at pages page).owner
@@ -41,7 +41,7 @@ replay-between start owners (entry ∷ first) last h =
     ]
 
 -- what entries leave is owned as their replay has it
-owners-left : (pages : List BasePage) (entries : List Entry) (owners : List Owner) → replay (owners_in pages) entries ≡ Some owners → owners_in (left_by pages entries) ≡ owners
+owners-left : (pages : List BasePage) (entries : List Entry) (owners : List Owner) → replay (owners_in pages) entries ≡ Some owners → owners_in (pages_after_entries pages entries) ≡ owners
 owners-left pages [] owners h = let same : owners_in pages ≡ owners = cc in same
 owners-left pages (entry ∷ entries) owners h =
     elim (cases_Bool (is_fitting (owners_in pages) entry)) [
@@ -50,7 +50,7 @@ owners-left pages (entry ∷ entries) owners h =
     ]
 
 -- a page that is granted within the limit is one more, and no other entry changes how many there are
-within_after : (entry : Entry) (owner : Owner) (grace : Option ℕ) → fits entry owner ≡ true → truth (is_within_limit (page_after entry (record { owner = owner; grace = grace }))) ≡ truth (is_within_limit (record { owner = owner; grace = grace })) + truth (is_ordinary entry)
+within_after : (entry : Entry) (owner : Owner) (grace : Option ℕ) → fits_owner entry owner ≡ true → truth (is_within_limit (page_after entry (record { owner = owner; grace = grace }))) ≡ truth (is_within_limit (record { owner = owner; grace = grace })) + truth (is_ordinary entry)
 within_after (Granted page class true) Untouched None h = refl
 within_after (Granted page class true) Untouched (Some own) h = refl
 within_after (Granted page class false) Untouched None h = refl
@@ -76,10 +76,10 @@ within_after (Ended page dst) Pool known h = cc
 within_after (Ended page dst) (Class own) known h = cc
 
 -- where an entry fits, its page is there, and the entry fits its owner
-fitting_parts : (pages : List BasePage) (entry : Entry) → is_fitting (owners_in pages) entry ≡ true → (page_of entry < length pages) × (fits entry (page_at pages (page_of entry)).owner ≡ true)
+fitting_parts : (pages : List BasePage) (entry : Entry) → is_fitting (owners_in pages) entry ≡ true → (page_of entry < length pages) × (fits_owner entry (page_at pages (page_of entry)).owner ≡ true)
 fitting_parts pages entry h =
-    let parts = and_parts (nat_lt (page_of entry) (length (owners_in pages))) (fits entry (owner_at (owners_in pages) (page_of entry))) h in
-    (omega (arith, ltb-true _ _ parts.0, length-map pages (λ (page : BasePage). page.owner)), ap (fits entry) (sym (owner_in pages (page_of entry))) ∙ parts.1)
+    let parts = and_parts (nat_lt (page_of entry) (length (owners_in pages))) (fits_owner entry (owner_at (owners_in pages) (page_of entry))) h in
+    (omega (arith, ltb-true _ _ parts.0, length-map pages (λ (page : BasePage). page.owner)), ap (fits_owner entry) (sym (owner_in pages (page_of entry))) ∙ parts.1)
 
 -- one entry more
 within-one : (pages : List BasePage) (entry : Entry) → is_fitting (owners_in pages) entry ≡ true → count_by is_within_limit (left_by_one pages entry) ≡ count_by is_within_limit pages + truth (is_ordinary entry)
@@ -89,7 +89,7 @@ within-one pages entry h =
     omega (arith, sum_by-set (λ (p : BasePage). truth (is_within_limit p)) pages (page_of entry) (page_after entry page) never_granted parts.0, within_after entry page.owner page.grace parts.1)
 
 -- and all of them
-within-left : (pages : List BasePage) (entries : List Entry) (owners : List Owner) → replay (owners_in pages) entries ≡ Some owners → count_by is_within_limit (left_by pages entries) ≡ count_by is_within_limit pages + ordinary_count entries
+within-left : (pages : List BasePage) (entries : List Entry) (owners : List Owner) → replay (owners_in pages) entries ≡ Some owners → count_by is_within_limit (pages_after_entries pages entries) ≡ count_by is_within_limit pages + ordinary_count entries
 within-left pages [] owners h = omega arith
 within-left pages (entry ∷ entries) owners h =
     elim (cases_Bool (is_fitting (owners_in pages) entry)) [
@@ -128,7 +128,7 @@ clean-one pages entry h clean page untouched =
     ]
 
 -- a page that a class is granted beyond the limit is one more of that class, and no other entry changes how many it has
-grace_of_after : (class : ℕ) (entry : Entry) (owner : Owner) (grace : Option ℕ) → fits entry owner ≡ true → (owner ≡ Untouched → grace ≡ None) → truth (is_grace_of class (page_after entry (record { owner = owner; grace = grace }))) ≡ truth (is_grace_of class (record { owner = owner; grace = grace })) + truth (is_grace class entry)
+grace_of_after : (class : ℕ) (entry : Entry) (owner : Owner) (grace : Option ℕ) → fits_owner entry owner ≡ true → (owner ≡ Untouched → grace ≡ None) → truth (is_grace_of class (page_after entry (record { owner = owner; grace = grace }))) ≡ truth (is_grace_of class (record { owner = owner; grace = grace })) + truth (is_grace class entry)
 grace_of_after class (Granted page own true) Untouched None h clean = omega arith
 grace_of_after class (Granted page own false) Untouched None h clean = refl
 grace_of_after class (Granted page own grace) Untouched (Some other) h clean = let clash : Some other ≡ None = clean refl in cc
@@ -145,7 +145,7 @@ grace-one class pages entry h clean =
     let parts = fitting_parts pages entry h in
     omega (arith, sum_by-set (λ (p : BasePage). truth (is_grace_of class p)) pages (page_of entry) (page_after entry page) never_granted parts.0, grace_of_after class entry page.owner page.grace parts.1 (clean (page_of entry)))
 
-grace-left : (class : ℕ) (pages : List BasePage) (entries : List Entry) (owners : List Owner) → IsClean pages → replay (owners_in pages) entries ≡ Some owners → count_by (is_grace_of class) (left_by pages entries) ≡ count_by (is_grace_of class) pages + grace_count entries class
+grace-left : (class : ℕ) (pages : List BasePage) (entries : List Entry) (owners : List Owner) → IsClean pages → replay (owners_in pages) entries ≡ Some owners → count_by (is_grace_of class) (pages_after_entries pages entries) ≡ count_by (is_grace_of class) pages + grace_count entries class
 grace-left class pages [] owners clean h = omega arith
 grace-left class pages (entry ∷ entries) owners clean h =
     elim (cases_Bool (is_fitting (owners_in pages) entry)) [
@@ -176,31 +176,31 @@ module _ (slabs : SlabState) (all : IsAccounted slabs) where
   abbrev fresh : List BasePage
   fresh = replicate (page_count slabs) never_granted
 
-  parts : (between : List Owner) × (replay (all_untouched (page_count slabs)) (take slabs.trimmed slabs.ledger) ≡ Some between) × (replay between (tail_of slabs) ≡ Some slabs.owners)
-  parts = replay-between _ slabs.owners (take slabs.trimmed slabs.ledger) (tail_of slabs) (ap (replay (all_untouched (page_count slabs))) (take-append-drop slabs.trimmed slabs.ledger) ∙ all.replays)
+  parts : (between : List Owner) × (replay (all_untouched (page_count slabs)) (take slabs.trimmed slabs.ledger) ≡ Some between) × (replay between (ledger_tail slabs) ≡ Some slabs.owners)
+  parts = replay-between _ slabs.owners (take slabs.trimmed slabs.ledger) (ledger_tail slabs) (ap (replay (all_untouched (page_count slabs))) (take-append-drop slabs.trimmed slabs.ledger) ∙ all.replays)
 
   first : replay (owners_in fresh) (take slabs.trimmed slabs.ledger) ≡ Some parts.0
   first = ap (λ (owners : List Owner). replay owners (take slabs.trimmed slabs.ledger)) (owners-fresh (page_count slabs)) ∙ parts.1
 
-  pub replayed : replay (owners_in (base_of slabs)) (tail_of slabs) ≡ Some slabs.owners
-  replayed = ap (λ (owners : List Owner). replay owners (tail_of slabs)) (owners-left fresh (take slabs.trimmed slabs.ledger) parts.0 first) ∙ parts.2
+  pub replayed : replay (owners_in (base_pages slabs)) (ledger_tail slabs) ≡ Some slabs.owners
+  replayed = ap (λ (owners : List Owner). replay owners (ledger_tail slabs)) (owners-left fresh (take slabs.trimmed slabs.ledger) parts.0 first) ∙ parts.2
 
-  pub within_limit : count_by is_within_limit (base_of slabs) + ordinary_count (tail_of slabs) ≡ ordinary_count slabs.ledger
+  pub within_limit : count_by is_within_limit (base_pages slabs) + ordinary_count (ledger_tail slabs) ≡ ordinary_count slabs.ledger
   within_limit =
       omega (
         arith,
         within-left fresh (take slabs.trimmed slabs.ledger) parts.0 first,
         none-fresh is_within_limit (page_count slabs) refl,
-        sum_by-append (λ (e : Entry). truth (is_ordinary e)) (take slabs.trimmed slabs.ledger) (tail_of slabs),
+        sum_by-append (λ (e : Entry). truth (is_ordinary e)) (take slabs.trimmed slabs.ledger) (ledger_tail slabs),
         ap ordinary_count (take-append-drop slabs.trimmed slabs.ledger),
       )
 
-  pub beyond_limit : (class : ℕ) → count_by (is_grace_of class) (base_of slabs) + grace_count (tail_of slabs) class ≡ grace_count slabs.ledger class
+  pub beyond_limit : (class : ℕ) → count_by (is_grace_of class) (base_pages slabs) + grace_count (ledger_tail slabs) class ≡ grace_count slabs.ledger class
   beyond_limit class =
       omega (
         arith,
         grace-left class fresh (take slabs.trimmed slabs.ledger) parts.0 (clean-fresh (page_count slabs)) first,
         none-fresh (is_grace_of class) (page_count slabs) refl,
-        sum_by-append (λ (e : Entry). truth (is_grace class e)) (take slabs.trimmed slabs.ledger) (tail_of slabs),
+        sum_by-append (λ (e : Entry). truth (is_grace class e)) (take slabs.trimmed slabs.ledger) (ledger_tail slabs),
         ap (λ (entries : List Entry). grace_count entries class) (take-append-drop slabs.trimmed slabs.ledger),
       )

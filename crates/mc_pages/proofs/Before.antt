@@ -2,27 +2,27 @@
 use Rattle.std.proofs.Common.{◌≡◌, ◌≢◌, ◌≤◌, Bool, true, false, cond, nat_lt, List, [], ◌∷◌, sym, ap, ◌∙◌, subst, inl, inr, arith, lt-ltb}
 use Rattle.std.proofs.lemmas.Bool.{cases_Bool, cases_lt, both_ways, ltb-true}
 use Rattle.mc_pages.specs.declared.ids.ChunkId.{ChunkId}
-use Rattle.mc_pages.specs.ClassState.{is_chunk, times, without}
+use Rattle.mc_pages.specs.ClassState.{is_chunk, times_in, without}
 use Rattle.mc_pages.specs.Before.{comes_before, HasEachOnce}
 use Rattle.mc_pages.specs.Accounted.{truth}
 use Rattle.mc_pages.proofs.Chunks.{times-cons, times-without, same_from_is_chunk}
 use Rattle.mc_pages.proofs.Lists.{without-absent}
 
 -- at the head of a list
-head_is : (first second c : ChunkId) (chunks : List ChunkId) → is_chunk c first ≡ true → comes_before first second (c ∷ chunks) ≡ nat_lt 0 (times second chunks)
-head_is first second c chunks same = ap (λ (b : Bool). cond b (nat_lt 0 (times second chunks)) (comes_before first second chunks)) same
+head_is : (first second c : ChunkId) (chunks : List ChunkId) → is_chunk c first ≡ true → comes_before first second (c ∷ chunks) ≡ nat_lt 0 (times_in second chunks)
+head_is first second c chunks same = ap (λ (b : Bool). cond b (nat_lt 0 (times_in second chunks)) (comes_before first second chunks)) same
 
 -- behind another chunk
 tail_is : (first second c : ChunkId) (chunks : List ChunkId) → is_chunk c first ≡ false → comes_before first second (c ∷ chunks) ≡ comes_before first second chunks
-tail_is first second c chunks other = ap (λ (b : Bool). cond b (nat_lt 0 (times second chunks)) (comes_before first second chunks)) other
+tail_is first second c chunks other = ap (λ (b : Bool). cond b (nat_lt 0 (times_in second chunks)) (comes_before first second chunks)) other
 
 -- a chunk that stands before another is there, and so is that one
-pub both_there : (first second : ChunkId) (chunks : List ChunkId) → comes_before first second chunks ≡ true → (1 ≤ times first chunks) × (1 ≤ times second chunks)
+pub both_there : (first second : ChunkId) (chunks : List ChunkId) → comes_before first second chunks ≡ true → (1 ≤ times_in first chunks) × (1 ≤ times_in second chunks)
 both_there first second [] before = absurd (both_ways _ (λ i. false) before)
 both_there first second (c ∷ chunks) before =
     elim (cases_Bool (is_chunk c first)) [
       | inl same ↦
-          let behind = ltb-true 0 (times second chunks) (sym (head_is first second c chunks same) ∙ before) in
+          let behind = ltb-true 0 (times_in second chunks) (sym (head_is first second c chunks same) ∙ before) in
           (omega (arith, times-cons first c chunks, ap truth same), omega (arith, times-cons second c chunks, behind))
       | inr other ↦
           let rest = both_there first second chunks (sym (tail_is first second c chunks other) ∙ before) in
@@ -40,7 +40,7 @@ not_both_before a b (c ∷ chunks) once before behind =
     elim (cases_Bool (is_chunk c a)) [
       | inl is_a ↦ elim (cases_Bool (is_chunk c b)) [
         | inl is_b ↦
-            let there = ltb-true 0 (times a chunks) (sym (head_is b a c chunks is_b) ∙ behind) in
+            let there = ltb-true 0 (times_in a chunks) (sym (head_is b a c chunks is_b) ∙ behind) in
             omega (arith, there, once a, times-cons a c chunks, ap truth is_a)
         | inr other ↦
             let there = (both_there b a chunks (sym (tail_is b a c chunks other) ∙ behind)).1 in
@@ -62,9 +62,9 @@ before-trans a b c [] once before behind = absurd (both_ways _ (λ i. false) bef
 before-trans a b c (d ∷ chunks) once before behind =
     elim (cases_Bool (is_chunk d b)) [
       | inl is_b ↦
-          let there = ltb-true 0 (times c chunks) (sym (head_is b c d chunks is_b) ∙ behind) in
+          let there = ltb-true 0 (times_in c chunks) (sym (head_is b c d chunks is_b) ∙ behind) in
           elim (cases_Bool (is_chunk d a)) [
-            | inl is_a ↦ head_is a c d chunks is_a ∙ lt-ltb 0 (times c chunks) there
+            | inl is_a ↦ head_is a c d chunks is_a ∙ lt-ltb 0 (times_in c chunks) there
             | inr not_a ↦
                 let again = (both_there a b chunks (sym (tail_is a b d chunks not_a) ∙ before)).1 in
                 absurd (omega (arith, again, once b, times-cons b d chunks, ap truth is_b))
@@ -72,20 +72,20 @@ before-trans a b c (d ∷ chunks) once before behind =
       | inr not_b ↦
           let rest = sym (tail_is b c d chunks not_b) ∙ behind in
           elim (cases_Bool (is_chunk d a)) [
-            | inl is_a ↦ head_is a c d chunks is_a ∙ lt-ltb 0 (times c chunks) (omega (arith, (both_there b c chunks rest).1))
+            | inl is_a ↦ head_is a c d chunks is_a ∙ lt-ltb 0 (times_in c chunks) (omega (arith, (both_there b c chunks rest).1))
             | inr not_a ↦
                 tail_is a c d chunks not_a ∙ before-trans a b c chunks (each_once_behind d chunks once) (sym (tail_is a b d chunks not_a) ∙ before) rest
           ]
     ]
 
 -- a chunk that isn't the one that left the list stands there as often
-times-without_other : (other chunk : ChunkId) (chunks : List ChunkId) → chunk ≢ other → times other (without chunk chunks) ≡ times other chunks
+times-without_other : (other chunk : ChunkId) (chunks : List ChunkId) → chunk ≢ other → times_in other (without chunk chunks) ≡ times_in other chunks
 times-without_other other chunk chunks differs =
     elim (cases_Bool (is_chunk chunk other)) [
       | inl same ↦ absurd (differs (same_from_is_chunk chunk other same))
       | inr apart ↦
-          elim (cases_lt (times chunk chunks) 1) [
-            | inl absent ↦ ap (λ (cs : List ChunkId). times other cs) (without-absent chunk chunks (omega (arith, absent)))
+          elim (cases_lt (times_in chunk chunks) 1) [
+            | inl absent ↦ ap (λ (cs : List ChunkId). times_in other cs) (without-absent chunk chunks (omega (arith, absent)))
             | inr there ↦ omega (arith, times-without other chunk chunks there, ap truth apart)
           ]
     ]

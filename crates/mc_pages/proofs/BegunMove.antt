@@ -9,7 +9,7 @@ use Rattle.mc_pages.specs.declared.ledger.Owner.{Owner}
 use Rattle.mc_pages.specs.declared.ledger.Owner.TheVariants.{Untouched, Pool, Class}
 use Rattle.mc_pages.specs.declared.ledger.Owner.TheVariants as owner
 use Rattle.mc_pages.specs.Ledger.{owner_at}
-use Rattle.mc_pages.specs.SlabState.{SlabState, IsClass, class_at}
+use Rattle.mc_pages.specs.SlabState.{SlabState, HasClass, class_at}
 use Rattle.mc_pages.specs.Moves.{with_move}
 use Rattle.mc_pages.specs.Accounted.{truth, is_of_class, is_pool, is_moving, cut_count, uncut_count, is_cut, is_cleared, first_chunks, cleared_count, IsMove}
 use Rattle.mc_pages.proofs.Owners.{owner_at-set_same, owner_at-set_other}
@@ -45,7 +45,7 @@ is_cut-begun slabs page src dst owned within class chunk =
     ap (λ b. b && nat_lt chunk.index (cut_count slabs.uncut chunk.page (class_at slabs class).per_page)) (is_of_class-begun slabs page src dst owned within class chunk.page)
 
 -- no chunk is cleared yet
-is_cleared-begun : (slabs : SlabState) (page src dst : ℕ) → ArePlaced slabs → slabs.moving ≡ None → owner_at slabs.owners page ≡ Class src → page < length slabs.owners → (class : ℕ) (chunk : ChunkId) → IsClass slabs class → is_cleared (with_move slabs page src dst) class chunk ≡ false
+is_cleared-begun : (slabs : SlabState) (page src dst : ℕ) → ArePlaced slabs → slabs.moving ≡ None → owner_at slabs.owners page ≡ Class src → page < length slabs.owners → (class : ℕ) (chunk : ChunkId) → HasClass slabs class → is_cleared (with_move slabs page src dst) class chunk ≡ false
 is_cleared-begun slabs page src dst all rest owned within class chunk here =
     false_from_ne_true _ (λ e.
     let parts = and_parts _ _ e in
@@ -56,7 +56,7 @@ is_cleared-begun slabs page src dst all rest owned within class chunk here =
     omega (arith, none, ap truth before, ap truth was, all.chunks class chunk here))
 
 -- the move is at its beginning
-IsMove-begun : (slabs : SlabState) (page src dst : ℕ) → IsClass slabs src → 2 ≤ length (class_at slabs src).pages → dst ≤ length slabs.classes → src ≢ dst → page < length slabs.owners → IsMove (with_move slabs page src dst) (record { page = page; src = src; dst = dst; at = 0; busy = 0 })
+IsMove-begun : (slabs : SlabState) (page src dst : ℕ) → HasClass slabs src → 2 ≤ length (class_at slabs src).pages → dst ≤ length slabs.classes → src ≢ dst → page < length slabs.owners → IsMove (with_move slabs page src dst) (record { page = page; src = src; dst = dst; at = 0; busy = 0 })
 IsMove-begun slabs page src dst is two to apart within =
     record {
       owner = owner_at-set_same slabs.owners page (owner.Moving src dst) within;
@@ -70,7 +70,7 @@ IsMove-begun slabs page src dst is two to apart within =
     }
 
 -- a page of a class begins to move
-pub ArePlaced-begun : (slabs : SlabState) (page src dst : ℕ) → ArePlaced slabs → slabs.moving ≡ None → IsClass slabs src → 2 ≤ length (class_at slabs src).pages → dst ≤ length slabs.classes → src ≢ dst → owner_at slabs.owners page ≡ Class src → page < length slabs.owners → ArePlaced (with_move slabs page src dst)
+pub ArePlaced-begun : (slabs : SlabState) (page src dst : ℕ) → ArePlaced slabs → slabs.moving ≡ None → HasClass slabs src → 2 ≤ length (class_at slabs src).pages → dst ≤ length slabs.classes → src ≢ dst → owner_at slabs.owners page ≡ Class src → page < length slabs.owners → ArePlaced (with_move slabs page src dst)
 ArePlaced-begun slabs page src dst all rest is two to apart owned within =
     let new : SlabState = with_move slabs page src dst in
     let first : Moving = record { page = page; src = src; dst = dst; at = 0; busy = 0 } in

@@ -5,7 +5,7 @@ use Rattle.std.proofs.lemmas.Bool.{and_parts, and_from, both_ways, cases_lt, cas
 use Rattle.std.proofs.lemmas.Option.{get_or_from_slice_get, slice_get_cases}
 use Rattle.std.proofs.lemmas.List.Sums.{sum_by-cons, sum_by-append, fails_before_first, get_or-le-sum_by}
 use Rattle.mc_pages.specs.declared.ids.ChunkId.{ChunkId}
-use Rattle.mc_pages.specs.ClassState.{is_chunk, times, without}
+use Rattle.mc_pages.specs.ClassState.{is_chunk, times_in, without}
 use Rattle.mc_pages.specs.Accounted.{truth}
 
 -- a chunk is no lack of one
@@ -26,19 +26,19 @@ same_from_is_chunk a b h =
     ap₂ named page index
 
 -- one more chunk at the head
-pub times-cons : (chunk c : ChunkId) (chunks : List ChunkId) → times chunk (c ∷ chunks) ≡ truth (is_chunk c chunk) + times chunk chunks
+pub times-cons : (chunk c : ChunkId) (chunks : List ChunkId) → times_in chunk (c ∷ chunks) ≡ truth (is_chunk c chunk) + times_in chunk chunks
 times-cons chunk c chunks = sum_by-cons (λ c. truth (is_chunk c chunk)) c chunks
 
 -- two lists, one after the other
-pub times-append : (chunk : ChunkId) (xs ys : List ChunkId) → times chunk (xs ++ ys) ≡ times chunk xs + times chunk ys
+pub times-append : (chunk : ChunkId) (xs ys : List ChunkId) → times_in chunk (xs ++ ys) ≡ times_in chunk xs + times_in chunk ys
 times-append chunk xs ys = sum_by-append (λ c. truth (is_chunk c chunk)) xs ys
 
 -- one more chunk at the end
-pub times-push : (chunk c : ChunkId) (chunks : List ChunkId) → times chunk (chunks ++ c ∷ []) ≡ times chunk chunks + truth (is_chunk c chunk)
-times-push chunk c chunks = times-append chunk chunks (c ∷ []) ∙ ap (λ n. times chunk chunks + n) (zero-add _)
+pub times-push : (chunk c : ChunkId) (chunks : List ChunkId) → times_in chunk (chunks ++ c ∷ []) ≡ times_in chunk chunks + truth (is_chunk c chunk)
+times-push chunk c chunks = times-append chunk chunks (c ∷ []) ∙ ap (λ n. times_in chunk chunks + n) (zero-add _)
 
 -- a chunk of the list stands there once or more
-pub times_from_Contains : (chunk : ChunkId) (chunks : List ChunkId) → Contains chunks chunk → 1 ≤ times chunk chunks
+pub times_from_Contains : (chunk : ChunkId) (chunks : List ChunkId) → Contains chunks chunk → 1 ≤ times_in chunk chunks
 times_from_Contains chunk chunks (k, within, at) =
     let here : truth (is_chunk (slice_index_or chunks k chunk) chunk) ≡ 1 = ap (λ (c : ChunkId). truth (is_chunk c chunk)) at ∙ ap truth (is_chunk-same chunk) in
     omega (arith, get_or-le-sum_by (λ c. truth (is_chunk c chunk)) chunks k chunk within, here)
@@ -75,26 +75,26 @@ remove-position chunk chunks place h within =
     rw found (remove-position_or_len chunk chunks)
 
 -- how often a chunk stands in a list behind a head that is another
-pub times-tail : (chunk c : ChunkId) (chunks : List ChunkId) → is_chunk c chunk ≡ false → times chunk (c ∷ chunks) ≡ times chunk chunks
-times-tail chunk c chunks h = times-cons chunk c chunks ∙ (ap (λ b. truth b + times chunk chunks) h ∙ zero-add _)
+pub times-tail : (chunk c : ChunkId) (chunks : List ChunkId) → is_chunk c chunk ≡ false → times_in chunk (c ∷ chunks) ≡ times_in chunk chunks
+times-tail chunk c chunks h = times-cons chunk c chunks ∙ (ap (λ b. truth b + times_in chunk chunks) h ∙ zero-add _)
 
 -- the list without one of its chunks: that one stands there once less
-pub times-without : (other chunk : ChunkId) (chunks : List ChunkId) → 1 ≤ times chunk chunks → times other (without chunk chunks) + truth (is_chunk chunk other) ≡ times other chunks
+pub times-without : (other chunk : ChunkId) (chunks : List ChunkId) → 1 ≤ times_in chunk chunks → times_in other (without chunk chunks) + truth (is_chunk chunk other) ≡ times_in other chunks
 times-without other chunk [] h = absurd (omega arith)
 times-without other chunk (c ∷ chunks) h =
     elim (cases_Bool (is_chunk c chunk)) [
       | inl same ↦
           let e : truth (is_chunk c other) ≡ truth (is_chunk chunk other) = ap (λ (x : ChunkId). truth (is_chunk x other)) (same_from_is_chunk c chunk same) in
-          let left : times other (without chunk (c ∷ chunks)) ≡ times other chunks = ap (λ b. times other (cond b chunks (c ∷ without chunk chunks))) same in
+          let left : times_in other (without chunk (c ∷ chunks)) ≡ times_in other chunks = ap (λ b. times_in other (cond b chunks (c ∷ without chunk chunks))) same in
           omega (arith, times-cons other c chunks, e, left)
       | inr differs ↦
-          let rest : 1 ≤ times chunk chunks = omega (arith, times-tail chunk c chunks differs, h) in
-          let left : times other (without chunk (c ∷ chunks)) ≡ times other (c ∷ without chunk chunks) = ap (λ b. times other (cond b chunks (c ∷ without chunk chunks))) differs in
+          let rest : 1 ≤ times_in chunk chunks = omega (arith, times-tail chunk c chunks differs, h) in
+          let left : times_in other (without chunk (c ∷ chunks)) ≡ times_in other (c ∷ without chunk chunks) = ap (λ b. times_in other (cond b chunks (c ∷ without chunk chunks))) differs in
           omega (arith, times-cons other c chunks, times-cons other c (without chunk chunks), times-without other chunk chunks rest, left)
     ]
 
 -- the list without one of its chunks is shorter by one
-pub length-without : (chunk : ChunkId) (chunks : List ChunkId) → 1 ≤ times chunk chunks → length (without chunk chunks) + 1 ≡ length chunks
+pub length-without : (chunk : ChunkId) (chunks : List ChunkId) → 1 ≤ times_in chunk chunks → length (without chunk chunks) + 1 ≡ length chunks
 length-without chunk [] h = absurd (omega arith)
 length-without chunk (c ∷ chunks) h =
     elim (cases_Bool (is_chunk c chunk)) [
@@ -102,7 +102,7 @@ length-without chunk (c ∷ chunks) h =
           let left : length (without chunk (c ∷ chunks)) ≡ length chunks = ap (λ b. length (cond b chunks (c ∷ without chunk chunks))) same in
           omega (arith, left)
       | inr differs ↦
-          let rest : 1 ≤ times chunk chunks = omega (arith, times-tail chunk c chunks differs, h) in
+          let rest : 1 ≤ times_in chunk chunks = omega (arith, times-tail chunk c chunks differs, h) in
           let left : length (without chunk (c ∷ chunks)) ≡ length (c ∷ without chunk chunks) = ap (λ b. length (cond b chunks (c ∷ without chunk chunks))) differs in
           omega (arith, length-without chunk chunks rest, left)
     ]

@@ -5,7 +5,7 @@ use Rattle.std.proofs.lemmas.List.Sums.{sum_by-cons, sum_by-le-sum_by}
 use Rattle.mc_pages.specs.declared.ids.ChunkId.{ChunkId}
 use Rattle.mc_pages.specs.declared.ids.Moving.{Moving}
 use Rattle.mc_pages.specs.Ledger.{owner_at}
-use Rattle.mc_pages.specs.SlabState.{SlabState, IsClass, class_at}
+use Rattle.mc_pages.specs.SlabState.{SlabState, HasClass, class_at}
 use Rattle.mc_pages.specs.Accounted.{truth, is_moving, is_cut, places_in, is_cleared, first_chunks, cleared_count, IsMove}
 
 -- a fact that is another is counted no more often
@@ -46,11 +46,11 @@ is_cleared-alike slabs new class chunk moving cut places =
 -- there are as many classes with as many chunks a page as before, and each chunk is cleared or not as before
 pub record ClearsAlike (slabs new : SlabState) : Type 0 where
   pub classes : length new.classes ≡ length slabs.classes
-  pub per_page : (class : ℕ) → IsClass slabs class → (class_at new class).per_page ≡ (class_at slabs class).per_page
-  pub cleared : (class : ℕ) (chunk : ChunkId) → IsClass slabs class → is_cleared new class chunk ≡ is_cleared slabs class chunk
+  pub per_page : (class : ℕ) → HasClass slabs class → (class_at new class).per_page ≡ (class_at slabs class).per_page
+  pub cleared : (class : ℕ) (chunk : ChunkId) → HasClass slabs class → is_cleared new class chunk ≡ is_cleared slabs class chunk
 
 -- as many chunks of the class are cleared
-pub cleared_count-alike : (slabs new : SlabState) (class : ℕ) (moving : Option Moving) → ClearsAlike slabs new → IsClass slabs class → cleared_count new class moving ≡ cleared_count slabs class moving
+pub cleared_count-alike : (slabs new : SlabState) (class : ℕ) (moving : Option Moving) → ClearsAlike slabs new → HasClass slabs class → cleared_count new class moving ≡ cleared_count slabs class moving
 cleared_count-alike slabs new class None alike is = refl
 cleared_count-alike slabs new class (Some move) alike is =
     count_by-same (is_cleared new class) (is_cleared slabs class) (first_chunks move.page (class_at new class).per_page) (λ chunk. alike.cleared class chunk is)

@@ -3,8 +3,8 @@ use Rattle.std.proofs.Common.{◌≡◌, ◌≢◌, ℕ, ◌+◌, ◌-◌, ◌*�
 use Rattle.std.proofs.lemmas.Bool.{cases_eq, cases_lt, false_from_ne_true}
 use Rattle.mc_pages.specs.declared.ids.ChunkId.{ChunkId}
 use Rattle.mc_pages.specs.Ledger.{owner_at}
-use Rattle.mc_pages.specs.ClassState.{ClassState, is_chunk, times, with_cut}
-use Rattle.mc_pages.specs.SlabState.{SlabState, IsClass, class_at, class_of_page, class_of_chunk}
+use Rattle.mc_pages.specs.ClassState.{ClassState, is_chunk, times_in, with_cut}
+use Rattle.mc_pages.specs.SlabState.{SlabState, HasClass, class_at, class_of_page, class_of_chunk}
 use Rattle.mc_pages.specs.Changes.{next_uncut, after_cut}
 use Rattle.mc_pages.specs.Accounted.{truth, is_of_class, is_moving, cut_count, uncut_count, is_cut, places_in, is_cleared, cleared_count, IsAccounted}
 use Rattle.mc_pages.specs.InOrder.{IsBeingCut}
@@ -111,7 +111,7 @@ ClearsAlike-after_cut slabs chunk uncut on =
     let own = class_of_page slabs chunk.page in
     let state = class_of_chunk slabs chunk in
     let new : SlabState = after_cut slabs chunk in
-    let size = λ (class : ℕ) (is : IsClass slabs class). class_at-with_class_kept (λ c. c.per_page) slabs own class (with_cut state chunk) on.owned is.0 refl in
+    let size = λ (class : ℕ) (is : HasClass slabs class). class_at-with_class_kept (λ c. c.per_page) slabs own class (with_cut state chunk) on.owned is.0 refl in
     record {
       classes = length-with_class slabs own (with_cut state chunk);
       per_page = size;
@@ -122,8 +122,8 @@ ClearsAlike-after_cut slabs chunk uncut on =
                 is_cleared-still new class other still ∙ sym (is_cleared-still slabs class other still)
             | inr differs ↦
                 let apart : is_chunk chunk other ≡ false = ap (λ b. b && (chunk.index == other.index)) (ne_eqb chunk.page other.page (λ same. differs (sym same))) in
-                let lists : times other (chunk ∷ state.free) + times other state.order ≡ times other state.free + times other state.order = omega (arith, times-cons other chunk state.free, ap truth apart) in
-                let places = class_at-with_class_kept (λ c. times other c.free + times other c.order) slabs own class (with_cut state chunk) on.owned is.0 lists in
+                let lists : times_in other (chunk ∷ state.free) + times_in other state.order ≡ times_in other state.free + times_in other state.order = omega (arith, times-cons other chunk state.free, ap truth apart) in
+                let places = class_at-with_class_kept (λ c. times_in other c.free + times_in other c.order) slabs own class (with_cut state chunk) on.owned is.0 lists in
                 let before = ap (λ (o : Option ChunkId). cut_count o other.page (class_at slabs class).per_page) uncut ∙ cut_count-other chunk other.page (class_at slabs class).per_page differs in
                 let after = cut_count-next_other chunk state.per_page other.page (class_at new class).per_page differs ∙ size class is in
                 let cut = ap (λ (n : ℕ). is_of_class class (owner_at slabs.owners other.page) && nat_lt other.index n) (after ∙ sym before) in
@@ -132,7 +132,7 @@ ClearsAlike-after_cut slabs chunk uncut on =
     }
 
 -- the chunks of each class stay accounted for
-chunks-after_cut : (slabs : SlabState) (chunk : ChunkId) → IsAccounted slabs → slabs.uncut ≡ Some chunk → IsBeingCut slabs chunk → (class : ℕ) (other : ChunkId) → IsClass slabs class → places_in (after_cut slabs chunk) class other + truth (is_cleared (after_cut slabs chunk) class other) ≡ truth (is_cut (after_cut slabs chunk) class other)
+chunks-after_cut : (slabs : SlabState) (chunk : ChunkId) → IsAccounted slabs → slabs.uncut ≡ Some chunk → IsBeingCut slabs chunk → (class : ℕ) (other : ChunkId) → HasClass slabs class → places_in (after_cut slabs chunk) class other + truth (is_cleared (after_cut slabs chunk) class other) ≡ truth (is_cut (after_cut slabs chunk) class other)
 chunks-after_cut slabs chunk all uncut on class other is =
     let own = class_of_page slabs chunk.page in
     let state = class_of_chunk slabs chunk in
@@ -149,21 +149,21 @@ chunks-after_cut slabs chunk all uncut on class other is =
           let here = class_at-with_class_same slabs own (with_cut state chunk) on.owned in
           let there : class_at slabs class ≡ state = ap (λ (n : ℕ). class_at slabs n) same in
           let now : class_at new class ≡ with_cut state chunk = ap (λ (n : ℕ). class_at new n) same ∙ here in
-          let lists = ap (λ (c : ClassState). times other c.free + times other c.order) now in
-          let lists_before = ap (λ (c : ClassState). times other c.free + times other c.order) there in
+          let lists = ap (λ (c : ClassState). times_in other c.free + times_in other c.order) now in
+          let lists_before = ap (λ (c : ClassState). times_in other c.free + times_in other c.order) there in
           let more = cut-more owned chunk other (class_at slabs class).per_page (omega (arith, on.within, ap (λ (c : ClassState). c.per_page) there)) (λ e. same_owner e ∙ is_of_class-class_of_owner class owner is.0 (sym same)) in
           let next = ap (λ (n : ℕ). truth (owned && nat_lt other.index (cut_count (next_uncut n chunk) other.page (class_at slabs class).per_page))) (ap (λ (c : ClassState). c.per_page) there) in
           omega (arith, lists, lists_before, times-cons other chunk state.free, before, more, next, after, cleared)
       | inr differs ↦
           let other_class = class_at-with_class_other slabs own class (with_cut state chunk) on.owned.0 is.0 differs in
-          let lists = ap (λ (c : ClassState). times other c.free + times other c.order) other_class in
+          let lists = ap (λ (c : ClassState). times_in other c.free + times_in other c.order) other_class in
           let not_own = λ (same : other.page ≡ chunk.page). same_owner same ∙ false_from_ne_true _ (λ e. differs (sym (class_of_owner-is_of_class class owner e))) in
           let kept = cut-other owned chunk other state.per_page (class_at slabs class).per_page not_own in
           omega (arith, lists, before, kept, after, cleared)
     ]
 
 -- the number of chunks of each class stays accounted for
-total-after_cut : (slabs : SlabState) (chunk : ChunkId) → IsAccounted slabs → slabs.uncut ≡ Some chunk → IsBeingCut slabs chunk → (class : ℕ) → IsClass slabs class → length (class_at (after_cut slabs chunk) class).free + length (class_at (after_cut slabs chunk) class).order + uncut_count (after_cut slabs chunk) class (after_cut slabs chunk).uncut + cleared_count (after_cut slabs chunk) class slabs.moving ≡ length (class_at (after_cut slabs chunk) class).pages * (class_at (after_cut slabs chunk) class).per_page
+total-after_cut : (slabs : SlabState) (chunk : ChunkId) → IsAccounted slabs → slabs.uncut ≡ Some chunk → IsBeingCut slabs chunk → (class : ℕ) → HasClass slabs class → length (class_at (after_cut slabs chunk) class).free + length (class_at (after_cut slabs chunk) class).order + uncut_count (after_cut slabs chunk) class (after_cut slabs chunk).uncut + cleared_count (after_cut slabs chunk) class slabs.moving ≡ length (class_at (after_cut slabs chunk) class).pages * (class_at (after_cut slabs chunk) class).per_page
 total-after_cut slabs chunk all uncut on class is =
     let own = class_of_page slabs chunk.page in
     let state = class_of_chunk slabs chunk in

@@ -7,10 +7,10 @@ use Rattle.mc_classes.specs.Classes.{Classes, arena_pages_of, size_of, IsSound}
 use Rattle.mc_pages.specs.declared.ledger.Owner.{Owner}
 use Rattle.mc_pages.specs.declared.ledger.Owner.TheVariants.{Untouched}
 use Rattle.mc_pages.specs.Ledger.{all_untouched, owner_at}
-use Rattle.mc_pages.specs.ClassState.{ClassState, new_class, times}
-use Rattle.mc_pages.specs.SlabState.{SlabState, IsClass, class_at, fresh_slabs}
+use Rattle.mc_pages.specs.ClassState.{ClassState, new_class, times_in}
+use Rattle.mc_pages.specs.SlabState.{SlabState, HasClass, class_at, fresh_slabs}
 use Rattle.mc_pages.specs.Accounted.{truth, is_of_class, is_pool, is_moving, is_cut, IsAccounted}
-use Rattle.mc_pages.specs.InOrder.{AreGranted, IsInOrder}
+use Rattle.mc_pages.specs.InOrder.{AreGranted, AreSlabsInOrder}
 use Rattle.mc_pages.proofs.Cleared.{is_cleared-still}
 
 -- each page is untouched
@@ -26,7 +26,7 @@ AreGranted-none : (pages : ℕ) → AreGranted (all_untouched pages) 0
 AreGranted-none pages = record { within = omega arith; below = λ page h. absurd (omega (arith, h)); rest = λ page h. untouched_at pages page }
 
 -- each class is one of the table, without pages
-class_at-fresh : (table : Classes) (class : ℕ) → IsClass (fresh_slabs table) class → class_at (fresh_slabs table) class ≡ new_class (size_of table class) (table.page / size_of table class)
+class_at-fresh : (table : Classes) (class : ℕ) → HasClass (fresh_slabs table) class → class_at (fresh_slabs table) class ≡ new_class (size_of table class) (table.page / size_of table class)
 class_at-fresh table class is =
     let made : ℕ → ClassState = λ size. new_class size (table.page / size) in
     get_or-map made table.sizes (class - 1) 0 (new_class 0 0) (omega (arith, is.0, is.1, length-map table.sizes made))
@@ -48,7 +48,7 @@ IsAccounted-fresh table some =
       limit = omega arith;
       grace = record { once = λ class. omega arith; stays = λ class some. absurd (omega (arith, some)) };
       chunks = λ class chunk is.
-          let lists = ap (λ (c : ClassState). times chunk c.free + times chunk c.order) (class_at-fresh table class is) in
+          let lists = ap (λ (c : ClassState). times_in chunk c.free + times_in chunk c.order) (class_at-fresh table class is) in
           let cut : is_cut fresh class chunk ≡ false = and_left _ _ (ap (λ (o : Owner). is_of_class class o) (owner chunk.page)) in
           omega (arith, lists, ap truth (is_cleared-still fresh class chunk (still chunk.page)), ap truth cut);
       total = λ class is.
@@ -60,7 +60,7 @@ IsAccounted-fresh table some =
     }
 
 -- nothing is granted yet
-pub IsInOrder-fresh : (table : Classes) → IsSound table → IsInOrder (fresh_slabs table) 0
+pub IsInOrder-fresh : (table : Classes) → IsSound table → AreSlabsInOrder (fresh_slabs table) 0
 IsInOrder-fresh table sound =
     let made : ℕ → ClassState = λ size. new_class size (table.page / size) in
     record {

@@ -7,8 +7,8 @@ use Rattle.mc_pages.specs.declared.ids.Moving.{Moving}
 use Rattle.mc_pages.specs.declared.ledger.Owner.{Owner}
 use Rattle.mc_pages.specs.declared.ledger.Owner.TheVariants.{Class}
 use Rattle.mc_pages.specs.Ledger.{owner_at}
-use Rattle.mc_pages.specs.ClassState.{ClassState, times, with_page}
-use Rattle.mc_pages.specs.SlabState.{SlabState, IsClass, class_at}
+use Rattle.mc_pages.specs.ClassState.{ClassState, times_in, with_page}
+use Rattle.mc_pages.specs.SlabState.{SlabState, HasClass, class_at}
 use Rattle.mc_pages.specs.Changes.{with_given}
 use Rattle.mc_pages.specs.Accounted.{truth, is_of_class, is_pool, is_moving, cut_count, uncut_count, is_cut, cleared_count, IsMove}
 use Rattle.mc_pages.proofs.Owners.{owner_at-set_same, owner_at-set_other}
@@ -55,7 +55,7 @@ owner-set_alike {T} part owners page other owner within alike =
     ]
 
 -- each class's pages keep their places
-pages-given : (slabs : SlabState) (given page : ℕ) → ArePlaced slabs → IsClass slabs given → page < length slabs.owners → IsNoClass (owner_at slabs.owners page) → (class other : ℕ) → IsClass slabs class → count_by (λ p. p == other) (class_at (with_given slabs given page) class).pages ≡ truth (is_of_class class (owner_at (with_given slabs given page).owners other))
+pages-given : (slabs : SlabState) (given page : ℕ) → ArePlaced slabs → HasClass slabs given → page < length slabs.owners → IsNoClass (owner_at slabs.owners page) → (class other : ℕ) → HasClass slabs class → count_by (λ p. p == other) (class_at (with_given slabs given page) class).pages ≡ truth (is_of_class class (owner_at (with_given slabs given page).owners other))
 pages-given slabs given page all is within free class other here =
     let new : SlabState = with_given slabs given page in
     let state = with_page (class_at slabs given) page in
@@ -76,7 +76,7 @@ pages-given slabs given page all is within free class other here =
     ]
 
 -- the chunks that were cut are the same: none of the page is
-is_cut-given : (slabs : SlabState) (given page : ℕ) → IsClass slabs given → slabs.uncut ≡ None → IsNoClass (owner_at slabs.owners page) → (class : ℕ) (chunk : ChunkId) → IsClass slabs class → is_cut (with_given slabs given page) class chunk ≡ is_cut slabs class chunk
+is_cut-given : (slabs : SlabState) (given page : ℕ) → HasClass slabs given → slabs.uncut ≡ None → IsNoClass (owner_at slabs.owners page) → (class : ℕ) (chunk : ChunkId) → HasClass slabs class → is_cut (with_given slabs given page) class chunk ≡ is_cut slabs class chunk
 is_cut-given slabs given page is whole free class chunk here =
     let new : SlabState = with_given slabs given page in
     let state = with_page (class_at slabs given) page in
@@ -96,7 +96,7 @@ is_cut-given slabs given page is whole free class chunk here =
     ]
 
 -- no chunk is cleared by it
-ClearsAlike-given : (slabs : SlabState) (given page : ℕ) → IsClass slabs given → slabs.uncut ≡ None → page < length slabs.owners → IsNoClass (owner_at slabs.owners page) → ClearsAlike slabs (with_given slabs given page)
+ClearsAlike-given : (slabs : SlabState) (given page : ℕ) → HasClass slabs given → slabs.uncut ≡ None → page < length slabs.owners → IsNoClass (owner_at slabs.owners page) → ClearsAlike slabs (with_given slabs given page)
 ClearsAlike-given slabs given page is whole within free =
     let new : SlabState = with_given slabs given page in
     let state = with_page (class_at slabs given) page in
@@ -104,13 +104,13 @@ ClearsAlike-given slabs given page is whole within free =
       classes = length-with_class slabs given state;
       per_page = λ class here. class_at-with_class_kept (λ c. c.per_page) slabs given class state is here.0 refl;
       cleared = λ class chunk here.
-          let places = class_at-with_class_kept (λ c. times chunk c.free + times chunk c.order) slabs given class state is here.0 refl in
+          let places = class_at-with_class_kept (λ c. times_in chunk c.free + times_in chunk c.order) slabs given class state is here.0 refl in
           let moving = owner-set_alike is_moving slabs.owners page chunk.page (Class given) within (sym free.still) in
           is_cleared-alike slabs new class chunk moving (is_cut-given slabs given page is whole free class chunk here) places;
     }
 
 -- the number of chunks of each class stays: all of the page are uncut
-total-given : (slabs : SlabState) (given page : ℕ) → ArePlaced slabs → IsClass slabs given → slabs.uncut ≡ None → page < length slabs.owners → IsNoClass (owner_at slabs.owners page) → (class : ℕ) → IsClass slabs class → length (class_at (with_given slabs given page) class).free + length (class_at (with_given slabs given page) class).order + uncut_count (with_given slabs given page) class (with_given slabs given page).uncut + cleared_count (with_given slabs given page) class slabs.moving ≡ length (class_at (with_given slabs given page) class).pages * (class_at (with_given slabs given page) class).per_page
+total-given : (slabs : SlabState) (given page : ℕ) → ArePlaced slabs → HasClass slabs given → slabs.uncut ≡ None → page < length slabs.owners → IsNoClass (owner_at slabs.owners page) → (class : ℕ) → HasClass slabs class → length (class_at (with_given slabs given page) class).free + length (class_at (with_given slabs given page) class).order + uncut_count (with_given slabs given page) class (with_given slabs given page).uncut + cleared_count (with_given slabs given page) class slabs.moving ≡ length (class_at (with_given slabs given page) class).pages * (class_at (with_given slabs given page) class).per_page
 total-given slabs given page all is whole within free class here =
     let new : SlabState = with_given slabs given page in
     let state = with_page (class_at slabs given) page in
@@ -135,7 +135,7 @@ total-given slabs given page all is whole within free class here =
     ]
 
 -- no class has fewer pages
-pages-given_more : (slabs : SlabState) (given page class : ℕ) → IsClass slabs given → IsClass slabs class → length (class_at slabs class).pages ≤ length (class_at (with_given slabs given page) class).pages
+pages-given_more : (slabs : SlabState) (given page class : ℕ) → HasClass slabs given → HasClass slabs class → length (class_at slabs class).pages ≤ length (class_at (with_given slabs given page) class).pages
 pages-given_more slabs given page class is here =
     let new : SlabState = with_given slabs given page in
     let state = with_page (class_at slabs given) page in
@@ -150,23 +150,23 @@ pages-given_more slabs given page class is here =
     ]
 
 -- the page is of the class that it was given to, and every other page is of one of the classes as before
-owned-given : (slabs : SlabState) (given page : ℕ) → ArePlaced slabs → IsClass slabs given → page < length slabs.owners → (class other : ℕ) → is_of_class class (owner_at (set slabs.owners page (Class given)) other) ≡ true → IsClass slabs class
+owned-given : (slabs : SlabState) (given page : ℕ) → ArePlaced slabs → HasClass slabs given → page < length slabs.owners → (class other : ℕ) → is_of_class class (owner_at (set slabs.owners page (Class given)) other) ≡ true → HasClass slabs class
 owned-given slabs given page all is within class other h =
     elim (cases_eq other page) [
       | inl same ↦
           let owner = ap (λ (p : ℕ). is_of_class class (owner_at (set slabs.owners page (Class given)) p)) same ∙ ap (λ (o : Owner). is_of_class class o) (owner_at-set_same slabs.owners page (Class given) within) in
-          subst (λ (n : ℕ). IsClass slabs n) (eqb-true given class (sym owner ∙ h)) is
+          subst (λ (n : ℕ). HasClass slabs n) (eqb-true given class (sym owner ∙ h)) is
       | inr differs ↦ all.owned class other (sym (ap (λ (o : Owner). is_of_class class o) (owner_at-set_other slabs.owners page other (Class given) differs)) ∙ h)
     ]
 
 -- a move is one of another page
-IsMove-given : (slabs : SlabState) (given page : ℕ) (move : Moving) → IsClass slabs given → slabs.uncut ≡ None → page < length slabs.owners → IsNoClass (owner_at slabs.owners page) → IsMove slabs move → IsMove (with_given slabs given page) move
+IsMove-given : (slabs : SlabState) (given page : ℕ) (move : Moving) → HasClass slabs given → slabs.uncut ≡ None → page < length slabs.owners → IsNoClass (owner_at slabs.owners page) → IsMove slabs move → IsMove (with_given slabs given page) move
 IsMove-given slabs given page move is whole within free of =
     let apart : move.page ≢ page = λ same. both_ways (is_moving (owner_at slabs.owners page)) free.still (ap (λ (p : ℕ). is_moving (owner_at slabs.owners p)) (sym same) ∙ ap is_moving of.owner) in
     IsMove-alike slabs (with_given slabs given page) move (ClearsAlike-given slabs given page is whole within free) (owner_at-set_other slabs.owners page move.page (Class given) apart) (pages-given_more slabs given page move.src is of.src) of
 
 -- a page that no class has is given to one, with the pool then
-pub ArePlaced-given : (slabs : SlabState) (given page : ℕ) (pool : List ℕ) → ArePlaced slabs → IsClass slabs given → slabs.uncut ≡ None → page < length slabs.owners → IsNoClass (owner_at slabs.owners page) → ((other : ℕ) → count_by (λ p. p == other) pool ≡ truth (is_pool (owner_at (set slabs.owners page (Class given)) other))) → ArePlaced (record (with_given slabs given page) { pool = pool })
+pub ArePlaced-given : (slabs : SlabState) (given page : ℕ) (pool : List ℕ) → ArePlaced slabs → HasClass slabs given → slabs.uncut ≡ None → page < length slabs.owners → IsNoClass (owner_at slabs.owners page) → ((other : ℕ) → count_by (λ p. p == other) pool ≡ truth (is_pool (owner_at (set slabs.owners page (Class given)) other))) → ArePlaced (record (with_given slabs given page) { pool = pool })
 ArePlaced-given slabs given page pool all is whole within free pooled =
     let state = with_page (class_at slabs given) page in
     let new : SlabState = with_given slabs given page in
@@ -180,7 +180,7 @@ ArePlaced-given slabs given page pool all is whole within free pooled =
           record { owner = of.owner; src = of.src; spare = of.spare; dst = of.dst; apart = of.apart; within = of.within; busy = of.busy; passed = of.passed };
       chunks = λ class chunk here.
           let before = IsClass-before slabs given class state here in
-          let places = class_at-with_class_kept (λ c. times chunk c.free + times chunk c.order) slabs given class state is before.0 refl in
+          let places = class_at-with_class_kept (λ c. times_in chunk c.free + times_in chunk c.order) slabs given class state is before.0 refl in
           let cut = is_cut-given slabs given page is whole free class chunk before in
           let cleared = (ClearsAlike-given slabs given page is whole within free).cleared class chunk before in
           omega (arith, places, ap truth cut, ap truth cleared, all.chunks class chunk before);

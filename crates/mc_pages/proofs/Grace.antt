@@ -9,7 +9,7 @@ use Rattle.mc_pages.specs.declared.ledger.Entry.{Entry}
 use Rattle.mc_pages.specs.declared.ledger.Entry.TheVariants.{Granted}
 use Rattle.mc_pages.specs.Ledger.{KeepsGrace, grace_count, is_grace, is_ordinary, ordinary_count, owner_at}
 use Rattle.mc_pages.specs.ClassState.{ClassState, new_class, with_page}
-use Rattle.mc_pages.specs.SlabState.{SlabState, IsClass, class_at}
+use Rattle.mc_pages.specs.SlabState.{SlabState, HasClass, class_at}
 use Rattle.mc_pages.specs.Accounted.{truth, IsAccounted}
 use Rattle.mc_pages.specs.Changes.{with_class, with_given, has_ordinary_page}
 use Rattle.mc_pages.specs.InOrder.{populated_count}
@@ -90,11 +90,11 @@ abbrev populates : ClassState → ℕ
 populates class = truth (nat_lt 0 (length class.pages))
 
 -- the classes that have a page, after one of them has changed
-pub populated-with_class : (slabs : SlabState) (class : ℕ) (state : ClassState) → IsClass slabs class → populated_count (with_class slabs class state).classes + truth (nat_lt 0 (length (class_at slabs class).pages)) ≡ populated_count slabs.classes + truth (nat_lt 0 (length state.pages))
+pub populated-with_class : (slabs : SlabState) (class : ℕ) (state : ClassState) → HasClass slabs class → populated_count (with_class slabs class state).classes + truth (nat_lt 0 (length (class_at slabs class).pages)) ≡ populated_count slabs.classes + truth (nat_lt 0 (length state.pages))
 populated-with_class slabs class state is = sum_by-set populates slabs.classes (class - 1) state (new_class 0 0) (omega arith)
 
 -- they are as many where the class has a page as before
-pub populated-same : (slabs : SlabState) (class : ℕ) (state : ClassState) → IsClass slabs class → nat_lt 0 (length state.pages) ≡ nat_lt 0 (length (class_at slabs class).pages) → populated_count (with_class slabs class state).classes ≡ populated_count slabs.classes
+pub populated-same : (slabs : SlabState) (class : ℕ) (state : ClassState) → HasClass slabs class → nat_lt 0 (length state.pages) ≡ nat_lt 0 (length (class_at slabs class).pages) → populated_count (with_class slabs class state).classes ≡ populated_count slabs.classes
 populated-same slabs class state is same = omega (arith, populated-with_class slabs class state is, ap truth same)
 
 -- the class that was given a page has one
@@ -103,12 +103,12 @@ given_has slabs class page =
     ap truth (lt-ltb 0 (length ((class_at slabs class).pages ++ page ∷ [])) (omega (arith, length_push (class_at slabs class).pages page)))
 
 -- a page that is given to a class leaves no class without one
-pub populated-given : (slabs : SlabState) (class page : ℕ) → IsClass slabs class → populated_count slabs.classes ≤ populated_count (with_given slabs class page).classes
+pub populated-given : (slabs : SlabState) (class page : ℕ) → HasClass slabs class → populated_count slabs.classes ≤ populated_count (with_given slabs class page).classes
 populated-given slabs class page is =
     omega (arith, populated-with_class slabs class (with_page (class_at slabs class) page) is, given_has slabs class page, truth-le_one (nat_lt 0 (length (class_at slabs class).pages)))
 
 -- and one class more has one where it is its first
-pub populated-first : (slabs : SlabState) (class page : ℕ) → IsClass slabs class → length (class_at slabs class).pages ≡ 0 → populated_count (with_given slabs class page).classes ≡ populated_count slabs.classes + 1
+pub populated-first : (slabs : SlabState) (class page : ℕ) → HasClass slabs class → length (class_at slabs class).pages ≡ 0 → populated_count (with_given slabs class page).classes ≡ populated_count slabs.classes + 1
 populated-first slabs class page is none =
     omega (arith, populated-with_class slabs class (with_page (class_at slabs class) page) is, given_has slabs class page, ap truth (le-ltb 0 (length (class_at slabs class).pages) (omega arith)))
 
@@ -117,7 +117,7 @@ pub populated-le : (slabs : SlabState) → populated_count slabs.classes ≤ len
 populated-le slabs = count_by-le-length (λ (class : ClassState). nat_lt 0 (length class.pages)) slabs.classes
 
 -- and fewer where one has none
-pub populated-lt : (slabs : SlabState) (class : ℕ) → IsClass slabs class → length (class_at slabs class).pages ≡ 0 → populated_count slabs.classes < length slabs.classes
+pub populated-lt : (slabs : SlabState) (class : ℕ) → HasClass slabs class → length (class_at slabs class).pages ≡ 0 → populated_count slabs.classes < length slabs.classes
 populated-lt slabs class is none =
     let first = populated-first slabs class 0 is none in
     omega (arith, first, populated-le (with_given slabs class 0), length-with_class slabs class (with_page (class_at slabs class) 0))

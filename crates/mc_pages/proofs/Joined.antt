@@ -5,8 +5,8 @@ use Rattle.mc_pages.specs.declared.rows.ListName.{ListName}
 use Rattle.mc_pages.specs.declared.rows.Mark.{Mark}
 use Rattle.mc_pages.specs.declared.rows.Field.{Field}
 use Rattle.mc_pages.specs.declared.rows.Field.TheVariants.{Next, Previous, Head, Tail}
-use Rattle.mc_pages.specs.Rows.{RowsState, IsField, IsRow, row_at, field_of, length_of, with_field, with_mark, with_length}
-use Rattle.mc_pages.specs.Linked.{sizes_of, forth, back, IsRun, joined}
+use Rattle.mc_pages.specs.Rows.{RowsState, IsField, IsRow, row_of_chunk, field_of, list_length, with_field, with_mark, with_length}
+use Rattle.mc_pages.specs.Linked.{sizes_of, forth, back, IsChain, with_neighbours}
 use Rattle.mc_pages.proofs.Runs.{Links, IsOutside, run_frame}
 use Rattle.mc_pages.proofs.RunChanges.{Joins, Comes}
 use Rattle.mc_pages.proofs.RowFields.{field-same, field-other, field-with_length, field-with_mark, mark-with_field, sizes-with_field, writes-with_field, length-with_field, IsField-sizes}
@@ -57,25 +57,25 @@ previous≢back list c None differs h = cc h
 previous≢back list c (Some d) differs h = differs (ap (λ (x : ChunkId). Some x) (cc h))
 
 -- as many rows and lists as before
-pub sizes-joined : (rows : RowsState) (list : ListName) (a b : Option ChunkId) → sizes_of (joined rows list a b) ≡ sizes_of rows
+pub sizes-joined : (rows : RowsState) (list : ListName) (a b : Option ChunkId) → sizes_of (with_neighbours rows list a b) ≡ sizes_of rows
 sizes-joined rows list a b = sizes-with_field (with_field rows (forth list a) b) (back list b) a ∙ sizes-with_field rows (forth list a) b
 
 -- two fields were written
-pub writes-joined : (rows : RowsState) (list : ListName) (a b : Option ChunkId) → (joined rows list a b).writes ≡ rows.writes + 2
+pub writes-joined : (rows : RowsState) (list : ListName) (a b : Option ChunkId) → (with_neighbours rows list a b).writes ≡ rows.writes + 2
 writes-joined rows list a b = omega (arith, writes-with_field (with_field rows (forth list a) b) (back list b) a, writes-with_field rows (forth list a) b)
 
 -- the lengths are as before
-pub length-joined : (rows : RowsState) (list other : ListName) (a b : Option ChunkId) → length_of (joined rows list a b) other ≡ length_of rows other
+pub length-joined : (rows : RowsState) (list other : ListName) (a b : Option ChunkId) → list_length (with_neighbours rows list a b) other ≡ list_length rows other
 length-joined rows list other a b = length-with_field (with_field rows (forth list a) b) (back list b) a other ∙ length-with_field rows (forth list a) b other
 
 -- every other field is as before
-pub field-joined : (rows : RowsState) (list : ListName) (a b : Option ChunkId) (field : Field) → IsField rows (forth list a) → IsField rows (back list b) → field ≢ forth list a → field ≢ back list b → field_of (joined rows list a b) field ≡ field_of rows field
+pub field-joined : (rows : RowsState) (list : ListName) (a b : Option ChunkId) (field : Field) → IsField rows (forth list a) → IsField rows (back list b) → field ≢ forth list a → field ≢ back list b → field_of (with_neighbours rows list a b) field ≡ field_of rows field
 field-joined rows list a b field is is-2 forth_apart back_apart =
     let there = IsField-sizes rows (with_field rows (forth list a) b) (back list b) (sizes-with_field rows (forth list a) b) is-2 in
     field-other (with_field rows (forth list a) b) (back list b) field a there back_apart ∙ field-other rows (forth list a) field b is forth_apart
 
 -- the two are neighbours
-pub joined_joins : (rows : RowsState) (list : ListName) (a b : Option ChunkId) → IsField rows (forth list a) → IsField rows (back list b) → Joins (forth_in rows list) (back_in rows list) (forth_in (joined rows list a b) list) (back_in (joined rows list a b) list) a b
+pub joined_joins : (rows : RowsState) (list : ListName) (a b : Option ChunkId) → IsField rows (forth list a) → IsField rows (back list b) → Joins (forth_in rows list) (back_in rows list) (forth_in (with_neighbours rows list a b) list) (back_in (with_neighbours rows list a b) list) a b
 joined_joins rows list a b is is-2 =
     let first = with_field rows (forth list a) b in
     let there = IsField-sizes rows first (back list b) (sizes-with_field rows (forth list a) b) is-2 in
@@ -99,10 +99,10 @@ joins_comes n p n1 p1 n2 p2 a chunk b before behind first second =
     }
 
 -- another list whose chunks aren't those two still runs
-pub run-joined : (rows : RowsState) (list other : ListName) (a b : Option ChunkId) (chunks : List ChunkId) → IsField rows (forth list a) → IsField rows (back list b) → other ≢ list → IsOutside a chunks → IsOutside b chunks → IsRun (forth_in rows other) (back_in rows other) None chunks → IsRun (forth_in (joined rows list a b) other) (back_in (joined rows list a b) other) None chunks
+pub run-joined : (rows : RowsState) (list other : ListName) (a b : Option ChunkId) (chunks : List ChunkId) → IsField rows (forth list a) → IsField rows (back list b) → other ≢ list → IsOutside a chunks → IsOutside b chunks → IsChain (forth_in rows other) (back_in rows other) None chunks → IsChain (forth_in (with_neighbours rows list a b) other) (back_in (with_neighbours rows list a b) other) None chunks
 run-joined rows list other a b chunks is is-2 differs out out-2 run =
     let kept = λ (field : Field). field-joined rows list a b field is is-2 in
-    run_frame (forth_in rows other) (back_in rows other) (forth_in (joined rows list a b) other) (back_in (joined rows list a b) other) None chunks
+    run_frame (forth_in rows other) (back_in rows other) (forth_in (with_neighbours rows list a b) other) (back_in (with_neighbours rows list a b) other) None chunks
     (kept (Head other) (head≢forth list other a differs) (forth≢back other list None b))
     (kept (Tail other) (λ h. forth≢back list other a None (sym h)) (tail≢back list other b differs))
     (λ c there. kept (Next c) (next≢forth list c a (out c there)) (forth≢back other list (Some c) b))
@@ -110,21 +110,21 @@ run-joined rows list other a b chunks is is-2 differs out out-2 run =
     run
 
 -- a length changes no run
-pub run-with_length : (rows : RowsState) (list other : ListName) (count : ℕ) (from : Option ChunkId) (chunks : List ChunkId) → IsRun (forth_in rows other) (back_in rows other) from chunks → IsRun (forth_in (with_length rows list count) other) (back_in (with_length rows list count) other) from chunks
+pub run-with_length : (rows : RowsState) (list other : ListName) (count : ℕ) (from : Option ChunkId) (chunks : List ChunkId) → IsChain (forth_in rows other) (back_in rows other) from chunks → IsChain (forth_in (with_length rows list count) other) (back_in (with_length rows list count) other) from chunks
 run-with_length rows list other count from chunks run =
     let kept = field-with_length rows list count in
     run_frame (forth_in rows other) (back_in rows other) (forth_in (with_length rows list count) other) (back_in (with_length rows list count) other) from chunks
     (kept (forth other from)) (kept (Tail other)) (λ c there. kept (Next c)) (λ c there. kept (Previous c)) run
 
 -- and neither does a mark
-pub run-with_mark : (rows : RowsState) (chunk : ChunkId) (mark : Mark) (list : ListName) (chunks : List ChunkId) → IsRow rows chunk → IsRun (forth_in rows list) (back_in rows list) None chunks → IsRun (forth_in (with_mark rows chunk mark) list) (back_in (with_mark rows chunk mark) list) None chunks
+pub run-with_mark : (rows : RowsState) (chunk : ChunkId) (mark : Mark) (list : ListName) (chunks : List ChunkId) → IsRow rows chunk → IsChain (forth_in rows list) (back_in rows list) None chunks → IsChain (forth_in (with_mark rows chunk mark) list) (back_in (with_mark rows chunk mark) list) None chunks
 run-with_mark rows chunk mark list chunks is run =
     let kept = λ (field : Field). field-with_mark rows chunk mark field is in
     run_frame (forth_in rows list) (back_in rows list) (forth_in (with_mark rows chunk mark) list) (back_in (with_mark rows chunk mark) list) None chunks
     (kept (Head list)) (kept (Tail list)) (λ c there. kept (Next c)) (λ c there. kept (Previous c)) run
 
 -- new neighbours keep their marks
-pub mark-joined : (rows : RowsState) (list : ListName) (a b : Option ChunkId) (chunk : ChunkId) → IsField rows (forth list a) → IsField rows (back list b) → (row_at (joined rows list a b) chunk).mark ≡ (row_at rows chunk).mark
+pub mark-joined : (rows : RowsState) (list : ListName) (a b : Option ChunkId) (chunk : ChunkId) → IsField rows (forth list a) → IsField rows (back list b) → (row_of_chunk (with_neighbours rows list a b) chunk).mark ≡ (row_of_chunk rows chunk).mark
 mark-joined rows list a b chunk is is-2 =
     let there = IsField-sizes rows (with_field rows (forth list a) b) (back list b) (sizes-with_field rows (forth list a) b) is-2 in
     mark-with_field (with_field rows (forth list a) b) (back list b) a chunk there ∙ mark-with_field rows (forth list a) b chunk is

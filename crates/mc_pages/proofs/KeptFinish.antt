@@ -9,13 +9,13 @@ use Rattle.mc_pages.specs.declared.ledger.Owner.{Owner}
 use Rattle.mc_pages.specs.declared.ledger.Owner.TheVariants.{Pool, Class}
 use Rattle.mc_pages.specs.declared.ledger.Entry.{Entry}
 use Rattle.mc_pages.specs.declared.ledger.Entry.TheVariants.{Ended}
-use Rattle.mc_pages.specs.Ledger.{KeepsGrace, ordinary_count, owner_at, fits}
-use Rattle.mc_pages.specs.ClassState.{counted, with_page, without_page}
-use Rattle.mc_pages.specs.SlabState.{SlabState, IsClass, class_at, is_untouched}
+use Rattle.mc_pages.specs.Ledger.{KeepsGrace, ordinary_count, owner_at, fits_owner}
+use Rattle.mc_pages.specs.ClassState.{counter_after, with_page, without_page}
+use Rattle.mc_pages.specs.SlabState.{SlabState, HasClass, class_at, is_untouched}
 use Rattle.mc_pages.specs.Changes.{with_given}
-use Rattle.mc_pages.specs.Moves.{released, finished, CanFinish}
+use Rattle.mc_pages.specs.Moves.{after_page_release, after_move_end, CanFinish}
 use Rattle.mc_pages.specs.Accounted.{truth, is_of_class, is_pool, is_moving, uncut_count, IsMove, IsAccounted}
-use Rattle.mc_pages.specs.InOrder.{AreGranted, IsInOrder, populated_count}
+use Rattle.mc_pages.specs.InOrder.{AreGranted, AreSlabsInOrder, populated_count}
 use Rattle.mc_pages.proofs.Owners.{owner_at-set_same, AreGranted-set}
 use Rattle.mc_pages.proofs.Grace.{KeepsGrace-set, ordinary_count-push, populated-given, populated-same}
 use Rattle.mc_pages.proofs.OneClass.{length-with_class, IsClass-with_class}
@@ -30,28 +30,28 @@ ledger_ended slabs move = slabs.ledger ++ Ended move.page move.dst ∷ []
 
 -- the page went from its class to the pool
 abbrev in_pool : SlabState → Moving → SlabState
-in_pool slabs move = released slabs move.page move.src
+in_pool slabs move = after_page_release slabs move.page move.src
 
 -- the page went from its class to another
 abbrev in_class : SlabState → Moving → SlabState
 in_class slabs move = record (with_given (in_pool slabs move) move.dst move.page) { pool = slabs.pool }
 
 -- the end fits the owner of the page that moves
-fits-ended : (slabs : SlabState) (move : Moving) → IsMove slabs move → fits (Ended move.page move.dst) (owner_at slabs.owners move.page) ≡ true
-fits-ended slabs move is = ap (λ (o : Owner). fits (Ended move.page move.dst) o) is.owner ∙ eq-eqb move.dst move.dst refl
+fits-ended : (slabs : SlabState) (move : Moving) → IsMove slabs move → fits_owner (Ended move.page move.dst) (owner_at slabs.owners move.page) ≡ true
+fits-ended slabs move is = ap (λ (o : Owner). fits_owner (Ended move.page move.dst) o) is.owner ∙ eq-eqb move.dst move.dst refl
 
 -- the owners with the page in the pool are granted as before
 AreGranted-in_pool : (slabs : SlabState) (granted : ℕ) (move : Moving) → IsMove slabs move → AreGranted slabs.owners granted → AreGranted (set slabs.owners move.page Pool) granted
 AreGranted-in_pool slabs granted move is are = AreGranted-set slabs.owners granted move.page Pool are (ap is_untouched is.owner) refl
 
 -- what is kept beside the accounts
-IsSteady-in_pool : (slabs : SlabState) (granted : ℕ) (move : Moving) → IsInOrder slabs granted → IsMove slabs move → IsSteady (in_pool slabs move)
+IsSteady-in_pool : (slabs : SlabState) (granted : ℕ) (move : Moving) → AreSlabsInOrder slabs granted → IsMove slabs move → IsSteady (in_pool slabs move)
 IsSteady-in_pool slabs granted move kept is =
     let steady = IsSteady-changed slabs move.src (without_page (class_at slabs move.src) move.page) (set slabs.owners move.page Pool) (IsSteady_from slabs granted kept) is.src refl (length-set slabs.owners move.page Pool) in
     record { pages = steady.pages; per_page = steady.per_page; at_most = steady.at_most }
 
 -- the cursor is still at a class
-cursor-in_pool : (slabs : SlabState) (move : Moving) → IsAccounted slabs → IsClass (in_pool slabs move) slabs.cursor
+cursor-in_pool : (slabs : SlabState) (move : Moving) → IsAccounted slabs → HasClass (in_pool slabs move) slabs.cursor
 cursor-in_pool slabs move all = IsClass-with_class slabs move.src slabs.cursor (without_page (class_at slabs move.src) move.page) all.cursor
 
 -- the page of the class that gives it is one of two
@@ -61,7 +61,7 @@ fewer_pages slabs move all is =
     omega (arith, one, length-filter_page move.page (class_at slabs move.src).pages)
 
 -- so it still has a page, as each class that had one
-graced-in_pool : (slabs : SlabState) (granted : ℕ) (move : Moving) → IsInOrder slabs granted → IsMove slabs move → granted ≤ ordinary_count (ledger_ended slabs move) + populated_count (in_pool slabs move).classes
+graced-in_pool : (slabs : SlabState) (granted : ℕ) (move : Moving) → AreSlabsInOrder slabs granted → IsMove slabs move → granted ≤ ordinary_count (ledger_ended slabs move) + populated_count (in_pool slabs move).classes
 graced-in_pool slabs granted move kept is =
     let state = without_page (class_at slabs move.src) move.page in
     let fewer = fewer_pages slabs move kept.accounted is in
@@ -75,7 +75,7 @@ grace-ended slabs move owner all is =
     (λ class own. false≢true (ap is_moving (sym own ∙ is.owner)))
 
 -- the move to the pool ends
-IsInOrder-in_pool : (slabs : SlabState) (granted moved : ℕ) (move : Moving) → IsInOrder slabs granted → slabs.uncut ≡ None → CanFinish slabs move → move.dst ≡ 0 → IsInOrder (record (in_pool slabs move) { ledger = ledger_ended slabs move; moved = moved }) granted
+IsInOrder-in_pool : (slabs : SlabState) (granted moved : ℕ) (move : Moving) → AreSlabsInOrder slabs granted → slabs.uncut ≡ None → CanFinish slabs move → move.dst ≡ 0 → AreSlabsInOrder (record (in_pool slabs move) { ledger = ledger_ended slabs move; moved = moved }) granted
 IsInOrder-in_pool slabs granted moved move kept whole can to =
     let all = kept.accounted in
     let is = all.move move can.runs in
@@ -96,7 +96,7 @@ IsInOrder-in_pool slabs granted moved move kept whole can to =
     }
 
 -- the page has its places in the class that it went to
-ArePlaced-in_class : (slabs : SlabState) (move : Moving) → ArePlaced slabs → slabs.uncut ≡ None → CanFinish slabs move → IsClass (in_pool slabs move) move.dst → ArePlaced (in_class slabs move)
+ArePlaced-in_class : (slabs : SlabState) (move : Moving) → ArePlaced slabs → slabs.uncut ≡ None → CanFinish slabs move → HasClass (in_pool slabs move) move.dst → ArePlaced (in_class slabs move)
 ArePlaced-in_class slabs move all whole can to =
     let is = all.move move can.runs in
     let pool : SlabState = in_pool slabs move in
@@ -112,14 +112,14 @@ ArePlaced-in_class slabs move all whole can to =
     ArePlaced-given pool move.dst move.page slabs.pool (ArePlaced-released slabs move all whole can) to whole inside free pooled
 
 -- the move to a class ends
-IsInOrder-in_class : (slabs : SlabState) (granted moved : ℕ) (move : Moving) → IsInOrder slabs granted → slabs.uncut ≡ None → CanFinish slabs move → move.dst ≢ 0 → IsInOrder (record (in_class slabs move) { ledger = ledger_ended slabs move; moved = moved }) granted
+IsInOrder-in_class : (slabs : SlabState) (granted moved : ℕ) (move : Moving) → AreSlabsInOrder slabs granted → slabs.uncut ≡ None → CanFinish slabs move → move.dst ≢ 0 → AreSlabsInOrder (record (in_class slabs move) { ledger = ledger_ended slabs move; moved = moved }) granted
 IsInOrder-in_class slabs granted moved move kept whole can to =
     let all = kept.accounted in
     let is = all.move move can.runs in
     let pool : SlabState = in_pool slabs move in
     let new : SlabState = in_class slabs move in
     let within = within_from_IsMove slabs move is in
-    let class : IsClass pool move.dst = (omega arith, omega (arith, is.dst, length-with_class slabs move.src (without_page (class_at slabs move.src) move.page))) in
+    let class : HasClass pool move.dst = (omega arith, omega (arith, is.dst, length-with_class slabs move.src (without_page (class_at slabs move.src) move.page))) in
     let leaves : (if move.dst == 0 then Pool else Class move.dst) ≡ Class move.dst = ap (λ b. if b then Pool else Class move.dst) (ne_eqb move.dst 0 to) in
     let once = set-set slabs.owners move.page Pool (Class move.dst) in
     let at = IsClass-with_class pool move.dst slabs.cursor (with_page (class_at pool move.dst) move.page) (cursor-in_pool slabs move all) in
@@ -134,10 +134,10 @@ IsInOrder-in_class slabs granted moved move kept whole can to =
     IsInOrder-given pool granted move.dst move.page moved slabs.pool (ledger_ended slabs move) (IsSteady-in_pool slabs granted move kept is) class inside numbered are (omega (arith, graced-in_pool slabs granted move kept is, populated-given pool move.dst move.page class))
 
 -- the move ends
-pub IsInOrder-finished : (slabs : SlabState) (granted : ℕ) (move : Moving) → IsInOrder slabs granted → slabs.uncut ≡ None → CanFinish slabs move → IsInOrder (finished slabs move) granted
+pub IsInOrder-finished : (slabs : SlabState) (granted : ℕ) (move : Moving) → AreSlabsInOrder slabs granted → slabs.uncut ≡ None → CanFinish slabs move → AreSlabsInOrder (after_move_end slabs move) granted
 IsInOrder-finished slabs granted move kept whole can =
-    let moved = counted slabs.moved 1 in
-    let ended = λ (s : SlabState). IsInOrder (record s { ledger = ledger_ended slabs move; moved = moved }) granted in
+    let moved = counter_after slabs.moved 1 in
+    let ended = λ (s : SlabState). AreSlabsInOrder (record s { ledger = ledger_ended slabs move; moved = moved }) granted in
     let arrived_at = λ (b : Bool). if b then in_pool slabs move else in_class slabs move in
     elim (cases_eq move.dst 0) [
       | inl none ↦ subst ended (sym (ap arrived_at (eq-eqb move.dst 0 none))) (IsInOrder-in_pool slabs granted moved move kept whole can none)
@@ -145,7 +145,7 @@ IsInOrder-finished slabs granted move kept whole can =
     ]
 
 -- without the page, the class's pages still have as many chunks as its lists
-pub release_fits : (slabs : SlabState) (granted : ℕ) (move : Moving) → IsInOrder slabs granted → slabs.uncut ≡ None → CanFinish slabs move → length (class_at slabs move.src).free + length (class_at slabs move.src).order ≤ length (without_page (class_at slabs move.src) move.page).pages * (class_at slabs move.src).per_page
+pub release_fits : (slabs : SlabState) (granted : ℕ) (move : Moving) → AreSlabsInOrder slabs granted → slabs.uncut ≡ None → CanFinish slabs move → length (class_at slabs move.src).free + length (class_at slabs move.src).order ≤ length (without_page (class_at slabs move.src) move.page).pages * (class_at slabs move.src).per_page
 release_fits slabs granted move kept whole can =
     let all = kept.accounted in
     let is = all.move move can.runs in

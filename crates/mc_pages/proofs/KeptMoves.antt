@@ -12,12 +12,12 @@ use Rattle.mc_pages.specs.declared.ledger.Owner.TheVariants.{Class}
 use Rattle.mc_pages.specs.declared.ledger.Owner.TheVariants as owner
 use Rattle.mc_pages.specs.declared.ledger.Entry.TheVariants.{Began}
 use Rattle.mc_pages.specs.declared.moves.Found.{Found}
-use Rattle.mc_pages.specs.Ledger.{owner_at, fits}
-use Rattle.mc_pages.specs.SlabState.{SlabState, IsClass, class_at, class_of_owner, class_of_page, is_untouched}
+use Rattle.mc_pages.specs.Ledger.{owner_at, fits_owner}
+use Rattle.mc_pages.specs.SlabState.{SlabState, HasClass, class_at, class_of_owner, class_of_page, is_untouched}
 use Rattle.mc_pages.specs.Answer.{answer_of, cursor_after}
 use Rattle.mc_pages.specs.Moves.{first_page, with_move, after_begin, moved_on, begun_anew, after_passed, after_wrap, CanPass, CanWrap}
 use Rattle.mc_pages.specs.Accounted.{truth, is_of_class, is_moving, IsAccounted}
-use Rattle.mc_pages.specs.InOrder.{IsBeingCut, IsInOrder}
+use Rattle.mc_pages.specs.InOrder.{IsBeingCut, AreSlabsInOrder}
 use Rattle.mc_pages.proofs.Cleared.{truth-le_one}
 use Rattle.mc_pages.proofs.Owners.{within_from_is_of_class, owner_at-set_other, AreGranted-set}
 use Rattle.mc_pages.proofs.Grace.{KeepsGrace-next, ordinary_count-push}
@@ -41,7 +41,7 @@ twice_counted pages page two first last =
     omega (arith, behind, before, same, here, there)
 
 -- a page in the list of a class is its page
-is_of_class-listed : (slabs : SlabState) (class place : ℕ) → IsAccounted slabs → IsClass slabs class → place < length (class_at slabs class).pages → is_of_class class (owner_at slabs.owners (slice_index_or (class_at slabs class).pages place 0)) ≡ true
+is_of_class-listed : (slabs : SlabState) (class place : ℕ) → IsAccounted slabs → HasClass slabs class → place < length (class_at slabs class).pages → is_of_class class (owner_at slabs.owners (slice_index_or (class_at slabs class).pages place 0)) ≡ true
 is_of_class-listed slabs class place all is within =
     let pages = (class_at slabs class).pages in
     let page = slice_index_or pages place 0 in
@@ -53,11 +53,11 @@ is_of_class-listed slabs class place all is within =
     ]
 
 -- so is the first page of a class that has one
-is_of_class-first : (slabs : SlabState) (class : ℕ) → IsAccounted slabs → IsClass slabs class → 1 ≤ length (class_at slabs class).pages → is_of_class class (owner_at slabs.owners (first_page slabs class)) ≡ true
+is_of_class-first : (slabs : SlabState) (class : ℕ) → IsAccounted slabs → HasClass slabs class → 1 ≤ length (class_at slabs class).pages → is_of_class class (owner_at slabs.owners (first_page slabs class)) ≡ true
 is_of_class-first slabs class all is some = is_of_class-listed slabs class 0 all is (omega arith)
 
 -- a class of two pages has another one than its first
-another_page : (slabs : SlabState) (class : ℕ) → IsAccounted slabs → IsClass slabs class → 2 ≤ length (class_at slabs class).pages → slabs.moving ≡ None → (page : ℕ) × (page ≢ first_page slabs class) × (owner_at slabs.owners page ≡ Class class)
+another_page : (slabs : SlabState) (class : ℕ) → IsAccounted slabs → HasClass slabs class → 2 ≤ length (class_at slabs class).pages → slabs.moving ≡ None → (page : ℕ) × (page ≢ first_page slabs class) × (owner_at slabs.owners page ≡ Class class)
 another_page slabs class all is two rest =
     let pages = (class_at slabs class).pages in
     let first = first_page slabs class in
@@ -78,12 +78,12 @@ stays-begun slabs page source other moved owned apart spare class own is =
     ]
 
 -- the first page of a class is one of the pages
-pub first_page_within : (slabs : SlabState) (granted source : ℕ) → IsInOrder slabs granted → IsClass slabs source → 1 ≤ length (class_at slabs source).pages → first_page slabs source < length slabs.owners
+pub first_page_within : (slabs : SlabState) (granted source : ℕ) → AreSlabsInOrder slabs granted → HasClass slabs source → 1 ≤ length (class_at slabs source).pages → first_page slabs source < length slabs.owners
 first_page_within slabs granted source kept is some =
     within_from_is_of_class source (first_page slabs source) slabs.owners (is_of_class-first slabs source kept.accounted is some)
 
 -- the page that is being cut is not the first of two or more
-not_first : (slabs : SlabState) (chunk : ChunkId) (class : ℕ) → IsAccounted slabs → IsClass slabs class → 2 ≤ length (class_at slabs class).pages → IsBeingCut slabs chunk → class_of_page slabs (first_page slabs class) ≡ class → chunk.page ≢ first_page slabs class
+not_first : (slabs : SlabState) (chunk : ChunkId) (class : ℕ) → IsAccounted slabs → HasClass slabs class → 2 ≤ length (class_at slabs class).pages → IsBeingCut slabs chunk → class_of_page slabs (first_page slabs class) ≡ class → chunk.page ≢ first_page slabs class
 not_first slabs chunk class all is two on own = λ same.
     let page = first_page slabs class in
     let pages = (class_at slabs class).pages in
@@ -98,19 +98,19 @@ IsBeingCut-begun slabs chunk page src dst cursor owned within apart on =
     let new : SlabState = with_move slabs page src dst in
     let own : class_of_page slabs chunk.page ≡ class_of_page new chunk.page = sym (ap class_of_owner (owner_at-set_other slabs.owners page chunk.page (owner.Moving src dst) apart)) in
     record {
-      owned = subst (λ (n : ℕ). IsClass slabs n) own on.owned;
+      owned = subst (λ (n : ℕ). HasClass slabs n) own on.owned;
       still = ap is_moving (owner_at-set_other slabs.owners page chunk.page (owner.Moving src dst) apart) ∙ on.still;
       within = subst (λ (n : ℕ). chunk.index < (class_at slabs n).per_page) own on.within;
       newest = subst (λ (n : ℕ). slice_get (class_at slabs n).pages (length (class_at slabs n).pages - 1) ≡ Some chunk.page) own on.newest;
     }
 
 -- the cursor is at a class
-cursor-begun : (slabs : SlabState) (src : Option ℕ) (source : ℕ) → IsClass slabs source → IsClass slabs slabs.cursor → IsClass slabs (cursor_after slabs src source)
+cursor-begun : (slabs : SlabState) (src : Option ℕ) (source : ℕ) → HasClass slabs source → HasClass slabs slabs.cursor → HasClass slabs (cursor_after slabs src source)
 cursor-begun slabs None source is at = is
 cursor-begun slabs (Some src) source is at = at
 
 -- the first page of the source begins to move
-pub IsInOrder-after_begin : (slabs : SlabState) (granted : ℕ) (src : Option ℕ) (source dst : ℕ) → IsInOrder slabs granted → answer_of slabs src dst ≡ Ok source → IsInOrder (after_begin slabs src source dst) granted
+pub IsInOrder-after_begin : (slabs : SlabState) (granted : ℕ) (src : Option ℕ) (source dst : ℕ) → AreSlabsInOrder slabs granted → answer_of slabs src dst ≡ Ok source → AreSlabsInOrder (after_begin slabs src source dst) granted
 IsInOrder-after_begin slabs granted src source dst kept answer =
     let all = kept.accounted in
     let told = source_is slabs src source dst answer in
@@ -122,7 +122,7 @@ IsInOrder-after_begin slabs granted src source dst kept answer =
     let owned = Class-from_still source (owner_at slabs.owners page) (is_of_class-first slabs source all told.0 some) (still_at_rest slabs places told.4 page) in
     let new : SlabState = with_move slabs page source dst in
     let placed = ArePlaced-begun slabs page source dst places told.4 told.0 told.1 told.2 told.3 owned within in
-    let fit = ap (λ (o : Owner). fits (Began page source dst) o) owned ∙ eq-eqb source source refl in
+    let fit = ap (λ (o : Owner). fits_owner (Began page source dst) o) owned ∙ eq-eqb source source refl in
     let other = another_page slabs source all told.0 told.1 told.4 in
     let moved = owner.Moving source dst in
     let grace = KeepsGrace-next slabs.owners (set slabs.owners page moved) slabs.ledger (Began page source dst) all.grace (λ class. refl) (stays-begun slabs page source other.0 moved owned other.1 other.2) in
@@ -140,7 +140,7 @@ IsInOrder-after_begin slabs granted src source dst kept answer =
     }
 
 -- another move of the same page, and other counters, leave the rest in order
-IsInOrder-moved : (slabs : SlabState) (granted rescues evictions_nomem busy : ℕ) (moving : Option Moving) → IsInOrder slabs granted → IsAccounted (record slabs { moving = moving }) → IsInOrder (record slabs { moving = moving; rescues = rescues; evictions_nomem = evictions_nomem; busy = busy }) granted
+IsInOrder-moved : (slabs : SlabState) (granted rescues evictions_nomem busy : ℕ) (moving : Option Moving) → AreSlabsInOrder slabs granted → IsAccounted (record slabs { moving = moving }) → AreSlabsInOrder (record slabs { moving = moving; rescues = rescues; evictions_nomem = evictions_nomem; busy = busy }) granted
 IsInOrder-moved slabs granted rescues evictions_nomem busy moving kept all =
     record {
       accounted = IsAccounted-numbers (record slabs { moving = moving }) slabs.cursor slabs.moved rescues evictions_nomem busy slabs.automove all all.cursor all.mode;
@@ -155,7 +155,7 @@ IsInOrder-moved slabs granted rescues evictions_nomem busy moving kept all =
     }
 
 -- the chunk at the position is passed
-pub IsInOrder-after_passed : (slabs : SlabState) (granted : ℕ) (found : Found) (move : Moving) → IsInOrder slabs granted → CanPass slabs found move → IsInOrder (after_passed slabs found) granted
+pub IsInOrder-after_passed : (slabs : SlabState) (granted : ℕ) (found : Found) (move : Moving) → AreSlabsInOrder slabs granted → CanPass slabs found move → AreSlabsInOrder (after_passed slabs found) granted
 IsInOrder-after_passed slabs granted found move kept can =
     let new : SlabState = after_passed slabs found in
     let on = λ (m : Moving). moved_on m found in
@@ -164,7 +164,7 @@ IsInOrder-after_passed slabs granted found move kept can =
     IsInOrder-moved slabs granted new.rescues new.evictions_nomem new.busy new.moving kept (IsAccounted-moved slabs move (on move) new.moving kept.accounted can.runs now refl is)
 
 -- the pass begins anew
-pub IsInOrder-after_wrap : (slabs : SlabState) (granted : ℕ) (move : Moving) → IsInOrder slabs granted → CanWrap slabs move → IsInOrder (after_wrap slabs) granted
+pub IsInOrder-after_wrap : (slabs : SlabState) (granted : ℕ) (move : Moving) → AreSlabsInOrder slabs granted → CanWrap slabs move → AreSlabsInOrder (after_wrap slabs) granted
 IsInOrder-after_wrap slabs granted move kept can =
     let new : SlabState = after_wrap slabs in
     let now = ap (λ (o : Option Moving). option_map begun_anew o) can.runs in
@@ -172,7 +172,7 @@ IsInOrder-after_wrap slabs granted move kept can =
     IsInOrder-moved slabs granted new.rescues new.evictions_nomem new.busy new.moving kept (IsAccounted-moved slabs move (begun_anew move) new.moving kept.accounted can.runs now refl is)
 
 -- the entries so far aren't recorded any more
-pub IsInOrder-after_trim : (slabs : SlabState) (granted : ℕ) → IsInOrder slabs granted → IsInOrder (after_trim slabs) granted
+pub IsInOrder-after_trim : (slabs : SlabState) (granted : ℕ) → AreSlabsInOrder slabs granted → AreSlabsInOrder (after_trim slabs) granted
 IsInOrder-after_trim slabs granted kept =
     record {
       accounted = IsAccounted-trimmed slabs (length slabs.ledger) kept.accounted;
@@ -187,7 +187,7 @@ IsInOrder-after_trim slabs granted kept =
     }
 
 -- the automover's mode changes
-pub IsInOrder-automove : (slabs : SlabState) (granted mode : ℕ) → mode ≤ 2 → IsInOrder slabs granted → IsInOrder (record slabs { automove = mode }) granted
+pub IsInOrder-automove : (slabs : SlabState) (granted mode : ℕ) → mode ≤ 2 → AreSlabsInOrder slabs granted → AreSlabsInOrder (record slabs { automove = mode }) granted
 IsInOrder-automove slabs granted mode is kept =
     record {
       accounted = IsAccounted-numbers slabs slabs.cursor slabs.moved slabs.rescues slabs.evictions_nomem slabs.busy mode kept.accounted kept.accounted.cursor is;

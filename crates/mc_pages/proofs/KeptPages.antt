@@ -8,12 +8,12 @@ use Rattle.mc_pages.specs.declared.ledger.Owner.TheVariants.{Untouched, Pool, Cl
 use Rattle.mc_pages.specs.declared.ledger.Owner.TheVariants as owner
 use Rattle.mc_pages.specs.declared.ledger.Entry.{Entry}
 use Rattle.mc_pages.specs.declared.ledger.Entry.TheVariants.{Granted, Taken}
-use Rattle.mc_pages.specs.Ledger.{KeepsGrace, ordinary_count, owner_at, fits}
+use Rattle.mc_pages.specs.Ledger.{KeepsGrace, ordinary_count, owner_at, fits_owner}
 use Rattle.mc_pages.specs.ClassState.{with_page}
-use Rattle.mc_pages.specs.SlabState.{SlabState, IsClass, class_at, is_untouched}
+use Rattle.mc_pages.specs.SlabState.{SlabState, HasClass, class_at, is_untouched}
 use Rattle.mc_pages.specs.Changes.{with_given, pooled_page, has_ordinary_page, is_without_page, after_grant, after_take}
 use Rattle.mc_pages.specs.Accounted.{truth, is_of_class, is_pool, is_moving, IsAccounted}
-use Rattle.mc_pages.specs.InOrder.{IsInOrder, populated_count}
+use Rattle.mc_pages.specs.InOrder.{AreSlabsInOrder, populated_count}
 use Rattle.mc_pages.proofs.Owners.{owner_at-set_same, owner_at-set_other, within_from_owned, AreGranted-more, AreGranted-set}
 use Rattle.mc_pages.proofs.Grace.{KeepsGrace-set, KeepsGrace-first, ordinary_count-push, populated-given, populated-first}
 use Rattle.mc_pages.proofs.OneClass.{IsClass-with_class, length-with_class}
@@ -31,13 +31,13 @@ abbrev pub may_be_granted : SlabState → ℕ → Bool
 may_be_granted slabs class = has_ordinary_page slabs || is_without_page slabs class
 
 -- a class without a page owns none
-no_own_page : (slabs : SlabState) (class : ℕ) → IsAccounted slabs → IsClass slabs class → length (class_at slabs class).pages ≡ 0 → (page : ℕ) → owner_at slabs.owners page ≢ Class class
+no_own_page : (slabs : SlabState) (class : ℕ) → IsAccounted slabs → HasClass slabs class → length (class_at slabs class).pages ≡ 0 → (page : ℕ) → owner_at slabs.owners page ≢ Class class
 no_own_page slabs class all is none page owned =
     let here : truth (is_of_class class (owner_at slabs.owners page)) ≡ 1 = ap (λ (o : Owner). truth (is_of_class class o)) owned ∙ ap truth (eq-eqb class class refl) in
     omega (arith, all.pages class page is, count_by-le-length (λ (p : ℕ). p == page) (class_at slabs class).pages, here, none)
 
 -- a page that is granted within the limit is no grace, and one beyond it the first of its class
-KeepsGrace-granted : (slabs : SlabState) (given page : ℕ) → IsAccounted slabs → IsClass slabs given → page < length slabs.owners → ((class : ℕ) → owner_at slabs.owners page ≢ Class class) → may_be_granted slabs given ≡ true → KeepsGrace (set slabs.owners page (Class given)) (slabs.ledger ++ Granted page given (not (has_ordinary_page slabs)) ∷ [])
+KeepsGrace-granted : (slabs : SlabState) (given page : ℕ) → IsAccounted slabs → HasClass slabs given → page < length slabs.owners → ((class : ℕ) → owner_at slabs.owners page ≢ Class class) → may_be_granted slabs given ≡ true → KeepsGrace (set slabs.owners page (Class given)) (slabs.ledger ++ Granted page given (not (has_ordinary_page slabs)) ∷ [])
 KeepsGrace-granted slabs given page all is within free may =
     let after = λ (b : Bool). KeepsGrace (set slabs.owners page (Class given)) (slabs.ledger ++ Granted page given b ∷ []) in
     elim (cases_Bool (has_ordinary_page slabs)) [
@@ -48,7 +48,7 @@ KeepsGrace-granted slabs given page all is within free may =
     ]
 
 -- either is one more within the limit, or one more class has a page
-graced-granted : (slabs : SlabState) (granted given : ℕ) → IsInOrder slabs granted → IsClass slabs given → may_be_granted slabs given ≡ true → granted + 1 ≤ ordinary_count (slabs.ledger ++ Granted granted given (not (has_ordinary_page slabs)) ∷ []) + populated_count (with_given slabs given granted).classes
+graced-granted : (slabs : SlabState) (granted given : ℕ) → AreSlabsInOrder slabs granted → HasClass slabs given → may_be_granted slabs given ≡ true → granted + 1 ≤ ordinary_count (slabs.ledger ++ Granted granted given (not (has_ordinary_page slabs)) ∷ []) + populated_count (with_given slabs given granted).classes
 graced-granted slabs granted given kept is may =
     let more = ordinary_count-push slabs.ledger (Granted granted given (not (has_ordinary_page slabs))) in
     elim (cases_Bool (has_ordinary_page slabs)) [
@@ -59,7 +59,7 @@ graced-granted slabs granted given kept is may =
     ]
 
 -- an untouched page is given to a class
-pub IsInOrder-after_grant : (slabs : SlabState) (granted given : ℕ) → IsInOrder slabs granted → IsClass slabs given → slabs.uncut ≡ None → granted < length slabs.owners → may_be_granted slabs given ≡ true → IsInOrder (after_grant slabs given granted) (granted + 1)
+pub IsInOrder-after_grant : (slabs : SlabState) (granted given : ℕ) → AreSlabsInOrder slabs granted → HasClass slabs given → slabs.uncut ≡ None → granted < length slabs.owners → may_be_granted slabs given ≡ true → AreSlabsInOrder (after_grant slabs given granted) (granted + 1)
 IsInOrder-after_grant slabs granted given kept is whole within may =
     let untouched = kept.lowest.rest granted (le_refl granted) in
     let free : IsNoClass (owner_at slabs.owners granted) = record { of_class = λ class. ap (λ (o : Owner). is_of_class class o) untouched; still = ap is_moving untouched } in
@@ -68,7 +68,7 @@ IsInOrder-after_grant slabs granted given kept is whole within may =
     let grace = not (has_ordinary_page slabs) in
     let entry : Entry = Granted granted given grace in
     let noone = λ (class : ℕ) (owned : owner_at slabs.owners granted ≡ Class class). false≢true (ap is_untouched (sym owned ∙ untouched)) in
-    let fit = ap (λ (o : Owner). fits entry o) untouched in
+    let fit = ap (λ (o : Owner). fits_owner entry o) untouched in
     let cursor = IsClass-with_class slabs given slabs.cursor (with_page (class_at slabs given) granted) kept.accounted.cursor in
     let ordinary = λ (e : not grace ≡ true). not_not (has_ordinary_page slabs) e in
     let kept_grace = KeepsGrace-granted slabs given granted kept.accounted is within noone may in
@@ -117,7 +117,7 @@ pool-taken slabs given page all h inside owned other =
     ]
 
 -- the last page of the pool is given to a class
-pub IsInOrder-after_take : (slabs : SlabState) (granted given page : ℕ) → IsInOrder slabs granted → IsClass slabs given → slabs.uncut ≡ None → pooled_page slabs ≡ Some page → IsInOrder (after_take slabs given page) granted
+pub IsInOrder-after_take : (slabs : SlabState) (granted given page : ℕ) → AreSlabsInOrder slabs granted → HasClass slabs given → slabs.uncut ≡ None → pooled_page slabs ≡ Some page → AreSlabsInOrder (after_take slabs given page) granted
 IsInOrder-after_take slabs granted given page kept is whole h =
     let all = kept.accounted in
     let owned = owner_of_pooled slabs page all h in
@@ -129,5 +129,5 @@ IsInOrder-after_take slabs granted given page kept is whole h =
     let new : SlabState = record (with_given slabs given page) { pool = pool } in
     let entry : Entry = Taken page given in
     let grace = KeepsGrace-set slabs.owners slabs.ledger entry page (Class given) all.grace (λ class. refl) (λ class other. false≢true (ap is_pool (sym other ∙ owned))) in
-    let after = IsAccounted-entry slabs new entry (Class given) all within (ap (λ (o : Owner). fits entry o) owned) refl placed (IsClass-with_class slabs given slabs.cursor (with_page (class_at slabs given) page) all.cursor) all.mode (λ e. absurd (false≢true e)) grace (length-with_class slabs given (with_page (class_at slabs given) page)) in
+    let after = IsAccounted-entry slabs new entry (Class given) all within (ap (λ (o : Owner). fits_owner entry o) owned) refl placed (IsClass-with_class slabs given slabs.cursor (with_page (class_at slabs given) page) all.cursor) all.mode (λ e. absurd (false≢true e)) grace (length-with_class slabs given (with_page (class_at slabs given) page)) in
     IsInOrder-given slabs granted given page slabs.moved pool (slabs.ledger ++ entry ∷ []) (IsSteady_from slabs granted kept) is within after (AreGranted-set slabs.owners granted page (Class given) kept.lowest touched refl) (omega (arith, kept.graced, ordinary_count-push slabs.ledger entry, populated-given slabs given page is))

@@ -11,9 +11,9 @@ use Rattle.mc_pages.specs.declared.ledger.Owner.TheVariants.{Untouched, Pool, Cl
 use Rattle.mc_pages.specs.declared.ledger.Owner.TheVariants as owner
 use Rattle.mc_pages.specs.Ledger.{owner_at}
 use Rattle.mc_pages.specs.ClassState.{ClassState, new_class}
-use Rattle.mc_pages.specs.SlabState.{SlabState, IsClass, class_of_owner, is_untouched, page_count}
+use Rattle.mc_pages.specs.SlabState.{SlabState, HasClass, class_of_owner, is_untouched, page_count}
 use Rattle.mc_pages.specs.Accounted.{truth, is_of_class, is_pool, is_moving, IsAccounted}
-use Rattle.mc_pages.specs.Pages.{times_listed, places_of}
+use Rattle.mc_pages.specs.Pages.{times_listed, page_places}
 use Rattle.mc_pages.proofs.FirstChunks.{truth-nat_lt_more}
 use Rattle.mc_pages.proofs.GrantedPage.{length-owners}
 
@@ -57,7 +57,7 @@ listed_nowhere slabs page all none =
     ap (sum_by counted) (sym (take_all n slabs.classes (le_refl n))) ∙ (sums ∙ ap truth (le-ltb n n (le_refl n)))
 
 -- a page that has a class stands once in one page list
-listed_once : (slabs : SlabState) (page : ℕ) → IsAccounted slabs → IsClass slabs (class_of_owner (owner_at slabs.owners page)) → times_listed slabs page ≡ 1
+listed_once : (slabs : SlabState) (page : ℕ) → IsAccounted slabs → HasClass slabs (class_of_owner (owner_at slabs.owners page)) → times_listed slabs page ≡ 1
 listed_once slabs page all is =
     let counted = λ (c : ClassState). count_by (λ p. p == page) c.pages in
     let n = length slabs.classes in
@@ -80,7 +80,7 @@ on_the_move page None h = absurd (none-some page h)
 on_the_move page (Some move) h = eq-eqb move.page page (same_Some move.page page h)
 
 -- in how many places a page is, by its owner
-places_by_owner : (slabs : SlabState) (page : ℕ) (owner : Owner) → IsAccounted slabs → owner_at slabs.owners page ≡ owner → page < page_count slabs → places_of slabs page ≡ 1
+places_by_owner : (slabs : SlabState) (page : ℕ) (owner : Owner) → IsAccounted slabs → owner_at slabs.owners page ≡ owner → page < page_count slabs → page_places slabs page ≡ 1
 places_by_owner slabs page Untouched all at within =
     let rest = not_on_the_move slabs page slabs.moving all refl (ap is_moving at) in
     let listed = listed_nowhere slabs page all (λ class. ap (is_of_class class) at) in
@@ -98,7 +98,7 @@ places_by_owner slabs page Pool all at within =
 places_by_owner slabs page (Class own) all at within =
     let rest = not_on_the_move slabs page slabs.moving all refl (ap is_moving at) in
     let is = all.owned own page (ap (is_of_class own) at ∙ eq-eqb own own refl) in
-    let listed = listed_once slabs page all (subst (λ (n : ℕ). IsClass slabs n) (sym (ap class_of_owner at)) is) in
+    let listed = listed_once slabs page all (subst (λ (n : ℕ). HasClass slabs n) (sym (ap class_of_owner at)) is) in
     let stays = ap (λ b. if b then 0 else times_listed slabs page) rest in
     let pooled = all.pool page ∙ ap (λ (o : Owner). truth (is_pool o)) at in
     let left = ap₂ (λ (a b : Bool). truth (a && b)) (lt-ltb page (page_count slabs) within) (ap is_untouched at) in
@@ -111,17 +111,17 @@ places_by_owner slabs page (owner.Moving src dst) all at within =
     omega (arith, stays, pooled, ap truth moves, left)
 
 -- each page is in one place
-pub in_one_place : (slabs : SlabState) (page : ℕ) → IsAccounted slabs → page < page_count slabs → places_of slabs page ≡ 1
+pub in_one_place : (slabs : SlabState) (page : ℕ) → IsAccounted slabs → page < page_count slabs → page_places slabs page ≡ 1
 in_one_place slabs page all within = places_by_owner slabs page (owner_at slabs.owners page) all refl within
 
 -- the page on the move stands in one page list
 pub moving_once : (slabs : SlabState) (move : Moving) → IsAccounted slabs → slabs.moving ≡ Some move → times_listed slabs move.page ≡ 1
 moving_once slabs move all runs =
     let is = all.move move runs in
-    listed_once slabs move.page all (subst (λ (n : ℕ). IsClass slabs n) (sym (ap class_of_owner is.owner)) is.src)
+    listed_once slabs move.page all (subst (λ (n : ℕ). HasClass slabs n) (sym (ap class_of_owner is.owner)) is.src)
 
 -- what isn't a page is nowhere
-pub in_no_place : (slabs : SlabState) (page : ℕ) → IsAccounted slabs → page_count slabs ≤ page → places_of slabs page ≡ 0
+pub in_no_place : (slabs : SlabState) (page : ℕ) → IsAccounted slabs → page_count slabs ≤ page → page_places slabs page ≡ 0
 in_no_place slabs page all past =
     let at = get_or_past slabs.owners page Untouched (omega (arith, length-owners slabs all, past)) in
     let rest = not_on_the_move slabs page slabs.moving all refl (ap is_moving at) in

@@ -3,8 +3,8 @@ use Rattle.std.proofs.Common.{◌≡◌, ℕ, ◌+◌, ◌-◌, ◌*◌, ◌≤�
 use Rattle.mc_pages.specs.declared.ids.ChunkId.{ChunkId}
 use Rattle.mc_pages.specs.declared.ledger.Owner.{Owner}
 use Rattle.mc_pages.specs.Ledger.{owner_at}
-use Rattle.mc_pages.specs.ClassState.{ClassState, times, without, handed_out, popped, put_back, touched, replaced, evicted}
-use Rattle.mc_pages.specs.SlabState.{SlabState, IsClass, class_at}
+use Rattle.mc_pages.specs.ClassState.{ClassState, times_in, without, class_after_hand_out, class_after_pop, put_back, class_after_touch, class_after_replacement, class_after_eviction}
+use Rattle.mc_pages.specs.SlabState.{SlabState, HasClass, class_at}
 use Rattle.mc_pages.specs.Changes.{with_class}
 use Rattle.mc_pages.specs.Accounted.{truth, is_of_class, cut_count, uncut_count, is_cut, IsAccounted}
 use Rattle.mc_pages.proofs.Chunks.{times-cons, times-push, times-without, length-without}
@@ -16,26 +16,26 @@ use Rattle.mc_pages.proofs.OneClass.{length-with_class, IsClass-with_class, clas
 pub record Redistributes (old new : ClassState) : Type 0 where
   pub per_page : new.per_page ≡ old.per_page
   pub pages : new.pages ≡ old.pages
-  pub times : (chunk : ChunkId) → times chunk new.free + times chunk new.order ≡ times chunk old.free + times chunk old.order
+  pub times : (chunk : ChunkId) → times_in chunk new.free + times_in chunk new.order ≡ times_in chunk old.free + times_in chunk old.order
   pub lengths : length new.free + length new.order ≡ length old.free + length old.order
 
 -- a head of the free list is handed out
-Redistributes-handed_out : (class : ClassState) (free : List ChunkId) → class.free ≡ free → Redistributes class (handed_out class free)
+Redistributes-handed_out : (class : ClassState) (free : List ChunkId) → class.free ≡ free → Redistributes class (class_after_hand_out class free)
 Redistributes-handed_out class [] h = record { per_page = refl; pages = refl; times = λ chunk. refl; lengths = refl }
 Redistributes-handed_out class (head ∷ free) h =
     record {
       per_page = refl;
       pages = refl;
-      times = λ chunk. omega (arith, times-cons chunk head free, times-push chunk head class.order, ap (λ (cs : List ChunkId). times chunk cs) h);
+      times = λ chunk. omega (arith, times-cons chunk head free, times-push chunk head class.order, ap (λ (cs : List ChunkId). times_in chunk cs) h);
       lengths = omega (arith, length-append class.order (head ∷ []), ap length h);
     }
 
 -- the next chunk is handed out
-pub Redistributes-popped : (class : ClassState) → Redistributes class (popped class)
+pub Redistributes-popped : (class : ClassState) → Redistributes class (class_after_pop class)
 Redistributes-popped class = Redistributes-handed_out class class.free refl
 
 -- a handed-out chunk comes back
-pub Redistributes-put_back : (class : ClassState) (chunk : ChunkId) → 1 ≤ times chunk class.order → Redistributes class (put_back class chunk)
+pub Redistributes-put_back : (class : ClassState) (chunk : ChunkId) → 1 ≤ times_in chunk class.order → Redistributes class (put_back class chunk)
 Redistributes-put_back class chunk h =
     record {
       per_page = refl;
@@ -45,7 +45,7 @@ Redistributes-put_back class chunk h =
     }
 
 -- a handed-out chunk becomes the youngest
-pub Redistributes-touched : (class : ClassState) (chunk : ChunkId) → 1 ≤ times chunk class.order → Redistributes class (touched class chunk)
+pub Redistributes-touched : (class : ClassState) (chunk : ChunkId) → 1 ≤ times_in chunk class.order → Redistributes class (class_after_touch class chunk)
 Redistributes-touched class chunk h =
     record {
       per_page = refl;
@@ -55,7 +55,7 @@ Redistributes-touched class chunk h =
     }
 
 -- a free chunk takes the place of a handed-out one
-pub Redistributes-replaced : (class : ClassState) (new old : ChunkId) → 1 ≤ times new class.free → 1 ≤ times old class.order → Redistributes class (replaced class new old)
+pub Redistributes-replaced : (class : ClassState) (new old : ChunkId) → 1 ≤ times_in new class.free → 1 ≤ times_in old class.order → Redistributes class (class_after_replacement class new old)
 Redistributes-replaced class new old free handed =
     record {
       per_page = refl;
@@ -65,11 +65,11 @@ Redistributes-replaced class new old free handed =
     }
 
 -- an eviction is counted
-pub Redistributes-evicted : (class : ClassState) → Redistributes class (evicted class)
+pub Redistributes-evicted : (class : ClassState) → Redistributes class (class_after_eviction class)
 Redistributes-evicted class = record { per_page = refl; pages = refl; times = λ chunk. refl; lengths = refl }
 
 -- a class of the changed whole is one of the whole before
-pub IsClass-before : (slabs : SlabState) (class other : ℕ) (state : ClassState) → IsClass (with_class slabs class state) other → IsClass slabs other
+pub IsClass-before : (slabs : SlabState) (class other : ℕ) (state : ClassState) → HasClass (with_class slabs class state) other → HasClass slabs other
 IsClass-before slabs class other state is = (is.0, omega (arith, is.1, length-with_class slabs class state))
 
 -- as many chunks of a class are uncut where neither the owners nor its chunks a page have changed
@@ -85,20 +85,20 @@ is_cut-kept slabs new class chunk owners uncut size =
     ap₂ (λ (os : List Owner) (n : ℕ). is_of_class class (owner_at os chunk.page) && nat_lt chunk.index n) owners counts
 
 -- chunks that change their list are cleared or not as before
-ClearsAlike-redistributed : (slabs : SlabState) (class : ℕ) (state : ClassState) → IsClass slabs class → Redistributes (class_at slabs class) state → ClearsAlike slabs (with_class slabs class state)
+ClearsAlike-redistributed : (slabs : SlabState) (class : ℕ) (state : ClassState) → HasClass slabs class → Redistributes (class_at slabs class) state → ClearsAlike slabs (with_class slabs class state)
 ClearsAlike-redistributed slabs class state is change =
     let new : SlabState = with_class slabs class state in
-    let size = λ (other : ℕ) (here : IsClass slabs other). class_at-with_class_kept (λ c. c.per_page) slabs class other state is here.0 change.per_page in
+    let size = λ (other : ℕ) (here : HasClass slabs other). class_at-with_class_kept (λ c. c.per_page) slabs class other state is here.0 change.per_page in
     record {
       classes = length-with_class slabs class state;
       per_page = size;
       cleared = λ other chunk here.
-          let kept = class_at-with_class_kept (λ c. times chunk c.free + times chunk c.order) slabs class other state is here.0 (change.times chunk) in
+          let kept = class_at-with_class_kept (λ c. times_in chunk c.free + times_in chunk c.order) slabs class other state is here.0 (change.times chunk) in
           is_cleared-alike slabs new other chunk refl (is_cut-kept slabs new other chunk refl refl (size other here)) kept;
     }
 
 -- chunks that change their list stay accounted for
-pub IsAccounted-redistributed : (slabs : SlabState) (class : ℕ) (state : ClassState) → IsAccounted slabs → IsClass slabs class → Redistributes (class_at slabs class) state → IsAccounted (with_class slabs class state)
+pub IsAccounted-redistributed : (slabs : SlabState) (class : ℕ) (state : ClassState) → IsAccounted slabs → HasClass slabs class → Redistributes (class_at slabs class) state → IsAccounted (with_class slabs class state)
 IsAccounted-redistributed slabs class state all is change =
     let new : SlabState = with_class slabs class state in
     let alike = ClearsAlike-redistributed slabs class state is change in
@@ -119,7 +119,7 @@ IsAccounted-redistributed slabs class state all is change =
       grace = all.grace;
       chunks = λ other chunk here.
           let before = IsClass-before slabs class other state here in
-          let kept = class_at-with_class_kept (λ c. times chunk c.free + times chunk c.order) slabs class other state is before.0 (change.times chunk) in
+          let kept = class_at-with_class_kept (λ c. times_in chunk c.free + times_in chunk c.order) slabs class other state is before.0 (change.times chunk) in
           let cut = is_cut-kept slabs new other chunk refl refl (alike.per_page other before) in
           omega (arith, kept, ap truth cut, ap truth (alike.cleared other chunk before), all.chunks other chunk before);
       total = λ other here.

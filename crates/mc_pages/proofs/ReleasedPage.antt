@@ -10,9 +10,9 @@ use Rattle.mc_pages.specs.declared.ids.Moving.{Moving}
 use Rattle.mc_pages.specs.declared.ledger.Owner.{Owner}
 use Rattle.mc_pages.specs.declared.ledger.Owner.TheVariants.{Pool}
 use Rattle.mc_pages.specs.Ledger.{owner_at}
-use Rattle.mc_pages.specs.ClassState.{ClassState, times, without_page}
-use Rattle.mc_pages.specs.SlabState.{SlabState, IsClass, class_at}
-use Rattle.mc_pages.specs.Moves.{released, CanFinish}
+use Rattle.mc_pages.specs.ClassState.{ClassState, times_in, without_page}
+use Rattle.mc_pages.specs.SlabState.{SlabState, HasClass, class_at}
+use Rattle.mc_pages.specs.Moves.{after_page_release, CanFinish}
 use Rattle.mc_pages.specs.Accounted.{truth, is_of_class, is_pool, is_moving, cut_count, uncut_count, is_cut, places_in, is_cleared, first_chunks, cleared_count, IsMove}
 use Rattle.mc_pages.proofs.Owners.{within_from_is_of_class, owner_at-set_same, owner_at-set_other}
 use Rattle.mc_pages.proofs.OneClass.{IsClass-with_class, class_at-with_class_same, class_at-with_class_other, class_at-with_class_kept}
@@ -72,9 +72,9 @@ still-released slabs move all runs page =
     ]
 
 -- each class's pages keep their places
-pages-released : (slabs : SlabState) (move : Moving) → ArePlaced slabs → IsMove slabs move → (class other : ℕ) → IsClass slabs class → count_by (λ p. p == other) (class_at (released slabs move.page move.src) class).pages ≡ truth (is_of_class class (owner_at (set slabs.owners move.page Pool) other))
+pages-released : (slabs : SlabState) (move : Moving) → ArePlaced slabs → IsMove slabs move → (class other : ℕ) → HasClass slabs class → count_by (λ p. p == other) (class_at (after_page_release slabs move.page move.src) class).pages ≡ truth (is_of_class class (owner_at (set slabs.owners move.page Pool) other))
 pages-released slabs move all of class other here =
-    let new : SlabState = released slabs move.page move.src in
+    let new : SlabState = after_page_release slabs move.page move.src in
     let state = without_page (class_at slabs move.src) move.page in
     let within = within_from_IsMove slabs move of in
     let counted = λ (c : ClassState). count_by (λ p. p == other) c.pages in
@@ -101,7 +101,7 @@ pages-released slabs move all of class other here =
     ]
 
 -- a chunk of the page has no place
-none_placed : (slabs : SlabState) (move : Moving) → ArePlaced slabs → IsMove slabs move → slabs.uncut ≡ None → CanFinish slabs move → (class : ℕ) (chunk : ChunkId) → IsClass slabs class → chunk.page ≡ move.page → places_in slabs class chunk ≡ 0
+none_placed : (slabs : SlabState) (move : Moving) → ArePlaced slabs → IsMove slabs move → slabs.uncut ≡ None → CanFinish slabs move → (class : ℕ) (chunk : ChunkId) → HasClass slabs class → chunk.page ≡ move.page → places_in slabs class chunk ≡ 0
 none_placed slabs move all of whole can class chunk here on =
     elim (cases_Bool (is_cut slabs class chunk)) [
       | inl cut ↦
@@ -119,12 +119,12 @@ none_placed slabs move all of whole can class chunk here on =
     ]
 
 -- each class's chunks keep their places
-chunks-released : (slabs : SlabState) (move : Moving) → ArePlaced slabs → IsMove slabs move → slabs.uncut ≡ None → CanFinish slabs move → (class : ℕ) (chunk : ChunkId) → IsClass slabs class → places_in (released slabs move.page move.src) class chunk + truth (is_cleared (released slabs move.page move.src) class chunk) ≡ truth (is_cut (released slabs move.page move.src) class chunk)
+chunks-released : (slabs : SlabState) (move : Moving) → ArePlaced slabs → IsMove slabs move → slabs.uncut ≡ None → CanFinish slabs move → (class : ℕ) (chunk : ChunkId) → HasClass slabs class → places_in (after_page_release slabs move.page move.src) class chunk + truth (is_cleared (after_page_release slabs move.page move.src) class chunk) ≡ truth (is_cut (after_page_release slabs move.page move.src) class chunk)
 chunks-released slabs move all of whole can class chunk here =
-    let new : SlabState = released slabs move.page move.src in
+    let new : SlabState = after_page_release slabs move.page move.src in
     let state = without_page (class_at slabs move.src) move.page in
     let within = within_from_IsMove slabs move of in
-    let places = class_at-with_class_kept (λ c. times chunk c.free + times chunk c.order) slabs move.src class state of.src here.0 refl in
+    let places = class_at-with_class_kept (λ c. times_in chunk c.free + times_in chunk c.order) slabs move.src class state of.src here.0 refl in
     let size = class_at-with_class_kept (λ c. c.per_page) slabs move.src class state of.src here.0 refl in
     let cleared = is_cleared-still new class chunk (still-released slabs move all can.runs chunk.page) in
     elim (cases_eq chunk.page move.page) [
@@ -163,9 +163,9 @@ cleared_at_end slabs move all of can class =
     ]
 
 -- the number of chunks of each class stays: the page's are gone
-total-released : (slabs : SlabState) (move : Moving) → ArePlaced slabs → IsMove slabs move → slabs.uncut ≡ None → CanFinish slabs move → (class : ℕ) → IsClass slabs class → length (class_at (released slabs move.page move.src) class).free + length (class_at (released slabs move.page move.src) class).order + uncut_count (released slabs move.page move.src) class slabs.uncut + 0 ≡ length (class_at (released slabs move.page move.src) class).pages * (class_at (released slabs move.page move.src) class).per_page
+total-released : (slabs : SlabState) (move : Moving) → ArePlaced slabs → IsMove slabs move → slabs.uncut ≡ None → CanFinish slabs move → (class : ℕ) → HasClass slabs class → length (class_at (after_page_release slabs move.page move.src) class).free + length (class_at (after_page_release slabs move.page move.src) class).order + uncut_count (after_page_release slabs move.page move.src) class slabs.uncut + 0 ≡ length (class_at (after_page_release slabs move.page move.src) class).pages * (class_at (after_page_release slabs move.page move.src) class).per_page
 total-released slabs move all of whole can class here =
-    let new : SlabState = released slabs move.page move.src in
+    let new : SlabState = after_page_release slabs move.page move.src in
     let state = without_page (class_at slabs move.src) move.page in
     let lists = class_at-with_class_kept (λ c. length c.free + length c.order) slabs move.src class state of.src here.0 refl in
     let size = class_at-with_class_kept (λ c. c.per_page) slabs move.src class state of.src here.0 refl in
@@ -207,7 +207,7 @@ pool-released slabs move all of other =
     ]
 
 -- the page is of no class any more, and every other page is of one of the classes as before
-owned-released : (slabs : SlabState) (move : Moving) → ArePlaced slabs → IsMove slabs move → (class other : ℕ) → is_of_class class (owner_at (set slabs.owners move.page Pool) other) ≡ true → IsClass slabs class
+owned-released : (slabs : SlabState) (move : Moving) → ArePlaced slabs → IsMove slabs move → (class other : ℕ) → is_of_class class (owner_at (set slabs.owners move.page Pool) other) ≡ true → HasClass slabs class
 owned-released slabs move all of class other h =
     elim (cases_eq other move.page) [
       | inl same ↦
@@ -217,11 +217,11 @@ owned-released slabs move all of class other h =
     ]
 
 -- the page leaves its class
-pub ArePlaced-released : (slabs : SlabState) (move : Moving) → ArePlaced slabs → slabs.uncut ≡ None → CanFinish slabs move → ArePlaced (released slabs move.page move.src)
+pub ArePlaced-released : (slabs : SlabState) (move : Moving) → ArePlaced slabs → slabs.uncut ≡ None → CanFinish slabs move → ArePlaced (after_page_release slabs move.page move.src)
 ArePlaced-released slabs move all whole can =
     let of = all.move move can.runs in
     let state = without_page (class_at slabs move.src) move.page in
-    let before = λ (class : ℕ) (here : IsClass (released slabs move.page move.src) class). IsClass-before slabs move.src class state here in
+    let before = λ (class : ℕ) (here : HasClass (after_page_release slabs move.page move.src) class). IsClass-before slabs move.src class state here in
     record {
       pages = λ class other here. pages-released slabs move all of class other (before class here);
       owned = λ class other h. IsClass-with_class slabs move.src class state (owned-released slabs move all of class other h);

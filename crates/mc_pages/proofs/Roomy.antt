@@ -3,7 +3,7 @@ use Rattle.std.proofs.Common.{◌≡◌, Result, Ok, is_ok, if◌then◌else◌,
 use Rattle.mc_pages.specs.declared.slabs.Slabs.TheInside.{Inside}
 use Rattle.mc_pages.specs.SlabState.{SlabState, SlabValue}
 use Rattle.mc_pages.specs.Accounted.{IsAccounted}
-use Rattle.mc_pages.specs.InOrder.{AreKept, value_of}
+use Rattle.mc_pages.specs.InOrder.{IsStoredInOrder, callers_slabs}
 
 -- what a push that succeeds leaves
 pub if_ok : {A E : Type 0} (result : Result (Unit {0}) E) (done undone : A) (u : Unit {0}) → result ≡ Ok u → (if is_ok result then done else undone) ≡ done
@@ -14,5 +14,5 @@ pub same_state : {a b : SlabValue} → a ≡ b → a.state ≡ b.state
 same_state h = ap (λ (value : SlabValue). value.state) h
 
 -- what callers see is accounted for
-pub accounted_there : {value : SlabValue} (slabs : Inside) → value_of slabs ≡ value → AreKept slabs → IsAccounted value.state
+pub accounted_there : {value : SlabValue} (slabs : Inside) → callers_slabs slabs ≡ value → IsStoredInOrder slabs → IsAccounted value.state
 accounted_there slabs seen kept = subst (λ (s : SlabState). IsAccounted s) (same_state seen) kept.order.accounted

@@ -12,19 +12,19 @@ use Rattle.mc_pages.specs.declared.rows.ListName.{ListName}
 use Rattle.mc_pages.specs.declared.rows.ListName.TheVariants.{Free, HandedOut}
 use Rattle.mc_pages.specs.ClassState.{ClassState, new_class}
 use Rattle.mc_pages.specs.declared.rows.Mark.TheVariants.{Unlisted}
-use Rattle.mc_pages.specs.Rows.{RowsState, no_row, row_place, row_at, ends_of, length_of, fresh_rows}
+use Rattle.mc_pages.specs.Rows.{RowsState, no_row, row_place, row_of_chunk, ends_of, list_length, fresh_rows}
 use Rattle.mc_pages.specs.Linked.{IsLinked, AreLinked, sizes_of}
 use Rattle.mc_pages.specs.ClassRows.{with_lists}
 use Rattle.mc_pages.specs.Ages.{AgesState, HasAges, fresh_ages}
-use Rattle.mc_pages.specs.Room.{RoomyClass, states}
-use Rattle.mc_pages.specs.SlabState.{IsClass, class_at, fresh_slabs}
-use Rattle.mc_pages.specs.InOrder.{HasRows, roomless}
+use Rattle.mc_pages.specs.Room.{RoomyClass, class_states}
+use Rattle.mc_pages.specs.SlabState.{HasClass, class_at, fresh_slabs}
+use Rattle.mc_pages.specs.InOrder.{HasRows, classes_without_room}
 use Rattle.mc_pages.proofs.KeptAges.{HasAges-none_out}
 use Rattle.mc_pages.proofs.Linked.{chunks_are, are_linked}
 use Rattle.mc_pages.proofs.States.{length-states, state_at}
 
 -- no class has a page
-pub pages-fresh : (table : Classes) (class : ℕ) → IsClass (fresh_slabs table) class → length (class_at (fresh_slabs table) class).pages ≡ 0
+pub pages-fresh : (table : Classes) (class : ℕ) → HasClass (fresh_slabs table) class → length (class_at (fresh_slabs table) class).pages ≡ 0
 pages-fresh table class is =
     let made = λ (size : ℕ). new_class size (table.page / size) in
     ap (λ (c : ClassState). length c.pages)
@@ -42,11 +42,11 @@ ends-fresh : (most rows classes : ℕ) (list : ListName) → ends_of (fresh_rows
 ends-fresh most rows classes (Free class) = replicated classes class no_row
 ends-fresh most rows classes (HandedOut class) = replicated classes class no_row
 
-length-fresh : (most rows classes : ℕ) (list : ListName) → length_of (fresh_rows most rows classes) list ≡ 0
+length-fresh : (most rows classes : ℕ) (list : ListName) → list_length (fresh_rows most rows classes) list ≡ 0
 length-fresh most rows classes (Free class) = replicated classes class 0
 length-fresh most rows classes (HandedOut class) = replicated classes class 0
 
-mark-fresh : (most rows classes : ℕ) (chunk : ChunkId) → (row_at (fresh_rows most rows classes) chunk).mark ≡ Unlisted
+mark-fresh : (most rows classes : ℕ) (chunk : ChunkId) → (row_of_chunk (fresh_rows most rows classes) chunk).mark ≡ Unlisted
 mark-fresh most rows classes chunk =
     let read : Bool → Row = λ b. if b then slice_index_or (replicate rows no_row) (row_place most chunk) no_row else no_row in
     elim (cases_Bool (nat_lt chunk.index most)) [
@@ -79,14 +79,14 @@ HasAges-fresh rows ages most chunks classes rows_are ages_are =
     (λ class. chunks_are _ _ (linked-fresh most chunks classes) (HandedOut class))))
 
 -- classes without room are seen as they are
-pub states-fresh : (table : Classes) (most rows count : ℕ) → states (fresh_rows most rows count) (roomless (fresh_slabs table).classes) ≡ (fresh_slabs table).classes
+pub states-fresh : (table : Classes) (most rows count : ℕ) → class_states (fresh_rows most rows count) (classes_without_room (fresh_slabs table).classes) ≡ (fresh_slabs table).classes
 states-fresh table most rows count =
     let made : ℕ → ClassState = λ size. new_class size (table.page / size) in
     let bare : ClassState → RoomyClass = λ state. record { state = state; room = 0 } in
     let all = (fresh_slabs table).classes in
     let none = chunks_are _ _ (linked-fresh most rows count) in
     let d = new_class 0 0 in
-    let long = length-states (fresh_rows most rows count) (roomless all) in
+    let long = length-states (fresh_rows most rows count) (classes_without_room all) in
     let long-2 = length-map all bare in
     ext_get_or d _ all (omega (arith, long, long-2))
     (λ place below.
@@ -94,7 +94,7 @@ states-fresh table most rows count =
     let is : slice_index_or all place d ≡ made (slice_index_or table.sizes place 0) = get_or-map made table.sizes place 0 d (omega (arith, within, length-map table.sizes made)) in
     let own = λ (c : ClassState). with_lists c (fresh_rows most rows count) place in
     let state = ap (λ (c : RoomyClass). own c.state) (get_or-map_at bare all place d) in
-    state_at (fresh_rows most rows count) (roomless all) place d (omega (arith, within, long-2)) ∙ (state ∙ (ap own is
+    state_at (fresh_rows most rows count) (classes_without_room all) place d (omega (arith, within, long-2)) ∙ (state ∙ (ap own is
     ∙ (ap₂ (λ (f o : List ChunkId). record (made (slice_index_or table.sizes place 0)) { free = f; order = o }) (none (Free place)) (none (HandedOut place)) ∙ sym is))))
 
 -- larger chunks are no more on a page

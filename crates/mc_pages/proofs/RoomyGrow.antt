@@ -14,12 +14,12 @@ use Rattle.mc_pages.specs.declared.ledger.Entry.TheVariants.{Granted, Taken}
 use Rattle.mc_pages.specs.declared.slabs.Slabs.TheInside.{Inside}
 use Rattle.mc_pages.specs.ClassState.{ClassState, new_class, with_page}
 use Rattle.mc_pages.specs.ClassRows.{with_lists}
-use Rattle.mc_pages.specs.Room.{RoomyClass, in_state, states}
-use Rattle.mc_pages.specs.SlabState.{SlabState, IsClass, class_at, untouched_page}
+use Rattle.mc_pages.specs.Room.{RoomyClass, in_state, class_states}
+use Rattle.mc_pages.specs.SlabState.{SlabState, HasClass, class_at, untouched_page}
 use Rattle.mc_pages.specs.Ledger.{ordinary_count}
 use Rattle.mc_pages.specs.Changes.{pooled_page, granted_page, next_page, has_ordinary_page, is_without_page, after_grant, after_take, after_grow}
 use Rattle.mc_pages.specs.Accounted.{truth, is_pool, IsAccounted}
-use Rattle.mc_pages.specs.InOrder.{IsInOrder, AreKept, slabs_of, is_awaited}
+use Rattle.mc_pages.specs.InOrder.{AreSlabsInOrder, IsStoredInOrder, slabs_of, is_awaited}
 use Rattle.mc_pages.proofs.Grace.{populated-le, populated-lt}
 use Rattle.mc_pages.proofs.GrantedPage.{length-owners}
 use Rattle.mc_pages.proofs.KeptPages.{may_be_granted}
@@ -50,7 +50,7 @@ next_pooled slabs class page some next =
     last ∙ (sym (ap (λ (o : Option ℕ). option_or o (granted_page slabs class)) last) ∙ next)
 
 -- a class that may get a page that was never granted finds one
-pub granted_within : (slabs : SlabState) (granted class : ℕ) → IsInOrder slabs granted → IsClass slabs class → may_be_granted slabs class ≡ true → granted < length slabs.owners
+pub granted_within : (slabs : SlabState) (granted class : ℕ) → AreSlabsInOrder slabs granted → HasClass slabs class → may_be_granted slabs class ≡ true → granted < length slabs.owners
 granted_within slabs granted class kept is may =
     let many = length-owners slabs kept.accounted in
     elim (cases_Bool (has_ordinary_page slabs)) [
@@ -63,12 +63,12 @@ granted_within slabs granted class kept is may =
     ]
 
 -- the page that is granted to it
-pub granted_page-is : (slabs : SlabState) (granted class : ℕ) → IsInOrder slabs granted → IsClass slabs class → may_be_granted slabs class ≡ true → granted_page slabs class ≡ Some granted
+pub granted_page-is : (slabs : SlabState) (granted class : ℕ) → AreSlabsInOrder slabs granted → HasClass slabs class → may_be_granted slabs class ≡ true → granted_page slabs class ≡ Some granted
 granted_page-is slabs granted class kept is may =
     ap (λ b. if b then untouched_page slabs else None) may ∙ position-AreGranted slabs.owners granted kept.lowest (granted_within slabs granted class kept is may)
 
 -- where there is none for a class, the pool is empty, none is left within the limit, and the class has one
-pub next_none : (slabs : SlabState) (granted class : ℕ) → IsInOrder slabs granted → IsClass slabs class → next_page slabs class ≡ None → (slabs.pool ≡ []) × (slabs.limit / slabs.page ≤ ordinary_count slabs.ledger) × (1 ≤ length (class_at slabs class).pages)
+pub next_none : (slabs : SlabState) (granted class : ℕ) → AreSlabsInOrder slabs granted → HasClass slabs class → next_page slabs class ≡ None → (slabs.pool ≡ []) × (slabs.limit / slabs.page ≤ ordinary_count slabs.ledger) × (1 ≤ length (class_at slabs class).pages)
 next_none slabs granted class kept is none =
     elim (cases_lt 0 (length slabs.pool)) [
       | inl some ↦
@@ -96,7 +96,7 @@ next_none slabs granted class kept is none =
         ]
 
 -- the next page is the lowest untouched one where the pool is empty, and the class may get it
-pub next_granted : (slabs : SlabState) (granted class page : ℕ) → IsInOrder slabs granted → IsClass slabs class → length slabs.pool ≡ 0 → next_page slabs class ≡ Some page → (page ≡ granted) × (granted < length slabs.owners) × (may_be_granted slabs class ≡ true)
+pub next_granted : (slabs : SlabState) (granted class page : ℕ) → AreSlabsInOrder slabs granted → HasClass slabs class → length slabs.pool ≡ 0 → next_page slabs class ≡ Some page → (page ≡ granted) × (granted < length slabs.owners) × (may_be_granted slabs class ≡ true)
 next_granted slabs granted class page kept is empty next =
     let given = sym (next_untouched slabs class (pooled_none slabs empty)) ∙ next in
     elim (cases_Bool (may_be_granted slabs class)) [
@@ -114,7 +114,7 @@ pooled_within slabs page all some pooled =
     within_from_owned page slabs.owners (λ untouched. absurd (omega (arith, here, counted, all.pool page, ap (λ (o : Owner). truth (is_pool o)) untouched)))
 
 -- the next page is one of the pages
-pub next_within : (slabs : SlabState) (granted class page : ℕ) → IsInOrder slabs granted → IsClass slabs class → next_page slabs class ≡ Some page → page < length slabs.owners
+pub next_within : (slabs : SlabState) (granted class page : ℕ) → AreSlabsInOrder slabs granted → HasClass slabs class → next_page slabs class ≡ Some page → page < length slabs.owners
 next_within slabs granted class page kept is next =
     elim (cases_lt 0 (length slabs.pool)) [
       | inl some ↦ pooled_within slabs page kept.accounted some (next_pooled slabs class page some next)
@@ -141,7 +141,7 @@ given_with slabs class page classes pool entries = record slabs {
 }
 
 -- the classes, one of which has got a page
-states_given : (slabs : Inside) (class page : ℕ) (read roomy added : RoomyClass) → IsClass (slabs_of slabs) class → read ≡ slice_index_or slabs.classes.items (class - 1) read → roomy.state ≡ read.state → added ≡ in_state roomy (with_page roomy.state page) → states slabs.rows (set slabs.classes.items (class - 1) added) ≡ set (slabs_of slabs).classes (class - 1) (with_page (class_at (slabs_of slabs) class) page)
+states_given : (slabs : Inside) (class page : ℕ) (read roomy added : RoomyClass) → HasClass (slabs_of slabs) class → read ≡ slice_index_or slabs.classes.items (class - 1) read → roomy.state ≡ read.state → added ≡ in_state roomy (with_page roomy.state page) → class_states slabs.rows (set slabs.classes.items (class - 1) added) ≡ set (slabs_of slabs).classes (class - 1) (with_page (class_at (slabs_of slabs) class) page)
 states_given slabs class page read roomy added is h same changed =
     let own = λ (c : ClassState). with_lists c slabs.rows (class - 1) in
     let before : own roomy.state ≡ class_at (slabs_of slabs) class = ap own same ∙ read_state slabs class (class - 1) read is refl h in
@@ -149,13 +149,13 @@ states_given slabs class page read roomy added is h same changed =
     states-changed slabs class (class - 1) added is refl ∙ ap (λ (c : ClassState). set (slabs_of slabs).classes (class - 1) c) state
 
 -- the page came out of the pool
-pub take_is : (slabs : Inside) (class page : ℕ) (read roomy added : RoomyClass) (pool : List ℕ) (entries : Entries) (room : ℕ) → IsClass (slabs_of slabs) class → read ≡ slice_index_or slabs.classes.items (class - 1) read → roomy.state ≡ read.state → added ≡ in_state roomy (with_page roomy.state page) → pool ≡ take (length slabs.pool.items - 1) slabs.pool.items → entries ≡ told_entries slabs.ledger (Taken page class) room → given_with (slabs_of slabs) class page (states slabs.rows (set slabs.classes.items (class - 1) added)) pool entries ≡ after_take (slabs_of slabs) class page
+pub take_is : (slabs : Inside) (class page : ℕ) (read roomy added : RoomyClass) (pool : List ℕ) (entries : Entries) (room : ℕ) → HasClass (slabs_of slabs) class → read ≡ slice_index_or slabs.classes.items (class - 1) read → roomy.state ≡ read.state → added ≡ in_state roomy (with_page roomy.state page) → pool ≡ take (length slabs.pool.items - 1) slabs.pool.items → entries ≡ told_entries slabs.ledger (Taken page class) room → given_with (slabs_of slabs) class page (class_states slabs.rows (set slabs.classes.items (class - 1) added)) pool entries ≡ after_take (slabs_of slabs) class page
 take_is slabs class page read roomy added pool entries room is h same changed pool_is entries_is =
     ap (λ (cs : List ClassState). given_with (slabs_of slabs) class page cs pool entries) (states_given slabs class page read roomy added is h same changed)
     ∙ ap₂ (given_with (slabs_of slabs) class page (set (slabs_of slabs).classes (class - 1) (with_page (class_at (slabs_of slabs) class) page))) pool_is entries_is
 
 -- the page was untouched
-pub grant_is : (slabs : Inside) (class page : ℕ) (read roomy added : RoomyClass) (pool : List ℕ) (entries : Entries) (room : ℕ) → IsClass (slabs_of slabs) class → read ≡ slice_index_or slabs.classes.items (class - 1) read → roomy.state ≡ read.state → added ≡ in_state roomy (with_page roomy.state page) → pool ≡ slabs.pool.items → entries ≡ told_entries slabs.ledger (Granted page class (not (has_ordinary_page (slabs_of slabs)))) room → given_with (slabs_of slabs) class page (states slabs.rows (set slabs.classes.items (class - 1) added)) pool entries ≡ after_grant (slabs_of slabs) class page
+pub grant_is : (slabs : Inside) (class page : ℕ) (read roomy added : RoomyClass) (pool : List ℕ) (entries : Entries) (room : ℕ) → HasClass (slabs_of slabs) class → read ≡ slice_index_or slabs.classes.items (class - 1) read → roomy.state ≡ read.state → added ≡ in_state roomy (with_page roomy.state page) → pool ≡ slabs.pool.items → entries ≡ told_entries slabs.ledger (Granted page class (not (has_ordinary_page (slabs_of slabs)))) room → given_with (slabs_of slabs) class page (class_states slabs.rows (set slabs.classes.items (class - 1) added)) pool entries ≡ after_grant (slabs_of slabs) class page
 grant_is slabs class page read roomy added pool entries room is h same changed pool_is entries_is =
     ap (λ (cs : List ClassState). given_with (slabs_of slabs) class page cs pool entries) (states_given slabs class page read roomy added is h same changed)
     ∙ ap₂ (given_with (slabs_of slabs) class page (set (slabs_of slabs).classes (class - 1) (with_page (class_at (slabs_of slabs) class) page))) pool_is entries_is
@@ -171,7 +171,7 @@ truth_le true = omega arith
 truth_le false = omega arith
 
 -- more room changes no class
-pub states_roomier : (slabs : Inside) (class : ℕ) (read roomy : RoomyClass) → IsClass (slabs_of slabs) class → read ≡ slice_index_or slabs.classes.items (class - 1) read → roomy.state ≡ read.state → states slabs.rows (set slabs.classes.items (class - 1) roomy) ≡ (slabs_of slabs).classes
+pub states_roomier : (slabs : Inside) (class : ℕ) (read roomy : RoomyClass) → HasClass (slabs_of slabs) class → read ≡ slice_index_or slabs.classes.items (class - 1) read → roomy.state ≡ read.state → class_states slabs.rows (set slabs.classes.items (class - 1) roomy) ≡ (slabs_of slabs).classes
 states_roomier slabs class read roomy is h same =
     let own = λ (c : ClassState). with_lists c slabs.rows (class - 1) in
     states-changed slabs class (class - 1) roomy is refl
@@ -179,15 +179,15 @@ states_roomier slabs class read roomy is h same =
     ∙ set-get_or (slabs_of slabs).classes (class - 1) (new_class 0 0))
 
 -- there is still room in each class
-pub fits-roomier : (slabs : Inside) (class : ℕ) (read roomy : RoomyClass) → AreKept slabs → IsClass (slabs_of slabs) class → read ≡ slice_index_or slabs.classes.items (class - 1) read → roomy.state ≡ read.state → read.room ≤ roomy.room → (other : ℕ) → IsClass (slabs_of (with_roomy slabs (class - 1) roomy)) other → Fits slabs.rows (set slabs.classes.items (class - 1) roomy) (truth (is_awaited slabs.moving other)) other
+pub fits-roomier : (slabs : Inside) (class : ℕ) (read roomy : RoomyClass) → IsStoredInOrder slabs → HasClass (slabs_of slabs) class → read ≡ slice_index_or slabs.classes.items (class - 1) read → roomy.state ≡ read.state → read.room ≤ roomy.room → (other : ℕ) → HasClass (slabs_of (with_roomy slabs (class - 1) roomy)) other → Fits slabs.rows (set slabs.classes.items (class - 1) roomy) (truth (is_awaited slabs.moving other)) other
 fits-roomier slabs class read roomy kept is h same room =
     let state = ap (λ (c : ClassState). with_lists c slabs.rows (class - 1)) same ∙ read_state slabs class (class - 1) read is refl h in
     fits-changed slabs class (class - 1) roomy kept is refl (ap (λ (c : ClassState). length c.pages) state) (omega (arith, read_room slabs class (class - 1) read is refl h, room))
 
 -- with its new page the class still has room for one that is on the move to it
-pub fits-given : (slabs : Inside) (class page : ℕ) (read roomy added : RoomyClass) → AreKept slabs → IsClass (slabs_of slabs) class → read ≡ slice_index_or slabs.classes.items (class - 1) read → roomy.state ≡ read.state → added ≡ in_state roomy (with_page roomy.state page) → length (class_at (slabs_of slabs) class).pages + 1 + truth (is_awaited slabs.moving class) ≤ roomy.room → (other : ℕ) → IsClass (slabs_of (with_roomy slabs (class - 1) added)) other → Fits slabs.rows (set slabs.classes.items (class - 1) added) (truth (is_awaited slabs.moving other)) other
+pub fits-given : (slabs : Inside) (class page : ℕ) (read roomy added : RoomyClass) → IsStoredInOrder slabs → HasClass (slabs_of slabs) class → read ≡ slice_index_or slabs.classes.items (class - 1) read → roomy.state ≡ read.state → added ≡ in_state roomy (with_page roomy.state page) → length (class_at (slabs_of slabs) class).pages + 1 + truth (is_awaited slabs.moving class) ≤ roomy.room → (other : ℕ) → HasClass (slabs_of (with_roomy slabs (class - 1) added)) other → Fits slabs.rows (set slabs.classes.items (class - 1) added) (truth (is_awaited slabs.moving other)) other
 fits-given slabs class page read roomy added kept is h same changed room other here =
-    let before : IsClass (slabs_of slabs) other = (here.0, IsClass-set slabs.rows slabs.classes.items (class - 1) other added here.1) in
+    let before : HasClass (slabs_of slabs) other = (here.0, IsClass-set slabs.rows slabs.classes.items (class - 1) other added here.1) in
     let state = ap (λ (c : ClassState). with_lists c slabs.rows (class - 1)) same ∙ read_state slabs class (class - 1) read is refl h in
     let more = length-append roomy.state.pages (page ∷ []) in
     Fits-set slabs.rows slabs.classes.items class other (truth (is_awaited slabs.moving other)) added is.0 (length-classes slabs class is) here.0

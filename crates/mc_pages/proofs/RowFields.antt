@@ -10,7 +10,7 @@ use Rattle.mc_pages.specs.declared.rows.ListName.TheVariants.{Free, HandedOut}
 use Rattle.mc_pages.specs.declared.rows.Field.{Field}
 use Rattle.mc_pages.specs.declared.rows.Field.TheVariants.{Next, Previous, Head, Tail}
 use Rattle.mc_pages.specs.ClassState.{is_chunk}
-use Rattle.mc_pages.specs.Rows.{RowsState, no_row, row_place, row_at, ends_of, length_of, field_of, IsRow, IsList, IsField, with_row, with_ends, with_field, with_mark, with_length}
+use Rattle.mc_pages.specs.Rows.{RowsState, no_row, row_place, row_of_chunk, ends_of, list_length, field_of, IsRow, IsList, IsField, with_row, with_ends, with_field, with_mark, with_length}
 use Rattle.mc_pages.specs.Linked.{Sizes, sizes_of, is_list}
 use Rattle.mc_pages.proofs.Chunks.{is_chunk-same, same_from_is_chunk}
 
@@ -46,14 +46,14 @@ place-same most a b within within-2 h =
     ap₂ named page index
 
 -- the row that was written
-row_at-same : (rows : RowsState) (chunk : ChunkId) (row : Row) → IsRow rows chunk → row_at (with_row rows chunk row) chunk ≡ row
+row_at-same : (rows : RowsState) (chunk : ChunkId) (row : Row) → IsRow rows chunk → row_of_chunk (with_row rows chunk row) chunk ≡ row
 row_at-same rows chunk row is =
     let place = row_place rows.most chunk in
     ap (λ b. cond b (slice_index_or (set rows.rows place row) place no_row) no_row) (lt-ltb chunk.index rows.most is.0)
     ∙ get_or-set_same rows.rows place row no_row is.1
 
 -- and every other row
-row_at-other : (rows : RowsState) (chunk other : ChunkId) (row : Row) → IsRow rows chunk → other ≢ chunk → row_at (with_row rows chunk row) other ≡ row_at rows other
+row_at-other : (rows : RowsState) (chunk other : ChunkId) (row : Row) → IsRow rows chunk → other ≢ chunk → row_of_chunk (with_row rows chunk row) other ≡ row_of_chunk rows other
 row_at-other rows chunk other row is differs =
     let place = row_place rows.most chunk in
     let there = row_place rows.most other in
@@ -66,11 +66,11 @@ row_at-other rows chunk other row is differs =
     ]
 
 -- what a write leaves in its row is in each row as it was
-row_at-part : {T : Type 0} (part : Row → T) (rows : RowsState) (chunk other : ChunkId) (row : Row) → IsRow rows chunk → part row ≡ part (row_at rows chunk) → part (row_at (with_row rows chunk row) other) ≡ part (row_at rows other)
+row_at-part : {T : Type 0} (part : Row → T) (rows : RowsState) (chunk other : ChunkId) (row : Row) → IsRow rows chunk → part row ≡ part (row_of_chunk rows chunk) → part (row_of_chunk (with_row rows chunk row) other) ≡ part (row_of_chunk rows other)
 row_at-part part rows chunk other row is kept =
     elim (cases_chunk other chunk) [
       | inl same ↦
-          subst (λ (c : ChunkId). part (row_at (with_row rows chunk row) c) ≡ part (row_at rows c)) (sym same) (ap part (row_at-same rows chunk row is) ∙ kept)
+          subst (λ (c : ChunkId). part (row_of_chunk (with_row rows chunk row) c) ≡ part (row_of_chunk rows c)) (sym same) (ap part (row_at-same rows chunk row is) ∙ kept)
       | inr differs ↦ ap part (row_at-other rows chunk other row is differs)
     ]
 
@@ -95,7 +95,7 @@ ends-part part rows list other row is kept =
     ]
 
 -- chunks' rows and lists' rows don't share fields
-row_at-with_ends : (rows : RowsState) (list : ListName) (row : Row) (chunk : ChunkId) → row_at (with_ends rows list row) chunk ≡ row_at rows chunk
+row_at-with_ends : (rows : RowsState) (list : ListName) (row : Row) (chunk : ChunkId) → row_of_chunk (with_ends rows list row) chunk ≡ row_of_chunk rows chunk
 row_at-with_ends rows (Free class) row chunk = refl
 row_at-with_ends rows (HandedOut class) row chunk = refl
 
@@ -114,12 +114,12 @@ field-same rows (Tail list) link is = ap (λ (r : Row). r.previous) (ends-same r
 pub field-other : (rows : RowsState) (field other : Field) (link : Option ChunkId) → IsField rows field → other ≢ field → field_of (with_field rows field link) other ≡ field_of rows other
 field-other rows (Next chunk) (Next other) link is differs = ap (λ (r : Row). r.next) (row_at-other rows chunk other _ is (λ h. differs (ap (λ (c : ChunkId). Next c) h)))
 field-other rows (Next chunk) (Previous other) link is differs = row_at-part (λ r. r.previous) rows chunk other _ is refl
-field-other rows (Next chunk) (Head list) link is differs = ap (λ (r : Row). r.next) (ends_of-with_row rows chunk (record (row_at rows chunk) { next = link }) list)
-field-other rows (Next chunk) (Tail list) link is differs = ap (λ (r : Row). r.previous) (ends_of-with_row rows chunk (record (row_at rows chunk) { next = link }) list)
+field-other rows (Next chunk) (Head list) link is differs = ap (λ (r : Row). r.next) (ends_of-with_row rows chunk (record (row_of_chunk rows chunk) { next = link }) list)
+field-other rows (Next chunk) (Tail list) link is differs = ap (λ (r : Row). r.previous) (ends_of-with_row rows chunk (record (row_of_chunk rows chunk) { next = link }) list)
 field-other rows (Previous chunk) (Next other) link is differs = row_at-part (λ r. r.next) rows chunk other _ is refl
 field-other rows (Previous chunk) (Previous other) link is differs = ap (λ (r : Row). r.previous) (row_at-other rows chunk other _ is (λ h. differs (ap (λ (c : ChunkId). Previous c) h)))
-field-other rows (Previous chunk) (Head list) link is differs = ap (λ (r : Row). r.next) (ends_of-with_row rows chunk (record (row_at rows chunk) { previous = link }) list)
-field-other rows (Previous chunk) (Tail list) link is differs = ap (λ (r : Row). r.previous) (ends_of-with_row rows chunk (record (row_at rows chunk) { previous = link }) list)
+field-other rows (Previous chunk) (Head list) link is differs = ap (λ (r : Row). r.next) (ends_of-with_row rows chunk (record (row_of_chunk rows chunk) { previous = link }) list)
+field-other rows (Previous chunk) (Tail list) link is differs = ap (λ (r : Row). r.previous) (ends_of-with_row rows chunk (record (row_of_chunk rows chunk) { previous = link }) list)
 field-other rows (Head list) (Next other) link is differs = ap (λ (r : Row). r.next) (row_at-with_ends rows list _ other)
 field-other rows (Head list) (Previous other) link is differs = ap (λ (r : Row). r.previous) (row_at-with_ends rows list _ other)
 field-other rows (Head list) (Head other) link is differs = ap (λ (r : Row). r.next) (ends-other rows list other _ (λ h. differs (ap (λ (l : ListName). Head l) h)))
@@ -161,19 +161,19 @@ writes-with_length rows (Free class) count = refl
 writes-with_length rows (HandedOut class) count = refl
 
 -- lengths and fields don't touch one another
-length-with_ends : (rows : RowsState) (list : ListName) (row : Row) (other : ListName) → length_of (with_ends rows list row) other ≡ length_of rows other
+length-with_ends : (rows : RowsState) (list : ListName) (row : Row) (other : ListName) → list_length (with_ends rows list row) other ≡ list_length rows other
 length-with_ends rows (Free class) row (Free other) = refl
 length-with_ends rows (Free class) row (HandedOut other) = refl
 length-with_ends rows (HandedOut class) row (Free other) = refl
 length-with_ends rows (HandedOut class) row (HandedOut other) = refl
 
-length-with_row : (rows : RowsState) (chunk : ChunkId) (row : Row) (list : ListName) → length_of (with_row rows chunk row) list ≡ length_of rows list
+length-with_row : (rows : RowsState) (chunk : ChunkId) (row : Row) (list : ListName) → list_length (with_row rows chunk row) list ≡ list_length rows list
 length-with_row rows chunk row (Free class) = refl
 length-with_row rows chunk row (HandedOut class) = refl
 
-pub length-with_field : (rows : RowsState) (field : Field) (link : Option ChunkId) (list : ListName) → length_of (with_field rows field link) list ≡ length_of rows list
-length-with_field rows (Next chunk) link list = length-with_row rows chunk (record (row_at rows chunk) { next = link }) list
-length-with_field rows (Previous chunk) link list = length-with_row rows chunk (record (row_at rows chunk) { previous = link }) list
+pub length-with_field : (rows : RowsState) (field : Field) (link : Option ChunkId) (list : ListName) → list_length (with_field rows field link) list ≡ list_length rows list
+length-with_field rows (Next chunk) link list = length-with_row rows chunk (record (row_of_chunk rows chunk) { next = link }) list
+length-with_field rows (Previous chunk) link list = length-with_row rows chunk (record (row_of_chunk rows chunk) { previous = link }) list
 length-with_field rows (Head other) link list = length-with_ends rows other _ list
 length-with_field rows (Tail other) link list = length-with_ends rows other _ list
 
@@ -183,7 +183,7 @@ ends-with_length rows (Free class) count (HandedOut other) = refl
 ends-with_length rows (HandedOut class) count (Free other) = refl
 ends-with_length rows (HandedOut class) count (HandedOut other) = refl
 
-row_at-with_length : (rows : RowsState) (list : ListName) (count : ℕ) (chunk : ChunkId) → row_at (with_length rows list count) chunk ≡ row_at rows chunk
+row_at-with_length : (rows : RowsState) (list : ListName) (count : ℕ) (chunk : ChunkId) → row_of_chunk (with_length rows list count) chunk ≡ row_of_chunk rows chunk
 row_at-with_length rows (Free class) count chunk = refl
 row_at-with_length rows (HandedOut class) count chunk = refl
 
@@ -194,11 +194,11 @@ field-with_length rows list count (Head other) = ap (λ (r : Row). r.next) (ends
 field-with_length rows list count (Tail other) = ap (λ (r : Row). r.previous) (ends-with_length rows list count other)
 
 -- the length that was set, and every other
-pub length-same : (rows : RowsState) (list : ListName) (count : ℕ) → IsList rows list → length_of (with_length rows list count) list ≡ count
+pub length-same : (rows : RowsState) (list : ListName) (count : ℕ) → IsList rows list → list_length (with_length rows list count) list ≡ count
 length-same rows (Free class) count is = get_or-set_same rows.free_lengths class count 0 is.1
 length-same rows (HandedOut class) count is = get_or-set_same rows.handed_out_lengths class count 0 is.1
 
-pub length-other : (rows : RowsState) (list other : ListName) (count : ℕ) → other ≢ list → length_of (with_length rows list count) other ≡ length_of rows other
+pub length-other : (rows : RowsState) (list other : ListName) (count : ℕ) → other ≢ list → list_length (with_length rows list count) other ≡ list_length rows other
 length-other rows (Free class) (Free other) count differs = get_or-set_other rows.free_lengths class other count 0 (λ h. differs (ap (λ (n : ℕ). Free n) h))
 length-other rows (HandedOut class) (HandedOut other) count differs = get_or-set_other rows.handed_out_lengths class other count 0 (λ h. differs (ap (λ (n : ℕ). HandedOut n) h))
 length-other rows (Free class) (HandedOut other) count differs = refl
@@ -237,34 +237,34 @@ is_list-other a b differs =
     ]
 
 -- the mark of a chunk, where links and lengths are written
-mark-with_ends : (rows : RowsState) (list : ListName) (row : Row) (chunk : ChunkId) → (row_at (with_ends rows list row) chunk).mark ≡ (row_at rows chunk).mark
+mark-with_ends : (rows : RowsState) (list : ListName) (row : Row) (chunk : ChunkId) → (row_of_chunk (with_ends rows list row) chunk).mark ≡ (row_of_chunk rows chunk).mark
 mark-with_ends rows list row chunk = ap (λ (r : Row). r.mark) (row_at-with_ends rows list row chunk)
 
-pub mark-with_field : (rows : RowsState) (field : Field) (link : Option ChunkId) (chunk : ChunkId) → IsField rows field → (row_at (with_field rows field link) chunk).mark ≡ (row_at rows chunk).mark
+pub mark-with_field : (rows : RowsState) (field : Field) (link : Option ChunkId) (chunk : ChunkId) → IsField rows field → (row_of_chunk (with_field rows field link) chunk).mark ≡ (row_of_chunk rows chunk).mark
 mark-with_field rows (Next other) link chunk is = row_at-part (λ r. r.mark) rows other chunk _ is refl
 mark-with_field rows (Previous other) link chunk is = row_at-part (λ r. r.mark) rows other chunk _ is refl
 mark-with_field rows (Head list) link chunk is = mark-with_ends rows list _ chunk
 mark-with_field rows (Tail list) link chunk is = mark-with_ends rows list _ chunk
 
-pub mark-with_length : (rows : RowsState) (list : ListName) (count : ℕ) (chunk : ChunkId) → (row_at (with_length rows list count) chunk).mark ≡ (row_at rows chunk).mark
+pub mark-with_length : (rows : RowsState) (list : ListName) (count : ℕ) (chunk : ChunkId) → (row_of_chunk (with_length rows list count) chunk).mark ≡ (row_of_chunk rows chunk).mark
 mark-with_length rows list count chunk = ap (λ (r : Row). r.mark) (row_at-with_length rows list count chunk)
 
 -- and where it is written itself
-pub mark-same : (rows : RowsState) (chunk : ChunkId) (mark : Mark) → IsRow rows chunk → (row_at (with_mark rows chunk mark) chunk).mark ≡ mark
+pub mark-same : (rows : RowsState) (chunk : ChunkId) (mark : Mark) → IsRow rows chunk → (row_of_chunk (with_mark rows chunk mark) chunk).mark ≡ mark
 mark-same rows chunk mark is = ap (λ (r : Row). r.mark) (row_at-same rows chunk _ is)
 
-pub mark-other : (rows : RowsState) (chunk other : ChunkId) (mark : Mark) → IsRow rows chunk → other ≢ chunk → (row_at (with_mark rows chunk mark) other).mark ≡ (row_at rows other).mark
+pub mark-other : (rows : RowsState) (chunk other : ChunkId) (mark : Mark) → IsRow rows chunk → other ≢ chunk → (row_of_chunk (with_mark rows chunk mark) other).mark ≡ (row_of_chunk rows other).mark
 mark-other rows chunk other mark is differs = ap (λ (r : Row). r.mark) (row_at-other rows chunk other _ is differs)
 
 -- it changes no link, no length and no size
 pub field-with_mark : (rows : RowsState) (chunk : ChunkId) (mark : Mark) (field : Field) → IsRow rows chunk → field_of (with_mark rows chunk mark) field ≡ field_of rows field
 field-with_mark rows chunk mark (Next other) is = row_at-part (λ r. r.next) rows chunk other _ is refl
 field-with_mark rows chunk mark (Previous other) is = row_at-part (λ r. r.previous) rows chunk other _ is refl
-field-with_mark rows chunk mark (Head list) is = ap (λ (r : Row). r.next) (ends_of-with_row rows chunk (record (row_at rows chunk) { mark = mark }) list)
-field-with_mark rows chunk mark (Tail list) is = ap (λ (r : Row). r.previous) (ends_of-with_row rows chunk (record (row_at rows chunk) { mark = mark }) list)
+field-with_mark rows chunk mark (Head list) is = ap (λ (r : Row). r.next) (ends_of-with_row rows chunk (record (row_of_chunk rows chunk) { mark = mark }) list)
+field-with_mark rows chunk mark (Tail list) is = ap (λ (r : Row). r.previous) (ends_of-with_row rows chunk (record (row_of_chunk rows chunk) { mark = mark }) list)
 
-pub length-with_mark : (rows : RowsState) (chunk : ChunkId) (mark : Mark) (list : ListName) → length_of (with_mark rows chunk mark) list ≡ length_of rows list
-length-with_mark rows chunk mark list = length-with_row rows chunk (record (row_at rows chunk) { mark = mark }) list
+pub length-with_mark : (rows : RowsState) (chunk : ChunkId) (mark : Mark) (list : ListName) → list_length (with_mark rows chunk mark) list ≡ list_length rows list
+length-with_mark rows chunk mark list = length-with_row rows chunk (record (row_of_chunk rows chunk) { mark = mark }) list
 
 pub sizes-with_mark : (rows : RowsState) (chunk : ChunkId) (mark : Mark) → sizes_of (with_mark rows chunk mark) ≡ sizes_of rows
 sizes-with_mark rows chunk mark = ap (λ (n : ℕ). record (sizes_of rows) { rows = n }) (length-set rows.rows _ _)

@@ -2,9 +2,9 @@
 use Rattle.std.proofs.Common.{◌≡◌, ◌≢◌, ◌+◌, ◌≤◌, List, [], ◌∷◌, length, Option, Some, None, refl, sym, ap, ◌∙◌, inl, inr, arith, ◌⊎◌}
 use Rattle.std.proofs.lemmas.Bool.{cases_Bool}
 use Rattle.mc_pages.specs.declared.ids.ChunkId.{ChunkId}
-use Rattle.mc_pages.specs.ClassState.{is_chunk, times}
+use Rattle.mc_pages.specs.ClassState.{is_chunk, times_in}
 use Rattle.mc_pages.specs.Accounted.{truth}
-use Rattle.mc_pages.specs.Linked.{walk, IsRun}
+use Rattle.mc_pages.specs.Linked.{walk, IsChain}
 use Rattle.mc_pages.proofs.Chunks.{is_chunk-same, same_from_is_chunk, times-cons, times-tail}
 
 -- where a link leads to
@@ -23,22 +23,22 @@ pub same_Some : (a b : ChunkId) → Some a ≡ Some b → a ≡ b
 same_Some a b h = cc
 
 -- the head is in the list
-pub times-head : (chunk : ChunkId) (chunks : List ChunkId) → times chunk (chunk ∷ chunks) ≡ 1 + times chunk chunks
-times-head chunk chunks = times-cons chunk chunk chunks ∙ ap (λ b. truth b + times chunk chunks) (is_chunk-same chunk)
+pub times-head : (chunk : ChunkId) (chunks : List ChunkId) → times_in chunk (chunk ∷ chunks) ≡ 1 + times_in chunk chunks
+times-head chunk chunks = times-cons chunk chunk chunks ∙ ap (λ b. truth b + times_in chunk chunks) (is_chunk-same chunk)
 
 -- what stands behind the head is in the list
-pub times-behind : (chunk c : ChunkId) (chunks : List ChunkId) → times chunk chunks ≤ times chunk (c ∷ chunks)
+pub times-behind : (chunk c : ChunkId) (chunks : List ChunkId) → times_in chunk chunks ≤ times_in chunk (c ∷ chunks)
 times-behind chunk c chunks = omega (arith, times-cons chunk c chunks)
 
 -- a chunk that a list has is another than one that it hasn't
-pub differs : (a b : ChunkId) (chunks : List ChunkId) → 1 ≤ times a chunks → times b chunks ≡ 0 → Some a ≢ Some b
-differs a b chunks there absent h = absurd (omega (arith, there, absent, ap (λ (c : ChunkId). times c chunks) (same_Some a b h)))
+pub differs : (a b : ChunkId) (chunks : List ChunkId) → 1 ≤ times_in a chunks → times_in b chunks ≡ 0 → Some a ≢ Some b
+differs a b chunks there absent h = absurd (omega (arith, there, absent, ap (λ (c : ChunkId). times_in c chunks) (same_Some a b h)))
 
 -- a run depends on the links of its chunks alone
-pub run_frame : (n p n' p' : Links) (from : Option ChunkId) (chunks : List ChunkId) → n' from ≡ n from → p' None ≡ p None → ((c : ChunkId) → 1 ≤ times c chunks → n' (Some c) ≡ n (Some c)) → ((c : ChunkId) → 1 ≤ times c chunks → p' (Some c) ≡ p (Some c)) → IsRun n p from chunks → IsRun n' p' from chunks
+pub run_frame : (n p n' p' : Links) (from : Option ChunkId) (chunks : List ChunkId) → n' from ≡ n from → p' None ≡ p None → ((c : ChunkId) → 1 ≤ times_in c chunks → n' (Some c) ≡ n (Some c)) → ((c : ChunkId) → 1 ≤ times_in c chunks → p' (Some c) ≡ p (Some c)) → IsChain n p from chunks → IsChain n' p' from chunks
 run_frame n p n' p' from [] first last next previous run = (first ∙ run.0, last ∙ run.1)
 run_frame n p n' p' from (c ∷ cs) first last next previous run =
-    let here : 1 ≤ times c (c ∷ cs) = omega (arith, times-head c cs) in (
+    let here : 1 ≤ times_in c (c ∷ cs) = omega (arith, times-head c cs) in (
       first ∙ run.0,
       previous c here ∙ run.1,
       run_frame n p n' p' (Some c) cs (next c here) last
@@ -48,7 +48,7 @@ run_frame n p n' p' from (c ∷ cs) first last next previous run =
     )
 
 -- what stands before a chunk of a run is a chunk of it, or what it comes from
-pub before_in : (n p : Links) (from : Option ChunkId) (chunks : List ChunkId) (chunk : ChunkId) → IsRun n p from chunks → 1 ≤ times chunk chunks → (p (Some chunk) ≡ from) ⊎ ((c : ChunkId) × (p (Some chunk) ≡ Some c) × (1 ≤ times c chunks))
+pub before_in : (n p : Links) (from : Option ChunkId) (chunks : List ChunkId) (chunk : ChunkId) → IsChain n p from chunks → 1 ≤ times_in chunk chunks → (p (Some chunk) ≡ from) ⊎ ((c : ChunkId) × (p (Some chunk) ≡ Some c) × (1 ≤ times_in c chunks))
 before_in n p from [] chunk run there = absurd (omega (arith, there))
 before_in n p from (c ∷ cs) chunk run there =
     elim (cases_Bool (is_chunk c chunk)) [
@@ -61,7 +61,7 @@ before_in n p from (c ∷ cs) chunk run there =
     ]
 
 -- what stands behind a chunk of a run is a chunk of it, or nothing
-pub behind_in : (n p : Links) (from : Option ChunkId) (chunks : List ChunkId) (chunk : ChunkId) → IsRun n p from chunks → 1 ≤ times chunk chunks → (n (Some chunk) ≡ None) ⊎ ((c : ChunkId) × (n (Some chunk) ≡ Some c) × (1 ≤ times c chunks))
+pub behind_in : (n p : Links) (from : Option ChunkId) (chunks : List ChunkId) (chunk : ChunkId) → IsChain n p from chunks → 1 ≤ times_in chunk chunks → (n (Some chunk) ≡ None) ⊎ ((c : ChunkId) × (n (Some chunk) ≡ Some c) × (1 ≤ times_in c chunks))
 behind_in n p from [] chunk run there = absurd (omega (arith, there))
 behind_in n p from (c ∷ []) chunk run there =
     elim (cases_Bool (is_chunk c chunk)) [
@@ -79,7 +79,7 @@ behind_in n p from (c ∷ d ∷ cs) chunk run there =
     ]
 
 -- what stands at the end of a run is a chunk of it, or what it comes from
-pub last_in : (n p : Links) (from : Option ChunkId) (chunks : List ChunkId) → IsRun n p from chunks → (p None ≡ from) ⊎ ((c : ChunkId) × (p None ≡ Some c) × (1 ≤ times c chunks))
+pub last_in : (n p : Links) (from : Option ChunkId) (chunks : List ChunkId) → IsChain n p from chunks → (p None ≡ from) ⊎ ((c : ChunkId) × (p None ≡ Some c) × (1 ≤ times_in c chunks))
 last_in n p from [] run = inl run.1
 last_in n p from (c ∷ cs) run =
     elim (last_in n p (Some c) cs run.2) [
@@ -89,9 +89,9 @@ last_in n p from (c ∷ cs) run =
 
 -- a link that isn't to a chunk of the list
 abbrev pub IsOutside : Option ChunkId → List ChunkId → Type 0
-IsOutside link chunks = (c : ChunkId) → 1 ≤ times c chunks → Some c ≢ link
+IsOutside link chunks = (c : ChunkId) → 1 ≤ times_in c chunks → Some c ≢ link
 
 -- a run that goes along is the list
-pub walk_run : (n p : Links) (from : Option ChunkId) (chunks : List ChunkId) → IsRun n p from chunks → walk (λ c. n (Some c)) (length chunks) (n from) ≡ chunks
+pub walk_run : (n p : Links) (from : Option ChunkId) (chunks : List ChunkId) → IsChain n p from chunks → walk (λ c. n (Some c)) (length chunks) (n from) ≡ chunks
 walk_run n p from [] run = refl
 walk_run n p from (c ∷ cs) run = rw run.0 (ap (λ (xs : List ChunkId). c ∷ xs) (walk_run n p (Some c) cs run.2))

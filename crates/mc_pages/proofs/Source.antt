@@ -5,8 +5,8 @@ use Rattle.std.proofs.lemmas.Option.{same_Some}
 use Rattle.mc_pages.specs.declared.ids.Moving.{Moving}
 use Rattle.mc_pages.specs.declared.moves.Reassign.{Reassign}
 use Rattle.mc_pages.specs.declared.moves.Reassign.TheVariants.{Busy, Same, BadClass, NoSpare}
-use Rattle.mc_pages.specs.SlabState.{SlabState, IsClass, class_at}
-use Rattle.mc_pages.specs.Answer.{can_give, classes_in_turn, pick, answer_from, answer_at_rest, answer_if, answer_of}
+use Rattle.mc_pages.specs.SlabState.{SlabState, HasClass, class_at}
+use Rattle.mc_pages.specs.Answer.{can_give, classes_in_turn, picked_class, answer_from, answer_at_rest, answer_if, answer_of}
 
 -- a refusal is no class
 refused : (refusal : Reassign) (source : ℕ) → Err refusal ≡ Ok source → ⊥
@@ -27,7 +27,7 @@ found_passes test (x ∷ xs) found h =
 
 -- what the answer tells of the source that was named or picked
 pub record IsSource (slabs : SlabState) (source dst : ℕ) : Type 0 where
-  pub is : IsClass slabs source
+  pub is : HasClass slabs source
   pub spare : 2 ≤ length (class_at slabs source).pages
   pub to : dst ≤ length slabs.classes
 
@@ -56,7 +56,7 @@ IsSource_from slabs dst source (Some src) h =
 -- the source differs from the destination
 apart_at_rest : (slabs : SlabState) (source dst : ℕ) (src : Option ℕ) → answer_at_rest slabs src dst ≡ Ok source → IsSource slabs source dst × (source ≢ dst)
 apart_at_rest slabs source dst None h =
-    let from = IsSource_from slabs dst source (pick slabs dst) h in
+    let from = IsSource_from slabs dst source (picked_class slabs dst) h in
     let passes = found_passes (can_give slabs dst) (classes_in_turn slabs) source from.0 in
     (from.1, eqb-false source dst (not-true _ (and_parts _ _ passes).0))
 apart_at_rest slabs source dst (Some src) h =
@@ -74,7 +74,7 @@ rest_of_answer slabs src source dst None h = (h, refl)
 rest_of_answer slabs src source dst (Some move) h = absurd (refused Busy source h)
 
 -- the source is a class with a page to spare and isn't the destination, which is a class or the pool, and no page moves
-pub source_is : (slabs : SlabState) (src : Option ℕ) (source dst : ℕ) → answer_of slabs src dst ≡ Ok source → IsClass slabs source × (2 ≤ length (class_at slabs source).pages) × (dst ≤ length slabs.classes) × (source ≢ dst) × (slabs.moving ≡ None)
+pub source_is : (slabs : SlabState) (src : Option ℕ) (source dst : ℕ) → answer_of slabs src dst ≡ Ok source → HasClass slabs source × (2 ≤ length (class_at slabs source).pages) × (dst ≤ length slabs.classes) × (source ≢ dst) × (slabs.moving ≡ None)
 source_is slabs src source dst h =
     let rest = rest_of_answer slabs src source dst slabs.moving h in
     let apart = apart_at_rest slabs source dst src rest.0 in

@@ -9,11 +9,11 @@ use Rattle.mc_pages.specs.declared.ledger.Entry.{Entry}
 use Rattle.mc_pages.specs.declared.ledger.Owner.{Owner}
 use Rattle.mc_pages.specs.declared.ledger.Owner.TheVariants.{Class}
 use Rattle.mc_pages.specs.ClassState.{ClassState, with_page}
-use Rattle.mc_pages.specs.SlabState.{SlabState, IsClass, class_at, class_of_owner, class_of_page, class_of_chunk}
+use Rattle.mc_pages.specs.SlabState.{SlabState, HasClass, class_at, class_of_owner, class_of_page, class_of_chunk}
 use Rattle.mc_pages.specs.Changes.{with_class, with_given, next_uncut}
 use Rattle.mc_pages.specs.Accounted.{is_moving, IsAccounted}
 use Rattle.mc_pages.specs.Ledger.{ordinary_count}
-use Rattle.mc_pages.specs.InOrder.{AreGranted, IsBeingCut, IsInOrder, populated_count}
+use Rattle.mc_pages.specs.InOrder.{AreGranted, IsBeingCut, AreSlabsInOrder, populated_count}
 use Rattle.mc_pages.proofs.Grace.{populated-same}
 use Rattle.mc_pages.proofs.Owners.{owner_at-set_same}
 use Rattle.mc_pages.proofs.OneClass.{length-with_class, class_at-with_class_same, class_at-with_class_kept}
@@ -24,15 +24,15 @@ use Rattle.mc_pages.proofs.CutNext.{next_uncut-last, next_uncut-more}
 -- what no change of one class changes
 pub record IsSteady (slabs : SlabState) : Type 0 where
   pub pages : length slabs.owners ≤ most_arena_pages
-  pub per_page : (class : ℕ) → IsClass slabs class → 1 ≤ (class_at slabs class).per_page
-  pub at_most : (class : ℕ) → IsClass slabs class → (class_at slabs class).per_page ≤ most_page_chunks
+  pub per_page : (class : ℕ) → HasClass slabs class → 1 ≤ (class_at slabs class).per_page
+  pub at_most : (class : ℕ) → HasClass slabs class → (class_at slabs class).per_page ≤ most_page_chunks
 
 -- a whole in order has it
-pub IsSteady_from : (slabs : SlabState) (granted : ℕ) → IsInOrder slabs granted → IsSteady slabs
+pub IsSteady_from : (slabs : SlabState) (granted : ℕ) → AreSlabsInOrder slabs granted → IsSteady slabs
 IsSteady_from slabs granted kept = record { pages = kept.pages; per_page = kept.per_page; at_most = kept.at_most }
 
 -- so has one of which a class and owners have changed
-pub IsSteady-changed : (slabs : SlabState) (class : ℕ) (state : ClassState) (owners : List Owner) → IsSteady slabs → IsClass slabs class → state.per_page ≡ (class_at slabs class).per_page → length owners ≡ length slabs.owners → IsSteady (record (with_class slabs class state) { owners = owners })
+pub IsSteady-changed : (slabs : SlabState) (class : ℕ) (state : ClassState) (owners : List Owner) → IsSteady slabs → HasClass slabs class → state.per_page ≡ (class_at slabs class).per_page → length owners ≡ length slabs.owners → IsSteady (record (with_class slabs class state) { owners = owners })
 IsSteady-changed slabs class state owners steady is size same =
     record {
       pages = omega (arith, steady.pages, same);
@@ -47,7 +47,7 @@ IsSteady-changed slabs class state owners steady is size same =
     }
 
 -- a change in one class that leaves its pages leaves the chunk that is cut next
-pub IsBeingCut-with_class : (slabs : SlabState) (class : ℕ) (state : ClassState) (chunk : ChunkId) → IsClass slabs class → state.per_page ≡ (class_at slabs class).per_page → state.pages ≡ (class_at slabs class).pages → IsBeingCut slabs chunk → IsBeingCut (with_class slabs class state) chunk
+pub IsBeingCut-with_class : (slabs : SlabState) (class : ℕ) (state : ClassState) (chunk : ChunkId) → HasClass slabs class → state.per_page ≡ (class_at slabs class).per_page → state.pages ≡ (class_at slabs class).pages → IsBeingCut slabs chunk → IsBeingCut (with_class slabs class state) chunk
 IsBeingCut-with_class slabs class state chunk is size pages on =
     let own = class_of_page slabs chunk.page in
     let kept = class_at-with_class_kept (λ c. c.per_page) slabs class own state is on.owned.0 size in
@@ -60,7 +60,7 @@ IsBeingCut-with_class slabs class state chunk is size pages on =
     }
 
 -- a change in one class that leaves its pages keeps all in order that stays accounted for
-pub IsInOrder-with_class : (slabs : SlabState) (granted class : ℕ) (state : ClassState) → IsInOrder slabs granted → IsClass slabs class → state.per_page ≡ (class_at slabs class).per_page → state.pages ≡ (class_at slabs class).pages → IsAccounted (with_class slabs class state) → IsInOrder (with_class slabs class state) granted
+pub IsInOrder-with_class : (slabs : SlabState) (granted class : ℕ) (state : ClassState) → AreSlabsInOrder slabs granted → HasClass slabs class → state.per_page ≡ (class_at slabs class).per_page → state.pages ≡ (class_at slabs class).pages → IsAccounted (with_class slabs class state) → AreSlabsInOrder (with_class slabs class state) granted
 IsInOrder-with_class slabs granted class state kept is size pages all =
     let steady = IsSteady-changed slabs class state slabs.owners (IsSteady_from slabs granted kept) is size refl in
     record {
@@ -94,7 +94,7 @@ last_pushed pages page =
     ∙ (slice_get-get_or (pages ++ page ∷ []) (length pages) 0 (omega (arith, long)) ∙ ap (λ (p : ℕ). Some p) (get_or_push pages page 0 (length pages) refl))
 
 -- the first chunk of the page that a class was given is cut next
-IsBeingCut-given : (slabs : SlabState) (given page : ℕ) → IsClass slabs given → page < length slabs.owners → 1 ≤ (class_at slabs given).per_page → IsBeingCut (with_given slabs given page) (chunk_of page 0)
+IsBeingCut-given : (slabs : SlabState) (given page : ℕ) → HasClass slabs given → page < length slabs.owners → 1 ≤ (class_at slabs given).per_page → IsBeingCut (with_given slabs given page) (chunk_of page 0)
 IsBeingCut-given slabs given page is within some =
     let new : SlabState = with_given slabs given page in
     let state = with_page (class_at slabs given) page in
@@ -111,7 +111,7 @@ IsBeingCut-given slabs given page is within some =
     }
 
 -- a page is given to a class, and all stays accounted for and granted as it should
-pub IsInOrder-given : (slabs : SlabState) (granted given page moved : ℕ) (pool : List ℕ) (ledger : List Entry) → IsSteady slabs → IsClass slabs given → page < length slabs.owners → IsAccounted (record (with_given slabs given page) { pool = pool; ledger = ledger; moved = moved }) → AreGranted (with_given slabs given page).owners granted → granted ≤ ordinary_count ledger + populated_count (with_given slabs given page).classes → IsInOrder (record (with_given slabs given page) { pool = pool; ledger = ledger; moved = moved }) granted
+pub IsInOrder-given : (slabs : SlabState) (granted given page moved : ℕ) (pool : List ℕ) (ledger : List Entry) → IsSteady slabs → HasClass slabs given → page < length slabs.owners → IsAccounted (record (with_given slabs given page) { pool = pool; ledger = ledger; moved = moved }) → AreGranted (with_given slabs given page).owners granted → granted ≤ ordinary_count ledger + populated_count (with_given slabs given page).classes → AreSlabsInOrder (record (with_given slabs given page) { pool = pool; ledger = ledger; moved = moved }) granted
 IsInOrder-given slabs granted given page moved pool ledger steady is within all are few =
     let new : SlabState = record (with_given slabs given page) { pool = pool; ledger = ledger; moved = moved } in
     let state = with_page (class_at slabs given) page in

@@ -2,14 +2,14 @@
 use Rattle.std.proofs.Common.{◌≡◌, ◌∷◌, ◌++◌, [], ℕ, List, refl, ap₂, ◌∙◌}
 use Rattle.mc_pages.specs.declared.ledger.BasePage.{BasePage}
 use Rattle.mc_pages.specs.declared.ledger.Entry.{Entry}
-use Rattle.mc_pages.specs.Base.{Entries, left_by, left_by_one}
+use Rattle.mc_pages.specs.Base.{Entries, pages_after_entries, left_by_one}
 
 -- all entries with one more, and so much room
 abbrev pub told_entries : Entries → Entry → ℕ → Entries
 told_entries entries entry room = record entries { all = entries.all ++ entry ∷ []; room = room }
 
 -- entries of two parts leave what the last ones leave of what the first ones left
-pub left_by-parts : (pages : List BasePage) (first last : List Entry) → left_by pages (first ++ last) ≡ left_by (left_by pages first) last
+pub left_by-parts : (pages : List BasePage) (first last : List Entry) → pages_after_entries pages (first ++ last) ≡ pages_after_entries (pages_after_entries pages first) last
 left_by-parts pages [] last = refl
 left_by-parts pages (entry ∷ first) last = left_by-parts (left_by_one pages entry) first last
 

@@ -8,8 +8,8 @@ use Rattle.mc_pages.specs.declared.ledger.Owner.{Owner}
 use Rattle.mc_pages.specs.declared.ledger.Owner.TheVariants.{Untouched, Pool, Class}
 use Rattle.mc_pages.specs.declared.ledger.Owner.TheVariants as owner
 use Rattle.mc_pages.specs.Ledger.{KeepsGrace, all_untouched, ordinary_count, owner_at, replay}
-use Rattle.mc_pages.specs.ClassState.{times}
-use Rattle.mc_pages.specs.SlabState.{SlabState, IsClass, class_at, page_count}
+use Rattle.mc_pages.specs.ClassState.{times_in}
+use Rattle.mc_pages.specs.SlabState.{SlabState, HasClass, class_at, page_count}
 
 -- 1 for a fact, and else 0
 abbrev pub truth : Bool → ℕ
@@ -50,7 +50,7 @@ uncut_count slabs class (Some next) =
 
 -- how often the chunk is in the free list and in the hand-out order of the class
 abbrev pub places_in : SlabState → ℕ → ChunkId → ℕ
-places_in slabs class chunk = times chunk (class_at slabs class).free + times chunk (class_at slabs class).order
+places_in slabs class chunk = times_in chunk (class_at slabs class).free + times_in chunk (class_at slabs class).order
 
 -- the chunk was cut for the class, and has left its lists while its page moves
 abbrev pub is_cleared : SlabState → ℕ → ChunkId → Bool
@@ -72,7 +72,7 @@ left_behind slabs move = count_by (λ chunk. not (is_cleared slabs move.src chun
 -- a move from one class to another or to the pool, and how far it is
 pub record IsMove (slabs : SlabState) (move : Moving) : Type 0 where
   pub owner : owner_at slabs.owners move.page ≡ owner.Moving move.src move.dst
-  pub src : IsClass slabs move.src
+  pub src : HasClass slabs move.src
   -- the class that gives the page has another one
   pub spare : 2 ≤ length (class_at slabs move.src).pages
   pub dst : move.dst ≤ length slabs.classes
@@ -87,10 +87,10 @@ pub record IsAccounted (slabs : SlabState) : Type 0 where
   -- the owners are what the ledger's entries made of untouched pages
   pub replays : replay (all_untouched (page_count slabs)) slabs.ledger ≡ Some slabs.owners
   -- each page of a class is once in the class's page list, and no other page is in the list
-  pub pages : (class page : ℕ) → IsClass slabs class →
+  pub pages : (class page : ℕ) → HasClass slabs class →
       count_by (λ p. p == page) (class_at slabs class).pages ≡ truth (is_of_class class (owner_at slabs.owners page))
   -- a page that is of a class is of one of the classes
-  pub owned : (class page : ℕ) → IsTrue (is_of_class class (owner_at slabs.owners page)) → IsClass slabs class
+  pub owned : (class page : ℕ) → IsTrue (is_of_class class (owner_at slabs.owners page)) → HasClass slabs class
   -- each page of the pool is once in the pool's list, and no other page is in the list
   pub pool : (page : ℕ) → count_by (λ p. p == page) slabs.pool ≡ truth (is_pool (owner_at slabs.owners page))
   -- no page is moving but that of the move that runs
@@ -101,14 +101,14 @@ pub record IsAccounted (slabs : SlabState) : Type 0 where
   -- beyond the limit each class got one page at most, and has one to stay from then on
   pub grace : KeepsGrace slabs.owners slabs.ledger
   -- each cut chunk is in one place: once in the free list or in the hand-out order, or cleared; and no other chunk is
-  pub chunks : (class : ℕ) (chunk : ChunkId) → IsClass slabs class →
+  pub chunks : (class : ℕ) (chunk : ChunkId) → HasClass slabs class →
       places_in slabs class chunk + truth (is_cleared slabs class chunk) ≡ truth (is_cut slabs class chunk)
   -- free, handed-out, uncut and cleared chunks are all that the class's pages have
-  pub total : (class : ℕ) → IsClass slabs class →
+  pub total : (class : ℕ) → HasClass slabs class →
       length (class_at slabs class).free + length (class_at slabs class).order
       + uncut_count slabs class slabs.uncut + cleared_count slabs class slabs.moving
       ≡ length (class_at slabs class).pages * (class_at slabs class).per_page
   -- the pick of a source goes on behind one of the classes
-  pub cursor : IsClass slabs slabs.cursor
+  pub cursor : HasClass slabs slabs.cursor
   -- the automover is off, or acts on each window, or on each eviction
   pub mode : slabs.automove ≤ 2

@@ -15,8 +15,8 @@ abbrev pub can_give : SlabState → ℕ → ℕ → Bool
 can_give slabs dst class = not (class == dst) && nat_lt 1 (length (class_at slabs class).pages)
 
 -- the class that is picked where no source is named
-abbrev pub pick : SlabState → ℕ → Option ℕ
-pick slabs dst = find (can_give slabs dst) (classes_in_turn slabs)
+abbrev pub picked_class : SlabState → ℕ → Option ℕ
+picked_class slabs dst = find (can_give slabs dst) (classes_in_turn slabs)
 
 -- source and destination are one
 abbrev pub is_same : Option ℕ → ℕ → Bool
@@ -24,9 +24,9 @@ is_same None dst = false
 is_same (Some src) dst = src == dst
 
 -- the source that is named, or else the one that the search picks
-abbrev pub source_of : SlabState → Option ℕ → ℕ → Option ℕ
-source_of slabs None dst = pick slabs dst
-source_of slabs (Some src) dst = Some src
+abbrev pub chosen_source : SlabState → Option ℕ → ℕ → Option ℕ
+chosen_source slabs None dst = picked_class slabs dst
+chosen_source slabs (Some src) dst = Some src
 
 -- the answer to a move from this source, if there is one: the source, or why no page may move
 abbrev pub answer_from : SlabState → ℕ → Option ℕ → Result ℕ Reassign
@@ -38,7 +38,7 @@ answer_from slabs dst (Some src) =
 
 -- the answer where no page moves yet
 abbrev pub answer_at_rest : SlabState → Option ℕ → ℕ → Result ℕ Reassign
-answer_at_rest slabs src dst = if is_same src dst then Err Same else answer_from slabs dst (source_of slabs src dst)
+answer_at_rest slabs src dst = if is_same src dst then Err Same else answer_from slabs dst (chosen_source slabs src dst)
 
 -- whether a page may begin to move, and from which class: while another moves the answer is `Busy`
 abbrev pub answer_if : SlabState → Option ℕ → ℕ → Option Moving → Result ℕ Reassign

@@ -20,8 +20,8 @@ pub record Entries : Type 0 where
   pub room : ℕ
 
 -- the entries that are recorded
-abbrev pub recorded : List Entry → ℕ → List Entry
-recorded all trimmed = drop trimmed all
+abbrev pub recorded_entries : List Entry → ℕ → List Entry
+recorded_entries all trimmed = drop trimmed all
 
 -- a page that was never granted
 abbrev pub never_granted : BasePage
@@ -41,17 +41,17 @@ abbrev pub left_by_one : List BasePage → Entry → List BasePage
 left_by_one pages entry = slice_set pages (page_of entry) (page_after entry (slice_index_or pages (page_of entry) never_granted))
 
 -- the pages after these entries
-abbrev pub left_by : List BasePage → List Entry → List BasePage
-left_by pages [] = pages
-left_by pages (entry ∷ entries) = left_by (left_by_one pages entry) entries
+abbrev pub pages_after_entries : List BasePage → List Entry → List BasePage
+pages_after_entries pages [] = pages
+pages_after_entries pages (entry ∷ entries) = pages_after_entries (left_by_one pages entry) entries
 
 -- the pages as the entries that aren't recorded left them
-abbrev pub base_of : SlabState → List BasePage
-base_of slabs = left_by (replicate (page_count slabs) never_granted) (take slabs.trimmed slabs.ledger)
+abbrev pub base_pages : SlabState → List BasePage
+base_pages slabs = pages_after_entries (replicate (page_count slabs) never_granted) (take slabs.trimmed slabs.ledger)
 
 -- the entries that are recorded
-abbrev pub tail_of : SlabState → List Entry
-tail_of slabs = recorded slabs.ledger slabs.trimmed
+abbrev pub ledger_tail : SlabState → List Entry
+ledger_tail slabs = recorded_entries slabs.ledger slabs.trimmed
 
 -- who owns each of the pages
 abbrev pub owners_in : List BasePage → List Owner

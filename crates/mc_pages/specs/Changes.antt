@@ -5,7 +5,7 @@ use Rattle.mc_pages.specs.declared.ids.ChunkId.{ChunkId}
 use Rattle.mc_pages.specs.declared.ledger.Owner.TheVariants.{Class}
 use Rattle.mc_pages.specs.declared.ledger.Entry.TheVariants.{Granted, Taken}
 use Rattle.mc_pages.specs.Ledger.{ordinary_count}
-use Rattle.mc_pages.specs.ClassState.{ClassState, popped, put_back, touched, replaced, cleared, evicted, with_cut, with_page}
+use Rattle.mc_pages.specs.ClassState.{ClassState, class_after_pop, put_back, class_after_touch, class_after_replacement, class_after_clear, class_after_eviction, with_cut, with_page}
 use Rattle.mc_pages.specs.SlabState.{SlabState, class_at, class_of_page, class_of_chunk, untouched_page}
 
 -- one class is now this
@@ -14,7 +14,7 @@ with_class slabs class state = record slabs { classes = slice_set slabs.classes 
 
 -- the next free chunk of the class is handed out
 abbrev pub after_pop : SlabState → ℕ → SlabState
-after_pop slabs class = with_class slabs class (popped (class_at slabs class))
+after_pop slabs class = with_class slabs class (class_after_pop (class_at slabs class))
 
 -- a handed-out chunk goes back to its class
 abbrev pub after_back : SlabState → ChunkId → SlabState
@@ -22,19 +22,19 @@ after_back slabs chunk = with_class slabs (class_of_page slabs chunk.page) (put_
 
 -- a handed-out chunk becomes the youngest of its class
 abbrev pub after_touch : SlabState → ChunkId → SlabState
-after_touch slabs chunk = with_class slabs (class_of_page slabs chunk.page) (touched (class_of_chunk slabs chunk) chunk)
+after_touch slabs chunk = with_class slabs (class_of_page slabs chunk.page) (class_after_touch (class_of_chunk slabs chunk) chunk)
 
 -- a free chunk takes the place of a handed-out one of its class
 abbrev pub after_replace : SlabState → ChunkId → ChunkId → SlabState
-after_replace slabs new old = with_class slabs (class_of_page slabs old.page) (replaced (class_of_chunk slabs old) new old)
+after_replace slabs new old = with_class slabs (class_of_page slabs old.page) (class_after_replacement (class_of_chunk slabs old) new old)
 
 -- a chunk of the moving page leaves the lists of its class
 abbrev pub after_clear : SlabState → ChunkId → SlabState
-after_clear slabs chunk = with_class slabs (class_of_page slabs chunk.page) (cleared (class_of_chunk slabs chunk) chunk)
+after_clear slabs chunk = with_class slabs (class_of_page slabs chunk.page) (class_after_clear (class_of_chunk slabs chunk) chunk)
 
 -- one more item of the class was evicted
 abbrev pub after_evicted : SlabState → ℕ → SlabState
-after_evicted slabs class = with_class slabs class (evicted (class_at slabs class))
+after_evicted slabs class = with_class slabs class (class_after_eviction (class_at slabs class))
 
 -- a page without an owner joins the class, none of its chunks cut yet
 abbrev pub with_given : SlabState → ℕ → ℕ → SlabState

@@ -21,12 +21,12 @@ page_of (Began page src dst) = page
 page_of (Ended page dst) = page
 
 -- an entry fits the owner that it finds
-abbrev pub fits : Entry → Owner → Bool
-fits (Granted page class grace) Untouched = true
-fits (Taken page class) Pool = true
-fits (Began page src dst) (Class class) = class == src
-fits (Ended page dst) (Moving src to) = to == dst
-fits entry owner = false
+abbrev pub fits_owner : Entry → Owner → Bool
+fits_owner (Granted page class grace) Untouched = true
+fits_owner (Taken page class) Pool = true
+fits_owner (Began page src dst) (Class class) = class == src
+fits_owner (Ended page dst) (Moving src to) = to == dst
+fits_owner entry owner = false
 
 -- the owner that an entry leaves
 abbrev pub owner_after : Entry → Owner
@@ -39,7 +39,7 @@ owner_after (Ended page dst) = if dst == 0 then Pool else Class dst
 abbrev pub replay : List Owner → List Entry → Option (List Owner)
 replay owners [] = Some owners
 replay owners (entry ∷ ledger) =
-    if nat_lt (page_of entry) (length owners) && fits entry (owner_at owners (page_of entry))
+    if nat_lt (page_of entry) (length owners) && fits_owner entry (owner_at owners (page_of entry))
     then replay (slice_set owners (page_of entry) (owner_after entry)) ledger
     else None
 

@@ -8,8 +8,8 @@ use Rattle.mc_pages.specs.declared.rows.Mark.TheVariants.{Unlisted}
 use Rattle.mc_pages.specs.declared.rows.Mark.TheVariants as marks
 use Rattle.mc_pages.specs.declared.rows.Field.{Field}
 use Rattle.mc_pages.specs.declared.rows.Field.TheVariants.{Next, Previous, Head, Tail}
-use Rattle.mc_pages.specs.ClassState.{times}
-use Rattle.mc_pages.specs.Rows.{RowsState, IsRow, row_at, field_of, length_of, with_field, with_mark, lengthened, shortened}
+use Rattle.mc_pages.specs.ClassState.{times_in}
+use Rattle.mc_pages.specs.Rows.{RowsState, IsRow, row_of_chunk, field_of, list_length, with_field, with_mark, longer_list, shorter_list}
 
 -- the chunks from this one on, at most n
 abbrev pub walk : (ChunkId → Option ChunkId) → ℕ → Option ChunkId → List ChunkId
@@ -18,8 +18,8 @@ walk next (suc count) None = []
 walk next (suc count) (Some chunk) = chunk ∷ walk next count (next chunk)
 
 -- the chunks of a list, from its head on
-abbrev pub chunks_of : RowsState → ListName → List ChunkId
-chunks_of rows list = walk (λ chunk. field_of rows (Next chunk)) (length_of rows list) (field_of rows (Head list))
+abbrev pub list_chunks : RowsState → ListName → List ChunkId
+list_chunks rows list = walk (λ chunk. field_of rows (Next chunk)) (list_length rows list) (field_of rows (Head list))
 
 -- the field that leads from a chunk to the next one of its list; for no chunk it is the head of the list
 abbrev pub forth : ListName → Option ChunkId → Field
@@ -32,33 +32,33 @@ back list None = Tail list
 back list (Some chunk) = Previous chunk
 
 -- the list runs from here: each chunk leads to the next one, and each leads back
-abbrev pub IsRun : (Option ChunkId → Option ChunkId) → (Option ChunkId → Option ChunkId) → Option ChunkId → List ChunkId → Type 0
-IsRun next previous from [] = (next from ≡ None) × (previous None ≡ from)
-IsRun next previous from (chunk ∷ chunks) = (next from ≡ Some chunk) × (previous (Some chunk) ≡ from) × IsRun next previous (Some chunk) chunks
+abbrev pub IsChain : (Option ChunkId → Option ChunkId) → (Option ChunkId → Option ChunkId) → Option ChunkId → List ChunkId → Type 0
+IsChain next previous from [] = (next from ≡ None) × (previous None ≡ from)
+IsChain next previous from (chunk ∷ chunks) = (next from ≡ Some chunk) × (previous (Some chunk) ≡ from) × IsChain next previous (Some chunk) chunks
 
 -- how the chunks of the list are marked
-abbrev pub mark_of : ListName → Mark
-mark_of (Free class) = marks.Free
-mark_of (HandedOut class) = marks.HandedOut
+abbrev pub list_mark : ListName → Mark
+list_mark (Free class) = marks.Free
+list_mark (HandedOut class) = marks.HandedOut
 
 -- the rows are these lists: each runs from its head to its tail, and a chunk is in one of them at most, and once
 pub record IsLinked (rows : RowsState) (lists : ListName → List ChunkId) (loose : Option ChunkId) : Type 0 where
-  pub runs : (list : ListName) → IsRun (λ link. field_of rows (forth list link)) (λ link. field_of rows (back list link)) None (lists list)
-  pub long : (list : ListName) → length_of rows list ≡ length (lists list)
-  pub once : (list : ListName) (chunk : ChunkId) → times chunk (lists list) ≤ 1
-  pub apart : (list other : ListName) (chunk : ChunkId) → other ≢ list → 1 ≤ times chunk (lists list) → times chunk (lists other) ≡ 0
-  pub sides : (list : ListName) (chunk : ChunkId) → 1 ≤ times chunk (lists list) → (row_at rows chunk).mark ≡ mark_of list
+  pub runs : (list : ListName) → IsChain (λ link. field_of rows (forth list link)) (λ link. field_of rows (back list link)) None (lists list)
+  pub long : (list : ListName) → list_length rows list ≡ length (lists list)
+  pub once : (list : ListName) (chunk : ChunkId) → times_in chunk (lists list) ≤ 1
+  pub apart : (list other : ListName) (chunk : ChunkId) → other ≢ list → 1 ≤ times_in chunk (lists list) → times_in chunk (lists other) ≡ 0
+  pub sides : (list : ListName) (chunk : ChunkId) → 1 ≤ times_in chunk (lists list) → (row_of_chunk rows chunk).mark ≡ list_mark list
   -- a chunk that is marked as one of a list is in one, but for the loose chunk, which is on its way to another list
-  pub listed : (chunk : ChunkId) → loose ≢ Some chunk → (row_at rows chunk).mark ≢ Unlisted → (list : ListName) × (1 ≤ times chunk (lists list))
-  pub placed : (list : ListName) (chunk : ChunkId) → 1 ≤ times chunk (lists list) → IsRow rows chunk
+  pub listed : (chunk : ChunkId) → loose ≢ Some chunk → (row_of_chunk rows chunk).mark ≢ Unlisted → (list : ListName) × (1 ≤ times_in chunk (lists list))
+  pub placed : (list : ListName) (chunk : ChunkId) → 1 ≤ times_in chunk (lists list) → IsRow rows chunk
 
 -- the rows are lists
 abbrev pub AreLinked : RowsState → Type 0
-AreLinked rows = IsLinked rows (chunks_of rows) None
+AreLinked rows = IsLinked rows (list_chunks rows) None
 
 -- the rows are lists, but for the mark of this chunk
 abbrev pub AreLinkedBut : RowsState → ChunkId → Type 0
-AreLinkedBut rows chunk = IsLinked rows (chunks_of rows) (Some chunk)
+AreLinkedBut rows chunk = IsLinked rows (list_chunks rows) (Some chunk)
 
 -- two names of one list
 abbrev pub is_list : ListName → ListName → Bool
@@ -91,17 +91,17 @@ sizes_of rows = record {
 }
 
 -- two chunks become neighbours; None is the list's end
-abbrev pub joined : RowsState → ListName → Option ChunkId → Option ChunkId → RowsState
-joined rows list before behind = with_field (with_field rows (forth list before) behind) (back list behind) before
+abbrev pub with_neighbours : RowsState → ListName → Option ChunkId → Option ChunkId → RowsState
+with_neighbours rows list before behind = with_field (with_field rows (forth list before) behind) (back list behind) before
 
 -- a chunk comes between two neighbours
-abbrev pub linked : RowsState → ListName → Option ChunkId → ChunkId → Option ChunkId → RowsState
-linked rows list before chunk behind = lengthened (with_mark (joined (joined rows list before (Some chunk)) list (Some chunk) behind) chunk (mark_of list)) list
+abbrev pub with_chunk_between : RowsState → ListName → Option ChunkId → ChunkId → Option ChunkId → RowsState
+with_chunk_between rows list before chunk behind = longer_list (with_mark (with_neighbours (with_neighbours rows list before (Some chunk)) list (Some chunk) behind) chunk (list_mark list)) list
 
 -- a chunk leaves the list
-abbrev pub unlinked : RowsState → ListName → ChunkId → RowsState
-unlinked rows list chunk = shortened (joined rows list (field_of rows (Previous chunk)) (field_of rows (Next chunk))) list
+abbrev pub list_without_chunk : RowsState → ListName → ChunkId → RowsState
+list_without_chunk rows list chunk = shorter_list (with_neighbours rows list (field_of rows (Previous chunk)) (field_of rows (Next chunk))) list
 
 -- a chunk is in no list
 abbrev pub IsUnlisted : RowsState → ChunkId → Type 0
-IsUnlisted rows chunk = (list : ListName) → times chunk (chunks_of rows list) ≡ 0
+IsUnlisted rows chunk = (list : ListName) → times_in chunk (list_chunks rows list) ≡ 0

@@ -8,7 +8,7 @@ use Rattle.mc_pages.specs.declared.ledger.Owner.TheVariants as owner
 use Rattle.mc_pages.specs.declared.ledger.Entry.TheVariants.{Began, Ended}
 use Rattle.mc_pages.specs.declared.moves.Found.{Found}
 use Rattle.mc_pages.specs.declared.moves.Found.TheVariants.{Rescued, Evicted, Busy, Locked}
-use Rattle.mc_pages.specs.ClassState.{counted, without_page}
+use Rattle.mc_pages.specs.ClassState.{counter_after, without_page}
 use Rattle.mc_pages.specs.SlabState.{SlabState, class_at}
 use Rattle.mc_pages.specs.Changes.{with_class, with_given}
 use Rattle.mc_pages.specs.Answer.{cursor_after}
@@ -31,27 +31,27 @@ abbrev pub after_begin : SlabState → Option ℕ → ℕ → ℕ → SlabState
 after_begin slabs src source dst = record (with_move slabs (first_page slabs source) source dst) { cursor = cursor_after slabs src source }
 
 -- the page leaves its class and goes uncut into the pool
-abbrev pub released : SlabState → ℕ → ℕ → SlabState
-released slabs page src = record (with_class slabs src (without_page (class_at slabs src) page)) {
+abbrev pub after_page_release : SlabState → ℕ → ℕ → SlabState
+after_page_release slabs page src = record (with_class slabs src (without_page (class_at slabs src) page)) {
   owners = slice_set slabs.owners page Pool;
   pool = slabs.pool ++ page ∷ [];
   moving = None;
 }
 
 -- the moving page has come to its destination: it goes uncut into the pool, or joins a class and is to be cut
-abbrev pub arrived : SlabState → Moving → SlabState
-arrived slabs move =
-    if move.dst == 0 then released slabs move.page move.src
-    else record (with_given (released slabs move.page move.src) move.dst move.page) { pool = slabs.pool }
+abbrev pub after_page_arrival : SlabState → Moving → SlabState
+after_page_arrival slabs move =
+    if move.dst == 0 then after_page_release slabs move.page move.src
+    else record (with_given (after_page_release slabs move.page move.src) move.dst move.page) { pool = slabs.pool }
 
 -- the move ends
-abbrev pub finished : SlabState → Moving → SlabState
-finished slabs move = record (arrived slabs move) { ledger = slabs.ledger ++ Ended move.page move.dst ∷ []; moved = counted slabs.moved 1 }
+abbrev pub after_move_end : SlabState → Moving → SlabState
+after_move_end slabs move = record (after_page_arrival slabs move) { ledger = slabs.ledger ++ Ended move.page move.dst ∷ []; moved = counter_after slabs.moved 1 }
 
 -- the move that runs ends
 abbrev pub after_finish : SlabState → Option Moving → SlabState
 after_finish slabs None = slabs
-after_finish slabs (Some move) = finished slabs move
+after_finish slabs (Some move) = after_move_end slabs move
 
 -- what was found holds up the move
 abbrev pub is_held_up : Found → Bool
@@ -77,8 +77,8 @@ moved_on move found = record move { at = move.at + 1; busy = move.busy + (if is_
 abbrev pub after_passed : SlabState → Found → SlabState
 after_passed slabs found = record slabs {
   moving = option_map (λ move. moved_on move found) slabs.moving;
-  rescues = counted slabs.rescues (rescued_of found);
-  evictions_nomem = counted slabs.evictions_nomem (evicted_of found);
+  rescues = counter_after slabs.rescues (rescued_of found);
+  evictions_nomem = counter_after slabs.evictions_nomem (evicted_of found);
 }
 
 -- the pass begins anew, as busy chunks were left
@@ -92,7 +92,7 @@ busy_of (Some move) = move.busy
 
 -- the pass begins anew, and what held it up is counted
 abbrev pub after_wrap : SlabState → SlabState
-after_wrap slabs = record slabs { moving = option_map begun_anew slabs.moving; busy = counted slabs.busy (busy_of slabs.moving) }
+after_wrap slabs = record slabs { moving = option_map begun_anew slabs.moving; busy = counter_after slabs.busy (busy_of slabs.moving) }
 
 -- the chunk at the position of a move that runs
 abbrev pub chunk_at_position : Moving → ChunkId

@@ -26,5 +26,5 @@ abbrev pub is_left : SlabState → ℕ → Bool
 is_left slabs page = nat_lt page (page_count slabs) && is_untouched (owner_at slabs.owners page)
 
 -- in how many places the page is
-abbrev pub places_of : SlabState → ℕ → ℕ
-places_of slabs page = times_with_a_class slabs page + times_pooled slabs page + truth (is_on_the_move slabs page) + truth (is_left slabs page)
+abbrev pub page_places : SlabState → ℕ → ℕ
+page_places slabs page = times_with_a_class slabs page + times_pooled slabs page + truth (is_on_the_move slabs page) + truth (is_left slabs page)

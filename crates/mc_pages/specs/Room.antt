@@ -16,8 +16,8 @@ abbrev pub in_state : RoomyClass → ClassState → RoomyClass
 in_state class state = record class { state = state }
 
 -- the class without its lists
-abbrev pub state_of : Inside → ClassState
-state_of class = record {
+abbrev pub class_without_lists : Inside → ClassState
+class_without_lists class = record {
   size = class.size;
   per_page = class.per_page;
   pages = class.pages.items;
@@ -28,7 +28,7 @@ state_of class = record {
 
 -- the class and its room
 abbrev pub roomy_of : Inside → RoomyClass
-roomy_of class = record { state = state_of class; room = class.room }
+roomy_of class = record { state = class_without_lists class; room = class.room }
 
 -- the page list has the room that the class counts, and no more pages than that
 pub record HasRoom (class : Inside) : Type 0 where
@@ -36,9 +36,9 @@ pub record HasRoom (class : Inside) : Type 0 where
   pub within : vec_len class.pages ≤ class.room
 
 -- a class without pages and room
-abbrev pub no_class : RoomyClass
-no_class = record { state = new_class 0 0; room = 0 }
+abbrev pub empty_class : RoomyClass
+empty_class = record { state = new_class 0 0; room = 0 }
 
 -- the classes with their lists, class 1 first
-abbrev pub states : RowsState → List RoomyClass → List ClassState
-states rows classes = map (λ place. with_lists (slice_index_or classes place no_class).state rows place) (range_with_len 0 (length classes))
+abbrev pub class_states : RowsState → List RoomyClass → List ClassState
+class_states rows classes = map (λ place. with_lists (slice_index_or classes place empty_class).state rows place) (range_with_len 0 (length classes))

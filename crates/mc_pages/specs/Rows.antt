@@ -42,8 +42,8 @@ abbrev pub row_place : ℕ → ChunkId → ℕ
 row_place most chunk = chunk.page * most + chunk.index
 
 -- the row of a chunk
-abbrev pub row_at : RowsState → ChunkId → Row
-row_at rows chunk = if nat_lt chunk.index rows.most then slice_index_or rows.rows (row_place rows.most chunk) no_row else no_row
+abbrev pub row_of_chunk : RowsState → ChunkId → Row
+row_of_chunk rows chunk = if nat_lt chunk.index rows.most then slice_index_or rows.rows (row_place rows.most chunk) no_row else no_row
 
 -- the own row of a list
 abbrev pub ends_of : RowsState → ListName → Row
@@ -51,14 +51,14 @@ ends_of rows (Free class) = slice_index_or rows.free class no_row
 ends_of rows (HandedOut class) = slice_index_or rows.handed_out class no_row
 
 -- how many chunks a list has
-abbrev pub length_of : RowsState → ListName → ℕ
-length_of rows (Free class) = slice_index_or rows.free_lengths class 0
-length_of rows (HandedOut class) = slice_index_or rows.handed_out_lengths class 0
+abbrev pub list_length : RowsState → ListName → ℕ
+list_length rows (Free class) = slice_index_or rows.free_lengths class 0
+list_length rows (HandedOut class) = slice_index_or rows.handed_out_lengths class 0
 
 -- the chunk to which a field leads, or none
 abbrev pub field_of : RowsState → Field → Option ChunkId
-field_of rows (Next chunk) = (row_at rows chunk).next
-field_of rows (Previous chunk) = (row_at rows chunk).previous
+field_of rows (Next chunk) = (row_of_chunk rows chunk).next
+field_of rows (Previous chunk) = (row_of_chunk rows chunk).previous
 field_of rows (Head list) = (ends_of rows list).next
 field_of rows (Tail list) = (ends_of rows list).previous
 
@@ -89,14 +89,14 @@ with_ends rows (HandedOut class) row = record rows { handed_out = slice_set rows
 
 -- a field is now this
 abbrev pub with_field : RowsState → Field → Option ChunkId → RowsState
-with_field rows (Next chunk) link = with_row rows chunk (record (row_at rows chunk) { next = link })
-with_field rows (Previous chunk) link = with_row rows chunk (record (row_at rows chunk) { previous = link })
+with_field rows (Next chunk) link = with_row rows chunk (record (row_of_chunk rows chunk) { next = link })
+with_field rows (Previous chunk) link = with_row rows chunk (record (row_of_chunk rows chunk) { previous = link })
 with_field rows (Head list) link = with_ends rows list (record (ends_of rows list) { next = link })
 with_field rows (Tail list) link = with_ends rows list (record (ends_of rows list) { previous = link })
 
 -- the mark of a chunk is now this
 abbrev pub with_mark : RowsState → ChunkId → Mark → RowsState
-with_mark rows chunk mark = with_row rows chunk (record (row_at rows chunk) { mark = mark })
+with_mark rows chunk mark = with_row rows chunk (record (row_of_chunk rows chunk) { mark = mark })
 
 -- the rows after this change was written
 abbrev pub with_change : RowsState → Change → RowsState
@@ -114,9 +114,9 @@ with_length rows (Free class) count = record rows { free_lengths = slice_set row
 with_length rows (HandedOut class) count = record rows { handed_out_lengths = slice_set rows.handed_out_lengths class count }
 
 -- the list is longer by one
-abbrev pub lengthened : RowsState → ListName → RowsState
-lengthened rows list = with_length rows list (length_of rows list + 1)
+abbrev pub longer_list : RowsState → ListName → RowsState
+longer_list rows list = with_length rows list (list_length rows list + 1)
 
 -- the list is shorter by one
-abbrev pub shortened : RowsState → ListName → RowsState
-shortened rows list = with_length rows list (length_of rows list - 1)
+abbrev pub shorter_list : RowsState → ListName → RowsState
+shorter_list rows list = with_length rows list (list_length rows list - 1)

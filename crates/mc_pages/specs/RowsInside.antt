@@ -5,8 +5,8 @@ use Rattle.mc_pages.specs.declared.rows.fields.Rows.TheInside.{Inside}
 use Rattle.mc_pages.specs.Rows.{RowsState}
 
 -- the rows, and the lists' own rows and lengths, that are in memory; and how many fields were ever written
-abbrev pub rows_of : Inside → RowsState
-rows_of rows = record {
+abbrev pub list_rows : Inside → RowsState
+list_rows rows = record {
   most = rows.most;
   rows = rows.rows.items;
   free = rows.free.items;

@@ -68,8 +68,8 @@ abbrev pub page_count : SlabState → ℕ
 page_count slabs = slabs.limit / slabs.page + length slabs.classes
 
 -- this is the number of a class of the memory: classes are numbered from 1
-abbrev pub IsClass : SlabState → ℕ → Type 0
-IsClass slabs class = (1 ≤ class) × (class ≤ length slabs.classes)
+abbrev pub HasClass : SlabState → ℕ → Type 0
+HasClass slabs class = (1 ≤ class) × (class ≤ length slabs.classes)
 
 -- a class by its number
 abbrev pub class_at : SlabState → ℕ → ClassState

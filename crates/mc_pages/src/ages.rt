@@ -3,7 +3,7 @@
 //! An age is the clock's time when the chunk last came to the back of its class's hand-out order: the lower, the older. (after
 //! the field `time` of memcached's items; a clock that counts in place of seconds is own)
 ghost use Rattle.std.specs.Prelude.{◌≡◌, ◌<◌, length, IfOk};
-ghost use Rattle.mc_pages.specs.Ages.{fresh_ages, age_at, renewed, inherited};
+ghost use Rattle.mc_pages.specs.Ages.{fresh_ages, age_at, ages_after_renewal, ages_after_inheritance};
 
 use mc_memory::{Refused, filled};
 use std::alloc::Global;
@@ -47,7 +47,7 @@ impl Ages {
     /// The chunk is the youngest of all now, and the clock goes on.
     pub(crate) fn renew(&mut self, place: usize)
         requires { place < length self.old.ages }
-        ensures { self.new ≡ renewed self.old place }
+        ensures { self.new ≡ ages_after_renewal self.old place }
     {
         self.ages[place] = self.clock;
         self.clock = self.clock.saturating_add(1);
@@ -57,7 +57,7 @@ impl Ages {
     pub(crate) fn inherit(&mut self, new: usize, old: usize)
         requires new { new < length self.old.ages }
         requires old { old < length self.old.ages }
-        ensures { self.new ≡ inherited self.old new old }
+        ensures { self.new ≡ ages_after_inheritance self.old new old }
     {
         self.ages[new] = self.ages[old];
     }

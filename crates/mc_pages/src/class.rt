@@ -1,7 +1,7 @@
 //! One size class: the pages it has. Its free list and its hand-out order are rows.
 ghost use Rattle.std.specs.Prelude.{◌≡◌, ◌<◌, ◌≤◌, length, slice_index_or, OnOk};
 ghost use Rattle.mc_classes.specs.Limits.{most_page_chunks};
-ghost use Rattle.mc_pages.specs.ClassState.{new_class, evicted, with_page, without_page};
+ghost use Rattle.mc_pages.specs.ClassState.{new_class, class_after_eviction, with_page, without_page};
 ghost use Rattle.mc_pages.specs.Room.{in_state};
 
 use mc_classes::PageId;
@@ -99,7 +99,7 @@ impl SlabClass {
 
     /// Counts an eviction.
     pub(crate) fn count_eviction(&mut self)
-        ensures { self.new ≡ in_state self.old (evicted self.old.state) }
+        ensures { self.new ≡ in_state self.old (class_after_eviction self.old.state) }
     {
         self.evictions = self.evictions.saturating_add(1);
     }

@@ -1,6 +1,6 @@
 //! The entries of the ledger: those that are recorded, and what the others left of each page.
 ghost use Rattle.std.specs.Prelude.{◌≡◌, ◌≤◌, ◌+◌, ◌-◌, ◌^◌, ◌++◌, [], ◌∷◌, length, replicate, take, vec_len, min, IfOk, OnErr, OnOk};
-ghost use Rattle.mc_pages.specs.Base.{Entries, left_by, recorded, never_granted};
+ghost use Rattle.mc_pages.specs.Base.{Entries, pages_after_entries, recorded_entries, never_granted};
 
 use crate::ledger::{BasePage, Entry};
 use crate::past::Past;
@@ -26,11 +26,11 @@ impl Model for Recorded {
 
     ghost Value = { Entries };
 
-    ghost use Rattle.mc_pages.specs.RecordedInside.{entries_of, IsRecorded};
+    ghost use Rattle.mc_pages.specs.RecordedInside.{entries_of, AreEntriesRecorded};
 
     ghost view = { entries_of };
 
-    ghost invariant = { IsRecorded };
+    ghost invariant = { AreEntriesRecorded };
 }
 
 impl Recorded {
@@ -85,14 +85,14 @@ impl Recorded {
 
     /// What the entries that aren't recorded left of each page, page 0 first.
     pub(crate) fn base(&self) -> &[BasePage]
-        ensures { result.now ≡ left_by (replicate self.now.pages never_granted) (take self.now.trimmed self.now.all) }
+        ensures { result.now ≡ pages_after_entries (replicate self.now.pages never_granted) (take self.now.trimmed self.now.all) }
     {
         self.base.as_slice()
     }
 
     /// The entries that are recorded, the oldest first.
     pub(crate) fn tail(&self) -> &[Entry]
-        ensures { result.now ≡ recorded self.now.all self.now.trimmed }
+        ensures { result.now ≡ recorded_entries self.now.all self.now.trimmed }
     {
         self.tail.as_slice()
     }
@@ -100,7 +100,7 @@ impl Recorded {
 
 // Makes of the pages what these entries leave of them.
 fn apply(pages: &mut Vec<BasePage>, entries: &[Entry])
-    ensures left { pages.new.items ≡ left_by pages.old.items entries.now }
+    ensures left { pages.new.items ≡ pages_after_entries pages.old.items entries.now }
     ensures len { vec_len pages.new ≡ vec_len pages.old }
 {
     for entry in entries {

@@ -7,12 +7,12 @@ ghost use Rattle.mc_pages.specs.Ledger.{owner_at};
 ghost use Rattle.mc_pages.specs.declared.rows.ListName.TheVariants.{Free, HandedOut};
 ghost use Rattle.mc_pages.specs.Rows.{fresh_rows};
 ghost use Rattle.mc_pages.specs.Ages.{fresh_ages};
-ghost use Rattle.mc_pages.specs.Linked.{AreLinked, chunks_of};
-ghost use Rattle.mc_pages.specs.Base.{base_of, tail_of};
+ghost use Rattle.mc_pages.specs.Linked.{AreLinked, list_chunks};
+ghost use Rattle.mc_pages.specs.Base.{base_pages, ledger_tail};
 ghost use Rattle.mc_pages.specs.Changes.{after_trim};
-ghost use Rattle.mc_pages.specs.SlabState.{SlabValue, fresh_slabs, IsClass, class_at, class_of_page, totals_of};
+ghost use Rattle.mc_pages.specs.SlabState.{SlabValue, fresh_slabs, HasClass, class_at, class_of_page, totals_of};
 ghost use Rattle.mc_pages.specs.Accounted.{IsAccounted};
-ghost use Rattle.mc_pages.specs.InOrder.{AreKept, roomless, value_of};
+ghost use Rattle.mc_pages.specs.InOrder.{IsStoredInOrder, classes_without_room, callers_slabs};
 
 mod chunks;
 mod moving;
@@ -67,9 +67,9 @@ pub struct Slabs {
 impl Model for Slabs {
     ghost Value = { SlabValue };
 
-    ghost view = { value_of };
+    ghost view = { callers_slabs };
 
-    ghost invariant = { AreKept };
+    ghost invariant = { IsStoredInOrder };
 }
 
 impl Slabs {
@@ -116,7 +116,7 @@ impl Slabs {
 
     /// The numbers of the class.
     pub fn numbers(&self, class: ClassId) -> Numbers
-        requires { IsClass self.now.state class }
+        requires { HasClass self.now.state class }
         ensures numbers { result ≡ numbers_of (class_at self.now.state class) }
         ensures accounted { IsAccounted self.now.state }
     {
@@ -131,7 +131,7 @@ impl Slabs {
 
     /// How many chunks a page of the class has.
     pub fn per_page(&self, class: ClassId) -> u64
-        requires { IsClass self.now.state class }
+        requires { HasClass self.now.state class }
         ensures chunks { result ≡ (class_at self.now.state class).per_page }
         ensures accounted { IsAccounted self.now.state }
     {
@@ -156,7 +156,7 @@ impl Slabs {
 
     /// The changes of a page's owner that are recorded, in order: all since the last `trim`.
     pub fn ledger(&self) -> &[Entry]
-        ensures ledger { result.now ≡ tail_of self.now.state }
+        ensures ledger { result.now ≡ ledger_tail self.now.state }
         ensures accounted { IsAccounted self.now.state }
     {
         self.ledger.tail()
@@ -173,7 +173,7 @@ impl Slabs {
 
     /// What the changes before them left of each page, page 0 first.
     pub fn base(&self) -> &[BasePage]
-        ensures base { result.now ≡ base_of self.now.state }
+        ensures base { result.now ≡ base_pages self.now.state }
         ensures accounted { IsAccounted self.now.state }
     {
         self.ledger.base()
@@ -192,8 +192,8 @@ impl Slabs {
     /// The rows that have the free lists and the hand-out orders of all classes. `writes` counts what was written there.
     pub fn rows(&self) -> &Rows
         ensures linked { AreLinked result.now }
-        ensures free { (class : ℕ) → IsClass self.now.state class → chunks_of result.now (Free (class - 1)) ≡ (class_at self.now.state class).free }
-        ensures order { (class : ℕ) → IsClass self.now.state class → chunks_of result.now (HandedOut (class - 1)) ≡ (class_at self.now.state class).order }
+        ensures free { (class : ℕ) → HasClass self.now.state class → list_chunks result.now (Free (class - 1)) ≡ (class_at self.now.state class).free }
+        ensures order { (class : ℕ) → HasClass self.now.state class → list_chunks result.now (HandedOut (class - 1)) ≡ (class_at self.now.state class).order }
         ensures writes { result.now.writes ≡ self.now.writes }
         ensures accounted { IsAccounted self.now.state }
     {
@@ -222,7 +222,7 @@ impl Slabs {
     /// The place of the page's class in `classes`.
     #[tactic(auto, using(crate::proofs::Owners::within_from_class_of_owner))]
     fn class_place(&self, page: PageId) -> usize
-        requires { IsClass self.now.state (class_of_page self.now.state page) }
+        requires { HasClass self.now.state (class_of_page self.now.state page) }
         ensures { result ≡ class_of_page self.now.state page - 1 }
     {
         self.owner(page).class() as usize - 1
@@ -231,7 +231,7 @@ impl Slabs {
 
 /// The classes of the table, without pages.
 fn classes_of(alloc: Global, table: &ClassTable) -> Result<Vec<SlabClass>, Refused>
-    ensures { IfOk result (λ classes. classes.items ≡ roomless (fresh_slabs table.now).classes) }
+    ensures { IfOk result (λ classes. classes.items ≡ classes_without_room (fresh_slabs table.now).classes) }
 {
     let mut classes = with_capacity(alloc, table.count() as usize)?;
     for place in 0..table.count() {

@@ -7,5 +7,5 @@ abbrev pub right : ℕ → ℕ → List ℕ
 right width number = styled_decimal (format_spec 32 3 0 width (2 ^ 64 - 1)) number
 
 -- a number at the left of n places, before spaces
-abbrev pub left : ℕ → ℕ → List ℕ
-left width number = styled_decimal (format_spec 32 1 0 width (2 ^ 64 - 1)) number
+abbrev pub left_aligned : ℕ → ℕ → List ℕ
+left_aligned width number = styled_decimal (format_spec 32 1 0 width (2 ^ 64 - 1)) number

@@ -16,12 +16,12 @@ abbrev pub colour_of : ℕ → List ℕ
 colour_of class = slice_index_or colours (class % 10) []
 
 -- a box so far from the left and from the top
-abbrev pub place_text : ℕ → ℕ → List ℕ
-place_text x y = codes "<rect x=\"" ++ decimal x ++ codes "\" y=\"" ++ decimal y ++ codes "\""
+abbrev pub box_place_text : ℕ → ℕ → List ℕ
+box_place_text x y = codes "<rect x=\"" ++ decimal x ++ codes "\" y=\"" ++ decimal y ++ codes "\""
 
 -- a box with this fill
 abbrev pub box_text : ℕ → ℕ → List ℕ → List ℕ
-box_text x y fill = place_text x y ++ codes " width=\"24\" height=\"17\" fill=\"" ++ fill ++ codes "\"/>\n"
+box_text x y fill = box_place_text x y ++ codes " width=\"24\" height=\"17\" fill=\"" ++ fill ++ codes "\"/>\n"
 
 -- how the cell of a page with this owner is filled: empty before it was granted, dotted in the pool, in its class's colour, and hatched over that
 -- while it moves

@@ -4,7 +4,7 @@ use Rattle.mc_pages.specs.declared.ledger.Owner.{Owner}
 use Rattle.mc_pages.specs.declared.ledger.Entry.{Entry}
 use Rattle.mc_map.specs.declared.replay.Misfit as misfit
 use Rattle.mc_map.specs.declared.replay.Misfit.TheVariants as misfits
-use Rattle.mc_map.specs.Replays.{replays}
+use Rattle.mc_map.specs.Replays.{replayed_owners}
 use Rattle.mc_picture.specs.declared.chart.ChartError.{ChartError}
 use Rattle.mc_picture.specs.declared.chart.ChartError.TheVariants as errors
 use Rattle.mc_picture.specs.Drawn.{IsDrawn}
@@ -17,5 +17,5 @@ chart_error_of (misfits.NoMemory refused) = errors.Memory
 -- a chart is behind the old text, in which column k shows what the first k entries make of n untouched pages
 pub record IsChart (pages : ℕ) (entries : List Entry) (old new : List ℕ) : Type 0 where
   pub columns : List (List Owner)
-  pub replayed : map Some columns ≡ replays pages entries (length entries + 1)
+  pub replayed : map Some columns ≡ replayed_owners pages entries (length entries + 1)
   pub drawn : IsDrawn columns old new

@@ -4,8 +4,8 @@ use Rattle.mc_pages.specs.declared.ledger.Owner.{Owner}
 use Rattle.mc_picture.specs.Cells.{cells_text}
 
 -- a text goes on from another
-abbrev pub Extends : List ℕ → List ℕ → Type 0
-Extends old new = (more : List ℕ) × (new ≡ old ++ more)
+abbrev pub TextExtends : List ℕ → List ℕ → Type 0
+TextExtends old new = (more : List ℕ) × (new ≡ old ++ more)
 
 -- the cells of these columns are behind the old text, with some text before them and some behind
 pub record IsDrawn (columns : List (List Owner)) (old new : List ℕ) : Type 0 where

@@ -7,8 +7,8 @@ use Rattle.mc_map.specs.declared.hang.Hang.TheVariants.{Idle, Found, Unknown}
 use Rattle.mc_picture.specs.Lines.{goal_text}
 
 -- the text of a chunk that holds a move up, and of the key of its item
-abbrev pub chunk_text : ℕ → ℕ → List ℕ
-chunk_text chunk key = codes "  chunk " ++ (decimal chunk ++ (codes " hangs: key " ++ decimal key))
+abbrev pub chunk_and_key_text : ℕ → ℕ → List ℕ
+chunk_and_key_text chunk key = codes "  chunk " ++ (decimal chunk ++ (codes " hangs: key " ++ decimal key))
 
 -- the text that an item is held, and whether its key leads to it
 abbrev pub held_text : Bool → List ℕ
@@ -20,7 +20,7 @@ workers_text workers = flat_map (λ worker. codes " " ++ decimal worker) workers
 
 -- the line of a chunk that holds the move up
 unfoldable pub blocker_line : Blocker → List ℕ
-blocker_line blocker = chunk_text blocker.chunk blocker.key ++ (held_text blocker.linked ++ (workers_text blocker.workers.items ++ codes "\n"))
+blocker_line blocker = chunk_and_key_text blocker.chunk blocker.key ++ (held_text blocker.linked ++ (workers_text blocker.workers.items ++ codes "\n"))
 
 -- the lines of these chunks
 abbrev pub blockers_text : List Blocker → List ℕ
@@ -34,8 +34,8 @@ hang_text (Found blockers) = blockers_text blockers.items
 hang_text Unknown = codes "  what holds it up takes too many looks to find\n"
 
 -- the text of which page moves, and from where
-abbrev pub page_text : Moving → List ℕ
-page_text moving = codes "  page " ++ (decimal moving.page ++ (codes " moves from class " ++ decimal moving.src))
+abbrev pub moving_page_text : Moving → List ℕ
+moving_page_text moving = codes "  page " ++ (decimal moving.page ++ (codes " moves from class " ++ decimal moving.src))
 
 -- the text of the mover's place among n chunks, and of how many were held in this pass
 abbrev pub position_text : Moving → ℕ → List ℕ
@@ -45,4 +45,4 @@ position_text moving chunks =
 -- the text of the move: its page, its goal, its place, and what holds it up
 abbrev pub move_text : Option Moving → ℕ → Hang → List ℕ
 move_text None chunks hang = codes "\nmove\n  no page moves\n"
-move_text (Some moving) chunks hang = codes "\nmove\n" ++ (page_text moving ++ (goal_text moving.dst ++ (position_text moving chunks ++ hang_text hang)))
+move_text (Some moving) chunks hang = codes "\nmove\n" ++ (moving_page_text moving ++ (goal_text moving.dst ++ (position_text moving chunks ++ hang_text hang)))

@@ -16,5 +16,5 @@ row_of table class = record {
 }
 
 -- the rows of the first n classes, class 1 first
-abbrev pub rows_of : Classes → ℕ → List ClassRow
-rows_of table count = map (λ place. row_of table (place + 1)) (range_with_len 0 count)
+abbrev pub class_table_rows : Classes → ℕ → List ClassRow
+class_table_rows table count = map (λ place. row_of table (place + 1)) (range_with_len 0 count)

@@ -25,5 +25,5 @@ unfoldable pub row_columns : List ℕ
 row_columns = codes "class   size  chunks a page  items of bytes  worst waste  left of a page\n"
 
 -- the class table: a line for each class
-unfoldable pub classes_text : ℕ → ℕ → List ClassRow → List ℕ
-classes_text pages page rows = memory_text pages page ++ row_columns ++ flat_map row_text rows
+unfoldable pub class_table_text : ℕ → ℕ → List ClassRow → List ℕ
+class_table_text pages page rows = memory_text pages page ++ row_columns ++ flat_map row_text rows

@@ -1,13 +1,13 @@
 -- Worked examples of what is written, which the prover computes.
 use Rattle.std.specs.Prelude.{◌≡◌, [], ◌∷◌, ◌++◌, Some, None, codes}
 use Rattle.mc_pages.specs.declared.ledger.Owner.TheVariants.{Untouched, Pool, Class, Moving}
-use Rattle.mc_picture.specs.Maps.{heading_text, line_text, lines_text, pages_text, totals_text}
+use Rattle.mc_picture.specs.Maps.{heading_text, line_text, lines_text, pages_text, page_totals_text}
 use Rattle.mc_picture.specs.Tables.{memory_text, row_text}
 
 -- a worked case of the text before the page map
 abbrev pub HeadingShown : Type 0
 HeadingShown =
-    heading_text (codes "at line 7") 12 ++ totals_text 1024 8 (record { granted = 5; pool = 1; moved = 2; rescues = 30; evictions_nomem = 40; busy = 50 })
+    heading_text (codes "at line 7") 12 ++ page_totals_text 1024 8 (record { granted = 5; pool = 1; moved = 2; rescues = 30; evictions_nomem = 40; busy = 50 })
     ≡ codes "map at line 7, 12 commands done\n\npages of 1024 bytes: 5 of 8 granted, 1 in the pool, 2 moved\n"
 
 -- ten pages: eight in the first line, which begins with the number of its first page

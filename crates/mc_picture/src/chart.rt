@@ -1,7 +1,7 @@
 //! Pages over time, as an SVG: a row for each page, and a column before the first entry of the ledger and after each.
 ghost use Rattle.std.specs.Prelude.{◌≡◌, ◌≤◌, ◌<◌, ◌^◌, ◌⊎◌, Err, OnOk, length, map, string_bytes};
 ghost use Rattle.mc_picture.specs.Charts.{IsChart};
-ghost use Rattle.mc_picture.specs.Drawn.{Extends, IsDrawn};
+ghost use Rattle.mc_picture.specs.Drawn.{TextExtends, IsDrawn};
 
 use crate::cells::{LEFT, column_at, row_at, write_cells};
 use crate::classes::ClassRow;
@@ -107,7 +107,7 @@ fn legend_at(pages: usize) -> usize
 
 /// Adds what is before the cells: the head, the title and the names of the rows.
 fn write_front(sheet: &Sheet, text: &mut String) -> Result<(), AllocError>
-    ensures { OnOk result (Extends (string_bytes text.old) (string_bytes text.new)) }
+    ensures { OnOk result (TextExtends (string_bytes text.old) (string_bytes text.new)) }
 {
     let entries = sheet.ledger.len();
     let wide = column_at(entries + 2).max(LEAST);
@@ -118,7 +118,7 @@ fn write_front(sheet: &Sheet, text: &mut String) -> Result<(), AllocError>
 
 /// Adds what is behind the cells: the numbers of classes in them, the axis and the legend.
 fn write_back(columns: &[Vec<Owner>], sheet: &Sheet, text: &mut String) -> Result<(), AllocError>
-    ensures { OnOk result (Extends (string_bytes text.old) (string_bytes text.new)) }
+    ensures { OnOk result (TextExtends (string_bytes text.old) (string_bytes text.new)) }
 {
     write_labels(columns, text)?;
     write_axis(sheet.ledger, row_at(sheet.pages), text)?;
@@ -128,7 +128,7 @@ fn write_back(columns: &[Vec<Owner>], sheet: &Sheet, text: &mut String) -> Resul
 
 /// Adds the size, the style of letters, the patterns of moving pages and of the pool, and the ground.
 fn write_head(wide: usize, high: usize, text: &mut String) -> Result<(), AllocError>
-    ensures { OnOk result (Extends (string_bytes text.old) (string_bytes text.new)) }
+    ensures { OnOk result (TextExtends (string_bytes text.old) (string_bytes text.new)) }
 {
     writeln!(
         text,
@@ -149,7 +149,7 @@ const HEAD: &str =
 
 /// Adds the title.
 fn write_title(pages: usize, page: u64, entries: usize, text: &mut String) -> Result<(), AllocError>
-    ensures { OnOk result (Extends (string_bytes text.old) (string_bytes text.new)) }
+    ensures { OnOk result (TextExtends (string_bytes text.old) (string_bytes text.new)) }
 {
     text.push_str("<text class=\"t\" x=\"16\" y=\"28\">Who owns each page</text>\n")?;
     writeln!(
@@ -162,7 +162,7 @@ fn write_title(pages: usize, page: u64, entries: usize, text: &mut String) -> Re
 #[tactic(auto, using(crate::proofs::Extends::extends, crate::proofs::Extends::extends_on))]
 fn write_names(pages: usize, text: &mut String) -> Result<(), AllocError>
     requires { pages ≤ 4096 }
-    ensures { OnOk result (Extends (string_bytes text.old) (string_bytes text.new)) }
+    ensures { OnOk result (TextExtends (string_bytes text.old) (string_bytes text.new)) }
 {
     for page in 0..pages {
         let (right, y) = (LEFT - 8, row_at(page) + 14);
@@ -177,7 +177,7 @@ fn write_names(pages: usize, text: &mut String) -> Result<(), AllocError>
 /// Adds the texts in the cells of all columns.
 #[tactic(auto, using(crate::proofs::Extends::extends_on))]
 fn write_labels(columns: &[Vec<Owner>], text: &mut String) -> Result<(), AllocError>
-    ensures { OnOk result (Extends (string_bytes text.old) (string_bytes text.new)) }
+    ensures { OnOk result (TextExtends (string_bytes text.old) (string_bytes text.new)) }
 {
     let mut before: &[Owner] = &[];
     for place in 0..columns.len() {
@@ -197,7 +197,7 @@ fn write_column_labels(
     text: &mut String,
 ) -> Result<(), AllocError>
     requires { place < 2 ^ 59 }
-    ensures { OnOk result (Extends (string_bytes text.old) (string_bytes text.new)) }
+    ensures { OnOk result (TextExtends (string_bytes text.old) (string_bytes text.new)) }
 {
     for page in 0..owners.len() {
         write_label(
@@ -221,7 +221,7 @@ fn write_label(
     before: Option<Owner>,
     text: &mut String,
 ) -> Result<(), AllocError>
-    ensures { OnOk result (Extends (string_bytes text.old) (string_bytes text.new)) }
+    ensures { OnOk result (TextExtends (string_bytes text.old) (string_bytes text.new)) }
 {
     if before == Some(owner) {
         return Ok(());
@@ -241,7 +241,7 @@ fn write_label(
 fn write_axis(ledger: &[Entry], below: usize, text: &mut String) -> Result<(), AllocError>
     requires ledger { length ledger.now ≤ 4096 }
     requires below { below ≤ 100000 }
-    ensures { OnOk result (Extends (string_bytes text.old) (string_bytes text.new)) }
+    ensures { OnOk result (TextExtends (string_bytes text.old) (string_bytes text.new)) }
 {
     for place in 0..ledger.len() {
         write_tick(
@@ -268,7 +268,7 @@ fn write_tick(
     text: &mut String,
 ) -> Result<(), AllocError>
     requires below { below ≤ 100000 }
-    ensures { OnOk result (Extends (string_bytes text.old) (string_bytes text.new)) }
+    ensures { OnOk result (TextExtends (string_bytes text.old) (string_bytes text.new)) }
 {
     let (upper, lower, letter) = (below + 14, below + 28, letter_of(entry));
     writeln!(

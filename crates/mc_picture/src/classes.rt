@@ -1,8 +1,8 @@
 //! The class table, before anything runs.
 ghost use Rattle.std.specs.Prelude.{◌≡◌, ◌≤◌, ◌++◌, IfOk, OnOk, flat_map, length, string_bytes};
-ghost use Rattle.mc_classes.specs.Classes.{IsClass, pages_of};
-ghost use Rattle.mc_picture.specs.Rows.{row_of, rows_of};
-ghost use Rattle.mc_picture.specs.Tables.{classes_text, memory_text, row_columns, row_text, table_note, waste_text};
+ghost use Rattle.mc_classes.specs.Classes.{IsClass, page_limit};
+ghost use Rattle.mc_picture.specs.Rows.{row_of, class_table_rows};
+ghost use Rattle.mc_picture.specs.Tables.{class_table_text, memory_text, row_columns, row_text, table_note, waste_text};
 
 use mc_classes::{ClassId, ClassTable};
 use mc_memory::{Refused, push};
@@ -41,7 +41,7 @@ fn class_row(table: &ClassTable, class: ClassId) -> ClassRow
 
 /// What is known of all classes, class 1 first.
 pub fn class_rows(alloc: Global, table: &ClassTable) -> Result<Vec<ClassRow>, Refused>
-    ensures rows { IfOk result (λ rows. rows.items ≡ rows_of table.now (length table.now.sizes)) }
+    ensures rows { IfOk result (λ rows. rows.items ≡ class_table_rows table.now (length table.now.sizes)) }
     ensures few { IfOk result (λ rows. length rows.items ≤ 63) }
 {
     let mut rows = Vec::new(alloc);
@@ -52,13 +52,13 @@ pub fn class_rows(alloc: Global, table: &ClassTable) -> Result<Vec<ClassRow>, Re
 }
 
 /// Adds the class table: how many pages there are, and a line for each of these rows.
-#[tactic(auto, unfolding(crate::specs::Tables::classes_text))]
+#[tactic(auto, unfolding(crate::specs::Tables::class_table_text))]
 pub fn write_classes(
     table: &ClassTable,
     rows: &[ClassRow],
     text: &mut String,
 ) -> Result<(), AllocError>
-    ensures table { OnOk result (string_bytes text.new ≡ string_bytes text.old ++ classes_text (pages_of table.now) table.now.page rows.now) }
+    ensures table { OnOk result (string_bytes text.new ≡ string_bytes text.old ++ class_table_text (page_limit table.now) table.now.page rows.now) }
 {
     write_memory(table.pages(), table.page(), text)?;
     write_columns(text)?;

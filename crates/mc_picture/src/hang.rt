@@ -1,6 +1,6 @@
 //! Where a move hangs, as lines of text.
 ghost use Rattle.std.specs.Prelude.{◌≡◌, ◌++◌, OnOk, string_bytes};
-ghost use Rattle.mc_picture.specs.Moves.{blocker_line, blockers_text, chunk_text, hang_text, held_text, move_text, page_text, position_text, workers_text};
+ghost use Rattle.mc_picture.specs.Moves.{blocker_line, blockers_text, chunk_and_key_text, hang_text, held_text, move_text, moving_page_text, position_text, workers_text};
 
 use crate::ledger::write_goal;
 use mc_map::{Blocker, Hang, Moving};
@@ -28,7 +28,7 @@ pub(crate) fn write_move(
 
 /// Adds which page moves, and from where.
 fn write_page(moving: Moving, text: &mut String) -> Result<(), AllocError>
-    ensures page { OnOk result (string_bytes text.new ≡ string_bytes text.old ++ page_text moving) }
+    ensures page { OnOk result (string_bytes text.new ≡ string_bytes text.old ++ moving_page_text moving) }
 {
     let Moving { page, src, .. } = moving;
     write!(text, "  page {page} moves from class {src}")
@@ -82,7 +82,7 @@ fn write_blocker(blocker: &Blocker, text: &mut String) -> Result<(), AllocError>
 
 /// Adds the chunk, and the key of its item.
 fn write_chunk(chunk: u64, key: u64, text: &mut String) -> Result<(), AllocError>
-    ensures chunk { OnOk result (string_bytes text.new ≡ string_bytes text.old ++ chunk_text chunk key) }
+    ensures chunk { OnOk result (string_bytes text.new ≡ string_bytes text.old ++ chunk_and_key_text chunk key) }
 {
     write!(text, "  chunk {chunk} hangs: key {key}")
 }

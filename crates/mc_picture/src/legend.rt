@@ -1,6 +1,6 @@
 //! What the letters, the colours and the patterns of a chart mean.
 ghost use Rattle.std.specs.Prelude.{◌≤◌, OnOk, string_bytes};
-ghost use Rattle.mc_picture.specs.Drawn.{Extends};
+ghost use Rattle.mc_picture.specs.Drawn.{TextExtends};
 
 use crate::cells::{colour, write_box};
 use crate::sheet::Sheet;
@@ -12,7 +12,7 @@ use std::fmt::Write;
 /// Adds the legend, so far from the top.
 pub(crate) fn write_legend(sheet: &Sheet, top: usize, text: &mut String) -> Result<(), AllocError>
     requires { top ≤ 100000 }
-    ensures { OnOk result (Extends (string_bytes text.old) (string_bytes text.new)) }
+    ensures { OnOk result (TextExtends (string_bytes text.old) (string_bytes text.new)) }
 {
     let y = top + 8;
     writeln!(
@@ -26,7 +26,7 @@ pub(crate) fn write_legend(sheet: &Sheet, top: usize, text: &mut String) -> Resu
 /// Adds what the patterns mean.
 fn write_patterns(y: usize, text: &mut String) -> Result<(), AllocError>
     requires { y ≤ 200000 }
-    ensures { OnOk result (Extends (string_bytes text.old) (string_bytes text.new)) }
+    ensures { OnOk result (TextExtends (string_bytes text.old) (string_bytes text.new)) }
 {
     write_key(16, y, "none\" stroke=\"#ddd", "never granted", text)?;
     write_key(176, y, "url(#pool)", "in the pool", text)?;
@@ -37,7 +37,7 @@ fn write_patterns(y: usize, text: &mut String) -> Result<(), AllocError>
 #[tactic(auto, using(crate::proofs::Extends::extends_on))]
 fn write_class_keys(sheet: &Sheet, top: usize, text: &mut String) -> Result<(), AllocError>
     requires { top ≤ 200000 }
-    ensures { OnOk result (Extends (string_bytes text.old) (string_bytes text.new)) }
+    ensures { OnOk result (TextExtends (string_bytes text.old) (string_bytes text.new)) }
 {
     let mut shown = 0;
     for row in sheet.classes {
@@ -74,7 +74,7 @@ fn write_key(
 ) -> Result<(), AllocError>
     requires x { x ≤ 100000 }
     requires y { y ≤ 300000 }
-    ensures { OnOk result (Extends (string_bytes text.old) (string_bytes text.new)) }
+    ensures { OnOk result (TextExtends (string_bytes text.old) (string_bytes text.new)) }
 {
     write_box(x, y, fill, text)?;
     let (right, below) = (x + 32, y + 13);
@@ -91,7 +91,7 @@ fn write_class_key(
 ) -> Result<(), AllocError>
     requires x { x ≤ 100000 }
     requires y { y ≤ 300000 }
-    ensures { OnOk result (Extends (string_bytes text.old) (string_bytes text.new)) }
+    ensures { OnOk result (TextExtends (string_bytes text.old) (string_bytes text.new)) }
 {
     write_box(x, y, colour(class), text)?;
     let (middle, right, below) = (x + 12, x + 32, y + 13);

@@ -1,6 +1,6 @@
 //! A map as text.
 ghost use Rattle.std.specs.Prelude.{◌≡◌, ◌++◌, ◌<◌, OnOk, flat_map, length, string_bytes};
-ghost use Rattle.mc_picture.specs.Maps.{bytes_text, chunks_text, end_text, front_text, heading_text, line_columns, line_text, lines_text, map_text, owner_text, owners_text, page_columns, page_legend, page_text, pages_text, sizes_text, start_text, totals_text};
+ghost use Rattle.mc_picture.specs.Maps.{bytes_text, chunk_counts_text, end_text, front_text, heading_text, line_columns, line_text, lines_text, map_text, owner_text, page_map_text, page_columns, page_legend, map_page_text, pages_text, sizes_text, start_text, page_totals_text};
 
 use crate::hang::write_move;
 use crate::ledger::write_ledger;
@@ -42,14 +42,14 @@ fn write_heading(heading: &str, done: u64, text: &mut String) -> Result<(), Allo
 }
 
 /// Adds how many pages there are, of how many bytes, and where they are.
-#[tactic(auto, unfolding(crate::specs::Maps::totals_text))]
+#[tactic(auto, unfolding(crate::specs::Maps::page_totals_text))]
 fn write_totals(
     page: u64,
     pages: usize,
     totals: Totals,
     text: &mut String,
 ) -> Result<(), AllocError>
-    ensures totals { OnOk result (string_bytes text.new ≡ string_bytes text.old ++ totals_text page pages totals) }
+    ensures totals { OnOk result (string_bytes text.new ≡ string_bytes text.old ++ page_totals_text page pages totals) }
 {
     let Totals {
         granted,
@@ -65,9 +65,9 @@ fn write_totals(
 }
 
 /// Adds the page map: who owns each page.
-#[tactic(auto, unfolding(crate::specs::Maps::owners_text))]
+#[tactic(auto, unfolding(crate::specs::Maps::page_map_text))]
 fn write_owners(owners: &[Owner], text: &mut String) -> Result<(), AllocError>
-    ensures owners { OnOk result (string_bytes text.new ≡ string_bytes text.old ++ owners_text owners.now) }
+    ensures owners { OnOk result (string_bytes text.new ≡ string_bytes text.old ++ page_map_text owners.now) }
 {
     write_page_columns(text)?;
     write_pages(owners, text)?;
@@ -103,10 +103,10 @@ fn write_pages(owners: &[Owner], text: &mut String) -> Result<(), AllocError>
 }
 
 /// Adds a page of these.
-#[tactic(auto, unfolding(crate::specs::Maps::page_text))]
+#[tactic(auto, unfolding(crate::specs::Maps::map_page_text))]
 fn write_page(owners: &[Owner], page: usize, text: &mut String) -> Result<(), AllocError>
     requires { page < length owners.now }
-    ensures page { OnOk result (string_bytes text.new ≡ string_bytes text.old ++ page_text owners.now page) }
+    ensures page { OnOk result (string_bytes text.new ≡ string_bytes text.old ++ map_page_text owners.now page) }
 {
     write_line_start(page, text)?;
     write_owner(owners[page], text)?;
@@ -201,9 +201,9 @@ fn write_sizes(line: &ClassLine, text: &mut String) -> Result<(), AllocError>
 }
 
 /// Adds how many of a class's chunks are an item's, held, dead, free and cleared.
-#[tactic(auto, unfolding(crate::specs::Maps::chunks_text))]
+#[tactic(auto, unfolding(crate::specs::Maps::chunk_counts_text))]
 fn write_chunks(line: &ClassLine, text: &mut String) -> Result<(), AllocError>
-    ensures chunks { OnOk result (string_bytes text.new ≡ string_bytes text.old ++ chunks_text line.now) }
+    ensures chunks { OnOk result (string_bytes text.new ≡ string_bytes text.old ++ chunk_counts_text line.now) }
 {
     write!(text, "{:>8}{:>6}{:>6}", line.linked, line.held, line.dead)?;
     write!(text, "{:>6}{:>9}", line.free, line.cleared)

@@ -8,8 +8,8 @@ use Rattle.mc_core.specs.declared.event.Change.{Change}
 use Rattle.mc_core.specs.declared.event.Change.TheVariants as change
 use Rattle.mc_core.specs.declared.event.StripeChange.TheVariants.{Reserve, Trim}
 use Rattle.mc_core.specs.Rows.{chunk_at}
-use Rattle.mc_script.specs.Words.{◌>>=◌, number_of, words_of}
-use Rattle.mc_script.specs.Forms.{source_of}
+use Rattle.mc_script.specs.Words.{◌>>=◌, parsed_number, line_words}
+use Rattle.mc_script.specs.Forms.{parsed_source}
 
 -- the kind of find that this name writes
 unfoldable pub found_of : List ℕ → Option Found
@@ -46,30 +46,30 @@ change_of (name ∷ one ∷ []) =
       found ← found_of one
       Some (change.Passed found))
     else (do
-      number ← number_of one
+      number ← parsed_number one
       number_change name number)
 change_of (name ∷ one ∷ two ∷ []) =
     if bytes_eq name (codes "BeginMove") then (do
-      src ← source_of one
-      dst ← number_of two
+      src ← parsed_source one
+      dst ← parsed_number two
       Some (change.BeginMove src dst))
     else if bytes_eq name (codes "Touch") then (do
-      page ← number_of one
-      index ← number_of two
+      page ← parsed_number one
+      index ← parsed_number two
       Some (change.Touch (chunk_at page index)))
     else None
 change_of words = None
 
 -- the list of one change and those that follow, if each is one
-abbrev pub followed_by : Option Change → Option (List Change) → Option (List Change)
-followed_by None rest = None
-followed_by (Some change) None = None
-followed_by (Some change) (Some rest) = Some (change ∷ rest)
+abbrev pub changes_with : Option Change → Option (List Change) → Option (List Change)
+changes_with None rest = None
+changes_with (Some change) None = None
+changes_with (Some change) (Some rest) = Some (change ∷ rest)
 
 -- the changes that these texts write, if each writes one
 abbrev pub changes_in : List (List ℕ) → Option (List Change)
 changes_in [] = Some []
-changes_in (part ∷ parts) = followed_by (change_of (words_of part)) (changes_in parts)
+changes_in (part ∷ parts) = changes_with (change_of (line_words part)) (changes_in parts)
 
 -- the changes of a text, which commas separate
 unfoldable pub changes_of : List ℕ → Option (List Change)

@@ -4,7 +4,7 @@ use Rattle.std.specs.Str.{bytes_eq}
 use Rattle.mc_core.specs.declared.event.Change.{Change}
 use Rattle.mc_core.specs.declared.event.Event.{Event}
 use Rattle.mc_core.specs.declared.event.Step.{Step}
-use Rattle.mc_script.specs.Words.{◌>>=◌, number_of, words_of}
+use Rattle.mc_script.specs.Words.{◌>>=◌, parsed_number, line_words}
 use Rattle.mc_replay.specs.Changes.{changes_of}
 use Rattle.mc_replay.specs.Steps.{step_of}
 
@@ -12,7 +12,7 @@ use Rattle.mc_replay.specs.Steps.{step_of}
 unfoldable pub deed_of : List (List ℕ) → Option (ℕ × Step)
 deed_of (verb ∷ hand ∷ name ∷ arguments) =
     if bytes_eq verb (codes "e") then (do
-      h ← number_of hand
+      h ← parsed_number hand
       s ← step_of name arguments
       Some (h, s))
     else None
@@ -30,9 +30,9 @@ event_if (Some before) deed = event_after before deed
 
 -- the event that a line writes whose first colon, if it has one, is at this place
 abbrev pub event_at : List ℕ → Option ℕ → Option Event
-event_at line None = event_after [] (deed_of (words_of line))
-event_at line (Some colon) = event_if (changes_of (drop (colon + 1) line)) (deed_of (words_of (take colon line)))
+event_at line None = event_after [] (deed_of (line_words line))
+event_at line (Some colon) = event_if (changes_of (drop (colon + 1) line)) (deed_of (line_words (take colon line)))
 
 -- the event that a line writes
-unfoldable pub event_of : List ℕ → Option Event
-event_of line = event_at line (position (λ byte. byte == 58) line)
+unfoldable pub written_event : List ℕ → Option Event
+written_event line = event_at line (position (λ byte. byte == 58) line)

@@ -2,15 +2,15 @@
 use Rattle.std.specs.Prelude.{ℕ, codes, if◌then◌else◌, List, [], ◌∷◌, Option, Some, None}
 use Rattle.std.specs.Str.{bytes_eq}
 use Rattle.mc_classes.specs.declared.config.Config.{Config}
-use Rattle.mc_script.specs.Words.{◌>>=◌, number_of}
+use Rattle.mc_script.specs.Words.{◌>>=◌, parsed_number}
 
 -- the four numbers that four words write
 unfoldable pub four_of : List ℕ → List ℕ → List ℕ → List ℕ → Option (ℕ × ℕ × ℕ × ℕ)
 four_of one two three four = do
-  a ← number_of one
-  b ← number_of two
-  c ← number_of three
-  d ← number_of four
+  a ← parsed_number one
+  b ← parsed_number two
+  c ← parsed_number three
+  d ← parsed_number four
   Some (a, b, c, d)
 
 -- the four numbers that a list of four words writes
@@ -19,16 +19,16 @@ last_four_of (one ∷ two ∷ three ∷ four ∷ []) = four_of one two three fou
 last_four_of words = None
 
 -- the configuration that these words write
-unfoldable pub config_of : List (List ℕ) → Option Config
-config_of (verb ∷ page ∷ limit ∷ first ∷ num ∷ others) =
+unfoldable pub written_config : List (List ℕ) → Option Config
+written_config (verb ∷ page ∷ limit ∷ first ∷ num ∷ others) =
     if bytes_eq verb (codes "config") then (do
       p ← four_of page limit first num
       d ← last_four_of others
       Some (record { page = p.0; limit = p.1; first = p.2; num = p.3; den = d.0; max = d.1; stripes = d.2; bulk = d.3 }))
     else None
-config_of words = None
+written_config words = None
 
 -- the number of hands that these words write
-unfoldable pub hands_of : List (List ℕ) → Option ℕ
-hands_of (verb ∷ hands ∷ []) = if bytes_eq verb (codes "hands") then number_of hands else None
-hands_of words = None
+unfoldable pub written_hands : List (List ℕ) → Option ℕ
+written_hands (verb ∷ hands ∷ []) = if bytes_eq verb (codes "hands") then parsed_number hands else None
+written_hands words = None

@@ -13,10 +13,10 @@ fault_at number refusal.Hands = fault.Hands number
 fault_at number (refusal.Memory lack) = fault.Memory lack
 
 -- the status that the program ends with
-abbrev pub status_of : RunFault → ℕ
-status_of (fault.Line number) = 2
-status_of (fault.Config number error) = 2
-status_of (fault.Hands number) = 2
-status_of fault.Read = 3
-status_of fault.Write = 3
-status_of (fault.Memory lack) = 4
+abbrev pub replay_status : RunFault → ℕ
+replay_status (fault.Line number) = 2
+replay_status (fault.Config number error) = 2
+replay_status (fault.Hands number) = 2
+replay_status fault.Read = 3
+replay_status fault.Write = 3
+replay_status (fault.Memory lack) = 4

@@ -4,7 +4,7 @@ use Rattle.std.specs.Str.{bytes_eq}
 use Rattle.mc_core.specs.declared.event.Step.{Step}
 use Rattle.mc_core.specs.declared.event.Step.TheVariants as step
 use Rattle.mc_core.specs.Rows.{chunk_at}
-use Rattle.mc_script.specs.Words.{◌>>=◌, number_of}
+use Rattle.mc_script.specs.Words.{◌>>=◌, parsed_number}
 
 -- the steps without arguments
 unfoldable pub bare_step : List ℕ → Option Step
@@ -52,23 +52,23 @@ place_step name page index place =
 unfoldable pub step_of : List ℕ → List (List ℕ) → Option Step
 step_of name [] = bare_step name
 step_of name (one ∷ []) = do
-  number ← number_of one
+  number ← parsed_number one
   number_step name number
 step_of name (one ∷ two ∷ []) = do
-  page ← number_of one
-  index ← number_of two
+  page ← parsed_number one
+  index ← parsed_number two
   chunk_step name page index
 step_of name (one ∷ two ∷ three ∷ []) = do
-  page ← number_of one
-  index ← number_of two
-  place ← number_of three
+  page ← parsed_number one
+  index ← parsed_number two
+  place ← parsed_number three
   place_step name page index place
 step_of name (one ∷ two ∷ three ∷ four ∷ []) =
     if bytes_eq name (codes "Fill") then (do
-      page ← number_of one
-      index ← number_of two
-      place ← number_of three
-      word ← number_of four
+      page ← parsed_number one
+      index ← parsed_number two
+      place ← parsed_number three
+      word ← parsed_number four
       Some (step.Fill (chunk_at page index) place word))
     else None
 step_of name arguments = None

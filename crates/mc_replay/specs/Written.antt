@@ -15,10 +15,10 @@ use Rattle.mc_pages.specs.Base as base
 use Rattle.mc_pages.specs.SlabState.{SlabState, class_at, totals_of}
 use Rattle.mc_stripe.specs.declared.history.Call.{Call}
 use Rattle.mc_stripe.specs.declared.history.Call.TheVariants as call
-use Rattle.mc_stripe.specs.StripeState.{StripeState, base_of, place_of, tail_of, trimmed_of}
+use Rattle.mc_stripe.specs.StripeState.{StripeState, base_stamps, chunk_and_stamp, history_tail, trimmed_of}
 use Rattle.mc_core.specs.Head.{code}
 use Rattle.mc_core.specs.declared.event.Event.{Event}
-use Rattle.mc_core.specs.Run.{play}
+use Rattle.mc_core.specs.Run.{state_after_all}
 use Rattle.mc_core.specs.State.{State, head_at, most_of, new_state, stripe_at}
 use Rattle.mc_pages.specs.declared.ledger.Entry.{Entry}
 use Rattle.mc_pages.specs.declared.ledger.Entry.TheVariants as entry
@@ -33,15 +33,15 @@ owner_line page (owner.Class class) = codes "owner " ++ decimal page ++ codes " 
 owner_line page (owner.Moving src dst) = codes "owner " ++ decimal page ++ codes " Moving " ++ decimal src ++ codes " " ++ decimal dst ++ codes "\n"
 
 -- an entry of the ledger, to the end of its line
-abbrev pub entry_text : Entry → List ℕ
-entry_text (entry.Granted page class grace) = codes "Granted " ++ decimal page ++ codes " " ++ decimal class ++ codes " " ++ decimal (if grace then 1 else 0) ++ codes "\n"
-entry_text (entry.Taken page class) = codes "Taken " ++ decimal page ++ codes " " ++ decimal class ++ codes "\n"
-entry_text (entry.Began page src dst) = codes "Began " ++ decimal page ++ codes " " ++ decimal src ++ codes " " ++ decimal dst ++ codes "\n"
-entry_text (entry.Ended page class) = codes "Ended " ++ decimal page ++ codes " " ++ decimal class ++ codes "\n"
+abbrev pub ledger_entry_text : Entry → List ℕ
+ledger_entry_text (entry.Granted page class grace) = codes "Granted " ++ decimal page ++ codes " " ++ decimal class ++ codes " " ++ decimal (if grace then 1 else 0) ++ codes "\n"
+ledger_entry_text (entry.Taken page class) = codes "Taken " ++ decimal page ++ codes " " ++ decimal class ++ codes "\n"
+ledger_entry_text (entry.Began page src dst) = codes "Began " ++ decimal page ++ codes " " ++ decimal src ++ codes " " ++ decimal dst ++ codes "\n"
+ledger_entry_text (entry.Ended page class) = codes "Ended " ++ decimal page ++ codes " " ++ decimal class ++ codes "\n"
 
 -- the line of an entry of the ledger
-abbrev pub entry_line : Entry → List ℕ
-entry_line entry = codes "ledger " ++ entry_text entry
+abbrev pub ledger_entry_line : Entry → List ℕ
+ledger_entry_line entry = codes "ledger " ++ ledger_entry_text entry
 
 -- a chunk in a list
 abbrev pub chunk_text : ChunkId → List ℕ
@@ -91,12 +91,12 @@ abbrev pub evictions_text : ℕ → List ℕ
 evictions_text count = codes "] evictions " ++ decimal count ++ codes "\n"
 
 -- the line of a class
-abbrev pub class_line : ℕ → ClassState → List ℕ
-class_line class state = (free_text class state.free ++ order_text state.order) ++ evictions_text state.evictions
+abbrev pub class_state_line : ℕ → ClassState → List ℕ
+class_state_line class state = (free_text class state.free ++ order_text state.order) ++ evictions_text state.evictions
 
 -- the lines of n classes
-abbrev pub classes_text : ℕ → SlabState → List ℕ
-classes_text count slabs = flat_map (λ place. class_line (place + 1) (class_at slabs (place + 1))) (range_with_len 0 count)
+abbrev pub class_states_text : ℕ → SlabState → List ℕ
+class_states_text count slabs = flat_map (λ place. class_state_line (place + 1) (class_at slabs (place + 1))) (range_with_len 0 count)
 
 -- the line of a page that moves, none where none does
 abbrev pub moving_text : Option Moving → List ℕ
@@ -108,13 +108,13 @@ abbrev pub trimmed_entries : ℕ → List ℕ
 trimmed_entries count = if count == 0 then [] else codes "trimmed ledger " ++ decimal count ++ codes "\n"
 
 -- how many entries were trimmed, and those that are recorded
-abbrev pub ledger_text : SlabState → List ℕ
-ledger_text slabs = trimmed_entries (min slabs.trimmed (2 ^ 64 - 1)) ++ flat_map entry_line (base.tail_of slabs)
+abbrev pub stored_ledger_text : SlabState → List ℕ
+stored_ledger_text slabs = trimmed_entries (min slabs.trimmed (2 ^ 64 - 1)) ++ flat_map ledger_entry_line (base.ledger_tail slabs)
 
 -- the text of what is behind the slabs lock
-abbrev pub slabs_text : Classes → SlabState → List ℕ
-slabs_text table slabs =
-    ((owners_text (arena_pages_of table) slabs ++ ledger_text slabs) ++ classes_text (length table.sizes) slabs)
+abbrev pub slab_state_text : Classes → SlabState → List ℕ
+slab_state_text table slabs =
+    ((owners_text (arena_pages_of table) slabs ++ stored_ledger_text slabs) ++ class_states_text (length table.sizes) slabs)
     ++ (moving_text slabs.moving ++ totals_line (totals_of slabs) slabs.automove)
 
 -- the line of a header that isn't 0
@@ -126,12 +126,12 @@ abbrev pub head_text : State → ℕ → ℕ → List ℕ
 head_text state page index = word_text (record { page = page; index = index }) (code (head_at state (record { page = page; index = index })))
 
 -- the lines of a page's first headers
-abbrev pub page_text : State → ℕ → ℕ → List ℕ
-page_text state count page = flat_map (head_text state page) (range_with_len 0 count)
+abbrev pub page_headers_text : State → ℕ → ℕ → List ℕ
+page_headers_text state count page = flat_map (head_text state page) (range_with_len 0 count)
 
 -- the lines of all headers
 abbrev pub heads_text : State → List ℕ
-heads_text state = flat_map (page_text state (most_of state.table)) (range_with_len 0 (arena_pages_of state.table))
+heads_text state = flat_map (page_headers_text state (most_of state.table)) (range_with_len 0 (arena_pages_of state.table))
 
 -- a call of a history, to the end of its line
 abbrev pub call_text : Call → List ℕ
@@ -148,28 +148,28 @@ abbrev pub call_line : ℕ → Call → List ℕ
 call_line number call = (codes "history " ++ decimal number ++ codes " ") ++ call_text call
 
 -- the line of a key, none where it leads nowhere
-abbrev pub key_line : ℕ → ℕ → Option (ChunkId × ℕ) → List ℕ
-key_line number key None = []
-key_line number key (Some place) =
+abbrev pub index_line : ℕ → ℕ → Option (ChunkId × ℕ) → List ℕ
+index_line number key None = []
+index_line number key (Some place) =
     (codes "index " ++ decimal number ++ codes " " ++ decimal key)
     ++ (codes " " ++ decimal place.0.page ++ codes " " ++ decimal place.0.index ++ codes " " ++ decimal place.1 ++ codes "\n")
 
 -- the keys of these calls under which something was stored, by rising key, with those that are given
-abbrev pub with_stored : List ℕ → List Call → List ℕ
-with_stored keys [] = keys
-with_stored keys (call.Set hand key stamp ∷ calls) = with_stored (insert_key nat_cmp keys key) calls
-with_stored keys (call.Get hand key stamp ∷ calls) = with_stored keys calls
-with_stored keys (call.Delete hand key there ∷ calls) = with_stored keys calls
-with_stored keys (call.Evict hand key ∷ calls) = with_stored keys calls
-with_stored keys (call.Rescue hand key ∷ calls) = with_stored keys calls
+abbrev pub keys_with_stored : List ℕ → List Call → List ℕ
+keys_with_stored keys [] = keys
+keys_with_stored keys (call.Set hand key stamp ∷ calls) = keys_with_stored (insert_key nat_cmp keys key) calls
+keys_with_stored keys (call.Get hand key stamp ∷ calls) = keys_with_stored keys calls
+keys_with_stored keys (call.Delete hand key there ∷ calls) = keys_with_stored keys calls
+keys_with_stored keys (call.Evict hand key ∷ calls) = keys_with_stored keys calls
+keys_with_stored keys (call.Rescue hand key ∷ calls) = keys_with_stored keys calls
 
 -- the lines of those of these keys that lead somewhere
 abbrev pub keys_text : ℕ → StripeState → List ℕ → List ℕ
-keys_text number stripe keys = flat_map (λ key. key_line number key (place_of stripe key)) keys
+keys_text number stripe keys = flat_map (λ key. index_line number key (chunk_and_stamp stripe key)) keys
 
 -- the keys that the calls left which aren't recorded, by rising key; none for a stripe that records no calls
 abbrev pub left_keys : StripeState → List ℕ
-left_keys stripe = if is_some stripe.recorded_from then map (λ entry. entry.0) (base_of stripe) else []
+left_keys stripe = if is_some stripe.recorded_from then map (λ entry. entry.0) (base_stamps stripe) else []
 
 -- the line that counts the calls that aren't recorded, none where all are
 abbrev pub trimmed_line : ℕ → ℕ → List ℕ
@@ -178,22 +178,22 @@ trimmed_line number count = if count == 0 then [] else codes "trimmed " ++ decim
 -- the text of what is behind the lock of the stripe of this number: where its keys lead, how many calls aren't recorded, and those that are
 abbrev pub stripe_text : ℕ → StripeState → List ℕ
 stripe_text number stripe =
-    (keys_text number stripe (with_stored (left_keys stripe) (tail_of stripe)) ++ trimmed_line number (min (trimmed_of stripe) (2 ^ 64 - 1)))
-    ++ flat_map (call_line number) (tail_of stripe)
+    (keys_text number stripe (keys_with_stored (left_keys stripe) (history_tail stripe)) ++ trimmed_line number (min (trimmed_of stripe) (2 ^ 64 - 1)))
+    ++ flat_map (call_line number) (history_tail stripe)
 
 -- the text of what is behind the slabs lock, if nobody has it
 abbrev pub free_slabs_text : State → List ℕ
-free_slabs_text state = if state.slabs_lock == 0 then slabs_text state.table state.slabs else codes "slabs none\n"
+free_slabs_text state = if state.slabs_lock == 0 then slab_state_text state.table state.slabs else codes "slabs none\n"
 
 -- a lock is there and nobody has it
-abbrev pub is_free : Option ℕ → Bool
-is_free None = false
-is_free (Some word) = word == 0
+abbrev pub is_lock_free : Option ℕ → Bool
+is_lock_free None = false
+is_lock_free (Some word) = word == 0
 
 -- the text of what is behind the lock of the stripe of this number, if nobody has it
 abbrev pub free_stripe_text : State → ℕ → List ℕ
 free_stripe_text state number =
-    if is_free (slice_get state.stripe_locks number) then stripe_text number (stripe_at state number).state
+    if is_lock_free (slice_get state.stripe_locks number) then stripe_text number (stripe_at state number).state
     else codes "stripe " ++ decimal number ++ codes " none\n"
 
 -- the text of what is behind the locks of n stripes
@@ -205,17 +205,17 @@ abbrev pub standing_text : ℕ → State → List ℕ
 standing_text stripes state = (heads_text state ++ free_slabs_text state) ++ stripes_text stripes state
 
 -- what is written of the state after all events, or of the place of the first that isn't allowed
-abbrev pub told_text : ℕ → Result State ℕ → List ℕ
-told_text stripes (Ok state) = (codes "answer Ok\n" ++ standing_text stripes state) ++ codes "end\n"
-told_text stripes (Err place) = codes "answer NotAllowed " ++ decimal place ++ codes "\nend\n"
+abbrev pub outcome_text : ℕ → Result State ℕ → List ℕ
+outcome_text stripes (Ok state) = (codes "answer Ok\n" ++ standing_text stripes state) ++ codes "end\n"
+outcome_text stripes (Err place) = codes "answer NotAllowed " ++ decimal place ++ codes "\nend\n"
 
 -- the text is what is to be written of these events, played from the beginning with the table of this configuration
 pub record IsAnswer (config : Config) (hands : ℕ) (events : List Event) (text : List ℕ) : Type 0 where
-  pub exact : (table : Classes) → IsTableOf config table → text ≡ told_text config.stripes (play (new_state table config.stripes hands 0) events)
+  pub exact : (table : Classes) → IsTableOf config table → text ≡ outcome_text config.stripes (state_after_all (new_state table config.stripes hands 0) events)
 
 -- the bytes are the list's first line, and what is to be written of these events
 pub record IsWritten (name : List ℕ) (config : Config) (hands : ℕ) (events : List Event) (bytes : List ℕ) : Type 0 where
-  pub exact : (table : Classes) → IsTableOf config table → bytes ≡ (name ++ codes "\n") ++ told_text config.stripes (play (new_state table config.stripes hands 0) events)
+  pub exact : (table : Classes) → IsTableOf config table → bytes ≡ (name ++ codes "\n") ++ outcome_text config.stripes (state_after_all (new_state table config.stripes hands 0) events)
 
 -- the bytes that are to be written of this list were added to what a writer held
 pub record WritesList (name : List ℕ) (config : Config) (hands : ℕ) (events : List Event) (old new : Option (List ℕ)) : Type 0 where

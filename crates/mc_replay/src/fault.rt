@@ -1,6 +1,6 @@
 //! Why a run ends early, and the status that it ends with.
 ghost use Rattle.std.specs.Prelude.{◌≡◌};
-ghost use Rattle.mc_replay.specs.Status.{fault_at, status_of};
+ghost use Rattle.mc_replay.specs.Status.{fault_at, replay_status};
 ghost use Rattle.mc_replay.specs.declared.fault.NoMemory.TheVariants.{Seen, Told};
 ghost use Rattle.mc_replay.specs.declared.fault.Refusal.TheVariants as of_line;
 ghost use Rattle.mc_replay.specs.declared.fault.RunFault.TheVariants as of_run;
@@ -105,7 +105,7 @@ impl From<Refused> for Refusal {
 impl RunFault {
     /// The status that the program ends with.
     pub fn status(self) -> u8
-        ensures { result ≡ status_of self }
+        ensures { result ≡ replay_status self }
     {
         match self {
             RunFault::Line(_) | RunFault::Config(_, _) | RunFault::Hands(_) => 2,

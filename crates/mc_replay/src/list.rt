@@ -1,6 +1,6 @@
 //! A list of events, as it is played.
 ghost use Rattle.std.specs.Prelude.{◌≡◌, ◌≤◌, None};
-ghost use Rattle.mc_classes.specs.Refusals.{refusal_of};
+ghost use Rattle.mc_classes.specs.Refusals.{config_refusal};
 
 use mc_classes::Config;
 use mc_core::Event;
@@ -9,7 +9,7 @@ use mc_core::Event;
 #[derive(Drop)]
 pub struct Accepted {
     pub config: Config,
-    ghost accepted: { refusal_of config ≡ None },
+    ghost accepted: { config_refusal config ≡ None },
 }
 
 /// A list of events, with the configuration and the number of hands that play it.
@@ -20,7 +20,7 @@ pub struct List<'a> {
     pub config: Config,
     pub hands: u64,
     pub events: Vec<Event>,
-    ghost accepted: { refusal_of config ≡ None },
+    ghost accepted: { config_refusal config ≡ None },
     ghost some: { 1 ≤ hands },
     ghost most: { hands ≤ 64 },
 }

@@ -9,7 +9,7 @@
 #![tactic(auto)]
 
 ghost use Rattle.std.specs.Prelude.{◌≡◌, ◌<◌};
-ghost use Rattle.mc_replay.specs.Status.{status_of};
+ghost use Rattle.mc_replay.specs.Status.{replay_status};
 
 mod fault;
 mod list;
@@ -50,7 +50,7 @@ fn serve<R: Input + Print + AllocGlobal, I: Ledger, O: Ledger>(
 
 /// Prints on standard error what kept the run from being done, and returns the status to end with.
 fn tell(rt: &impl Eprint, fault: RunFault) -> u8
-    ensures { result ≡ status_of fault }
+    ensures { result ≡ replay_status fault }
 {
     let _ = rt.eprintln(format_args!("mc_replay: {fault}"));
     fault.status()

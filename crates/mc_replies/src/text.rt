@@ -4,7 +4,7 @@
 ghost use Rattle.std.specs.Prelude.{◌≡◌, ◌≤◌, ◌+◌, ◌++◌, [], ◌∷◌, codes, decimal, length, vec_len, vec_capacity, IsOk, OnOk};
 ghost use Rattle.std.specs.Io.{StartsWith};
 ghost use Rattle.mc_watch.specs.Texts.{line};
-ghost use Rattle.mc_serial_spec.specs.Texts.{key_line, spaced, turn_line, word_of, words_line};
+ghost use Rattle.mc_serial_spec.specs.Texts.{key_line, spaced_words, turn_line, ending_word, words_line};
 
 use itoa::Buffer;
 use mc_memory::{Refused, extend_from_slice};
@@ -43,7 +43,7 @@ pub fn push_answer(text: &mut Vec<u8>, answer: &[u8]) -> Result<(), Refused>
 
 /// Adds numbers, a space before each.
 fn push_spaced(text: &mut Vec<u8>, numbers: &[u64]) -> Result<(), Refused>
-    ensures numbers { OnOk result (text.new.items ≡ text.old.items ++ spaced numbers.now) }
+    ensures numbers { OnOk result (text.new.items ≡ text.old.items ++ spaced_words numbers.now) }
     ensures kept { StartsWith text.new.items text.old.items }
 {
     for number in numbers {
@@ -75,7 +75,7 @@ pub fn push_words_line(
 
 /// The word for how the last turn ended.
 fn word_of(ending: Ending) -> &'static [u8]
-    ensures word { result.now ≡ word_of ending }
+    ensures word { result.now ≡ ending_word ending }
 {
     match ending {
         Ending::Idle => b"IDLE",
@@ -110,7 +110,7 @@ pub fn push_window_line(
     dst: u64,
     answer: &[u8],
 ) -> Result<(), Refused>
-    ensures line { OnOk result (text.new.items ≡ text.old.items ++ line (codes "WINDOW" ++ spaced (src ∷ dst ∷ []) ++ codes " " ++ answer.now)) }
+    ensures line { OnOk result (text.new.items ≡ text.old.items ++ line (codes "WINDOW" ++ spaced_words (src ∷ dst ∷ []) ++ codes " " ++ answer.now)) }
     ensures kept { StartsWith text.new.items text.old.items }
 {
     extend_from_slice(text, b"WINDOW")?;

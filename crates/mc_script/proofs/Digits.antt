@@ -5,7 +5,7 @@ use Rattle.std.proofs.lemmas.Str.Parse.{IsNumeralModel, numerals_by_value, tells
 use Rattle.std.specs.Char.{digit_value, is_ascii_digit}
 use Rattle.std.specs.Str.{all_ascii_digits}
 use Rattle.std.specs.Str.Parse.{digits_value, digits_value_after}
-use Rattle.mc_script.specs.Words.{is_number, number_of}
+use Rattle.mc_script.specs.Words.{is_number, parsed_number}
 
 -- the definitions are those that std's lemmas are about
 pub own : IsNumeralModel (λ ds. all_ascii_digits ds ≡ true) (digits_value 10)
@@ -24,7 +24,7 @@ pub number_from_parts : (word : List ℕ) → 1 ≤ length word → length word 
 number_from_parts word some few digits fits = and_from _ _ (and_from _ _ (and_from _ _ (le-leb _ _ some) (le-leb _ _ few)) digits) (lt-ltb _ _ fits)
 
 -- a word that lacks one of these is none
-pub no_number : (word : List ℕ) → (is_number word ≡ true → ⊥) → None ≡ number_of word
+pub no_number : (word : List ℕ) → (is_number word ≡ true → ⊥) → None ≡ parsed_number word
 no_number word h = sym (cond-false _ _ _ (false_from_ne_true _ h))
 
 -- a number only grows by more digits
@@ -42,7 +42,7 @@ with_digit value c = if is_ascii_digit c && nat_lt (value * 10 + (c - 48)) (2 ^ 
 
 -- a byte that is no digit, or makes it too great: the word is no number
 pub stops_there : (value c : ℕ) (rest word : List ℕ) → None ≡ with_digit value c → all_ascii_digits (c ∷ rest) ≡ all_ascii_digits word
-    → digits_value_after 10 value (c ∷ rest) ≡ digits_value 10 word → None ≡ number_of word
+    → digits_value_after 10 value (c ∷ rest) ≡ digits_value 10 word → None ≡ parsed_number word
 stops_there value c rest word none digits told =
     no_number word (λ is.
     let parts = number_parts word is in
@@ -55,7 +55,7 @@ stops_there value c rest word none digits told =
 
 -- all bytes are read
 pub all_read : (value : ℕ) (rest word : List ℕ) → rest ≡ [] → 0 < length word → length word ≤ 20 → value < 2 ^ 64 → all_ascii_digits rest ≡ all_ascii_digits word
-    → digits_value_after 10 value rest ≡ digits_value 10 word → Some value ≡ number_of word
+    → digits_value_after 10 value rest ≡ digits_value 10 word → Some value ≡ parsed_number word
 all_read value rest word none some few fits digits told =
     let is : value ≡ digits_value 10 word = sym (ap (digits_value_after 10 value) none) ∙ told in
     ap Some is

@@ -7,7 +7,7 @@ use Rattle.std.proofs.lemmas.List.Splits.{slice_split_at, slice_split_none}
 use Rattle.std.proofs.lemmas.List.Sums.{AllPass-from_list_all}
 use Rattle.std.specs.List.{AllByRecursion, join_with_byte, list_all, slice_split}
 use Rattle.std.specs.Str.Lines.{lines, lines_of_parts, strip_carriage_return}
-use Rattle.mc_script.specs.Words.{words_of}
+use Rattle.mc_script.specs.Words.{line_words}
 use Rattle.mc_script.proofs.FirstLine.{more_lines, parts_exist}
 
 -- a word with no space, no LF and no CR in it
@@ -37,7 +37,7 @@ none_empty (word ∷ words) plain =
     ∙ ap (λ (others : List (List ℕ)). word ∷ others) (none_empty words plain.1)
 
 -- the words of a line that they were joined to
-pub words_again : (words : List (List ℕ)) → AllByRecursion IsPlain words → 0 < length words → words_of (join_with_byte 32 words) ≡ words
+pub words_again : (words : List (List ℕ)) → AllByRecursion IsPlain words → 0 < length words → line_words (join_with_byte 32 words) ≡ words
 words_again [] plain some = absurd (omega arith)
 words_again (word ∷ words) plain some = ap (filter (λ w. not (length w == 0))) (words_split word words plain) ∙ none_empty (word ∷ words) plain
 

@@ -8,9 +8,9 @@ use Rattle.std.specs.Str.Lines.{lines}
 use Rattle.mc_script.specs.declared.command.Command.{Command}
 use Rattle.mc_script.specs.declared.command.Command.TheVariants.{Set, Delete, Get, Hold, Drop, Touch, Reassign, Window, Stats, StatsSlabs}
 use Rattle.mc_script.specs.Command.{IsWorker, IsSource, IsValid}
-use Rattle.mc_script.specs.Forms.{◌or◌, source_of, set_of, key_command_of, on_key_of, reassign_of, with_number_of, bare_of, command_of}
-use Rattle.mc_script.specs.Script.{is_skipped, followed_by, commands_of, script_of}
-use Rattle.mc_script.specs.Words.{◌>>=◌, words_of, number_of, number_between}
+use Rattle.mc_script.specs.Forms.{◌or◌, parsed_source, set_of, key_command_of, on_key_of, reassign_of, with_number_of, bare_of, command_of}
+use Rattle.mc_script.specs.Script.{is_skipped, commands_with, commands_of, script_of}
+use Rattle.mc_script.specs.Words.{◌>>=◌, line_words, parsed_number, number_between}
 use Rattle.mc_script.proofs.Digits.{number_parts}
 
 -- ---- what is told of a value that may be there
@@ -33,7 +33,7 @@ when_told P false found h = tt
 -- ---- numbers
 
 -- a number is below 2^64
-pub number_fits : (word : List ℕ) → IfSome (number_of word) (λ n. n < 2 ^ 64)
+pub number_fits : (word : List ℕ) → IfSome (parsed_number word) (λ n. n < 2 ^ 64)
 number_fits word = when_told _ _ _ (λ is. (number_parts word is).3)
 
 -- a number with limits is within them
@@ -55,8 +55,8 @@ either_valid true one other h k = h
 either_valid false one other h k = k
 
 -- after a number
-number_then : {A : Type 0} (P : A → Type 0) (word : List ℕ) (next : ℕ → Option A) → ((n : ℕ) → n < 2 ^ 64 → IfSome (next n) P) → IfSome (number_of word >>= next) P
-number_then P word next h = then_told (λ n. n < 2 ^ 64) P (number_of word) next (number_fits word) h
+number_then : {A : Type 0} (P : A → Type 0) (word : List ℕ) (next : ℕ → Option A) → ((n : ℕ) → n < 2 ^ 64 → IfSome (next n) P) → IfSome (parsed_number word >>= next) P
+number_then P word next h = then_told (λ n. n < 2 ^ 64) P (parsed_number word) next (number_fits word) h
 
 -- after a number with limits
 between_then : {A : Type 0} (P : A → Type 0) (low high : ℕ) (word : List ℕ) (next : ℕ → Option A) → ((n : ℕ) → (low ≤ n) × (n ≤ high) → IfSome (next n) P) → IfSome (number_between low high word >>= next) P
@@ -91,9 +91,9 @@ on_key_valid (worker ∷ verb ∷ key ∷ []) =
 on_key_valid words = tt
 
 -- a source that is a number is below 2^64
-source_fits : (word : List ℕ) → IfSome (source_of word) IsSource
+source_fits : (word : List ℕ) → IfSome (parsed_source word) IsSource
 source_fits word =
-    cond_both (bytes_eq word (codes "-1")) (Some None) (number_of word >>= (λ class. Some (Some class))) (λ found. IfSome found IsSource)
+    cond_both (bytes_eq word (codes "-1")) (Some None) (parsed_number word >>= (λ class. Some (Some class))) (λ found. IfSome found IsSource)
     (λ _. tt)
     (λ _. number_then IsSource word _ (λ class fits. fits))
 
@@ -102,7 +102,7 @@ reassign_valid : (words : List (List ℕ)) → IfSome (reassign_of words) IsVali
 unfolding reassign_of
 reassign_valid (verb ∷ src ∷ dst ∷ []) =
     form_valid (bytes_eq verb (codes "reassign")) _
-    (then_told IsSource IsValid (source_of src) _ (source_fits src) (λ s src_fits. number_then IsValid dst _ (λ d dst_fits.
+    (then_told IsSource IsValid (parsed_source src) _ (source_fits src) (λ s src_fits. number_then IsValid dst _ (λ d dst_fits.
     let valid : IsValid (Reassign s d) = (src_fits, dst_fits) in valid)))
 reassign_valid words = tt
 
@@ -134,7 +134,7 @@ ok_items : (xs ys : List Command) → ◌≡◌ {A = Result (List Command) ℕ} 
 ok_items xs ys h = cc
 
 -- one line more
-followed_valid : (n : ℕ) (first : Option Command) (rest : Result (List Command) ℕ) (commands : List Command) → IfSome first IsValid → ((others : List Command) → rest ≡ Ok others → AllByRecursion IsValid others) → followed_by n first rest ≡ Ok commands → AllByRecursion IsValid commands
+followed_valid : (n : ℕ) (first : Option Command) (rest : Result (List Command) ℕ) (commands : List Command) → IfSome first IsValid → ((others : List Command) → rest ≡ Ok others → AllByRecursion IsValid others) → commands_with n first rest ≡ Ok commands → AllByRecursion IsValid commands
 followed_valid n None rest commands h k e = absurd (cc)
 followed_valid n (Some command) (Ok others) commands h k e = subst (AllByRecursion IsValid) (ok_items (command ∷ others) commands e) (h, k others refl)
 followed_valid n (Some command) (Err refused) commands h k e = absurd (cc)
@@ -144,10 +144,10 @@ lines_valid : (n : ℕ) (left : List (List ℕ)) (commands : List Command) → c
 lines_valid n [] commands e = subst (AllByRecursion IsValid) (ok_items [] commands e) tt
 lines_valid n (line ∷ left) commands told =
     let others = λ (cs : List Command) (e : commands_of (n + 1) left ≡ Ok cs). lines_valid (n + 1) left cs e in
-    cond_both (is_skipped (words_of line)) (commands_of (n + 1) left) (followed_by n (command_of (words_of line)) (commands_of (n + 1) left))
+    cond_both (is_skipped (line_words line)) (commands_of (n + 1) left) (commands_with n (command_of (line_words line)) (commands_of (n + 1) left))
     (λ r. r ≡ Ok commands → AllByRecursion IsValid commands)
     (λ _. others commands)
-    (λ _. followed_valid n (command_of (words_of line)) (commands_of (n + 1) left) commands (command_valid (words_of line)) others)
+    (λ _. followed_valid n (command_of (line_words line)) (commands_of (n + 1) left) commands (command_valid (line_words line)) others)
     told
 
 -- the commands of a script are valid

@@ -13,10 +13,10 @@ use Rattle.std.specs.Str.Lines.{lines}
 use Rattle.mc_script.specs.declared.command.Command.{Command}
 use Rattle.mc_script.specs.declared.command.Command.TheVariants.{Set, Delete, Get, Hold, Drop, Touch, Reassign, Automove, Window, Turn, Stats, StatsSlabs}
 use Rattle.mc_script.specs.Command.{IsWorker, IsSource, IsValid}
-use Rattle.mc_script.specs.Forms.{◌or◌, source_of, set_of, key_command_of, on_key_of, reassign_of, with_number_of, bare_of, command_of}
-use Rattle.mc_script.specs.Script.{commands_of, followed_by, is_skipped, number_sign, script_of}
-use Rattle.mc_script.specs.Words.{◌>>=◌, number_of, number_between}
-use Rattle.mc_script.specs.Written.{source_word, words_for, text_of}
+use Rattle.mc_script.specs.Forms.{◌or◌, parsed_source, set_of, key_command_of, on_key_of, reassign_of, with_number_of, bare_of, command_of}
+use Rattle.mc_script.specs.Script.{commands_of, commands_with, is_skipped, number_sign, script_of}
+use Rattle.mc_script.specs.Words.{◌>>=◌, parsed_number, number_between}
+use Rattle.mc_script.specs.Written.{source_word, command_words, text_of}
 use Rattle.mc_script.proofs.Digits.{own, number_from_parts}
 use Rattle.mc_script.proofs.Plain.{IsPlain, text_plain, words_again, line_plain, lines_again}
 
@@ -36,7 +36,7 @@ decimal_plain : (n : ℕ) → n < 2 ^ 64 → IsPlain (decimal n)
 decimal_plain n h = (decimal_nonempty n h, λ k d lt. omega (arith, (digits_of_decimal n h k d lt).0))
 
 -- a decimal is read as its number
-number_again : (n : ℕ) → n < 2 ^ 64 → number_of (decimal n) ≡ Some n
+number_again : (n : ℕ) → n < 2 ^ 64 → parsed_number (decimal n) ≡ Some n
 number_again n h =
     let value = digits_value-decimal own n h in
     cond-true _ _ _ (number_from_parts (decimal n) (decimal_nonempty n h) (length-decimal-le 20 n (omega arith) (omega arith) h) (digits_decimal own n h) (subst (λ (m : ℕ). m < 2 ^ 64) (sym value) h))
@@ -58,7 +58,7 @@ source_plain None fits = text_plain (codes "-1") refl
 source_plain (Some class) fits = decimal_plain class fits
 
 -- all words of a command are plain
-words_plain : (command : Command) → IsValid command → AllByRecursion IsPlain (words_for command)
+words_plain : (command : Command) → IsValid command → AllByRecursion IsPlain (command_words command)
 words_plain (Set worker key words base) valid =
     (decimal_plain worker (omega (arith, valid.0.1)), (text_plain (codes "set") refl, (decimal_plain key valid.1, (decimal_plain words (omega (arith, valid.2)), (decimal_plain base valid.3, tt)))))
 words_plain (Delete worker key) valid = named_plain (codes "del") worker key (text_plain (codes "del") refl) valid.0 valid.1
@@ -74,7 +74,7 @@ words_plain Stats valid = (text_plain (codes "stats") refl, tt)
 words_plain StatsSlabs valid = (text_plain (codes "stats") refl, (text_plain (codes "slabs") refl, tt))
 
 -- a command has a word
-words_exist : (command : Command) → 0 < length (words_for command)
+words_exist : (command : Command) → 0 < length (command_words command)
 words_exist (Set worker key words base) = omega arith
 words_exist (Delete worker key) = omega arith
 words_exist (Get worker key) = omega arith
@@ -93,7 +93,7 @@ begins_with_digit : (n : ℕ) → n < 2 ^ 64 → (get_or (decimal n) 0 0 == numb
 begins_with_digit n h = ne_eqb (get_or (decimal n) 0 0) 35 (λ e. omega (arith, (digits_of_decimal n h 0 0 (decimal_nonempty n h)).0))
 
 -- no command is a comment
-not_skipped : (command : Command) → IsValid command → is_skipped (words_for command) ≡ false
+not_skipped : (command : Command) → IsValid command → is_skipped (command_words command) ≡ false
 not_skipped (Set worker key words base) valid = begins_with_digit worker (omega (arith, valid.0.1))
 not_skipped (Delete worker key) valid = begins_with_digit worker (omega (arith, valid.0.1))
 not_skipped (Get worker key) valid = begins_with_digit worker (omega (arith, valid.0.1))
@@ -115,7 +115,7 @@ no_minus n h =
     omega (arith, byte, (digits_of_decimal n h 0 0 (decimal_nonempty n h)).0))
 
 -- the word of a source is read as it
-source_again : (src : Option ℕ) → IsSource src → source_of (source_word src) ≡ Some src
+source_again : (src : Option ℕ) → IsSource src → parsed_source (source_word src) ≡ Some src
 source_again None fits = refl
 source_again (Some class) fits = cond-false _ _ _ (no_minus class fits) ∙ then_some _ _ class (number_again class fits)
 
@@ -140,7 +140,7 @@ next_again : (one other : Option Command) (command : Command) → one ≡ None �
 next_again one other command none e = ap (λ (o : Option Command). o or other) none ∙ e
 
 -- the words of a command are read as it
-command_again : (command : Command) → IsValid command → command_of (words_for command) ≡ Some command
+command_again : (command : Command) → IsValid command → command_of (command_words command) ≡ Some command
 unfolding command_of set_of key_command_of on_key_of reassign_of with_number_of bare_of
 command_again (Set worker key words base) valid =
     first_again _ _ _
@@ -164,18 +164,18 @@ command_again StatsSlabs valid = refl
 -- ---- one command, and all
 
 -- its line is read as it
-one_again : (command : Command) (n : ℕ) (rest : List (List ℕ)) → IsValid command → commands_of n (join_with_byte 32 (words_for command) ∷ rest) ≡ followed_by n (Some command) (commands_of (n + 1) rest)
+one_again : (command : Command) (n : ℕ) (rest : List (List ℕ)) → IsValid command → commands_of n (join_with_byte 32 (command_words command) ∷ rest) ≡ commands_with n (Some command) (commands_of (n + 1) rest)
 one_again command n rest valid =
-    let same = words_again (words_for command) (words_plain command valid) (words_exist command) in
-    cond-false _ _ _ (ap is_skipped same ∙ not_skipped command valid) ∙ ap (λ (o : Option Command). followed_by n o (commands_of (n + 1) rest)) (ap command_of same ∙ command_again command valid)
+    let same = words_again (command_words command) (words_plain command valid) (words_exist command) in
+    cond-false _ _ _ (ap is_skipped same ∙ not_skipped command valid) ∙ ap (λ (o : Option Command). commands_with n o (commands_of (n + 1) rest)) (ap command_of same ∙ command_again command valid)
 
 -- and so are all lines
 all_again : (n : ℕ) (commands : List Command) → AllByRecursion IsValid commands → commands_of n (lines (flat_map text_of commands)) ≡ Ok commands
 all_again n [] valid = refl
 all_again n (command ∷ commands) valid =
-    ap (commands_of n) (lines_again (join_with_byte 32 (words_for command)) (flat_map text_of commands) (line_plain (words_for command) (words_plain command valid.0)))
+    ap (commands_of n) (lines_again (join_with_byte 32 (command_words command)) (flat_map text_of commands) (line_plain (command_words command) (words_plain command valid.0)))
     ∙ one_again command n (lines (flat_map text_of commands)) valid.0
-    ∙ ap (followed_by n (Some command)) (all_again (n + 1) commands valid.1)
+    ∙ ap (commands_with n (Some command)) (all_again (n + 1) commands valid.1)
 
 -- what is written is read
 pub written_again : (commands : List Command) → All IsValid commands → script_of (flat_map text_of commands) ≡ Ok commands

@@ -4,20 +4,20 @@ use Rattle.std.specs.Option.{option_or}
 use Rattle.std.specs.Str.{bytes_eq}
 use Rattle.mc_script.specs.declared.command.Command.{Command}
 use Rattle.mc_script.specs.declared.command.Command.TheVariants.{Set, Delete, Get, Hold, Drop, Touch, Reassign, Automove, Window, Turn, Stats, StatsSlabs}
-use Rattle.mc_script.specs.Words.{◌>>=◌, number_of, number_between}
+use Rattle.mc_script.specs.Words.{◌>>=◌, parsed_number, number_between}
 
 -- a worker's number is from 1 to 63
-abbrev pub worker_of : List ℕ → Option ℕ
-worker_of word = number_between 1 63 word
+abbrev pub parsed_worker : List ℕ → Option ℕ
+parsed_worker word = number_between 1 63 word
 
 -- `<worker> set <key> <n> <base>`
 unfoldable pub set_of : List (List ℕ) → Option Command
 set_of (worker ∷ verb ∷ key ∷ words ∷ base ∷ []) =
     if bytes_eq verb (codes "set") then (do
-      w ← worker_of worker
-      k ← number_of key
+      w ← parsed_worker worker
+      k ← parsed_number key
       n ← number_between 0 4096 words
-      b ← number_of base
+      b ← parsed_number base
       Some (Set w k n b))
     else None
 set_of words = None
@@ -35,23 +35,23 @@ key_command_of verb worker key =
 -- `<worker> <verb> <key>`
 unfoldable pub on_key_of : List (List ℕ) → Option Command
 on_key_of (worker ∷ verb ∷ key ∷ []) = do
-  w ← worker_of worker
-  k ← number_of key
+  w ← parsed_worker worker
+  k ← parsed_number key
   key_command_of verb w k
 on_key_of words = None
 
 -- a source is `-1`, which is none, or a number
-abbrev pub source_of : List ℕ → Option (Option ℕ)
-source_of word = if bytes_eq word (codes "-1") then Some None else (do
-  class ← number_of word
+abbrev pub parsed_source : List ℕ → Option (Option ℕ)
+parsed_source word = if bytes_eq word (codes "-1") then Some None else (do
+  class ← parsed_number word
   Some (Some class))
 
 -- `reassign <src> <dst>`
 unfoldable pub reassign_of : List (List ℕ) → Option Command
 reassign_of (verb ∷ src ∷ dst ∷ []) =
     if bytes_eq verb (codes "reassign") then (do
-      s ← source_of src
-      d ← number_of dst
+      s ← parsed_source src
+      d ← parsed_number dst
       Some (Reassign s d))
     else None
 reassign_of words = None

@@ -3,7 +3,7 @@ use Rattle.std.specs.Prelude.{ℕ, ◌+◌, ◌==◌, Bool, true, if◌then◌el
 use Rattle.std.specs.Str.Lines.{lines}
 use Rattle.mc_script.specs.declared.command.Command.{Command}
 use Rattle.mc_script.specs.Forms.{command_of}
-use Rattle.mc_script.specs.Words.{words_of}
+use Rattle.mc_script.specs.Words.{line_words}
 
 -- the first byte of a comment, `#`
 abbrev pub number_sign : ℕ
@@ -15,16 +15,16 @@ is_skipped [] = true
 is_skipped (word ∷ words) = slice_index word 0 == number_sign
 
 -- a line's command and those after it; a line with the number n that writes no command is the lowest refused one
-abbrev pub followed_by : ℕ → Option Command → Result (List Command) ℕ → Result (List Command) ℕ
-followed_by n None rest = Err n
-followed_by n (Some command) (Ok commands) = Ok (command ∷ commands)
-followed_by n (Some command) (Err refused) = Err refused
+abbrev pub commands_with : ℕ → Option Command → Result (List Command) ℕ → Result (List Command) ℕ
+commands_with n None rest = Err n
+commands_with n (Some command) (Ok commands) = Ok (command ∷ commands)
+commands_with n (Some command) (Err refused) = Err refused
 
 -- the commands of lines that are numbered from n, or the number of the lowest refused one
 abbrev pub commands_of : ℕ → List (List ℕ) → Result (List Command) ℕ
 commands_of n [] = Ok []
 commands_of n (line ∷ rest) =
-    if is_skipped (words_of line) then commands_of (n + 1) rest else followed_by n (command_of (words_of line)) (commands_of (n + 1) rest)
+    if is_skipped (line_words line) then commands_of (n + 1) rest else commands_with n (command_of (line_words line)) (commands_of (n + 1) rest)
 
 -- a script: its lines end with LF or CR LF, the last perhaps with the script, and are numbered from 1
 unfoldable pub script_of : List ℕ → Result (List Command) ℕ

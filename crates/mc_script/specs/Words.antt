@@ -15,19 +15,19 @@ abbrev pub space : ℕ
 space = 32
 
 -- the words of a line: what is between spaces, where that isn't empty
-abbrev pub words_of : List ℕ → List (List ℕ)
-words_of line = filter (λ word. not (length word == 0)) (slice_split (λ byte. byte == space) line)
+abbrev pub line_words : List ℕ → List (List ℕ)
+line_words line = filter (λ word. not (length word == 0)) (slice_split (λ byte. byte == space) line)
 
 -- 1 to 20 decimal digits of a number below 2^64; leading zeros are allowed
 abbrev pub is_number : List ℕ → Bool
 is_number word = nat_le 1 (length word) && nat_le (length word) 20 && all_ascii_digits word && nat_lt (digits_value 10 word) (2 ^ 64)
 
 -- the number that a word writes, if it writes one
-abbrev pub number_of : List ℕ → Option ℕ
-number_of word = if is_number word then Some (digits_value 10 word) else None
+abbrev pub parsed_number : List ℕ → Option ℕ
+parsed_number word = if is_number word then Some (digits_value 10 word) else None
 
 -- the number that a word writes, if it is from low to high
 abbrev pub number_between : ℕ → ℕ → List ℕ → Option ℕ
 number_between low high word = do
-  number ← number_of word
+  number ← parsed_number word
   if nat_le low number && nat_le number high then Some number else None

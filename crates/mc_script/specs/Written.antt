@@ -12,20 +12,20 @@ source_word None = codes "-1"
 source_word (Some class) = decimal class
 
 -- the words of a command
-abbrev pub words_for : Command → List (List ℕ)
-words_for (Set worker key words base) = decimal worker ∷ codes "set" ∷ decimal key ∷ decimal words ∷ decimal base ∷ []
-words_for (Delete worker key) = decimal worker ∷ codes "del" ∷ decimal key ∷ []
-words_for (Get worker key) = decimal worker ∷ codes "get" ∷ decimal key ∷ []
-words_for (Hold worker key) = decimal worker ∷ codes "hold" ∷ decimal key ∷ []
-words_for (Drop worker key) = decimal worker ∷ codes "drop" ∷ decimal key ∷ []
-words_for (Touch worker key) = decimal worker ∷ codes "touch" ∷ decimal key ∷ []
-words_for (Reassign src dst) = codes "reassign" ∷ source_word src ∷ decimal dst ∷ []
-words_for (Automove mode) = codes "automove" ∷ decimal mode ∷ []
-words_for Window = codes "window" ∷ []
-words_for (Turn turns) = codes "turn" ∷ decimal turns ∷ []
-words_for Stats = codes "stats" ∷ []
-words_for StatsSlabs = codes "stats" ∷ codes "slabs" ∷ []
+abbrev pub command_words : Command → List (List ℕ)
+command_words (Set worker key words base) = decimal worker ∷ codes "set" ∷ decimal key ∷ decimal words ∷ decimal base ∷ []
+command_words (Delete worker key) = decimal worker ∷ codes "del" ∷ decimal key ∷ []
+command_words (Get worker key) = decimal worker ∷ codes "get" ∷ decimal key ∷ []
+command_words (Hold worker key) = decimal worker ∷ codes "hold" ∷ decimal key ∷ []
+command_words (Drop worker key) = decimal worker ∷ codes "drop" ∷ decimal key ∷ []
+command_words (Touch worker key) = decimal worker ∷ codes "touch" ∷ decimal key ∷ []
+command_words (Reassign src dst) = codes "reassign" ∷ source_word src ∷ decimal dst ∷ []
+command_words (Automove mode) = codes "automove" ∷ decimal mode ∷ []
+command_words Window = codes "window" ∷ []
+command_words (Turn turns) = codes "turn" ∷ decimal turns ∷ []
+command_words Stats = codes "stats" ∷ []
+command_words StatsSlabs = codes "stats" ∷ codes "slabs" ∷ []
 
 -- the line of a command: its words with one space between them, and LF
 abbrev pub text_of : Command → List ℕ
-text_of command = join_with_byte space (words_for command) ++ 10 ∷ []
+text_of command = join_with_byte space (command_words command) ++ 10 ∷ []

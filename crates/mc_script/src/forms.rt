@@ -1,7 +1,7 @@
 //! The forms of a command: a function for each kind of words.
 ghost use Rattle.std.specs.Prelude.{◌≡◌, [], ◌∷◌, codes, map};
 ghost use Rattle.std.specs.Str.{bytes_eq};
-ghost use Rattle.mc_script.specs.Forms.{bare_of, command_of, key_command_of, on_key_of, reassign_of, set_of, source_of, with_number_of, worker_of};
+ghost use Rattle.mc_script.specs.Forms.{bare_of, command_of, key_command_of, on_key_of, reassign_of, set_of, parsed_source, with_number_of, parsed_worker};
 
 use crate::command::Command;
 use crate::number::{number, number_between};
@@ -127,7 +127,7 @@ fn bare(words: &[&[u8]]) -> Option<Command>
 
 /// The source that a word names: none if it is `-1`, and else its number.
 fn source(word: &[u8]) -> Option<Option<u64>>
-    ensures { result ≡ source_of word.now }
+    ensures { result ≡ parsed_source word.now }
 {
     if is(word, b"-1") {
         Some(None)
@@ -138,7 +138,7 @@ fn source(word: &[u8]) -> Option<Option<u64>>
 
 /// The worker that a word names.
 fn worker_number(word: &[u8]) -> Option<u64>
-    ensures { result ≡ worker_of word.now }
+    ensures { result ≡ parsed_worker word.now }
 {
     number_between(1, MAX_WORKER, word)
 }

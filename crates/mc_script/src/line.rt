@@ -1,13 +1,13 @@
 //! A line of a script: whether it is skipped, and its words.
 ghost use Rattle.std.specs.Prelude.{◌≡◌, ◌==◌, not, IfOk, find, map};
 ghost use Rattle.mc_script.specs.Script.{is_skipped};
-ghost use Rattle.mc_script.specs.Words.{words_of};
+ghost use Rattle.mc_script.specs.Words.{line_words};
 
 use std::alloc::{AllocError, Global};
 
 /// Whether a line has no words, or is a comment: its first word begins with `#`.
 pub fn is_skipped(line: &[u8]) -> bool
-    ensures { result ≡ is_skipped (words_of line.now) }
+    ensures { result ≡ is_skipped (line_words line.now) }
 {
     first_byte(line).is_none_or(|byte| byte == b'#')
 }
@@ -21,7 +21,7 @@ fn first_byte(line: &[u8]) -> Option<u8>
 
 /// The pieces between the spaces of a line.
 pub fn words(alloc: Global, line: &[u8]) -> Result<Vec<&[u8]>, AllocError>
-    ensures { IfOk result (λ words. map (λ word. word.now) words.items ≡ words_of line.now) }
+    ensures { IfOk result (λ words. map (λ word. word.now) words.items ≡ line_words line.now) }
 {
     line.split(|byte| *byte == b' ')
         .filter(|word| !word.is_empty())

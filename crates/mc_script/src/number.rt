@@ -1,14 +1,14 @@
 //! The numbers of a script.
 ghost use Rattle.std.specs.Prelude.{◌≡◌, ◌+◌, ◌-◌, ◌*◌, ◌^◌, ◌&&◌, nat_lt, if◌then◌else◌};
 ghost use Rattle.std.specs.Char.{is_ascii_digit};
-ghost use Rattle.mc_script.specs.Words.{number_of, number_between};
+ghost use Rattle.mc_script.specs.Words.{parsed_number, number_between};
 
 /// How many digits 2^64 - 1 has. A number may have leading zeros, but no more digits than that (own).
 const MAX_DIGITS: usize = 20;
 
 /// The number that a word writes in decimal digits alone, if it writes one below 2^64. The word is read once.
 pub fn number(word: &[u8]) -> Option<u64>
-    ensures { result ≡ number_of word.now }
+    ensures { result ≡ parsed_number word.now }
 {
     if word.is_empty() || word.len() > MAX_DIGITS {
         return None;

@@ -1,7 +1,7 @@
 //! The first words of a line, without memory.
 ghost use Rattle.std.specs.Prelude.{◌≡◌, ◌≤◌, ◌==◌, not, length, map, take};
 ghost use Rattle.std.specs.List.{position, position_or_len};
-ghost use Rattle.mc_script.specs.Words.{words_of};
+ghost use Rattle.mc_script.specs.Words.{line_words};
 
 /// One word more than the longest command has, so that a line with more is seen to be none.
 const MOST: usize = 6;
@@ -14,13 +14,13 @@ struct Rest<'a> {
 
 impl<'a> Iterator for Rest<'a> {
     ghost use Rattle.std.specs.Iterator.{YieldsFirstRef, item_count};
-    ghost use Rattle.mc_script.specs.Words.{words_of};
+    ghost use Rattle.mc_script.specs.Words.{line_words};
 
     type Item = &'a [u8];
 
-    ghost next_gives = { YieldsFirstRef (λ s. words_of s.line.now) };
+    ghost next_gives = { YieldsFirstRef (λ s. line_words s.line.now) };
 
-    ghost remaining = { item_count (λ s. words_of s.line.now) };
+    ghost remaining = { item_count (λ s. line_words s.line.now) };
 
     fn next(&mut self) -> Option<&'a [u8]> {
         let line = self.line;
@@ -61,7 +61,7 @@ fn word_length(line: &[u8]) -> usize
 /// The first words of a line, and how many they are.
 pub(crate) fn first_words(line: &[u8]) -> ([&[u8]; MOST], usize)
     ensures count { result.1 ≤ 6 }
-    ensures words { map (λ word. word.now) (take result.1 result.0) ≡ take 6 (words_of line.now) }
+    ensures words { map (λ word. word.now) (take result.1 result.0) ≡ take 6 (line_words line.now) }
 {
     let mut words = [&line[..0]; MOST];
     let mut count = 0;

@@ -3,7 +3,7 @@ ghost use Rattle.std.specs.Prelude.{◌≡◌, ℕ, IfOk, All};
 ghost use Rattle.mc_script.specs.Command.{IsValid};
 ghost use Rattle.mc_script.specs.Forms.{command_of};
 ghost use Rattle.mc_script.specs.Script.{script_of};
-ghost use Rattle.mc_script.specs.Words.{words_of};
+ghost use Rattle.mc_script.specs.Words.{line_words};
 ghost use Rattle.mc_script.specs.declared.script.ScriptError.TheVariants.{NoMemory};
 
 use crate::command::Command;
@@ -62,7 +62,7 @@ pub fn read(alloc: Global, bytes: &[u8]) -> Result<Vec<Command>, ScriptError>
 
 /// The command that a line writes, if it writes one.
 fn command_on(line: &[u8]) -> Option<Command>
-    ensures { result ≡ command_of (words_of line.now) }
+    ensures { result ≡ command_of (line_words line.now) }
 {
     let (words, count) = first_words(line);
     command(&words[..count])

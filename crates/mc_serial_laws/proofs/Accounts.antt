@@ -8,16 +8,16 @@ use Rattle.mc_pages.specs.declared.ledger.Owner.{Owner}
 use Rattle.mc_pages.specs.ClassState.{ClassState}
 use Rattle.mc_pages.specs.SlabState.{SlabState, granted_count, is_untouched}
 use Rattle.mc_pages.specs.Accounted.{truth, IsAccounted}
-use Rattle.mc_pages.specs.InOrder.{IsInOrder, populated_count}
+use Rattle.mc_pages.specs.InOrder.{AreSlabsInOrder, populated_count}
 use Rattle.mc_pages.proofs.Owners.{count_by-AreGranted}
 use Rattle.mc_pages.proofs.Placed.{IsAccounted-numbers}
 use Rattle.mc_watch.specs.Texts.{AreCounts}
-use Rattle.mc_serial_spec.specs.Automove.{free_counts, page_counts}
+use Rattle.mc_serial_spec.specs.Automove.{free_counts, class_page_counts}
 use Rattle.mc_serial_spec.specs.Lines.{general_text_of, slabs_text_of}
-use Rattle.mc_serial_spec.specs.Machine.{Machine, all_swept, swept}
+use Rattle.mc_serial_spec.specs.Machine.{Machine, all_swept, machine_after_sweep}
 use Rattle.mc_serial_spec.proofs.Bounds.{are_counts}
 use Rattle.mc_serial_spec.proofs.MoverSaves.{owners-swept}
-use Rattle.mc_serial_laws.specs.Accounts.{AddUp, TellsGranted}
+use Rattle.mc_serial_laws.specs.Accounts.{AddUp, PrintsGranted}
 use Rattle.mc_serial_laws.proofs.Lawful.{IsLawful, Proceeds, off}
 use Rattle.mc_serial_laws.proofs.ProceedSweeps.{proceeds_all_swept}
 use Rattle.mc_serial_laws.proofs.PagesAddUp.{pages_add_up}
@@ -37,10 +37,10 @@ populated (class ∷ classes) =
     left ∙ (ap (λ (n : ℕ). truth (nat_lt 0 (length class.pages)) + n) (populated classes) ∙ sym right)
 
 -- granted bytes are within the limit, but for one page of each class that has one
-within_limit : (slabs : SlabState) (granted : ℕ) → IsInOrder slabs granted → granted_count slabs * slabs.page ≤ slabs.limit + count_by (nat_lt 0) (page_counts slabs) * slabs.page
+within_limit : (slabs : SlabState) (granted : ℕ) → AreSlabsInOrder slabs granted → granted_count slabs * slabs.page ≤ slabs.limit + count_by (nat_lt 0) (class_page_counts slabs) * slabs.page
 within_limit slabs granted order =
     let many = count_by-AreGranted slabs.owners granted order.lowest in
-    let first = count_by (nat_lt 0) (page_counts slabs) in
+    let first = count_by (nat_lt 0) (class_page_counts slabs) in
     let most : granted_count slabs ≤ slabs.limit / slabs.page + first = omega (arith, many, order.graced, order.accounted.limit, populated slabs.classes) in
     let bytes = mul-le-mul_right slabs.page most in
     let split : (slabs.limit / slabs.page + first) * slabs.page ≡ slabs.limit / slabs.page * slabs.page + first * slabs.page = add-mul (slabs.limit / slabs.page) first slabs.page in
@@ -48,12 +48,12 @@ within_limit slabs granted order =
 
 pub add_up : (m : Machine) → IsLawful m → AddUp m.table (granted_count m.slabs * m.slabs.page) (slabs_text_of m) (general_text_of m)
 add_up m lawful =
-    let counts : AreCounts m.table (page_counts m.slabs) (free_counts m.slabs) = are_counts m.table (off m.slabs) m.items lawful.kept in
-    let pages : sum (page_counts m.slabs) ≡ sum_by (λ (c : ClassState). length c.pages) m.slabs.classes
+    let counts : AreCounts m.table (class_page_counts m.slabs) (free_counts m.slabs) = are_counts m.table (off m.slabs) m.items lawful.kept in
+    let pages : sum (class_page_counts m.slabs) ≡ sum_by (λ (c : ClassState). length c.pages) m.slabs.classes
     = sum-map (λ (c : ClassState). length c.pages) m.slabs.classes in
-    let all : sum (page_counts m.slabs) + length m.slabs.pool ≡ granted_count m.slabs = omega (arith, pages, pages_add_up (off m.slabs) lawful.kept.accounted) in
+    let all : sum (class_page_counts m.slabs) + length m.slabs.pool ≡ granted_count m.slabs = omega (arith, pages, pages_add_up (off m.slabs) lawful.kept.accounted) in
     record {
-      pages = page_counts m.slabs;
+      pages = class_page_counts m.slabs;
       free = free_counts m.slabs;
       pool = length m.slabs.pool;
       running = _;
@@ -67,16 +67,16 @@ add_up m lawful =
       free_of_each = counts.free_of_each;
       chunks = λ class valid. omega (arith, counts.within class valid);
       granted = ap (λ (n : ℕ). n * m.table.page) all ∙ ap (λ (n : ℕ). granted_count m.slabs * n) (sym lawful.kept.page);
-      within = subst (λ (p : ℕ × ℕ). granted_count m.slabs * m.slabs.page ≤ p.0 + count_by (nat_lt 0) (page_counts m.slabs) * p.1) (λ k. (lawful.kept.limit k, lawful.kept.page k)) (within_limit (off m.slabs) lawful.granted lawful.order);
+      within = subst (λ (p : ℕ × ℕ). granted_count m.slabs * m.slabs.page ≤ p.0 + count_by (nat_lt 0) (class_page_counts m.slabs) * p.1) (λ k. (lawful.kept.limit k, lawful.kept.page k)) (within_limit (off m.slabs) lawful.granted lawful.order);
     }
 
-pub tells_granted : (m : Machine) → TellsGranted m.table (granted_count m.slabs * m.slabs.page) (slabs_text_of m)
-tells_granted m = (page_counts m.slabs, free_counts m.slabs, refl)
+pub tells_granted : (m : Machine) → PrintsGranted m.table (granted_count m.slabs * m.slabs.page) (slabs_text_of m)
+tells_granted m = (class_page_counts m.slabs, free_counts m.slabs, refl)
 
 -- sweeps leave the owners of pages
-owners-sweeps : (m : Machine) (classes : List ℕ) → (fold swept m classes).slabs.owners ≡ m.slabs.owners
+owners-sweeps : (m : Machine) (classes : List ℕ) → (fold machine_after_sweep m classes).slabs.owners ≡ m.slabs.owners
 owners-sweeps m [] = refl
-owners-sweeps m (class ∷ classes) = owners-sweeps (swept m class) classes ∙ owners-swept m class
+owners-sweeps m (class ∷ classes) = owners-sweeps (machine_after_sweep m class) classes ∙ owners-swept m class
 
 owners-all_swept : (m : Machine) → (all_swept m).slabs.owners ≡ m.slabs.owners
 owners-all_swept m = owners-sweeps m (range_with_len 1 (length m.slabs.classes))
@@ -84,7 +84,7 @@ owners-all_swept m = owners-sweeps m (range_with_len 1 (length m.slabs.classes))
 -- no fewer bytes are told of a machine with no fewer pages granted
 pub bytes_grow : (table : Classes) (m last : Machine) → IsLawful m → IsLawful last → m.table ≡ table → last.table ≡ table
     → granted_count m.slabs ≤ granted_count last.slabs
-    → (malloced later : ℕ) × TellsGranted table malloced (slabs_text_of (all_swept m)) × TellsGranted table later (slabs_text_of (all_swept last)) × (malloced ≤ later)
+    → (malloced later : ℕ) × PrintsGranted table malloced (slabs_text_of (all_swept m)) × PrintsGranted table later (slabs_text_of (all_swept last)) × (malloced ≤ later)
 bytes_grow table m last lawful lawful_last of_table last_of_table more =
     let count : List Owner → ℕ = λ owners. count_by (λ (owner : Owner). not (is_untouched owner)) owners in
     let goes : Proceeds m (all_swept m) = proceeds_all_swept m lawful in
@@ -97,8 +97,8 @@ bytes_grow table m last lawful lawful_last of_table last_of_table more =
     = goes.lawful.kept.page ∙ ap (λ (t : Classes). t.page) (same ∙ sym same_last) ∙ sym goes_last.lawful.kept.page in (
       granted_count (all_swept m).slabs * (all_swept m).slabs.page,
       granted_count (all_swept last).slabs * (all_swept last).slabs.page,
-      subst (λ (t : Classes). TellsGranted t (granted_count (all_swept m).slabs * (all_swept m).slabs.page) (slabs_text_of (all_swept m))) same (tells_granted (all_swept m)),
-      subst (λ (t : Classes). TellsGranted t (granted_count (all_swept last).slabs * (all_swept last).slabs.page) (slabs_text_of (all_swept last))) same_last (tells_granted (all_swept last)),
+      subst (λ (t : Classes). PrintsGranted t (granted_count (all_swept m).slabs * (all_swept m).slabs.page) (slabs_text_of (all_swept m))) same (tells_granted (all_swept m)),
+      subst (λ (t : Classes). PrintsGranted t (granted_count (all_swept last).slabs * (all_swept last).slabs.page) (slabs_text_of (all_swept last))) same_last (tells_granted (all_swept last)),
       subst (λ (n : ℕ). granted_count (all_swept m).slabs * (all_swept m).slabs.page ≤ granted_count (all_swept last).slabs * n) size
           (mul-le-mul_right (all_swept m).slabs.page pages),
     )

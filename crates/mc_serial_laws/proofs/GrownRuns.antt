@@ -6,23 +6,23 @@ use Rattle.std.proofs.lemmas.Option.{none-some, same_Some}
 use Rattle.mc_classes.specs.Classes.{class_of}
 use Rattle.mc_classes.proofs.ClassOf.{class_fits}
 use Rattle.mc_pages.specs.declared.ids.ChunkId.{ChunkId}
-use Rattle.mc_pages.specs.SlabState.{IsClass, granted_count}
+use Rattle.mc_pages.specs.SlabState.{HasClass, granted_count}
 use Rattle.mc_pages.specs.Answer.{answer_of}
 use Rattle.mc_script.specs.Command.{IsValid}
 use Rattle.mc_script.specs.declared.command.Command.{Command}
 use Rattle.mc_script.specs.declared.command.Command.TheVariants.{Set, Delete, Get, Hold, Drop, Touch, Reassign, Automove, Window, Turn, Stats, StatsSlabs}
-use Rattle.mc_serial_spec.specs.Item.{Item, item_bytes, words_from}
-use Rattle.mc_serial_spec.specs.Items.{item_at, linked_chunk, unlinked_items}
+use Rattle.mc_serial_spec.specs.Item.{Item, item_bytes, counting_words}
+use Rattle.mc_serial_spec.specs.Items.{item_in_chunk, linked_chunk, unlinked_items}
 use Rattle.mc_serial_spec.specs.Holds.{is_full}
 use Rattle.mc_serial_spec.specs.Automove.{decision, with_asked_page, with_window}
-use Rattle.mc_serial_spec.specs.Lines.{Served, acted, after_all, after_turn, deleted, dropped, held, kept, last_hold, let_go, looked_up, made_youngest, reassigned, serve, set_in, stored, told, with_stored}
+use Rattle.mc_serial_spec.specs.Lines.{Outcome, decision_outcome, after_all, after_turn, delete_outcome, release_outcome, hold_outcome_at, hold_outcome, last_hold, release_outcome_at, lookup_outcome, touch_outcome, reassign_outcome, serve, set_outcome_of, set_outcome, reply_only, machine_with_item}
 use Rattle.mc_serial_spec.specs.Machine.{Machine, all_swept}
-use Rattle.mc_serial_spec.specs.Mover.{Turned, after_turns, no_counts}
+use Rattle.mc_serial_spec.specs.Mover.{TurnsOfMover, after_turns, zero_counts}
 use Rattle.mc_serial_spec.specs.Texts.{key_line}
-use Rattle.mc_serial_spec.specs.Supply.{asks_for_page, supplied, supply}
+use Rattle.mc_serial_spec.specs.Supply.{asks_for_page, machine_after_supply, supply}
 use Rattle.mc_serial_spec.specs.declared.turn.Ending.TheVariants.{Idle}
 use Rattle.mc_serial_spec.proofs.Stocks.{IsClass-supplied, nowhere-unlinked}
-use Rattle.mc_serial_laws.specs.Answered.{Answered}
+use Rattle.mc_serial_laws.specs.Answered.{AnsweredCommand}
 use Rattle.mc_serial_laws.proofs.Lawful.{IsLawful, Proceeds, proceeds_then}
 use Rattle.mc_serial_laws.proofs.ProceedCommands.{lawful_unlinked, proceeds_acted, proceeds_asked, proceeds_fed}
 use Rattle.mc_serial_laws.proofs.ProceedPages.{proceeds_supplied}
@@ -53,24 +53,24 @@ grows_on old new goes = record { table = goes.table; mode = λ most. rw goes.mod
 -- ---- each command
 
 grows_held : (m : Machine) (worker key : ℕ) (full : Bool) (found : Option ChunkId)
-    → Grows m (if full then told m (key_line (codes "TOO_MANY_REFS") key) else held m worker key found).machine
+    → Grows m (if full then reply_only m (key_line (codes "TOO_MANY_REFS") key) else hold_outcome_at m worker key found).machine
 grows_held m worker key true found = grows_same m
 grows_held m worker key false None = grows_same m
 grows_held m worker key false (Some chunk) = record { table = refl; mode = λ most. most; granted = omega arith }
 
-grows_let_go : (m : Machine) (worker key : ℕ) (chunk : ChunkId) (found : Option Item) → Grows m (let_go m worker key chunk found).machine
+grows_let_go : (m : Machine) (worker key : ℕ) (chunk : ChunkId) (found : Option Item) → Grows m (release_outcome_at m worker key chunk found).machine
 grows_let_go m worker key chunk None = grows_same m
 grows_let_go m worker key chunk (Some item) = record { table = refl; mode = λ most. most; granted = omega arith }
 
-grows_dropped : (m : Machine) (worker key : ℕ) (found : Option ChunkId) → Grows m (dropped m worker key found).machine
+grows_dropped : (m : Machine) (worker key : ℕ) (found : Option ChunkId) → Grows m (release_outcome m worker key found).machine
 grows_dropped m worker key None = grows_same m
-grows_dropped m worker key (Some chunk) = grows_let_go m worker key chunk (item_at m.items chunk)
+grows_dropped m worker key (Some chunk) = grows_let_go m worker key chunk (item_in_chunk m.items chunk)
 
-grows_deleted : (m : Machine) (key : ℕ) (found : Option ChunkId) → Grows m (deleted m key found).machine
+grows_deleted : (m : Machine) (key : ℕ) (found : Option ChunkId) → Grows m (delete_outcome m key found).machine
 grows_deleted m key None = grows_same m
 grows_deleted m key (Some chunk) = record { table = refl; mode = λ most. most; granted = omega arith }
 
-grows_touched : (m : Machine) (key : ℕ) (found : Option ChunkId) → Grows m (made_youngest m key found).machine
+grows_touched : (m : Machine) (key : ℕ) (found : Option ChunkId) → Grows m (touch_outcome m key found).machine
 grows_touched m key None = grows_same m
 grows_touched m key (Some chunk) = record { table = refl; mode = λ most. most; granted = omega arith }
 
@@ -79,78 +79,78 @@ grows_asked : (m : Machine) (class : ℕ) (asks : Bool) → IsLawful m → Grows
 grows_asked m class true lawful = grows_on m (with_asked_page m class) (proceeds_asked m None class (answer_of m.slabs None class) lawful refl)
 grows_asked m class false lawful = grows_same m
 
-grows_stored : (m : Machine) (class key : ℕ) (words : List ℕ) (asks : Bool) (found : Option ChunkId) → IsLawful m → IsClass m.slabs class → supply m class ≡ found
-    → Grows m (stored (supplied m class) class key words asks found).machine
-grows_stored m class key words asks None lawful valid is = grows_on m (supplied m class) (proceeds_supplied m class lawful valid)
+grows_stored : (m : Machine) (class key : ℕ) (words : List ℕ) (asks : Bool) (found : Option ChunkId) → IsLawful m → HasClass m.slabs class → supply m class ≡ found
+    → Grows m (set_outcome (machine_after_supply m class) class key words asks found).machine
+grows_stored m class key words asks None lawful valid is = grows_on m (machine_after_supply m class) (proceeds_supplied m class lawful valid)
 grows_stored m class key words asks (Some chunk) lawful valid is =
-    let ready : Machine = supplied m class in
+    let ready : Machine = machine_after_supply m class in
     let goes : Proceeds m ready = proceeds_supplied m class lawful valid in
     let free : Machine = record ready { items = unlinked_items ready.items key } in
-    let now : Machine = with_stored ready class key words chunk in
+    let now : Machine = machine_with_item ready class key words chunk in
     let lawful_now : IsLawful now
     = lawful_stored free class key words chunk (lawful_unlinked ready key goes.lawful) (IsClass-supplied m class valid) is (nowhere-unlinked ready.items key) in
-    grows_then m ready (stored ready class key words asks (Some chunk)).machine (grows_on m ready goes)
-    (grows_then ready now (stored ready class key words asks (Some chunk)).machine (record { table = refl; mode = λ most. most; granted = omega arith })
+    grows_then m ready (set_outcome ready class key words asks (Some chunk)).machine (grows_on m ready goes)
+    (grows_then ready now (set_outcome ready class key words asks (Some chunk)).machine (record { table = refl; mode = λ most. most; granted = omega arith })
     (grows_asked now class asks lawful_now))
 
 grows_set : (m : Machine) (count key : ℕ) (words : List ℕ) (class : Option ℕ) → IsLawful m → class_of m.table (item_bytes count) ≡ class
-    → Grows m (set_in m class key words).machine
+    → Grows m (set_outcome_of m class key words).machine
 grows_set m count key words None lawful is = grows_same m
 grows_set m count key words (Some class) lawful is =
     let there = (class_fits m.table (item_bytes count) class is).0 in
-    let valid : IsClass m.slabs class = (there.0, omega (arith, there.1, lawful.kept.classes)) in
+    let valid : HasClass m.slabs class = (there.0, omega (arith, there.1, lawful.kept.classes)) in
     grows_stored m class key words (asks_for_page m class) (supply m class) lawful valid refl
 
-grows_turns : (m : Machine) (turns : ℕ) (served : Served) (found : Option Turned) → IsLawful m → after_turns m turns ≡ found
+grows_turns : (m : Machine) (turns : ℕ) (served : Outcome) (found : Option TurnsOfMover) → IsLawful m → after_turns m turns ≡ found
     → option_map after_turn found ≡ Some served → Grows m served.machine
 grows_turns m turns served None lawful is done = absurd (none-some served done)
 grows_turns m turns served (Some t) lawful is done =
-    subst (λ (s : Served). Grows m s.machine) (same_Some (after_turn t) served done)
-    (grows_on m t.machine (proceeds_turns turns (record { machine = m; counts = no_counts; ending = Idle }) t lawful is))
+    subst (λ (s : Outcome). Grows m s.machine) (same_Some (after_turn t) served done)
+    (grows_on m t.machine (proceeds_turns turns (record { machine = m; counts = zero_counts; ending = Idle }) t lawful is))
 
 -- the commands of a run
-grows_serve : (m : Machine) (command : Command) (served : Served) → IsLawful m → IsValid command → serve m command ≡ Some served → Grows m served.machine
+grows_serve : (m : Machine) (command : Command) (served : Outcome) → IsLawful m → IsValid command → serve m command ≡ Some served → Grows m served.machine
 grows_serve m (Set worker key count base) served lawful valid is =
-    subst (λ (s : Served). Grows m s.machine) (same_Some _ served is)
-    (grows_set m count key (words_from base count) (class_of m.table (item_bytes count)) lawful refl)
+    subst (λ (s : Outcome). Grows m s.machine) (same_Some _ served is)
+    (grows_set m count key (counting_words base count) (class_of m.table (item_bytes count)) lawful refl)
 grows_serve m (Delete worker key) served lawful valid is =
-    subst (λ (s : Served). Grows m s.machine) (same_Some _ served is) (grows_deleted m key (linked_chunk m.items key))
+    subst (λ (s : Outcome). Grows m s.machine) (same_Some _ served is) (grows_deleted m key (linked_chunk m.items key))
 grows_serve m (Get worker key) served lawful valid is =
-    let same : (looked_up m worker key).machine ≡ m
-    = looked_way (is_full m.holds worker) m key (option_and_then (item_at m.items) (linked_chunk m.items key)) in
-    subst (λ (s : Served). Grows m s.machine) (same_Some (looked_up m worker key) served is) (subst (λ (n : Machine). Grows m n) (sym same) (grows_same m))
+    let same : (lookup_outcome m worker key).machine ≡ m
+    = looked_way (is_full m.holds worker) m key (option_and_then (item_in_chunk m.items) (linked_chunk m.items key)) in
+    subst (λ (s : Outcome). Grows m s.machine) (same_Some (lookup_outcome m worker key) served is) (subst (λ (n : Machine). Grows m n) (sym same) (grows_same m))
 grows_serve m (Hold worker key) served lawful valid is =
-    subst (λ (s : Served). Grows m s.machine) (same_Some (kept m worker key) served is)
+    subst (λ (s : Outcome). Grows m s.machine) (same_Some (hold_outcome m worker key) served is)
     (grows_held m worker key (is_full m.holds worker) (linked_chunk m.items key))
 grows_serve m (Drop worker key) served lawful valid is =
-    subst (λ (s : Served). Grows m s.machine) (same_Some _ served is) (grows_dropped m worker key (last_hold m worker key))
+    subst (λ (s : Outcome). Grows m s.machine) (same_Some _ served is) (grows_dropped m worker key (last_hold m worker key))
 grows_serve m (Touch worker key) served lawful valid is =
-    subst (λ (s : Served). Grows m s.machine) (same_Some _ served is) (grows_touched m key (linked_chunk m.items key))
+    subst (λ (s : Outcome). Grows m s.machine) (same_Some _ served is) (grows_touched m key (linked_chunk m.items key))
 grows_serve m (Reassign src dst) served lawful valid is =
-    let answered : Served = reassigned m src dst (answer_of m.slabs src dst) in
-    subst (λ (s : Served). Grows m s.machine) (same_Some answered served is)
+    let answered : Outcome = reassign_outcome m src dst (answer_of m.slabs src dst) in
+    subst (λ (s : Outcome). Grows m s.machine) (same_Some answered served is)
     (grows_on m answered.machine (proceeds_asked m src dst (answer_of m.slabs src dst) lawful refl))
 grows_serve m (Automove mode) served lawful valid is =
-    subst (λ (s : Served). Grows m s.machine) (same_Some _ served is) (record { table = refl; mode = λ most. valid; granted = omega arith })
+    subst (λ (s : Outcome). Grows m s.machine) (same_Some _ served is) (record { table = refl; mode = λ most. valid; granted = omega arith })
 grows_serve m Window served lawful valid is =
     let fed : Machine = with_window (all_swept m) in
     let goes : Proceeds m fed = proceeds_fed m lawful in
-    subst (λ (s : Served). Grows m s.machine) (same_Some _ served is)
-    (grows_on m (acted fed (decision fed)).machine (proceeds_then m fed (acted fed (decision fed)).machine goes (proceeds_acted fed (decision fed) goes.lawful)))
+    subst (λ (s : Outcome). Grows m s.machine) (same_Some _ served is)
+    (grows_on m (decision_outcome fed (decision fed)).machine (proceeds_then m fed (decision_outcome fed (decision fed)).machine goes (proceeds_acted fed (decision fed) goes.lawful)))
 grows_serve m (Turn turns) served lawful valid is = grows_turns m turns served (after_turns m turns) lawful refl is
-grows_serve m Stats served lawful valid is = subst (λ (s : Served). Grows m s.machine) (same_Some _ served is) (grows_same m)
+grows_serve m Stats served lawful valid is = subst (λ (s : Outcome). Grows m s.machine) (same_Some _ served is) (grows_same m)
 grows_serve m StatsSlabs served lawful valid is =
-    subst (λ (s : Served). Grows m s.machine) (same_Some _ served is) (grows_on m (all_swept m) (proceeds_all_swept m lawful))
+    subst (λ (s : Outcome). Grows m s.machine) (same_Some _ served is) (grows_on m (all_swept m) (proceeds_all_swept m lawful))
 
 -- a machine that was told of, and what it has from the one before
 record IsLater (old new : Machine) : Type 0 where
-  told_so_far : List Answered
+  told_so_far : List AnsweredCommand
   told : AreTold new told_so_far
   grows : Grows old new
 
-later_way : (m last : Machine) (before : List Answered) (command : Command) (commands : List Command) (found : Option Served) → serve m command ≡ found
-    → AreTold m before → IsValid command → option_and_then (λ (next : Served). after_all next.machine commands) found ≡ Some last
-    → ((next : Served) → AreTold next.machine (answered_by command next ∷ before) → after_all next.machine commands ≡ Some last → IsLater next.machine last)
+later_way : (m last : Machine) (before : List AnsweredCommand) (command : Command) (commands : List Command) (found : Option Outcome) → serve m command ≡ found
+    → AreTold m before → IsValid command → option_and_then (λ (next : Outcome). after_all next.machine commands) found ≡ Some last
+    → ((next : Outcome) → AreTold next.machine (answered_by command next ∷ before) → after_all next.machine commands ≡ Some last → IsLater next.machine last)
     → IsLater m last
 later_way m last before command commands None is told valid after more = absurd (none-some last after)
 later_way m last before command commands (Some next) is told valid after more =
@@ -161,7 +161,7 @@ later_way m last before command commands (Some next) is told valid after more =
       grows = grows_then m next.machine last (grows_serve m command next told.lawful valid is) rest.grows;
     }
 
-later_all : (commands : List Command) (m last : Machine) (before : List Answered) → AreTold m before → All IsValid commands → after_all m commands ≡ Some last
+later_all : (commands : List Command) (m last : Machine) (before : List AnsweredCommand) → AreTold m before → All IsValid commands → after_all m commands ≡ Some last
     → IsLater m last
 later_all [] m last before told valid is =
     subst (λ (n : Machine). IsLater m n) (same_Some m last is) (record { told_so_far = before; told = told; grows = grows_same m })
@@ -171,10 +171,10 @@ later_all (command ∷ commands) m last before told valid is =
     (λ k d within. valid (suc k) d (omega (arith, within))) after)
 
 -- a machine after some commands of a lawful one is lawful, and has what that one has
-pub grown_run : (commands : List Command) (m last : Machine) (before : List Answered) → AreTold m before → All IsValid commands → after_all m commands ≡ Some last
+pub grown_run : (commands : List Command) (m last : Machine) (before : List AnsweredCommand) → AreTold m before → All IsValid commands → after_all m commands ≡ Some last
     → Grows m last
 grown_run commands m last before told valid is = (later_all commands m last before told valid is).grows
 
-pub lawful_run : (commands : List Command) (m last : Machine) (before : List Answered) → AreTold m before → All IsValid commands → after_all m commands ≡ Some last
+pub lawful_run : (commands : List Command) (m last : Machine) (before : List AnsweredCommand) → AreTold m before → All IsValid commands → after_all m commands ≡ Some last
     → IsLawful last
 lawful_run commands m last before told valid is = (later_all commands m last before told valid is).told.lawful

@@ -9,15 +9,15 @@ use Rattle.std.proofs.lemmas.List.{get_or_past}
 use Rattle.std.proofs.lemmas.List.Sums.{get_or-le-sum_by}
 use Rattle.mc_classes.specs.Limits.{most_refs}
 use Rattle.mc_pages.specs.declared.ids.ChunkId.{ChunkId}
-use Rattle.mc_pages.specs.ClassState.{is_chunk, times}
+use Rattle.mc_pages.specs.ClassState.{is_chunk, times_in}
 use Rattle.mc_pages.specs.SlabState.{SlabState, granted_count}
-use Rattle.mc_pages.specs.InOrder.{IsInOrder}
+use Rattle.mc_pages.specs.InOrder.{AreSlabsInOrder}
 use Rattle.mc_pages.proofs.Chunks.{same_from_is_chunk}
 use Rattle.mc_pages.proofs.Owners.{count_by-AreGranted}
 use Rattle.mc_serial_spec.specs.Item.{Item}
-use Rattle.mc_serial_spec.specs.Items.{Items, item_at, without_item}
+use Rattle.mc_serial_spec.specs.Items.{Items, item_in_chunk, without_item}
 use Rattle.mc_serial_spec.specs.Holds.{Holds, held_by, hold_count, is_held}
-use Rattle.mc_serial_spec.specs.Consistent.{places, IsConsistent}
+use Rattle.mc_serial_spec.specs.Consistent.{place_count, IsConsistent}
 use Rattle.mc_serial_spec.specs.Machine.{Machine, with_mode}
 use Rattle.mc_serial_laws.specs.Answered.{HeldWords}
 use Rattle.mc_serial_spec.proofs.Chunks.{places_none}
@@ -33,18 +33,18 @@ off slabs = with_mode slabs 0
 pub record IsLawful (m : Machine) : Type 0 where
   pub kept : IsConsistent m.table (off m.slabs) m.items
   pub granted : ℕ
-  pub order : IsInOrder (off m.slabs) granted
+  pub order : AreSlabsInOrder (off m.slabs) granted
   pub workers : length m.holds ≡ 64
   pub few : (worker : ℕ) → length (held_by m.holds worker) ≤ most_refs
   -- a chunk that a worker holds has an item
-  pub stored : (worker : ℕ) (chunk : ChunkId) → 1 ≤ times chunk (held_by m.holds worker) → 1 ≤ places chunk m.items
+  pub stored : (worker : ℕ) (chunk : ChunkId) → 1 ≤ times_in chunk (held_by m.holds worker) → 1 ≤ place_count chunk m.items
 
 -- a chunk's item as whoever holds it sees it
 abbrev pub as_held : Item → HeldWords
 as_held item = record { key = item.key; words = item.words }
 
 abbrev pub stored_as : Items → ChunkId → Option HeldWords
-stored_as items chunk = option_map as_held (item_at items chunk)
+stored_as items chunk = option_map as_held (item_in_chunk items chunk)
 
 -- the machine goes on by itself: nobody's holds change, nor the items that they hold, and each linked item was there
 -- before; granted pages stay granted, and the automover's mode is as before
@@ -54,13 +54,13 @@ pub record Proceeds (old new : Machine) : Type 0 where
   pub mode : new.slabs.automove ≡ old.slabs.automove
   pub grows : granted_count old.slabs ≤ granted_count new.slabs
   pub holds : new.holds ≡ old.holds
-  pub held : (worker : ℕ) (chunk : ChunkId) → 1 ≤ times chunk (held_by old.holds worker)
-      → item_at new.items chunk ≡ item_at old.items chunk
-  pub linked : (chunk : ChunkId) (item : Item) → item_at new.items chunk ≡ Some item → item.linked ≡ true
-      → (before : ChunkId) × (item_at old.items before ≡ Some item)
+  pub held : (worker : ℕ) (chunk : ChunkId) → 1 ≤ times_in chunk (held_by old.holds worker)
+      → item_in_chunk new.items chunk ≡ item_in_chunk old.items chunk
+  pub linked : (chunk : ChunkId) (item : Item) → item_in_chunk new.items chunk ≡ Some item → item.linked ≡ true
+      → (before : ChunkId) × (item_in_chunk old.items before ≡ Some item)
 
 -- whoever holds a chunk sees there what stood there before
-pub stands_on : (old new : Machine) → Proceeds old new → (worker : ℕ) (chunk : ChunkId) → 1 ≤ times chunk (held_by old.holds worker)
+pub stands_on : (old new : Machine) → Proceeds old new → (worker : ℕ) (chunk : ChunkId) → 1 ≤ times_in chunk (held_by old.holds worker)
     → stored_as new.items chunk ≡ stored_as old.items chunk
 stands_on old new goes worker chunk held = ap (option_map as_held) (goes.held worker chunk held)
 
@@ -89,10 +89,10 @@ proceeds_then a b c first next = record {
 }
 
 -- what stands in a chunk still does, so the chunk has an item
-stored_still : (old new : Items) (chunk : ChunkId) → stored_as new chunk ≡ stored_as old chunk → 1 ≤ places chunk old → 1 ≤ places chunk new
-stored_still old new chunk same there = found_new (item_at new chunk) (item_at old chunk) refl refl
+stored_still : (old new : Items) (chunk : ChunkId) → stored_as new chunk ≡ stored_as old chunk → 1 ≤ place_count chunk old → 1 ≤ place_count chunk new
+stored_still old new chunk same there = found_new (item_in_chunk new chunk) (item_in_chunk old chunk) refl refl
   where
-    found_new : (now before : Option Item) → item_at new chunk ≡ now → item_at old chunk ≡ before → 1 ≤ places chunk new
+    found_new : (now before : Option Item) → item_in_chunk new chunk ≡ now → item_in_chunk old chunk ≡ before → 1 ≤ place_count chunk new
     found_new (Some item) before is was = some_places chunk item new is
     found_new None (Some item) is was =
         let bad : None ≡ Some (as_held item) = sym (ap (option_map as_held) is) ∙ same ∙ ap (option_map as_held) was in
@@ -101,8 +101,8 @@ stored_still old new chunk same there = found_new (item_at new chunk) (item_at o
 
 -- what is lawful after a step in which no held chunk's words change
 pub lawful_from : (old new : Machine) (granted : ℕ) → IsLawful old
-    → IsConsistent new.table (off new.slabs) new.items → IsInOrder (off new.slabs) granted → new.holds ≡ old.holds
-    → ((worker : ℕ) (chunk : ChunkId) → 1 ≤ times chunk (held_by old.holds worker) → stored_as new.items chunk ≡ stored_as old.items chunk)
+    → IsConsistent new.table (off new.slabs) new.items → AreSlabsInOrder (off new.slabs) granted → new.holds ≡ old.holds
+    → ((worker : ℕ) (chunk : ChunkId) → 1 ≤ times_in chunk (held_by old.holds worker) → stored_as new.items chunk ≡ stored_as old.items chunk)
     → IsLawful new
 lawful_from old new granted lawful kept order holds stands = record {
   kept = kept;
@@ -111,16 +111,16 @@ lawful_from old new granted lawful kept order holds stands = record {
   workers = ap (λ (h : Holds). length h) holds ∙ lawful.workers;
   few = λ worker. rw holds (lawful.few worker);
   stored = λ worker chunk held.
-      let held_before : 1 ≤ times chunk (held_by old.holds worker) = rw (← holds) held in
+      let held_before : 1 ≤ times_in chunk (held_by old.holds worker) = rw (← holds) held in
       stored_still old.items new.items chunk (stands worker chunk held_before) (lawful.stored worker chunk held_before);
 }
 
 -- a step of the machine, from its parts
 pub proceeds_from : (old new : Machine) (granted : ℕ) (lawful : IsLawful old)
-    → IsConsistent new.table (off new.slabs) new.items → IsInOrder (off new.slabs) granted → lawful.granted ≤ granted
+    → IsConsistent new.table (off new.slabs) new.items → AreSlabsInOrder (off new.slabs) granted → lawful.granted ≤ granted
     → new.table ≡ old.table → new.slabs.automove ≡ old.slabs.automove → new.holds ≡ old.holds
-    → ((worker : ℕ) (chunk : ChunkId) → 1 ≤ times chunk (held_by old.holds worker) → item_at new.items chunk ≡ item_at old.items chunk)
-    → ((chunk : ChunkId) (item : Item) → item_at new.items chunk ≡ Some item → item.linked ≡ true → (before : ChunkId) × (item_at old.items before ≡ Some item))
+    → ((worker : ℕ) (chunk : ChunkId) → 1 ≤ times_in chunk (held_by old.holds worker) → item_in_chunk new.items chunk ≡ item_in_chunk old.items chunk)
+    → ((chunk : ChunkId) (item : Item) → item_in_chunk new.items chunk ≡ Some item → item.linked ≡ true → (before : ChunkId) × (item_in_chunk old.items before ≡ Some item))
     → Proceeds old new
 proceeds_from old new granted lawful kept order more table mode holds held linked = record {
   lawful = lawful_from old new granted lawful kept order holds (λ worker chunk holding. ap (option_map as_held) (held worker chunk holding));
@@ -134,29 +134,29 @@ proceeds_from old new granted lawful kept order more table mode holds held linke
 
 -- pages and chunks change, and no item does
 pub proceeds_slabs : (m : Machine) (slabs : SlabState) (granted : ℕ) (lawful : IsLawful m)
-    → IsConsistent m.table (off slabs) m.items → IsInOrder (off slabs) granted → lawful.granted ≤ granted → slabs.automove ≡ m.slabs.automove
+    → IsConsistent m.table (off slabs) m.items → AreSlabsInOrder (off slabs) granted → lawful.granted ≤ granted → slabs.automove ≡ m.slabs.automove
     → Proceeds m (record m { slabs = slabs })
 proceeds_slabs m slabs granted lawful kept order more mode =
     proceeds_from m (record m { slabs = slabs }) granted lawful kept order more refl mode refl (λ worker chunk held. refl)
     (λ chunk item at is. (chunk, at))
 
 -- a chunk that nobody holds is in no worker's list
-pub not_held : (holds : Holds) (chunk c : ChunkId) (worker : ℕ) → is_held holds chunk ≡ false → 1 ≤ times c (held_by holds worker) → is_chunk chunk c ≡ false
+pub not_held : (holds : Holds) (chunk c : ChunkId) (worker : ℕ) → is_held holds chunk ≡ false → 1 ≤ times_in c (held_by holds worker) → is_chunk chunk c ≡ false
 not_held holds chunk c worker free held = elim (cases_Bool (is_chunk chunk c)) [
   | inr other ↦ other
   | inl same ↦
       let one : chunk ≡ c = same_from_is_chunk chunk c same in
       let none : hold_count holds chunk ≡ 0 = grind (arith, nat_tests) in
-      let here : 1 ≤ times chunk (held_by holds worker) = rw one held in
+      let here : 1 ≤ times_in chunk (held_by holds worker) = rw one held in
       elim (cases_lt worker (length holds)) [
-        | inl inside ↦ absurd (omega (arith, here, none, get_or-le-sum_by (times chunk) holds worker [] inside))
-        | inr past ↦ absurd (omega (arith, here, ap (λ (cs : List ChunkId). times chunk cs) (get_or_past holds worker [] past)))
+        | inl inside ↦ absurd (omega (arith, here, none, get_or-le-sum_by (times_in chunk) holds worker [] inside))
+        | inr past ↦ absurd (omega (arith, here, ap (λ (cs : List ChunkId). times_in chunk cs) (get_or_past holds worker [] past)))
       ]
 ]
 
 -- the item of a chunk that nobody holds is gone
 pub proceeds_without : (m : Machine) (slabs : SlabState) (chunk : ChunkId) (item : Item) (lawful : IsLawful m)
-    → item_at m.items chunk ≡ Some item → is_held m.holds chunk ≡ false → IsConsistent m.table (off slabs) (without_item m.items chunk) → IsInOrder (off slabs) lawful.granted
+    → item_in_chunk m.items chunk ≡ Some item → is_held m.holds chunk ≡ false → IsConsistent m.table (off slabs) (without_item m.items chunk) → AreSlabsInOrder (off slabs) lawful.granted
     → slabs.automove ≡ m.slabs.automove → Proceeds m (record m { slabs = slabs; items = without_item m.items chunk })
 proceeds_without m slabs chunk item lawful there free kept order mode =
     proceeds_from m (record m { slabs = slabs; items = without_item m.items chunk }) lawful.granted lawful kept order (omega arith) refl mode refl

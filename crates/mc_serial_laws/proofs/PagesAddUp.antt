@@ -12,7 +12,7 @@ use Rattle.mc_pages.specs.Ledger.{owner_at}
 use Rattle.mc_pages.specs.ClassState.{ClassState}
 use Rattle.mc_pages.specs.SlabState.{SlabState, granted_count, is_untouched, page_count}
 use Rattle.mc_pages.specs.Accounted.{truth, IsAccounted}
-use Rattle.mc_pages.specs.Pages.{places_of, times_listed, times_pooled, is_on_the_move}
+use Rattle.mc_pages.specs.Pages.{page_places, times_listed, times_pooled, is_on_the_move}
 use Rattle.mc_pages.proofs.GrantedPage.{length-owners}
 use Rattle.mc_pages.proofs.Pages.{in_no_place, in_one_place, moving_once}
 
@@ -106,7 +106,7 @@ module _ (slabs : SlabState) (all : IsAccounted slabs) where
       once_way (is_on_the_move slabs page) (is_untouched (owner_at slabs.owners page)) refl refl (lt-ltb page (page_count slabs) inside) (in_one_place slabs page all inside)
     where
       once_way : (moves left : Bool) → is_on_the_move slabs page ≡ moves → is_untouched (owner_at slabs.owners page) ≡ left → nat_lt page (page_count slabs) ≡ true
-          → places_of slabs page ≡ 1 → times_listed slabs page + times_pooled slabs page ≡ truth (not (is_untouched (owner_at slabs.owners page)))
+          → page_places slabs page ≡ 1 → times_listed slabs page + times_pooled slabs page ≡ truth (not (is_untouched (owner_at slabs.owners page)))
       once_way true true moves left inside one =
           let sums : 0 + times_pooled slabs page + 1 + 1 ≡ 1 = rw (moves, left, inside) at one in
           absurd (omega (arith, sums))
@@ -125,7 +125,7 @@ module _ (slabs : SlabState) (all : IsAccounted slabs) where
   nowhere page past =
       nowhere_way (is_on_the_move slabs page) refl (in_no_place slabs page all (omega (arith, past, length-owners slabs all)))
     where
-      nowhere_way : (moves : Bool) → is_on_the_move slabs page ≡ moves → places_of slabs page ≡ 0 → (times_listed slabs page ≡ 0) × (times_pooled slabs page ≡ 0)
+      nowhere_way : (moves : Bool) → is_on_the_move slabs page ≡ moves → page_places slabs page ≡ 0 → (times_listed slabs page ≡ 0) × (times_pooled slabs page ≡ 0)
       nowhere_way true moves none = absurd (omega (arith, none, ap truth moves))
       nowhere_way false moves none =
           let stays : (if is_on_the_move slabs page then 0 else times_listed slabs page) ≡ times_listed slabs page = rw moves refl in

@@ -6,10 +6,10 @@ use Rattle.std.proofs.lemmas.Bool.{false≢true}
 use Rattle.std.proofs.lemmas.Option.{none-some, same_Some}
 use Rattle.mc_pages.specs.declared.ids.ChunkId.{ChunkId}
 use Rattle.mc_pages.specs.Accounted.{truth}
-use Rattle.mc_pages.specs.ClassState.{is_chunk, times, without}
+use Rattle.mc_pages.specs.ClassState.{is_chunk, times_in, without}
 use Rattle.mc_pages.proofs.Chunks.{is_chunk-same, same_from_is_chunk, times-cons}
 use Rattle.mc_serial_spec.specs.Item.{Item}
-use Rattle.mc_serial_spec.specs.Items.{Items, has_key, item_at}
+use Rattle.mc_serial_spec.specs.Items.{Items, has_key, item_in_chunk}
 use Rattle.mc_serial_laws.specs.Answered.{HeldWords, without_held}
 use Rattle.mc_serial_laws.proofs.Lawful.{stored_as}
 
@@ -22,7 +22,7 @@ Stand items (c ∷ chunks) (h ∷ held) = (stored_as items c ≡ Some h) × Stan
 
 -- other items in which each of these chunks stores the same
 pub stand_on : (old new : Items) (chunks : List ChunkId) (held : List HeldWords)
-    → ((c : ChunkId) → 1 ≤ times c chunks → stored_as new c ≡ stored_as old c) → Stand old chunks held → Stand new chunks held
+    → ((c : ChunkId) → 1 ≤ times_in c chunks → stored_as new c ≡ stored_as old c) → Stand old chunks held → Stand new chunks held
 stand_on old new [] [] same all = tt
 stand_on old new [] (h ∷ held) same all = all
 stand_on old new (c ∷ chunks) [] same all = all
@@ -33,9 +33,9 @@ stand_on old new (c ∷ chunks) (h ∷ held) same all = (
 
 -- the test of a key, of what is stored
 has_key-stored : (items : Items) (key : ℕ) (c : ChunkId) → has_key items key c ≡ option_map_or (λ (h : HeldWords). h.key == key) (stored_as items c) false
-has_key-stored items key c = key_of (item_at items c) refl
+has_key-stored items key c = key_of (item_in_chunk items c) refl
   where
-    key_of : (found : Option Item) → item_at items c ≡ found → has_key items key c ≡ option_map_or (λ (h : HeldWords). h.key == key) (stored_as items c) false
+    key_of : (found : Option Item) → item_in_chunk items c ≡ found → has_key items key c ≡ option_map_or (λ (h : HeldWords). h.key == key) (stored_as items c) false
     key_of None is = rw is refl
     key_of (Some item) is = rw is refl
 
@@ -98,11 +98,11 @@ finds_passing p (c ∷ chunks) chunk found = find_step (p c) refl found (finds_p
     find_step false is below more = more below
 
 -- without one of its places no chunk stands more often in a list
-pub times-without-le : (c chunk : ChunkId) (chunks : List ChunkId) → times c (without chunk chunks) ≤ times c chunks
+pub times-without-le : (c chunk : ChunkId) (chunks : List ChunkId) → times_in c (without chunk chunks) ≤ times_in c chunks
 times-without-le c chunk [] = omega arith
 times-without-le c chunk (d ∷ chunks) = times_step (is_chunk d chunk) refl (times-without-le c chunk chunks)
   where
-    times_step : (b : Bool) → is_chunk d chunk ≡ b → times c (without chunk chunks) ≤ times c chunks → times c (without chunk (d ∷ chunks)) ≤ times c (d ∷ chunks)
+    times_step : (b : Bool) → is_chunk d chunk ≡ b → times_in c (without chunk chunks) ≤ times_in c chunks → times_in c (without chunk (d ∷ chunks)) ≤ times_in c (d ∷ chunks)
     times_step true is more = rw is (omega (arith, times-cons c d chunks))
     times_step false is more = rw is (omega (arith, more, times-cons c d chunks, times-cons c d (without chunk chunks)))
 

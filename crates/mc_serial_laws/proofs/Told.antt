@@ -7,16 +7,16 @@ use Rattle.std.proofs.lemmas.Bool.{and_parts}
 use Rattle.std.proofs.lemmas.Bool.Decides.{nat_tests}
 use Rattle.std.proofs.lemmas.Option.{same_Some}
 use Rattle.mc_pages.specs.declared.ids.ChunkId.{ChunkId}
-use Rattle.mc_pages.specs.ClassState.{first_free, times}
-use Rattle.mc_pages.specs.SlabState.{IsClass, class_at}
+use Rattle.mc_pages.specs.ClassState.{first_free, times_in}
+use Rattle.mc_pages.specs.SlabState.{HasClass, class_at}
 use Rattle.mc_pages.specs.Changes.{after_pop}
-use Rattle.mc_pages.specs.InOrder.{IsInOrder}
+use Rattle.mc_pages.specs.InOrder.{AreSlabsInOrder}
 use Rattle.mc_pages.proofs.Kept.{IsInOrder-after_pop}
 use Rattle.mc_serial_spec.specs.Item.{Item, is_linked_to, new_item}
-use Rattle.mc_serial_spec.specs.Items.{chunk_cmp, item_at, linked_chunk, unlinked_items, with_item}
+use Rattle.mc_serial_spec.specs.Items.{chunk_cmp, item_in_chunk, linked_chunk, unlinked_items, with_item}
 use Rattle.mc_serial_spec.specs.Holds.{held_by}
 use Rattle.mc_serial_spec.specs.Machine.{Machine, with_mode}
-use Rattle.mc_serial_laws.specs.Answered.{Answered, HeldWords, last_words, held_words}
+use Rattle.mc_serial_laws.specs.Answered.{AnsweredCommand, HeldWords, last_words, held_words}
 use Rattle.mc_serial_spec.proofs.Chunks.{places-with_item, places_none}
 use Rattle.mc_serial_laws.proofs.FoundItems.{item_at-with_item}
 use Rattle.mc_serial_spec.proofs.KeptStore.{IsNext, is_at-tells, is_next, kept_store}
@@ -24,10 +24,10 @@ use Rattle.mc_serial_laws.proofs.Lawful.{off, IsLawful, Proceeds, as_held, stand
 use Rattle.mc_serial_laws.proofs.ProceedCommands.{lawful_automove, lawful_unlinked, linked_still, stands_unlinked}
 use Rattle.mc_serial_laws.proofs.Stands.{Stand, stand_on}
 
-pub record AreTold (m : Machine) (answers : List Answered) : Type 0 where
+pub record AreTold (m : Machine) (answers : List AnsweredCommand) : Type 0 where
   pub lawful : IsLawful m
   -- an item to which its key leads has the words of the key that were stored last
-  pub words : (key : ℕ) (chunk : ChunkId) (item : Item) → item_at m.items chunk ≡ Some item → is_linked_to key item ≡ true
+  pub words : (key : ℕ) (chunk : ChunkId) (item : Item) → item_in_chunk m.items chunk ≡ Some item → is_linked_to key item ≡ true
       → last_words key answers ≡ Some item.words
   -- each worker holds the chunks of what it holds by the answers
   pub holds : (worker : ℕ) → Stand m.items (held_by m.holds worker) (held_words worker answers)
@@ -39,7 +39,7 @@ stand_proceeded m new worker held goes stands =
     rw goes.holds (stand_on m.items new.items (held_by m.holds worker) held (λ c there. stands_on m new goes worker c there) stands)
 
 -- the machine went on, and one more answer leaves the words and holds as they were
-pub told_on : (m new : Machine) (answers : List Answered) (answered : Answered) → AreTold m answers → Proceeds m new
+pub told_on : (m new : Machine) (answers : List AnsweredCommand) (answered : AnsweredCommand) → AreTold m answers → Proceeds m new
     → ((key : ℕ) → last_words key (answered ∷ answers) ≡ last_words key answers)
     → ((worker : ℕ) → held_words worker (answered ∷ answers) ≡ held_words worker answers)
     → AreTold new (answered ∷ answers)
@@ -52,7 +52,7 @@ told_on m new answers answered told goes same_words same_held = record {
 }
 
 -- the machine went on by itself
-pub told_still : (m new : Machine) (answers : List Answered) → AreTold m answers → Proceeds m new → AreTold new answers
+pub told_still : (m new : Machine) (answers : List AnsweredCommand) → AreTold m answers → Proceeds m new → AreTold new answers
 told_still m new answers told goes = record {
   lawful = goes.lawful;
   words = λ key chunk item at to.
@@ -62,7 +62,7 @@ told_still m new answers told goes = record {
 }
 
 -- a key leads to no item any more, and one more answer changes its words
-pub told_unlinked : (m : Machine) (answers : List Answered) (answered : Answered) (key : ℕ) → AreTold m answers
+pub told_unlinked : (m : Machine) (answers : List AnsweredCommand) (answered : AnsweredCommand) (key : ℕ) → AreTold m answers
     → ((q : ℕ) → (key == q) ≡ false → last_words q (answered ∷ answers) ≡ last_words q answers)
     → ((worker : ℕ) → held_words worker (answered ∷ answers) ≡ held_words worker answers)
     → AreTold (record m { items = unlinked_items m.items key }) (answered ∷ answers)
@@ -80,26 +80,26 @@ told_unlinked m answers answered key told same_words same_held = record {
 }
 
 -- the automover's mode is another
-pub told_automove : (m : Machine) (mode : ℕ) (answers : List Answered) → AreTold m answers → AreTold (record m { slabs = with_mode m.slabs mode }) answers
+pub told_automove : (m : Machine) (mode : ℕ) (answers : List AnsweredCommand) → AreTold m answers → AreTold (record m { slabs = with_mode m.slabs mode }) answers
 told_automove m mode answers told = record { lawful = lawful_automove m mode told.lawful; words = told.words; holds = told.holds }
 
 -- an item comes under a key that leads nowhere into the next chunk of a class
-module _ (m : Machine) (class key : ℕ) (words : List ℕ) (chunk : ChunkId) (lawful : IsLawful m) (valid : IsClass m.slabs class)
+module _ (m : Machine) (class key : ℕ) (words : List ℕ) (chunk : ChunkId) (lawful : IsLawful m) (valid : HasClass m.slabs class)
     (next : first_free (class_at m.slabs class) ≡ Some chunk) (nowhere : linked_chunk m.items key ≡ None) where
   abbrev pub after_store : Machine
   after_store = record m { slabs = after_pop m.slabs class; items = with_item m.items chunk (new_item key words) }
 
-  none_there : item_at m.items chunk ≡ None
+  none_there : item_in_chunk m.items chunk ≡ None
   none_there =
       let is : IsNext (off m.slabs) m.items class chunk = is_next m.table (off m.slabs) m.items class chunk lawful.kept valid next in
       is.empty
 
-  found_stored : (c : ChunkId) → item_at after_store.items c ≡ cond (is_at (chunk_cmp c) chunk) (Some (new_item key words)) (item_at m.items c)
+  found_stored : (c : ChunkId) → item_in_chunk after_store.items c ≡ cond (is_at (chunk_cmp c) chunk) (Some (new_item key words)) (item_in_chunk m.items c)
   found_stored c = item_at-with_item chunk (new_item key words) c m.items none_there
 
   pub lawful_stored : IsLawful after_store
   lawful_stored =
-      let order : IsInOrder (off (after_pop m.slabs class)) lawful.granted = IsInOrder-after_pop (off m.slabs) lawful.granted class lawful.order valid in
+      let order : AreSlabsInOrder (off (after_pop m.slabs class)) lawful.granted = IsInOrder-after_pop (off m.slabs) lawful.granted class lawful.order valid in
       record {
         kept = kept_store m.table (off m.slabs) m.items class key words chunk lawful.kept valid next order.accounted nowhere;
         granted = lawful.granted;
@@ -110,34 +110,34 @@ module _ (m : Machine) (class key : ℕ) (words : List ℕ) (chunk : ChunkId) (l
       }
 
   -- the new item is there, and what is held stands elsewhere
-  pub item_stored : item_at after_store.items chunk ≡ Some (new_item key words)
+  pub item_stored : item_in_chunk after_store.items chunk ≡ Some (new_item key words)
   item_stored =
       let here : is_at (chunk_cmp chunk) chunk ≡ true = grind (arith, nat_tests) in
-      found_stored chunk ∙ ap (λ b. cond b (Some (new_item key words)) (item_at m.items chunk)) here
+      found_stored chunk ∙ ap (λ b. cond b (Some (new_item key words)) (item_in_chunk m.items chunk)) here
 
-  pub held_stored : (worker : ℕ) (c : ChunkId) → 1 ≤ times c (held_by m.holds worker) → item_at after_store.items c ≡ item_at m.items c
+  pub held_stored : (worker : ℕ) (c : ChunkId) → 1 ≤ times_in c (held_by m.holds worker) → item_in_chunk after_store.items c ≡ item_in_chunk m.items c
   held_stored worker c held = elim (is_at-tells c chunk) [
     | inl here ↦
-        let none : item_at m.items c ≡ None = ap (item_at m.items) here.1 ∙ none_there in
+        let none : item_in_chunk m.items c ≡ None = ap (item_in_chunk m.items) here.1 ∙ none_there in
         absurd (omega (arith, lawful.stored worker c held, places_none c m.items none))
-    | inr other ↦ found_stored c ∙ ap (λ b. cond b (Some (new_item key words)) (item_at m.items c)) other.0
+    | inr other ↦ found_stored c ∙ ap (λ b. cond b (Some (new_item key words)) (item_in_chunk m.items c)) other.0
   ]
 
-  stands_stored : (worker : ℕ) (c : ChunkId) → 1 ≤ times c (held_by m.holds worker) → stored_as after_store.items c ≡ stored_as m.items c
+  stands_stored : (worker : ℕ) (c : ChunkId) → 1 ≤ times_in c (held_by m.holds worker) → stored_as after_store.items c ≡ stored_as m.items c
   stands_stored worker c held = ap (option_map as_held) (held_stored worker c held)
 
   -- an item that is found then is the new one, or was there before
-  pub found_then : (c : ChunkId) (item : Item) → item_at after_store.items c ≡ Some item → (new_item key words ≡ item) ⊎ (item_at m.items c ≡ Some item)
+  pub found_then : (c : ChunkId) (item : Item) → item_in_chunk after_store.items c ≡ Some item → (new_item key words ≡ item) ⊎ (item_in_chunk m.items c ≡ Some item)
   found_then c item at = elim (is_at-tells c chunk) [
     | inl here ↦
         inl (same_Some (new_item key words) item
-        (sym (found_stored c ∙ ap (λ b. cond b (Some (new_item key words)) (item_at m.items c)) here.0) ∙ at))
+        (sym (found_stored c ∙ ap (λ b. cond b (Some (new_item key words)) (item_in_chunk m.items c)) here.0) ∙ at))
     | inr other ↦
-        inr (sym (found_stored c ∙ ap (λ b. cond b (Some (new_item key words)) (item_at m.items c)) other.0) ∙ at)
+        inr (sym (found_stored c ∙ ap (λ b. cond b (Some (new_item key words)) (item_in_chunk m.items c)) other.0) ∙ at)
   ]
 
   -- and where the answers tell of the new words, all is told
-  pub told_stored : (answers : List Answered) → AreTold m answers → last_words key answers ≡ Some words → AreTold after_store answers
+  pub told_stored : (answers : List AnsweredCommand) → AreTold m answers → last_words key answers ≡ Some words → AreTold after_store answers
   told_stored answers told new_words = record {
     lawful = lawful_stored;
     words = λ q c item at to. elim (found_then c item at) [

@@ -8,17 +8,17 @@ use Rattle.std.proofs.lemmas.List.{get_or-set_same, get_or-set_other, length-set
 use Rattle.mc_classes.specs.Limits.{most_refs}
 use Rattle.mc_pages.specs.declared.ids.ChunkId.{ChunkId}
 use Rattle.mc_pages.specs.Accounted.{truth}
-use Rattle.mc_pages.specs.ClassState.{is_chunk, times, without}
+use Rattle.mc_pages.specs.ClassState.{is_chunk, times_in, without}
 use Rattle.mc_pages.proofs.Chunks.{same_from_is_chunk, times-cons}
 use Rattle.mc_script.specs.declared.command.Command.TheVariants.{Hold, Drop}
 use Rattle.mc_serial_spec.specs.Item.{Item}
-use Rattle.mc_serial_spec.specs.Items.{has_key, item_at, linked_chunk}
+use Rattle.mc_serial_spec.specs.Items.{has_key, item_in_chunk, linked_chunk}
 use Rattle.mc_serial_spec.specs.Holds.{held_by, is_full}
-use Rattle.mc_serial_spec.specs.Consistent.{places}
-use Rattle.mc_serial_spec.specs.Lines.{Served, dropped, held, last_hold, let_go, told as told_line}
+use Rattle.mc_serial_spec.specs.Consistent.{place_count}
+use Rattle.mc_serial_spec.specs.Lines.{Outcome, release_outcome, hold_outcome_at, last_hold, release_outcome_at, reply_only as told_line}
 use Rattle.mc_serial_spec.specs.Machine.{Machine}
 use Rattle.mc_serial_spec.specs.Texts.{key_line}
-use Rattle.mc_serial_laws.specs.Answered.{Answered, held_words, last_words, with_held, without_held}
+use Rattle.mc_serial_laws.specs.Answered.{AnsweredCommand, held_words, last_words, with_held, without_held}
 use Rattle.mc_serial_spec.proofs.Links.{LinkedIn, linked_in, some_places}
 use Rattle.mc_serial_spec.proofs.KeptChanges.{place_once}
 use Rattle.mc_serial_laws.proofs.Lawful.{off, IsLawful, as_held, proceeds_same, stored_as}
@@ -27,8 +27,8 @@ use Rattle.mc_serial_laws.proofs.Told.{AreTold, told_on}
 use Rattle.mc_serial_laws.proofs.ToldSets.{answered_by, both_pass, first_fails, same_text, second_fails}
 
 -- a worker holds other chunks, and one more answer tells what they store
-module _ (m : Machine) (answers : List Answered) (answered : Answered) (worker : ℕ) (chunks : List ChunkId) (told : AreTold m answers) (few : worker ≤ 63)
-    (there : (c : ChunkId) → 1 ≤ times c chunks → 1 ≤ places c m.items) (short : length chunks ≤ most_refs)
+module _ (m : Machine) (answers : List AnsweredCommand) (answered : AnsweredCommand) (worker : ℕ) (chunks : List ChunkId) (told : AreTold m answers) (few : worker ≤ 63)
+    (there : (c : ChunkId) → 1 ≤ times_in c chunks → 1 ≤ place_count c m.items) (short : length chunks ≤ most_refs)
     (same_words : (key : ℕ) → last_words key (answered ∷ answers) ≡ last_words key answers)
     (same_held : (w : ℕ) → (worker == w) ≡ false → held_words w (answered ∷ answers) ≡ held_words w answers)
     (stands : Stand m.items chunks (held_words worker (answered ∷ answers))) where
@@ -53,8 +53,8 @@ module _ (m : Machine) (answers : List Answered) (answered : Answered) (worker :
     stored = λ w c holds. elim (cases_eq w worker) [
       | inl same ↦
           let here : held_by (slice_set m.holds worker chunks) w ≡ chunks = ap (held_by (slice_set m.holds worker chunks)) same ∙ held_now in
-          there c (omega (arith, holds, ap (λ (cs : List ChunkId). times c cs) here))
-      | inr apart ↦ told.lawful.stored w c (omega (arith, holds, ap (λ (cs : List ChunkId). times c cs) (held_other w apart)))
+          there c (omega (arith, holds, ap (λ (cs : List ChunkId). times_in c cs) here))
+      | inr apart ↦ told.lawful.stored w c (omega (arith, holds, ap (λ (cs : List ChunkId). times_in c cs) (held_other w apart)))
     ];
   }
 
@@ -70,14 +70,14 @@ module _ (m : Machine) (answers : List Answered) (answered : Answered) (worker :
   }
 
 -- a hold that found its key
-told_found : (m : Machine) (answers : List Answered) (worker key : ℕ) (found : Option ChunkId) → AreTold m answers → worker ≤ 63
+told_found : (m : Machine) (answers : List AnsweredCommand) (worker key : ℕ) (found : Option ChunkId) → AreTold m answers → worker ≤ 63
     → is_full m.holds worker ≡ false → linked_chunk m.items key ≡ found
-    → let served : Served = held m worker key found in
+    → let served : Outcome = hold_outcome_at m worker key found in
     AreTold served.machine (answered_by (Hold worker key) served ∷ answers)
 told_found m answers worker key None told few room leads =
     told_on m m answers _ told (proceeds_same m told.lawful) (λ q. refl) (λ w. second_fails (worker == w) _ _)
 told_found m answers worker key (Some chunk) told few room leads =
-    let answered : Answered = answered_by (Hold worker key) (held m worker key (Some chunk)) in
+    let answered : AnsweredCommand = answered_by (Hold worker key) (hold_outcome_at m worker key (Some chunk)) in
     let in_chunk : LinkedIn key chunk m.items
     = linked_in key chunk m.items leads (place_once m.table (off m.slabs) m.items chunk told.lawful.kept) (told.lawful.kept.one_link key) in
     let item : Item = in_chunk.item in
@@ -97,15 +97,15 @@ told_found m answers worker key (Some chunk) told few room leads =
     (grind (arith, nat_tests, room))
     (λ q. refl) (λ w other. first_fails (worker == w) _ _ _ other) (rw now (stands, told.holds worker))
 
-pub told_hold : (m : Machine) (answers : List Answered) (worker key : ℕ) (full : Bool) → AreTold m answers → worker ≤ 63 → is_full m.holds worker ≡ full
-    → let served : Served = if full then told_line m (key_line (codes "TOO_MANY_REFS") key) else held m worker key (linked_chunk m.items key) in
+pub told_hold : (m : Machine) (answers : List AnsweredCommand) (worker key : ℕ) (full : Bool) → AreTold m answers → worker ≤ 63 → is_full m.holds worker ≡ full
+    → let served : Outcome = if full then told_line m (key_line (codes "TOO_MANY_REFS") key) else hold_outcome_at m worker key (linked_chunk m.items key) in
     AreTold served.machine (answered_by (Hold worker key) served ∷ answers)
 told_hold m answers worker key true told few is =
     told_on m m answers _ told (proceeds_same m told.lawful) (λ q. refl) (λ w. second_fails (worker == w) _ _)
 told_hold m answers worker key false told few is = told_found m answers worker key (linked_chunk m.items key) told few is refl
 
 -- a drop that is refused
-told_refused : (m : Machine) (answers : List Answered) (worker key : ℕ) → AreTold m answers
+told_refused : (m : Machine) (answers : List AnsweredCommand) (worker key : ℕ) → AreTold m answers
     → AreTold m (answered_by (Drop worker key) (told_line m (key_line (codes "NOT_HELD") key)) ∷ answers)
 told_refused m answers worker key told =
     told_on m m answers _ told (proceeds_same m told.lawful) (λ q. refl)
@@ -113,13 +113,13 @@ told_refused m answers worker key told =
     ∙ second_fails (worker == w) _ _)
 
 -- and one that isn't
-told_let_go : (m : Machine) (answers : List Answered) (worker key : ℕ) (chunk : ChunkId) (found : Option Item) → AreTold m answers → worker ≤ 63
+told_let_go : (m : Machine) (answers : List AnsweredCommand) (worker key : ℕ) (chunk : ChunkId) (found : Option Item) → AreTold m answers → worker ≤ 63
     → last_hold m worker key ≡ Some chunk
-    → let served : Served = let_go m worker key chunk found in
+    → let served : Outcome = release_outcome_at m worker key chunk found in
     AreTold served.machine (answered_by (Drop worker key) served ∷ answers)
 told_let_go m answers worker key chunk None told few last = told_refused m answers worker key told
 told_let_go m answers worker key chunk (Some item) told few last =
-    let answered : Answered = answered_by (Drop worker key) (let_go m worker key chunk (Some item)) in
+    let answered : AnsweredCommand = answered_by (Drop worker key) (release_outcome_at m worker key chunk (Some item)) in
     let has : has_key m.items key chunk ≡ true = finds_passing (has_key m.items key) (held_by m.holds worker) chunk last in
     let now : held_words worker (answered ∷ answers) ≡ without_held key (held_words worker answers)
     = both_pass (worker == worker) _ _ _ (eq-eqb worker worker refl) refl in
@@ -129,9 +129,9 @@ told_let_go m answers worker key chunk (Some item) told few last =
     (λ q. refl) (λ w other. first_fails (worker == w) _ _ _ other)
     (rw now (stand_without m.items key chunk (held_by m.holds worker) (held_words worker answers) has (told.holds worker) last))
 
-pub told_drop : (m : Machine) (answers : List Answered) (worker key : ℕ) (found : Option ChunkId) → AreTold m answers → worker ≤ 63
+pub told_drop : (m : Machine) (answers : List AnsweredCommand) (worker key : ℕ) (found : Option ChunkId) → AreTold m answers → worker ≤ 63
     → last_hold m worker key ≡ found
-    → let served : Served = dropped m worker key found in
+    → let served : Outcome = release_outcome m worker key found in
     AreTold served.machine (answered_by (Drop worker key) served ∷ answers)
 told_drop m answers worker key None told few last = told_refused m answers worker key told
-told_drop m answers worker key (Some chunk) told few last = told_let_go m answers worker key chunk (item_at m.items chunk) told few last
+told_drop m answers worker key (Some chunk) told few last = told_let_go m answers worker key chunk (item_in_chunk m.items chunk) told few last

@@ -9,20 +9,20 @@ use Rattle.mc_pages.specs.declared.ids.Moving.{Moving}
 use Rattle.mc_pages.specs.declared.moves.Reassign.TheVariants.{Same, BadClass, NoSpare}
 use Rattle.mc_pages.specs.SlabState.{SlabState, class_at, granted_count}
 use Rattle.mc_pages.specs.Accounted.{truth}
-use Rattle.mc_pages.specs.Answer.{answer_from, answer_if, answer_of, is_same, source_of}
+use Rattle.mc_pages.specs.Answer.{answer_from, answer_if, answer_of, is_same, chosen_source}
 use Rattle.mc_script.specs.declared.command.Command.{Command}
 use Rattle.mc_script.specs.declared.command.Command.TheVariants as command
 use Rattle.mc_watch.specs.declared.decider.Decision.{Decision}
 use Rattle.mc_watch.specs.Texts.{classes_lines, general_text, line, slabs_text, stat_line}
-use Rattle.mc_serial_spec.specs.Automove.{decision, free_counts, page_counts, with_window}
-use Rattle.mc_serial_spec.specs.Item.{Item, item_bytes, words_from}
-use Rattle.mc_serial_spec.specs.Items.{item_at, linked_chunk}
+use Rattle.mc_serial_spec.specs.Automove.{decision, free_counts, class_page_counts, with_window}
+use Rattle.mc_serial_spec.specs.Item.{Item, item_bytes, counting_words}
+use Rattle.mc_serial_spec.specs.Items.{item_in_chunk, linked_chunk}
 use Rattle.mc_serial_spec.specs.Holds.{is_full}
-use Rattle.mc_serial_spec.specs.Lines.{Served, acted, after_turn, answer_name, deleted, dropped, held, kept, last_hold, let_go, looked_up, made_youngest, moved, general_text_of, read, reassigned, serve, set_in, slabs_text_of, stored, told}
+use Rattle.mc_serial_spec.specs.Lines.{Outcome, decision_outcome, after_turn, answer_name, delete_outcome, release_outcome, hold_outcome_at, hold_outcome, last_hold, release_outcome_at, lookup_outcome, touch_outcome, move_outcome, general_text_of, get_outcome, reassign_outcome, serve, set_outcome_of, slabs_text_of, set_outcome, reply_only}
 use Rattle.mc_serial_spec.specs.Machine.{Machine, all_swept}
-use Rattle.mc_serial_spec.specs.Mover.{Turned, after_turns}
-use Rattle.mc_serial_spec.specs.Supply.{asks_for_page, supplied, supply}
-use Rattle.mc_serial_spec.specs.Texts.{key_line, spaced, turn_line, word_of, words_line}
+use Rattle.mc_serial_spec.specs.Mover.{TurnsOfMover, after_turns}
+use Rattle.mc_serial_spec.specs.Supply.{asks_for_page, machine_after_supply, supply}
+use Rattle.mc_serial_spec.specs.Texts.{key_line, spaced_words, turn_line, ending_word, words_line}
 use Rattle.mc_serial_laws.specs.Replies.{IsWhole}
 
 -- a line of some text
@@ -45,10 +45,10 @@ key_whole answer key some =
 words_whole : (answer : List ℕ) (key : ℕ) (words : List ℕ) → 1 ≤ length answer → IsWhole (words_line answer key words)
 words_whole answer key words some =
     let start : List ℕ = answer ++ codes " " ++ decimal key ++ codes " " ++ decimal (length words) in
-    whole (start ++ spaced words) (omega (
+    whole (start ++ spaced_words words) (omega (
       arith,
       some,
-      length-append start (spaced words),
+      length-append start (spaced_words words),
       length-append (answer ++ codes " " ++ decimal key ++ codes " ") (decimal (length words)),
       length-append (answer ++ codes " " ++ decimal key) (codes " "),
       length-append (answer ++ codes " ") (decimal key),
@@ -76,24 +76,24 @@ rest_named false slabs dst source = from_named slabs dst source
 
 if_named : (slabs : SlabState) (src : Option ℕ) (dst : ℕ) (moving : Option Moving) → 1 ≤ length (answer_name (answer_if slabs src dst moving))
 if_named slabs src dst (Some move) = omega arith
-if_named slabs src dst None = rest_named (is_same src dst) slabs dst (source_of slabs src dst)
+if_named slabs src dst None = rest_named (is_same src dst) slabs dst (chosen_source slabs src dst)
 
 -- ---- each command
-decided_whole : (d : Decision) (answer : List ℕ) → IsWhole (line (codes "WINDOW" ++ spaced (d.src ∷ d.dst ∷ []) ++ codes " " ++ answer))
+decided_whole : (d : Decision) (answer : List ℕ) → IsWhole (line (codes "WINDOW" ++ spaced_words (d.src ∷ d.dst ∷ []) ++ codes " " ++ answer))
 decided_whole d answer =
-    let start : List ℕ = codes "WINDOW" ++ spaced (d.src ∷ d.dst ∷ []) ++ codes " " in
+    let start : List ℕ = codes "WINDOW" ++ spaced_words (d.src ∷ d.dst ∷ []) ++ codes " " in
     whole (start ++ answer) (omega (
       arith,
       length-append start answer,
-      length-append (codes "WINDOW" ++ spaced (d.src ∷ d.dst ∷ [])) (codes " "),
-      length-append (codes "WINDOW") (spaced (d.src ∷ d.dst ∷ [])),
+      length-append (codes "WINDOW" ++ spaced_words (d.src ∷ d.dst ∷ [])) (codes " "),
+      length-append (codes "WINDOW") (spaced_words (d.src ∷ d.dst ∷ [])),
     ))
 
-turn_whole : (t : Turned) → IsWhole (turn_line t.ending t.counts)
+turn_whole : (t : TurnsOfMover) → IsWhole (turn_line t.ending t.counts)
 turn_whole t =
-    let numbers : List ℕ = spaced (t.counts.cleared ∷ t.counts.rescued ∷ t.counts.evicted ∷ t.counts.busy ∷ t.counts.locked ∷ []) in
-    whole (codes "TURN " ++ word_of t.ending ++ numbers)
-    (omega (arith, length-append (codes "TURN " ++ word_of t.ending) numbers, length-append (codes "TURN ") (word_of t.ending)))
+    let numbers : List ℕ = spaced_words (t.counts.cleared ∷ t.counts.rescued ∷ t.counts.evicted ∷ t.counts.busy ∷ t.counts.locked ∷ []) in
+    whole (codes "TURN " ++ ending_word t.ending ++ numbers)
+    (omega (arith, length-append (codes "TURN " ++ ending_word t.ending) numbers, length-append (codes "TURN ") (ending_word t.ending)))
 
 general_whole : (pool running moved rescues evictions busy : ℕ) → IsWhole (general_text pool running moved rescues evictions busy)
 general_whole pool running moved rescues evictions busy =
@@ -112,74 +112,74 @@ slabs_whole table pages free malloced =
     let totals : List ℕ = stat_line (codes "active_slabs") (count_by (λ n. nat_lt 0 n) pages) ++ stat_line (codes "total_malloced") malloced in
     subst IsWhole (append_assoc classes totals (line (codes "END"))) (behind (classes ++ totals) (codes "END") (omega arith))
 
-stored_whole : (ready : Machine) (class key : ℕ) (words : List ℕ) (asks : Bool) (found : Option ChunkId) → IsWhole (stored ready class key words asks found).reply
+stored_whole : (ready : Machine) (class key : ℕ) (words : List ℕ) (asks : Bool) (found : Option ChunkId) → IsWhole (set_outcome ready class key words asks found).reply
 stored_whole ready class key words asks None = key_whole (codes "NO_ROOM") key (omega arith)
 stored_whole ready class key words asks (Some chunk) = key_whole (codes "STORED") key (omega arith)
 
 module _ (m : Machine) where
-  class_whole : (class : Option ℕ) (key : ℕ) (words : List ℕ) → IsWhole (set_in m class key words).reply
+  class_whole : (class : Option ℕ) (key : ℕ) (words : List ℕ) → IsWhole (set_outcome_of m class key words).reply
   class_whole None key words = key_whole (codes "TOO_LARGE") key (omega arith)
-  class_whole (Some class) key words = stored_whole (supplied m class) class key words (asks_for_page m class) (supply m class)
+  class_whole (Some class) key words = stored_whole (machine_after_supply m class) class key words (asks_for_page m class) (supply m class)
 
-  get_whole : (full : Bool) (key : ℕ) (found : Option Item) → IsWhole (if full then told m (key_line (codes "TOO_MANY_REFS") key) else read m key found).reply
+  get_whole : (full : Bool) (key : ℕ) (found : Option Item) → IsWhole (if full then reply_only m (key_line (codes "TOO_MANY_REFS") key) else get_outcome m key found).reply
   get_whole true key found = key_whole (codes "TOO_MANY_REFS") key (omega arith)
   get_whole false key None = key_whole (codes "NOT_FOUND") key (omega arith)
   get_whole false key (Some item) = words_whole (codes "VALUE") key item.words (omega arith)
 
   hold_whole : (full : Bool) (worker key : ℕ) (found : Option ChunkId)
-      → IsWhole (if full then told m (key_line (codes "TOO_MANY_REFS") key) else held m worker key found).reply
+      → IsWhole (if full then reply_only m (key_line (codes "TOO_MANY_REFS") key) else hold_outcome_at m worker key found).reply
   hold_whole true worker key found = key_whole (codes "TOO_MANY_REFS") key (omega arith)
   hold_whole false worker key None = key_whole (codes "NOT_FOUND") key (omega arith)
   hold_whole false worker key (Some chunk) = key_whole (codes "HELD") key (omega arith)
 
-  let_go_whole : (worker key : ℕ) (chunk : ChunkId) (found : Option Item) → IsWhole (let_go m worker key chunk found).reply
+  let_go_whole : (worker key : ℕ) (chunk : ChunkId) (found : Option Item) → IsWhole (release_outcome_at m worker key chunk found).reply
   let_go_whole worker key chunk None = key_whole (codes "NOT_HELD") key (omega arith)
   let_go_whole worker key chunk (Some item) = words_whole (codes "DROPPED") key item.words (omega arith)
 
-  drop_whole : (worker key : ℕ) (found : Option ChunkId) → IsWhole (dropped m worker key found).reply
+  drop_whole : (worker key : ℕ) (found : Option ChunkId) → IsWhole (release_outcome m worker key found).reply
   drop_whole worker key None = key_whole (codes "NOT_HELD") key (omega arith)
-  drop_whole worker key (Some chunk) = let_go_whole worker key chunk (item_at m.items chunk)
+  drop_whole worker key (Some chunk) = let_go_whole worker key chunk (item_in_chunk m.items chunk)
 
-  delete_whole : (key : ℕ) (found : Option ChunkId) → IsWhole (deleted m key found).reply
+  delete_whole : (key : ℕ) (found : Option ChunkId) → IsWhole (delete_outcome m key found).reply
   delete_whole key None = key_whole (codes "NOT_FOUND") key (omega arith)
   delete_whole key (Some chunk) = key_whole (codes "DELETED") key (omega arith)
 
-  touch_whole : (key : ℕ) (found : Option ChunkId) → IsWhole (made_youngest m key found).reply
+  touch_whole : (key : ℕ) (found : Option ChunkId) → IsWhole (touch_outcome m key found).reply
   touch_whole key None = key_whole (codes "NOT_FOUND") key (omega arith)
   touch_whole key (Some chunk) = key_whole (codes "TOUCHED") key (omega arith)
 
-  window_whole : (found : Option Decision) → IsWhole (acted m found).reply
+  window_whole : (found : Option Decision) → IsWhole (decision_outcome m found).reply
   window_whole None = whole (codes "WINDOW none") (omega arith)
   window_whole (Some d) = decided_whole d (answer_name (answer_of m.slabs (Some d.src) d.dst))
 
-  turns_whole : (served : Served) (found : Option Turned) → option_map after_turn found ≡ Some served → IsWhole served.reply
+  turns_whole : (served : Outcome) (found : Option TurnsOfMover) → option_map after_turn found ≡ Some served → IsWhole served.reply
   turns_whole served None is = absurd (none-some served is)
   turns_whole served (Some t) is =
-      subst (λ (s : Served). IsWhole s.reply) (same_Some (after_turn t) served is) (turn_whole t)
+      subst (λ (s : Outcome). IsWhole s.reply) (same_Some (after_turn t) served is) (turn_whole t)
 
-pub reply_whole : (m : Machine) (asked : Command) (served : Served) → serve m asked ≡ Some served → IsWhole served.reply
+pub reply_whole : (m : Machine) (asked : Command) (served : Outcome) → serve m asked ≡ Some served → IsWhole served.reply
 reply_whole m (command.Set worker key words base) served is =
-    subst (λ (s : Served). IsWhole s.reply) (same_Some _ served is) (class_whole m (class_of m.table (item_bytes words)) key (words_from base words))
+    subst (λ (s : Outcome). IsWhole s.reply) (same_Some _ served is) (class_whole m (class_of m.table (item_bytes words)) key (counting_words base words))
 reply_whole m (command.Get worker key) served is =
-    subst (λ (s : Served). IsWhole s.reply) (same_Some (looked_up m worker key) served is)
-    (get_whole m (is_full m.holds worker) key (option_and_then (item_at m.items) (linked_chunk m.items key)))
+    subst (λ (s : Outcome). IsWhole s.reply) (same_Some (lookup_outcome m worker key) served is)
+    (get_whole m (is_full m.holds worker) key (option_and_then (item_in_chunk m.items) (linked_chunk m.items key)))
 reply_whole m (command.Hold worker key) served is =
-    subst (λ (s : Served). IsWhole s.reply) (same_Some (kept m worker key) served is) (hold_whole m (is_full m.holds worker) worker key (linked_chunk m.items key))
+    subst (λ (s : Outcome). IsWhole s.reply) (same_Some (hold_outcome m worker key) served is) (hold_whole m (is_full m.holds worker) worker key (linked_chunk m.items key))
 reply_whole m (command.Drop worker key) served is =
-    subst (λ (s : Served). IsWhole s.reply) (same_Some _ served is) (drop_whole m worker key (last_hold m worker key))
+    subst (λ (s : Outcome). IsWhole s.reply) (same_Some _ served is) (drop_whole m worker key (last_hold m worker key))
 reply_whole m (command.Delete worker key) served is =
-    subst (λ (s : Served). IsWhole s.reply) (same_Some _ served is) (delete_whole m key (linked_chunk m.items key))
+    subst (λ (s : Outcome). IsWhole s.reply) (same_Some _ served is) (delete_whole m key (linked_chunk m.items key))
 reply_whole m (command.Touch worker key) served is =
-    subst (λ (s : Served). IsWhole s.reply) (same_Some _ served is) (touch_whole m key (linked_chunk m.items key))
+    subst (λ (s : Outcome). IsWhole s.reply) (same_Some _ served is) (touch_whole m key (linked_chunk m.items key))
 reply_whole m (command.Reassign src dst) served is =
-    subst (λ (s : Served). IsWhole s.reply) (same_Some (reassigned m src dst (answer_of m.slabs src dst)) served is)
+    subst (λ (s : Outcome). IsWhole s.reply) (same_Some (reassign_outcome m src dst (answer_of m.slabs src dst)) served is)
     (whole (answer_name (answer_of m.slabs src dst)) (if_named m.slabs src dst m.slabs.moving))
-reply_whole m (command.Automove mode) served is = subst (λ (s : Served). IsWhole s.reply) (same_Some _ served is) (whole (codes "OK") (omega arith))
+reply_whole m (command.Automove mode) served is = subst (λ (s : Outcome). IsWhole s.reply) (same_Some _ served is) (whole (codes "OK") (omega arith))
 reply_whole m command.Window served is =
     let fed : Machine = with_window (all_swept m) in
-    subst (λ (s : Served). IsWhole s.reply) (same_Some (acted fed (decision fed)) served is) (window_whole fed (decision fed))
+    subst (λ (s : Outcome). IsWhole s.reply) (same_Some (decision_outcome fed (decision fed)) served is) (window_whole fed (decision fed))
 reply_whole m (command.Turn turns) served is = turns_whole m served (after_turns m turns) is
-reply_whole m command.Stats served is = subst (λ (s : Served). IsWhole s.reply) (same_Some (told m (general_text_of m)) served is)
+reply_whole m command.Stats served is = subst (λ (s : Outcome). IsWhole s.reply) (same_Some (reply_only m (general_text_of m)) served is)
     (general_whole (length m.slabs.pool) (truth (is_some m.slabs.moving)) m.slabs.moved m.slabs.rescues m.slabs.evictions_nomem m.slabs.busy)
-reply_whole m command.StatsSlabs served is = subst (λ (s : Served). IsWhole s.reply) (same_Some (told (all_swept m) (slabs_text_of (all_swept m))) served is)
-    (slabs_whole (all_swept m).table (page_counts (all_swept m).slabs) (free_counts (all_swept m).slabs) (granted_count (all_swept m).slabs * (all_swept m).slabs.page))
+reply_whole m command.StatsSlabs served is = subst (λ (s : Outcome). IsWhole s.reply) (same_Some (reply_only (all_swept m) (slabs_text_of (all_swept m))) served is)
+    (slabs_whole (all_swept m).table (class_page_counts (all_swept m).slabs) (free_counts (all_swept m).slabs) (granted_count (all_swept m).slabs * (all_swept m).slabs.page))

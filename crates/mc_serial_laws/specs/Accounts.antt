@@ -6,7 +6,7 @@ use Rattle.mc_script.specs.declared.command.Command.{Command}
 use Rattle.mc_script.specs.declared.command.Command.TheVariants.{Stats, StatsSlabs}
 use Rattle.mc_watch.specs.Texts.{slabs_text, general_text}
 use Rattle.mc_serial_spec.specs.Machine.{Machine, fresh_machine}
-use Rattle.mc_serial_spec.specs.Lines.{Served, serve, after_all}
+use Rattle.mc_serial_spec.specs.Lines.{Outcome, serve, after_all}
 
 -- after these commands every page and every chunk is accounted for
 abbrev pub IsAccountedAfter : Classes → ℕ → ℕ → List Command → Type 0
@@ -38,15 +38,15 @@ pub record AddUp (table : Classes) (malloced : ℕ) (slabs general : List ℕ) :
 
 -- `stats slabs` after these commands, and `stats` directly behind it, add up
 abbrev pub StatisticsAddUp : Classes → ℕ → ℕ → List Command → Type 0
-StatisticsAddUp table bulk mode commands = (m : Machine) (first second : Served) → after_all (fresh_machine table bulk mode) commands ≡ Some m
+StatisticsAddUp table bulk mode commands = (m : Machine) (first second : Outcome) → after_all (fresh_machine table bulk mode) commands ≡ Some m
     → serve m StatsSlabs ≡ Some first → serve first.machine Stats ≡ Some second → (malloced : ℕ) × AddUp table malloced first.reply second.reply
 
 -- the text of `stats slabs` prints that n bytes are granted
-abbrev pub TellsGranted : Classes → ℕ → List ℕ → Type 0
-TellsGranted table malloced text = (pages free : List ℕ) × (text ≡ slabs_text table pages free malloced)
+abbrev pub PrintsGranted : Classes → ℕ → List ℕ → Type 0
+PrintsGranted table malloced text = (pages free : List ℕ) × (text ≡ slabs_text table pages free malloced)
 
 -- `stats slabs` prints after more commands no fewer granted bytes than before them
 abbrev pub GrantedStays : Classes → ℕ → ℕ → List Command → List Command → Type 0
-GrantedStays table bulk mode commands more = (m last : Machine) (first then : Served) → after_all (fresh_machine table bulk mode) commands ≡ Some m
+GrantedStays table bulk mode commands more = (m last : Machine) (first then : Outcome) → after_all (fresh_machine table bulk mode) commands ≡ Some m
     → after_all m more ≡ Some last → serve m StatsSlabs ≡ Some first → serve last StatsSlabs ≡ Some then
-    → (malloced later : ℕ) × TellsGranted table malloced first.reply × TellsGranted table later then.reply × (malloced ≤ later)
+    → (malloced later : ℕ) × PrintsGranted table malloced first.reply × PrintsGranted table later then.reply × (malloced ≤ later)

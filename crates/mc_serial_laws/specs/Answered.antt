@@ -4,18 +4,18 @@ use Rattle.std.specs.Option.{option_map_or}
 use Rattle.std.specs.Str.{bytes_eq}
 use Rattle.mc_script.specs.declared.command.Command.{Command}
 use Rattle.mc_script.specs.declared.command.Command.TheVariants.{Set, Delete, Hold, Drop}
-use Rattle.mc_serial_spec.specs.Item.{words_from}
+use Rattle.mc_serial_spec.specs.Item.{counting_words}
 use Rattle.mc_serial_spec.specs.Machine.{Machine}
 use Rattle.mc_serial_spec.specs.Lines.{serve}
 use Rattle.mc_serial_spec.specs.Texts.{key_line}
 
 -- a command, and the reply to it
-pub record Answered : Type 0 where
+pub record AnsweredCommand : Type 0 where
   pub command : Command
   pub reply : List ℕ
 
 -- these commands with their replies, behind those that were answered before; the last is first in the list
-abbrev pub answers : Machine → List Command → List Answered → List Answered
+abbrev pub answers : Machine → List Command → List AnsweredCommand → List AnsweredCommand
 answers m [] before = before
 answers m (command ∷ commands) before =
     option_map_or (λ served. answers served.machine commands (record { command = command; reply = served.reply } ∷ before)) (serve m command) before
@@ -23,13 +23,13 @@ answers m (command ∷ commands) before =
 -- the words of a key after a command and its reply: a stored set brings new ones, and a delete that found the key none
 abbrev pub words_after : ℕ → Command → List ℕ → Option (List ℕ) → Option (List ℕ)
 words_after key (Set worker own count base) reply words =
-    if own == key && bytes_eq reply (key_line (codes "STORED") key) then Some (words_from base count) else words
+    if own == key && bytes_eq reply (key_line (codes "STORED") key) then Some (counting_words base count) else words
 words_after key (Delete worker own) reply words =
     if own == key && bytes_eq reply (key_line (codes "DELETED") key) then None else words
 words_after key command reply words = words
 
 -- the words of the last stored set of a key, with no delete of the key since
-abbrev pub last_words : ℕ → List Answered → Option (List ℕ)
+abbrev pub last_words : ℕ → List AnsweredCommand → Option (List ℕ)
 last_words key [] = None
 last_words key (answered ∷ before) = words_after key answered.command answered.reply (last_words key before)
 
@@ -58,7 +58,7 @@ held_after worker (Drop own key) reply words held =
 held_after worker command reply words held = held
 
 -- what a worker holds, the hold that it took last first
-abbrev pub held_words : ℕ → List Answered → List HeldWords
+abbrev pub held_words : ℕ → List AnsweredCommand → List HeldWords
 held_words worker [] = []
 held_words worker (answered ∷ before) =
     held_after worker answered.command answered.reply (λ key. last_words key before) (held_words worker before)

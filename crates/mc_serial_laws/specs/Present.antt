@@ -5,9 +5,9 @@ use Rattle.mc_classes.specs.Limits.{most_refs}
 use Rattle.mc_script.specs.declared.command.Command.{Command}
 use Rattle.mc_script.specs.declared.command.Command.TheVariants.{Get, Hold, Touch, Delete}
 use Rattle.mc_serial_spec.specs.Machine.{Machine, fresh_machine}
-use Rattle.mc_serial_spec.specs.Lines.{Served, serve, after_all}
+use Rattle.mc_serial_spec.specs.Lines.{Outcome, serve, after_all}
 use Rattle.mc_serial_spec.specs.Texts.{key_line, words_line}
-use Rattle.mc_serial_laws.specs.Answered.{Answered, answers, last_words, held_words}
+use Rattle.mc_serial_laws.specs.Answered.{AnsweredCommand, answers, last_words, held_words}
 
 -- the line with a key's words, or NOT_FOUND where it has no item
 abbrev pub words_or_none : ℕ → Option (List ℕ) → List ℕ
@@ -32,18 +32,18 @@ abbrev pub reply_to_hold : ℕ → ℕ → Option (List ℕ) → List ℕ
 reply_to_hold holds key item = unless_full holds key (found_or_none (codes "HELD") key item)
 
 -- how many holds a worker has by the answers
-abbrev pub holds_of : ℕ → List Answered → ℕ
-holds_of worker told = length (held_words worker told)
+abbrev pub holds_by_answers : ℕ → List AnsweredCommand → ℕ
+holds_by_answers worker told = length (held_words worker told)
 
 -- get, hold, touch and delete, asked now, find these words for the key, or find no item
-pub record Finds (m : Machine) (told : List Answered) (key : ℕ) (item : Option (List ℕ)) : Type 0 where
-  pub get : (worker : ℕ) (served : Served) → serve m (Get worker key) ≡ Some served → served.reply ≡ reply_to_get (holds_of worker told) key item
-  pub hold : (worker : ℕ) (served : Served) → serve m (Hold worker key) ≡ Some served → served.reply ≡ reply_to_hold (holds_of worker told) key item
-  pub touch : (worker : ℕ) (served : Served) → serve m (Touch worker key) ≡ Some served → served.reply ≡ found_or_none (codes "TOUCHED") key item
-  pub delete : (worker : ℕ) (served : Served) → serve m (Delete worker key) ≡ Some served → served.reply ≡ found_or_none (codes "DELETED") key item
+pub record KeyHasItem (m : Machine) (told : List AnsweredCommand) (key : ℕ) (item : Option (List ℕ)) : Type 0 where
+  pub get : (worker : ℕ) (served : Outcome) → serve m (Get worker key) ≡ Some served → served.reply ≡ reply_to_get (holds_by_answers worker told) key item
+  pub hold : (worker : ℕ) (served : Outcome) → serve m (Hold worker key) ≡ Some served → served.reply ≡ reply_to_hold (holds_by_answers worker told) key item
+  pub touch : (worker : ℕ) (served : Outcome) → serve m (Touch worker key) ≡ Some served → served.reply ≡ found_or_none (codes "TOUCHED") key item
+  pub delete : (worker : ℕ) (served : Outcome) → serve m (Delete worker key) ≡ Some served → served.reply ≡ found_or_none (codes "DELETED") key item
 
 -- after these commands each key has no item, or its last words; and get, hold, touch and delete agree which of the two
-abbrev pub TellsOneItem : Classes → ℕ → ℕ → List Command → Type 0
-TellsOneItem table bulk mode commands = (m : Machine) (key : ℕ) → after_all (fresh_machine table bulk mode) commands ≡ Some m
+abbrev pub ShowsOneItem : Classes → ℕ → ℕ → List Command → Type 0
+ShowsOneItem table bulk mode commands = (m : Machine) (key : ℕ) → after_all (fresh_machine table bulk mode) commands ≡ Some m
     → let told = answers (fresh_machine table bulk mode) commands [] in
-    (item : Option (List ℕ)) × ((item ≡ None) ⊎ (item ≡ last_words key told)) × Finds m told key item
+    (item : Option (List ℕ)) × ((item ≡ None) ⊎ (item ≡ last_words key told)) × KeyHasItem m told key item

@@ -4,7 +4,7 @@ use Rattle.mc_classes.specs.Classes.{Classes}
 use Rattle.mc_script.specs.declared.command.Command.{Command}
 use Rattle.mc_script.specs.declared.command.Command.TheVariants.{Get, Drop}
 use Rattle.mc_serial_spec.specs.Machine.{Machine, fresh_machine}
-use Rattle.mc_serial_spec.specs.Lines.{Served, serve, after_all}
+use Rattle.mc_serial_spec.specs.Lines.{Outcome, serve, after_all}
 use Rattle.mc_serial_spec.specs.Texts.{key_line, words_line}
 use Rattle.mc_serial_laws.specs.Answered.{HeldWords, answers, last_words, held_words}
 
@@ -20,13 +20,13 @@ reply_to_drop key None = key_line (codes "NOT_HELD") key
 reply_to_drop key (Some held) = words_line (codes "DROPPED") key held.words
 
 -- a get after these commands replies the words of the last stored set of its key, with no delete since
-abbrev pub TellsLastWords : Classes → ℕ → ℕ → List Command → Type 0
-TellsLastWords table bulk mode commands = (m : Machine) (worker key : ℕ) (served : Served)
+abbrev pub PrintsLastWords : Classes → ℕ → ℕ → List Command → Type 0
+PrintsLastWords table bulk mode commands = (m : Machine) (worker key : ℕ) (served : Outcome)
     → after_all (fresh_machine table bulk mode) commands ≡ Some m → serve m (Get worker key) ≡ Some served
     → IsReplyToGet key (last_words key (answers (fresh_machine table bulk mode) commands [])) served.reply
 
 -- a drop after these commands replies the words that its worker last held of the key
-abbrev pub TellsHeldWords : Classes → ℕ → ℕ → List Command → Type 0
-TellsHeldWords table bulk mode commands = (m : Machine) (worker key : ℕ) (served : Served)
+abbrev pub PrintsHeldWords : Classes → ℕ → ℕ → List Command → Type 0
+PrintsHeldWords table bulk mode commands = (m : Machine) (worker key : ℕ) (served : Outcome)
     → after_all (fresh_machine table bulk mode) commands ≡ Some m → serve m (Drop worker key) ≡ Some served
     → served.reply ≡ reply_to_drop key (find (λ held. held.key == key) (held_words worker (answers (fresh_machine table bulk mode) commands [])))

@@ -7,11 +7,11 @@ ghost use Rattle.mc_script.specs.declared.command.Command.{Command};
 ghost use Rattle.mc_serial_laws.specs.Replies.{IsWhole};
 ghost use Rattle.mc_serial_laws.specs.Rows.{AnswersOfReassign, BusyItem, DeadMakesRoom, EvictionAsksForAPage, EvictionRuleIsFirst, FirstPath, FullClassEvicts, FirstPageAlone, HeldIsKept, MoverEvictionsAreApart, MovingPageCountsForQuiet, OneChunkATurn, OwnOldItemCounts, PageThroughThePool, PageToAnotherClass, PageToSpare, PageToTheLeader, PopsBeforeItSweeps, RescueIntoDead, RescueLooksBehindTheHead, SeenFromAnswers, SetSweepsItsOwnClass, ShadowedHold, TooManyHeld, TouchedDeadIsLast, TouchedIsKept, TwoMovesByThePick, UnlinkedIsACandidate, VictimOnTheMovingPage, WordsFromAnswers};
 ghost use Rattle.mc_serial_spec.specs.Machine.{Machine};
-ghost use Rattle.mc_serial_spec.specs.Lines.{Served, serve};
+ghost use Rattle.mc_serial_spec.specs.Lines.{Outcome, serve};
 ghost use Rattle.mc_serial_laws.specs.Accounts.{GrantedStays, IsAccountedAfter, StatisticsAddUp};
-ghost use Rattle.mc_serial_laws.specs.Present.{TellsOneItem};
-ghost use Rattle.mc_serial_laws.specs.Stays.{KeepsHeld, KeepsSeen};
-ghost use Rattle.mc_serial_laws.specs.Words.{TellsHeldWords, TellsLastWords};
+ghost use Rattle.mc_serial_laws.specs.Present.{ShowsOneItem};
+ghost use Rattle.mc_serial_laws.specs.Stays.{KeepsHeldWords, KeepsSeen};
+ghost use Rattle.mc_serial_laws.specs.Words.{PrintsHeldWords, PrintsLastWords};
 
 /// What scripts of all forms of lines are answered: items that come and go, are held and touched, and pages that
 /// move, also by themselves.
@@ -52,19 +52,19 @@ pub fn worked_examples()
 /// So it is after any valid commands, for every table, however many chunks a turn looks
 /// at, and in each mode of the automover.
 pub fn values_were_stored()
-    ensures { (table : Classes) (bulk mode : ℕ) (commands : List Command) → IsSound table → All IsValid commands → TellsLastWords table bulk mode commands }
+    ensures { (table : Classes) (bulk mode : ℕ) (commands : List Command) → IsSound table → All IsValid commands → PrintsLastWords table bulk mode commands }
 {}
 
 /// The words of each DROPPED line are the ones that were there at its hold: what the worker last held of the key and has not
 /// dropped since. A drop of a key of which the worker holds nothing is answered NOT_HELD. This holds after any valid commands.
 pub fn dropped_were_held()
-    ensures { (table : Classes) (bulk mode : ℕ) (commands : List Command) → IsSound table → All IsValid commands → TellsHeldWords table bulk mode commands }
+    ensures { (table : Classes) (bulk mode : ℕ) (commands : List Command) → IsSound table → All IsValid commands → PrintsHeldWords table bulk mode commands }
 {}
 
 /// Each key has no item, or the words of its last stored set; and get, hold, touch and delete agree which, whoever asks.
 /// A worker with the most holds is answered TOO_MANY_REFS by get and hold, and no other is. So it is after any valid commands.
 pub fn keys_have_one_answer()
-    ensures { (table : Classes) (bulk mode : ℕ) (commands : List Command) → IsSound table → All IsValid commands → TellsOneItem table bulk mode commands }
+    ensures { (table : Classes) (bulk mode : ℕ) (commands : List Command) → IsSound table → All IsValid commands → ShowsOneItem table bulk mode commands }
 {}
 
 /// After an answer that shows a key's item, which is STORED, VALUE, HELD or TOUCHED, a get of the key is answered by its
@@ -77,7 +77,7 @@ pub fn seen_items_stay()
 /// While a worker holds a key's item, a get of the key is answered by its words: no set evicts it, and no turn. Its hold is of
 /// that item as long as it isn't dropped, the key isn't deleted, and no set of the key is stored.
 pub fn held_items_stay()
-    ensures { (table : Classes) (bulk mode : ℕ) (commands : List Command) → IsSound table → All IsValid commands → KeepsHeld table bulk mode commands }
+    ensures { (table : Classes) (bulk mode : ℕ) (commands : List Command) → IsSound table → All IsValid commands → KeepsHeldWords table bulk mode commands }
 {}
 
 /// Every page and every chunk is accounted for, after any valid commands. This holds for every table, however many chunks a turn
@@ -101,5 +101,5 @@ pub fn granted_bytes_stay()
 /// Each reply is one or more lines with an end, and the last has something before it: so no reply is empty, whatever the
 /// machine has.
 pub fn replies_are_whole()
-    ensures { (m : Machine) (command : Command) (served : Served) → serve m command ≡ Some served → IsWhole served.reply }
+    ensures { (m : Machine) (command : Command) (served : Outcome) → serve m command ≡ Some served → IsWhole served.reply }
 {}

@@ -7,7 +7,7 @@ use Rattle.mc_pages.specs.declared.ids.ChunkId.{ChunkId}
 use Rattle.mc_pages.specs.Accounted.{truth}
 use Rattle.mc_pages.specs.ClassState.{is_chunk}
 use Rattle.mc_pages.proofs.Chunks.{same_from_is_chunk}
-use Rattle.mc_serial_parts.specs.CountsByPlace.{count_at, counts_of, CountAlike, IsReached}
+use Rattle.mc_serial_parts.specs.CountsByPlace.{count_at, counts_by_page, CountAlike, IsReached}
 
 -- ---- what is pushed holds nothing
 
@@ -23,39 +23,39 @@ push_empty [] (suc page) = refl
 push_empty (row ∷ rows) zero = refl
 push_empty (row ∷ rows) (suc page) = push_empty rows page
 
-pub page_pushed : (pages : List (Vec ℕ Global)) (new : Vec ℕ Global) → new.items ≡ [] → CountAlike (counts_of pages) (counts_of (pages ++ new ∷ []))
+pub page_pushed : (pages : List (Vec ℕ Global)) (new : Vec ℕ Global) → new.items ≡ [] → CountAlike (counts_by_page pages) (counts_by_page (pages ++ new ∷ []))
 page_pushed pages new empty = λ chunk.
     ap (λ (rows : List (List ℕ)). count_at rows chunk)
-    (map-append (λ (counts : Vec ℕ Global). counts.items) pages (new ∷ []) ∙ ap (λ (row : List ℕ). counts_of pages ++ row ∷ []) empty)
-    ∙ ap (λ (row : List ℕ). slice_index_or row chunk.index 0) (push_empty (counts_of pages) chunk.page)
+    (map-append (λ (counts : Vec ℕ Global). counts.items) pages (new ∷ []) ∙ ap (λ (row : List ℕ). counts_by_page pages ++ row ∷ []) empty)
+    ∙ ap (λ (row : List ℕ). slice_index_or row chunk.index 0) (push_empty (counts_by_page pages) chunk.page)
 
 -- ---- the row of a page is written
 
 module _ (pages : List (Vec ℕ Global)) (page : ℕ) (old new : Vec ℕ Global) (there : page < length pages) (is : old ≡ slice_index_or pages page old) where
-  within : page < length (counts_of pages)
+  within : page < length (counts_by_page pages)
   within = omega (arith, there, length-map pages (λ (counts : Vec ℕ Global). counts.items))
 
-  written : counts_of (slice_set pages page new) ≡ slice_set (counts_of pages) page new.items
+  written : counts_by_page (slice_set pages page new) ≡ slice_set (counts_by_page pages) page new.items
   written = map-set (λ (counts : Vec ℕ Global). counts.items) pages page new
 
-  pub row_was : slice_index_or (counts_of pages) page [] ≡ old.items
+  pub row_was : slice_index_or (counts_by_page pages) page [] ≡ old.items
   row_was = get_or-map (λ (counts : Vec ℕ Global). counts.items) pages page old [] there ∙ sym (ap (λ (counts : Vec ℕ Global). counts.items) is)
 
-  pub row_now : slice_index_or (counts_of (slice_set pages page new)) page [] ≡ new.items
-  row_now = ap (λ (rows : List (List ℕ)). slice_index_or rows page []) written ∙ get_or-set_same (counts_of pages) page new.items [] within
+  pub row_now : slice_index_or (counts_by_page (slice_set pages page new)) page [] ≡ new.items
+  row_now = ap (λ (rows : List (List ℕ)). slice_index_or rows page []) written ∙ get_or-set_same (counts_by_page pages) page new.items [] within
 
-  pub row_other : (other : ℕ) → other ≢ page → slice_index_or (counts_of (slice_set pages page new)) other [] ≡ slice_index_or (counts_of pages) other []
-  row_other other apart = ap (λ (rows : List (List ℕ)). slice_index_or rows other []) written ∙ get_or-set_other (counts_of pages) page other new.items [] apart
+  pub row_other : (other : ℕ) → other ≢ page → slice_index_or (counts_by_page (slice_set pages page new)) other [] ≡ slice_index_or (counts_by_page pages) other []
+  row_other other apart = ap (λ (rows : List (List ℕ)). slice_index_or rows other []) written ∙ get_or-set_other (counts_by_page pages) page other new.items [] apart
 
   -- with the same counts
-  pub alike_written : ((at : ℕ) → slice_index_or new.items at 0 ≡ slice_index_or old.items at 0) → CountAlike (counts_of pages) (counts_of (slice_set pages page new))
+  pub alike_written : ((at : ℕ) → slice_index_or new.items at 0 ≡ slice_index_or old.items at 0) → CountAlike (counts_by_page pages) (counts_by_page (slice_set pages page new))
   alike_written same = λ chunk. elim (cases_eq chunk.page page) [
     | inl here ↦
         rw here (ap (λ (row : List ℕ). slice_index_or row chunk.index 0) row_now ∙ same chunk.index ∙ sym (ap (λ (row : List ℕ). slice_index_or row chunk.index 0) row_was))
     | inr apart ↦ ap (λ (row : List ℕ). slice_index_or row chunk.index 0) (row_other chunk.page apart)
   ]
 
-  pub reached : (index : ℕ) → index < length new.items → IsReached (counts_of (slice_set pages page new)) (record { page = page; index = index })
+  pub reached : (index : ℕ) → index < length new.items → IsReached (counts_by_page (slice_set pages page new)) (record { page = page; index = index })
   reached index inside = record {
     page = omega (arith, there, length-map (slice_set pages page new) (λ (counts : Vec ℕ Global). counts.items), length-set pages page new);
     index = rw row_now inside;
@@ -63,7 +63,7 @@ module _ (pages : List (Vec ℕ Global)) (page : ℕ) (old new : Vec ℕ Global)
 
 -- ---- one count is written
 
-module _ (pages : List (Vec ℕ Global)) (chunk : ChunkId) (old new : Vec ℕ Global) (n : ℕ) (there : IsReached (counts_of pages) chunk)
+module _ (pages : List (Vec ℕ Global)) (chunk : ChunkId) (old new : Vec ℕ Global) (n : ℕ) (there : IsReached (counts_by_page pages) chunk)
     (is : old ≡ slice_index_or pages chunk.page old) (set : new.items ≡ slice_set old.items chunk.index n) where
   page_there : chunk.page < length pages
   page_there = omega (arith, there.page, length-map pages (λ (counts : Vec ℕ Global). counts.items))
@@ -71,12 +71,12 @@ module _ (pages : List (Vec ℕ Global)) (chunk : ChunkId) (old new : Vec ℕ Gl
   index_there : chunk.index < length old.items
   index_there = rw (← row_was pages chunk.page old new page_there is) there.index
 
-  pub count_written : count_at (counts_of (slice_set pages chunk.page new)) chunk ≡ n
+  pub count_written : count_at (counts_by_page (slice_set pages chunk.page new)) chunk ≡ n
   count_written =
       ap (λ (row : List ℕ). slice_index_or row chunk.index 0) (row_now pages chunk.page old new page_there is ∙ set)
       ∙ get_or-set_same old.items chunk.index n 0 index_there
 
-  pub count_other : (other : ChunkId) → is_chunk chunk other ≡ false → count_at (counts_of (slice_set pages chunk.page new)) other ≡ count_at (counts_of pages) other
+  pub count_other : (other : ChunkId) → is_chunk chunk other ≡ false → count_at (counts_by_page (slice_set pages chunk.page new)) other ≡ count_at (counts_by_page pages) other
   count_other other apart = elim (cases_eq other.page chunk.page) [
     | inl here ↦ elim (cases_eq other.index chunk.index) [
       | inl same ↦ let bad : is_chunk chunk other ≡ true = grind (arith, nat_tests, here, same) in absurd (true_false bad apart)
@@ -92,7 +92,7 @@ module _ (pages : List (Vec ℕ Global)) (chunk : ChunkId) (old new : Vec ℕ Gl
       true_false is not_so = cc
 
   -- the count that was there
-  pub count_was : (x : ℕ) → x ≡ slice_index_or old.items chunk.index x → x ≡ count_at (counts_of pages) chunk
+  pub count_was : (x : ℕ) → x ≡ slice_index_or old.items chunk.index x → x ≡ count_at (counts_by_page pages) chunk
   count_was x read =
       read ∙ get_or_default old.items chunk.index x 0 index_there
       ∙ sym (ap (λ (row : List ℕ). slice_index_or row chunk.index 0) (row_was pages chunk.page old new page_there is))

@@ -5,12 +5,12 @@ use Rattle.std.specs.Map.{lookup, set_value}
 use Rattle.std.specs.Ordering.{nat_cmp}
 use Rattle.std.proofs.lemmas.Bool.Decides.{nat_tests}
 use Rattle.mc_pages.specs.declared.ids.ChunkId.{ChunkId}
-use Rattle.mc_serial_parts.specs.Leads.{chunk_of, IsLed}
+use Rattle.mc_serial_parts.specs.Leads.{chunk_led_to, IsLed}
 
 same_test : (a b : ℕ) → nat_eq a b ≡ is_at (nat_cmp a) b
 same_test a b = grind (arith, nat_tests)
 
-pub same_look : (key : ℕ) (entries : List (ℕ × ChunkId)) → lookup (nat_eq key) entries ≡ chunk_of entries key
+pub same_look : (key : ℕ) (entries : List (ℕ × ChunkId)) → lookup (nat_eq key) entries ≡ chunk_led_to entries key
 same_look key [] = refl
 same_look key (e ∷ entries) =
     ap (λ (b : Bool). cond b (Some e.1) (lookup (nat_eq key) entries)) (same_test key e.0)

@@ -5,12 +5,12 @@ use Rattle.mc_pages.specs.declared.ids.ChunkId.{ChunkId}
 use Rattle.mc_serial_parts.specs.declared.hold_counts.HoldCounts.TheInside.{Inside}
 
 -- the counts of each page
-abbrev pub counts_of : List (Vec ℕ Global) → List (List ℕ)
-counts_of pages = map (λ counts. counts.items) pages
+abbrev pub counts_by_page : List (Vec ℕ Global) → List (List ℕ)
+counts_by_page pages = map (λ counts. counts.items) pages
 
 -- the counts of a table
-abbrev pub rows_of : Inside → List (List ℕ)
-rows_of table = counts_of table.pages.items
+abbrev pub count_rows : Inside → List (List ℕ)
+count_rows table = counts_by_page table.pages.items
 
 -- the chunk's count
 abbrev pub count_at : List (List ℕ) → ChunkId → ℕ

@@ -4,5 +4,5 @@ use Rattle.mc_serial_spec.specs.Item.{Item}
 use Rattle.mc_serial_parts.specs.declared.place.Place.TheInside.{Inside}
 
 -- the item, where the place is filled
-abbrev pub item_in : Inside → Option Item
-item_in place = if place.filled then Some place.item else None
+abbrev pub item_in_place : Inside → Option Item
+item_in_place place = if place.filled then Some place.item else None

@@ -1,7 +1,7 @@
 //! Handed-out chunks that are dead: neither a key leads to them nor anybody holds them. How many each class has, and which of
 //! them came last.
 ghost use Rattle.std.specs.Prelude.{◌≡◌, ◌+◌, ◌-◌, ◌<◌, ◌≤◌, length, IfOk, if◌then◌else◌, None, replicate, slice_index_or, slice_set, Some};
-ghost use Rattle.mc_pages.specs.SlabState.{IsClass, class_of_page};
+ghost use Rattle.mc_pages.specs.SlabState.{HasClass, class_of_page};
 ghost use Rattle.mc_serial_spec.specs.Holds.{is_held};
 
 use crate::holds::Holds;
@@ -111,7 +111,7 @@ impl LastDead {
 
 /// Counts a chunk as dead where nobody holds it. No key leads to it any more.
 pub fn count_unheld(dead: &mut DeadCounts, holds: &Holds, slabs: &Slabs, chunk: ChunkId)
-    requires class { IsClass slabs.now.state (class_of_page slabs.now.state chunk.page) }
+    requires class { HasClass slabs.now.state (class_of_page slabs.now.state chunk.page) }
     requires of_each { length dead.old ≡ length slabs.now.state.classes }
     requires few { slice_index_or dead.old (class_of_page slabs.now.state chunk.page - 1) 0 < 65536 }
     ensures counts { dead.new ≡ (if is_held holds.now chunk then dead.old else slice_set dead.old (class_of_page slabs.now.state chunk.page - 1) (slice_index_or dead.old (class_of_page slabs.now.state chunk.page - 1) 0 + 1)) }
@@ -124,7 +124,7 @@ pub fn count_unheld(dead: &mut DeadCounts, holds: &Holds, slabs: &Slabs, chunk: 
 
 /// The class that has the chunk.
 pub fn class_of(slabs: &Slabs, chunk: ChunkId) -> ClassId
-    requires { IsClass slabs.now.state (class_of_page slabs.now.state chunk.page) }
+    requires { HasClass slabs.now.state (class_of_page slabs.now.state chunk.page) }
     ensures class { result ≡ class_of_page slabs.now.state chunk.page }
 {
     slabs.owner(chunk.page).class()

@@ -3,7 +3,7 @@ ghost use Rattle.std.specs.Prelude.{◌≡◌, ◌+◌, ◌-◌, ◌<◌, ◌≤
 ghost use Rattle.mc_pages.specs.declared.ids.ChunkId.{ChunkId};
 ghost use Rattle.mc_pages.specs.Accounted.{truth};
 ghost use Rattle.mc_pages.specs.ClassState.{is_chunk};
-ghost use Rattle.mc_serial_parts.specs.CountsByPlace.{count_at, counts_of, CountAlike, IsReached};
+ghost use Rattle.mc_serial_parts.specs.CountsByPlace.{count_at, counts_by_page, CountAlike, IsReached};
 
 use mc_memory::{Refused, push};
 use mc_pages::ChunkId;
@@ -20,11 +20,11 @@ pub(crate) struct HoldCounts {
 
 impl Model for HoldCounts {
     ghost use Rattle.std.specs.Prelude.{List, ℕ};
-    ghost use Rattle.mc_serial_parts.specs.CountsByPlace.{rows_of};
+    ghost use Rattle.mc_serial_parts.specs.CountsByPlace.{count_rows};
 
     ghost Value = { List (List ℕ) };
 
-    ghost view = { rows_of };
+    ghost view = { count_rows };
 }
 
 impl HoldCounts {
@@ -82,7 +82,7 @@ impl HoldCounts {
 /// Makes counts for the page, if it has none.
 fn reach_page(alloc: Global, pages: &mut Vec<Vec<u16>>, page: u64) -> Result<(), Refused>
     ensures there { OnOk result (page < length pages.new.items) }
-    ensures same { CountAlike (counts_of pages.old.items) (counts_of pages.new.items) }
+    ensures same { CountAlike (counts_by_page pages.old.items) (counts_by_page pages.new.items) }
 {
     while pages.len() as u64 <= page {
         push(pages, Vec::new(alloc))?;

@@ -27,9 +27,9 @@ impl Model for Holds {
 
     ghost Value = { Holds };
 
-    ghost use Rattle.mc_serial_parts.specs.HoldsKept.{holds_of, AreHolds};
+    ghost use Rattle.mc_serial_parts.specs.HoldsKept.{stored_holds, AreHolds};
 
-    ghost view = { holds_of };
+    ghost view = { stored_holds };
 
     ghost invariant = { AreHolds };
 }

@@ -1,7 +1,7 @@
 //! An item of the keeper, and the words of one that comes.
 ghost use Rattle.std.specs.Prelude.{◌≡◌, ◌≤◌, ◌^◌, length, OnOk, OnErr};
-ghost use Rattle.mc_serial_spec.specs.Item.{new_item, unlinked, words_from};
-ghost use Rattle.mc_serial_parts.specs.NewWords.{words_in};
+ghost use Rattle.mc_serial_spec.specs.Item.{new_item, item_after_unlink, counting_words};
+ghost use Rattle.mc_serial_parts.specs.NewWords.{words_of_new};
 
 use mc_memory::{Refused, filled, from_slice};
 use std::alloc::Global;
@@ -19,7 +19,7 @@ pub enum NewWords<'a> {
 impl NewWords<'_> {
     /// How many words they are.
     pub fn count(&self) -> u64
-        ensures count { result ≡ length (words_in self.now) }
+        ensures count { result ≡ length (words_of_new self.now) }
     {
         match self {
             NewWords::Copied(words) => words.len() as u64,
@@ -56,7 +56,7 @@ impl Item {
 
     /// Becomes a new item with these words, to which its key leads. The room of the old words is used again where it suffices.
     pub(crate) fn renew(&mut self, alloc: Global, key: u64, words: NewWords) -> Result<(), Refused>
-        ensures new { OnOk result (self.new ≡ new_item key (words_in words.entry)) }
+        ensures new { OnOk result (self.new ≡ new_item key (words_of_new words.entry)) }
         ensures unchanged { OnErr result (self.new ≡ self.old) }
     {
         match words {
@@ -91,7 +91,7 @@ impl Item {
 
     /// The item's key leads to it no more.
     pub(crate) fn unlink(&mut self)
-        ensures unlinked { self.new ≡ unlinked self.old }
+        ensures unlinked { self.new ≡ item_after_unlink self.old }
     {
         self.linked = false;
     }
@@ -113,7 +113,7 @@ fn copy_words(alloc: Global, all: &mut Vec<u64>, words: &[u64]) -> Result<(), Re
 
 /// Writes n words, base, base + 1 and so on, modulo 2^64, in the place of what was there.
 fn write_words(alloc: Global, all: &mut Vec<u64>, base: u64, words: u64) -> Result<(), Refused>
-    ensures words { OnOk result (all.new.items ≡ words_from base words) }
+    ensures words { OnOk result (all.new.items ≡ counting_words base words) }
     ensures unchanged { OnErr result (all.new.items ≡ all.old.items) }
 {
     if all.capacity() < words as usize {
@@ -127,7 +127,7 @@ fn write_words(alloc: Global, all: &mut Vec<u64>, base: u64, words: u64) -> Resu
 
 /// Writes base, base + 1 and so on, modulo 2^64.
 fn count_up(all: &mut [u64], base: u64)
-    ensures words { all.new ≡ words_from base (length all.old) }
+    ensures words { all.new ≡ counting_words base (length all.old) }
 {
     let mut next = base;
     for word in all.iter_mut() {

@@ -3,7 +3,7 @@ ghost use Rattle.std.specs.Prelude.{◌≡◌, nat_eq, [], None, Some, IfOk, OnO
 ghost use Rattle.std.specs.BTreeMap.{is_at};
 ghost use Rattle.std.specs.Map.{set_value};
 ghost use Rattle.std.specs.Ordering.{nat_cmp};
-ghost use Rattle.mc_serial_parts.specs.Leads.{chunk_of, IsLed};
+ghost use Rattle.mc_serial_parts.specs.Leads.{chunk_led_to, IsLed};
 
 use mc_memory::{Refused, reserve_entries};
 use mc_pages::ChunkId;
@@ -38,14 +38,14 @@ impl KeyIndex {
 
     /// The key's chunk, if it leads to one.
     pub fn get(&self, key: u64) -> Option<ChunkId>
-        ensures chunk { result ≡ chunk_of self.now key }
+        ensures chunk { result ≡ chunk_led_to self.now key }
     {
         self.chunks.get(&key).copied()
     }
 
     /// The key leads to this chunk now. Gives the chunk to which it led before.
     pub fn insert(&mut self, key: u64, chunk: ChunkId) -> Result<Option<ChunkId>, Refused>
-        ensures before { IfOk result (λ before. before ≡ chunk_of self.old key) }
+        ensures before { IfOk result (λ before. before ≡ chunk_led_to self.old key) }
         ensures led { OnOk result (IsLed self.old self.new key (Some chunk)) }
         ensures unchanged { OnErr result (self.new ≡ self.old) }
     {
@@ -56,7 +56,7 @@ impl KeyIndex {
 
     /// The key leads nowhere any more. Gives the chunk to which it led.
     pub fn remove(&mut self, key: u64) -> Option<ChunkId>
-        ensures chunk { result ≡ chunk_of self.old key }
+        ensures chunk { result ≡ chunk_led_to self.old key }
         ensures led { IsLed self.old self.new key None }
     {
         self.chunks.remove(&key)

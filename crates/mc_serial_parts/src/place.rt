@@ -1,8 +1,8 @@
 //! The place of one chunk's item.
 ghost use Rattle.std.specs.Prelude.{◌≡◌, None, Some, OnOk, OnErr};
 ghost use Rattle.std.specs.Option.{option_copied, option_map};
-ghost use Rattle.mc_serial_spec.specs.Item.{new_item, unlinked};
-ghost use Rattle.mc_serial_parts.specs.NewWords.{words_in};
+ghost use Rattle.mc_serial_spec.specs.Item.{new_item, item_after_unlink};
+ghost use Rattle.mc_serial_parts.specs.NewWords.{words_of_new};
 
 use crate::item::{Item, NewWords};
 use mc_memory::Refused;
@@ -20,11 +20,11 @@ pub(crate) struct Place {
 impl Model for Place {
     ghost use Rattle.std.specs.Prelude.{Option};
     ghost use Rattle.mc_serial_spec.specs.Item.{Item};
-    ghost use Rattle.mc_serial_parts.specs.ItemInPlace.{item_in};
+    ghost use Rattle.mc_serial_parts.specs.ItemInPlace.{item_in_place};
 
     ghost Value = { Option Item };
 
-    ghost view = { item_in };
+    ghost view = { item_in_place };
 }
 
 impl Place {
@@ -47,7 +47,7 @@ impl Place {
 
     /// A new item comes here, in the place of what was here.
     pub(crate) fn fill(&mut self, alloc: Global, key: u64, words: NewWords) -> Result<(), Refused>
-        ensures filled { OnOk result (self.new ≡ Some (new_item key (words_in words.entry))) }
+        ensures filled { OnOk result (self.new ≡ Some (new_item key (words_of_new words.entry))) }
         ensures unchanged { OnErr result (self.new ≡ self.old) }
     {
         self.item.renew(alloc, key, words)?;
@@ -89,7 +89,7 @@ impl Place {
 
     /// The item, if there is one, is linked no more.
     pub(crate) fn unlink(&mut self)
-        ensures unlinked { self.new ≡ option_map unlinked self.old }
+        ensures unlinked { self.new ≡ option_map item_after_unlink self.old }
     {
         self.item.unlink();
     }

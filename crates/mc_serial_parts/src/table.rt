@@ -2,9 +2,9 @@
 ghost use Rattle.std.specs.Prelude.{◌≡◌, ◌<◌, true, false, [], length, slice_index_or, None, IfOk, OnOk, OnErr};
 ghost use Rattle.std.specs.Option.{option_copied, option_map};
 ghost use Rattle.mc_serial_spec.specs.Item.{new_item};
-ghost use Rattle.mc_serial_spec.specs.Items.{item_at, unlinked_in, with_item, with_moved_item, without_item};
-ghost use Rattle.mc_serial_parts.specs.ItemsByPlace.{AreAlike, HasPlace, items_from, places_of};
-ghost use Rattle.mc_serial_parts.specs.NewWords.{words_in};
+ghost use Rattle.mc_serial_spec.specs.Items.{item_in_chunk, unlinked_in, with_item, with_moved_item, without_item};
+ghost use Rattle.mc_serial_parts.specs.ItemsByPlace.{AreAlike, HasPlace, items_from, table_places};
+ghost use Rattle.mc_serial_parts.specs.NewWords.{words_of_new};
 
 use crate::item::{Item, NewWords};
 use crate::place::Place;
@@ -43,7 +43,7 @@ impl ItemTable {
 
     /// The chunk's item, if it has one.
     pub fn get(&self, chunk: ChunkId) -> Option<&Item>
-        ensures value { option_copied result ≡ item_at self.now chunk }
+        ensures value { option_copied result ≡ item_in_chunk self.now chunk }
     {
         if !has_place(&self.pages, chunk) {
             return None;
@@ -54,7 +54,7 @@ impl ItemTable {
     /// A new item comes into the chunk, in the place of what was there: a key with these words. They are written where the
     /// chunk's last item had its words, so that no memory is taken where there is room for them.
     pub fn store(&mut self, chunk: ChunkId, key: u64, words: NewWords) -> Result<(), Refused>
-        ensures entries { OnOk result (self.new ≡ with_item self.old chunk (new_item key (words_in words.entry))) }
+        ensures entries { OnOk result (self.new ≡ with_item self.old chunk (new_item key (words_of_new words.entry))) }
         ensures unchanged { OnErr result (self.new ≡ self.old) }
     {
         reach(self.alloc, &mut self.pages, chunk)?;
@@ -64,7 +64,7 @@ impl ItemTable {
 
     /// The chunk's item goes, if it has one. Gives its key.
     pub fn remove(&mut self, chunk: ChunkId) -> Option<u64>
-        ensures key { result ≡ option_map (λ item. item.key) (item_at self.old chunk) }
+        ensures key { result ≡ option_map (λ item. item.key) (item_in_chunk self.old chunk) }
         ensures entries { self.new ≡ without_item self.old chunk }
     {
         if !has_place(&self.pages, chunk) {
@@ -76,7 +76,7 @@ impl ItemTable {
     /// The item of a chunk comes into another, in the place of what was there. Gives its key. Nothing happens where there is
     /// no item.
     pub fn relocate(&mut self, old: ChunkId, new: ChunkId) -> Result<Option<u64>, Refused>
-        ensures key { IfOk result (λ key. key ≡ option_map (λ item. item.key) (item_at self.old old)) }
+        ensures key { IfOk result (λ key. key ≡ option_map (λ item. item.key) (item_in_chunk self.old old)) }
         ensures moved { OnOk result (self.new ≡ with_moved_item self.old old new) }
         ensures unchanged { OnErr result (self.new ≡ self.old) }
     {
@@ -86,7 +86,7 @@ impl ItemTable {
 
     /// The chunk's item, if it has one, is linked no more.
     pub fn unlink(&mut self, chunk: ChunkId)
-        ensures unlinked { self.new ≡ unlinked_in self.old chunk (item_at self.old chunk) }
+        ensures unlinked { self.new ≡ unlinked_in self.old chunk (item_in_chunk self.old chunk) }
     {
         if !has_place(&self.pages, chunk) {
             return;
@@ -97,8 +97,8 @@ impl ItemTable {
 
 /// Whether the table has a place for the chunk.
 fn has_place(pages: &[Vec<Place>], chunk: ChunkId) -> bool
-    ensures yes { result ≡ true → HasPlace (places_of pages.now) chunk }
-    ensures no { result ≡ false → slice_index_or (slice_index_or (places_of pages.now) chunk.page []) chunk.index None ≡ None }
+    ensures yes { result ≡ true → HasPlace (table_places pages.now) chunk }
+    ensures no { result ≡ false → slice_index_or (slice_index_or (table_places pages.now) chunk.page []) chunk.index None ≡ None }
 {
     match pages.get(chunk.page as usize) {
         Some(places) => chunk.index < places.len() as u64,
@@ -108,9 +108,9 @@ fn has_place(pages: &[Vec<Place>], chunk: ChunkId) -> bool
 
 /// The item of a chunk comes into another, which has a place.
 fn relocate(alloc: Global, pages: &mut Vec<Vec<Place>>, old: ChunkId, new: ChunkId) -> Option<u64>
-    requires { HasPlace (places_of pages.old.items) new }
-    ensures key { result ≡ option_map (λ item. item.key) (item_at (items_from 0 (places_of pages.old.items)) old) }
-    ensures moved { items_from 0 (places_of pages.new.items) ≡ with_moved_item (items_from 0 (places_of pages.old.items)) old new }
+    requires { HasPlace (table_places pages.old.items) new }
+    ensures key { result ≡ option_map (λ item. item.key) (item_in_chunk (items_from 0 (table_places pages.old.items)) old) }
+    ensures moved { items_from 0 (table_places pages.new.items) ≡ with_moved_item (items_from 0 (table_places pages.old.items)) old new }
 {
     if !has_place(pages, old) {
         return None;
@@ -127,8 +127,8 @@ fn relocate(alloc: Global, pages: &mut Vec<Vec<Place>>, old: ChunkId, new: Chunk
 
 /// Makes a place for the chunk, if the table has none.
 fn reach(alloc: Global, pages: &mut Vec<Vec<Place>>, chunk: ChunkId) -> Result<(), Refused>
-    ensures there { OnOk result (HasPlace (places_of pages.new.items) chunk) }
-    ensures same { items_from 0 (places_of pages.new.items) ≡ items_from 0 (places_of pages.old.items) }
+    ensures there { OnOk result (HasPlace (table_places pages.new.items) chunk) }
+    ensures same { items_from 0 (table_places pages.new.items) ≡ items_from 0 (table_places pages.old.items) }
 {
     reach_page(alloc, pages, chunk.page)?;
     reach_index(alloc, &mut pages[chunk.page as usize], chunk.index)?;
@@ -138,7 +138,7 @@ fn reach(alloc: Global, pages: &mut Vec<Vec<Place>>, chunk: ChunkId) -> Result<(
 /// Makes places for the page, if the table has none.
 fn reach_page(alloc: Global, pages: &mut Vec<Vec<Place>>, page: u64) -> Result<(), Refused>
     ensures there { OnOk result (page < length pages.new.items) }
-    ensures same { items_from 0 (places_of pages.new.items) ≡ items_from 0 (places_of pages.old.items) }
+    ensures same { items_from 0 (table_places pages.new.items) ≡ items_from 0 (table_places pages.old.items) }
 {
     while pages.len() as u64 <= page {
         push(pages, Vec::new(alloc))?;

@@ -6,8 +6,8 @@ use Rattle.std.proofs.Math.Nat.{mul-le-mul_left}
 use Rattle.std.proofs.lemmas.Option.{get_or_from_slice_get, slice_get_within}
 use Rattle.mc_classes.specs.Classes.{Classes, IsClass as IsTableClass}
 use Rattle.mc_pages.specs.declared.ids.ChunkId.{ChunkId}
-use Rattle.mc_pages.specs.ClassState.{ClassState, new_class, times}
-use Rattle.mc_pages.specs.SlabState.{SlabState, IsClass, class_at, class_of_page}
+use Rattle.mc_pages.specs.ClassState.{ClassState, new_class, times_in}
+use Rattle.mc_pages.specs.SlabState.{SlabState, HasClass, class_at, class_of_page}
 use Rattle.mc_pages.proofs.Chunks.{times_from_Contains}
 use Rattle.mc_pages.proofs.GrantedPage.{length-owners, length-pages_le}
 use Rattle.mc_serial_spec.specs.Items.{Items}
@@ -17,7 +17,7 @@ use Rattle.mc_pages.proofs.ListedChunks.{in_lists_once, page_of_listed}
 use Rattle.mc_serial_spec.proofs.Grown.{per_page_kept}
 
 module _ (table : Classes) (slabs : SlabState) (items : Items) (class : ℕ)
-    (kept : IsConsistent table slabs items) (valid : IsClass slabs class) where
+    (kept : IsConsistent table slabs items) (valid : HasClass slabs class) where
   -- a class has at most as many pages as there are
   pub pages_few : length (class_at slabs class).pages ≤ 127
   pages_few =
@@ -50,7 +50,7 @@ module _ (table : Classes) (slabs : SlabState) (items : Items) (class : ℕ)
       = (place, slice_get_within (class_at slabs class).order place x at, get_or_from_slice_get (class_at slabs class).order place x x at) in
       page_of_listed slabs class x kept.accounted valid (omega (arith, times_from_Contains x (class_at slabs class).order there))
 
-  pub listed_once : (x : ChunkId) → times x (class_at slabs class).order ≤ 1
+  pub listed_once : (x : ChunkId) → times_in x (class_at slabs class).order ≤ 1
   listed_once x = omega (arith, in_lists_once slabs class x kept.accounted valid)
 
 -- the numbers of all classes are counts for their text
@@ -66,10 +66,10 @@ module _ (table : Classes) (slabs : SlabState) (items : Items) (kept : IsConsist
     pages_of_each = length-map slabs.classes (λ (class : ClassState). length class.pages) ∙ kept.classes;
     free_of_each = length-map slabs.classes (λ (class : ClassState). length class.free) ∙ kept.classes;
     few = λ class valid.
-        let there : IsClass slabs class = (valid.0, rw kept.classes valid.1) in
+        let there : HasClass slabs class = (valid.0, rw kept.classes valid.1) in
         rw (count_of_class (λ (c : ClassState). length c.pages) class valid) (omega (arith, pages_few table slabs items class kept there));
     within = λ class valid.
-        let there : IsClass slabs class = (valid.0, rw kept.classes valid.1) in
+        let there : HasClass slabs class = (valid.0, rw kept.classes valid.1) in
         rw (
           count_of_class (λ (c : ClassState). length c.pages) class valid,
           count_of_class (λ (c : ClassState). length c.free) class valid,

@@ -7,7 +7,7 @@ use Rattle.mc_pages.specs.declared.ledger.Owner.{Owner}
 use Rattle.mc_pages.specs.declared.ledger.Owner.TheVariants.{Untouched, Class}
 use Rattle.mc_pages.specs.Ledger.{owner_at}
 use Rattle.mc_pages.specs.ClassState.{ClassState, new_class, with_page}
-use Rattle.mc_pages.specs.SlabState.{SlabState, IsClass, class_at, class_of_owner, class_of_chunk}
+use Rattle.mc_pages.specs.SlabState.{SlabState, HasClass, class_at, class_of_owner, class_of_chunk}
 use Rattle.mc_pages.specs.Accounted.{IsAccounted, first_chunks}
 use Rattle.mc_pages.specs.Changes.{after_grow, after_cut, next_page}
 use Rattle.mc_serial_spec.specs.Items.{Items}
@@ -19,7 +19,7 @@ use Rattle.mc_pages.proofs.NextPage.{nobody_next, owners-grown, class_at-grown}
 
 -- the chunks of a page are the table's
 pub per_page_kept : (table : Classes) (slabs : SlabState) (items : Items) (class : ℕ)
-    → IsConsistent table slabs items → IsClass slabs class → (class_at slabs class).per_page ≡ per_page_of table class
+    → IsConsistent table slabs items → HasClass slabs class → (class_at slabs class).per_page ≡ per_page_of table class
 per_page_kept table slabs items class kept valid =
     let inside : class - 1 < length slabs.classes = omega (arith, valid.0, valid.1) in
     let inside_too : class - 1 < length table.sizes = omega (arith, kept.classes) in
@@ -28,7 +28,7 @@ per_page_kept table slabs items class kept valid =
     ∙ get_or-map (λ size. table.page / size) table.sizes (class - 1) 0 0 inside_too
 
 -- a page that was just given to a class has as many chunks as the class's pages have
-pub per_page_given : (slabs : SlabState) (class page : ℕ) → IsAccounted slabs → IsClass slabs class → next_page slabs class ≡ Some page
+pub per_page_given : (slabs : SlabState) (class page : ℕ) → IsAccounted slabs → HasClass slabs class → next_page slabs class ≡ Some page
     → (class_of_chunk (after_grow slabs class page) (chunk_at page 0)).per_page ≡ (class_at slabs class).per_page
 per_page_given slabs class page all valid next =
     let inside = (nobody_next slabs class page all next).1 in
@@ -41,7 +41,7 @@ per_page_given slabs class page all valid next =
     ∙ ap (λ (c : ClassState). c.per_page) here
 
 -- the class's chunks a page are as before
-pub per_page_grown : (slabs : SlabState) (class page : ℕ) → IsClass slabs class → (class_at (after_grow slabs class page) class).per_page ≡ (class_at slabs class).per_page
+pub per_page_grown : (slabs : SlabState) (class page : ℕ) → HasClass slabs class → (class_at (after_grow slabs class page) class).per_page ≡ (class_at slabs class).per_page
 per_page_grown slabs class page valid =
     ap (λ (c : ClassState). c.per_page) (class_at-grown slabs class page class ∙ class_at-with_class_same slabs class (with_page (class_at slabs class) page) valid)
 

@@ -8,8 +8,8 @@ use Rattle.mc_classes.specs.Classes.{Classes}
 use Rattle.mc_pages.specs.declared.ledger.Owner.TheVariants as owner
 use Rattle.mc_pages.specs.declared.moves.Reassign.{Reassign}
 use Rattle.mc_pages.specs.Ledger.{owner_at}
-use Rattle.mc_pages.specs.ClassState.{times}
-use Rattle.mc_pages.specs.SlabState.{SlabState, IsClass, class_at, class_of_owner, class_of_page}
+use Rattle.mc_pages.specs.ClassState.{times_in}
+use Rattle.mc_pages.specs.SlabState.{SlabState, HasClass, class_at, class_of_owner, class_of_page}
 use Rattle.mc_pages.specs.Accounted.{IsAccounted, is_of_class, truth}
 use Rattle.mc_pages.specs.Answer.{answer_of, MayAnswer}
 use Rattle.mc_pages.specs.Moves.{first_page, after_begin}
@@ -24,7 +24,7 @@ first_counted [] some = absurd (omega arith)
 first_counted (q ∷ pages) some = grind (arith, nat_tests, sum_by-cons (λ p. truth (p == q)) q pages)
 
 -- the first page of a class is the class's
-first_own : (slabs : SlabState) (class : ℕ) → IsAccounted slabs → IsClass slabs class → 1 ≤ length (class_at slabs class).pages
+first_own : (slabs : SlabState) (class : ℕ) → IsAccounted slabs → HasClass slabs class → 1 ≤ length (class_at slabs class).pages
     → is_of_class class (owner_at slabs.owners (first_page slabs class)) ≡ true
 first_own slabs class accounted valid some =
     let page : ℕ = first_page slabs class in
@@ -65,7 +65,7 @@ kept_begin table slabs items src source dst kept answer accounted = record {
   one_link = kept.one_link;
   handed_out = λ x.
       let same : class_of_page (after_begin slabs src source dst) x.page ≡ class_of_page slabs x.page = class_of_page-begun slabs src source dst x.page kept.accounted answer in
-      omega (arith, kept.handed_out x, ap (λ (class : ℕ). times x (class_at slabs class).order) same);
+      omega (arith, kept.handed_out x, ap (λ (class : ℕ). times_in x (class_at slabs class).order) same);
   stored = kept.stored;
 }
 

@@ -10,14 +10,14 @@ use Rattle.mc_pages.specs.declared.ids.ChunkId.{ChunkId}
 use Rattle.mc_pages.specs.declared.ledger.Owner.{Owner}
 use Rattle.mc_pages.specs.declared.ledger.Owner.TheVariants.{Untouched, Class}
 use Rattle.mc_pages.specs.Ledger.{owner_at}
-use Rattle.mc_pages.specs.ClassState.{ClassState, new_class, is_chunk, times, without, put_back, with_page}
-use Rattle.mc_pages.specs.SlabState.{SlabState, IsClass, class_at, class_of_owner, class_of_page, class_of_chunk, fresh_slabs}
+use Rattle.mc_pages.specs.ClassState.{ClassState, new_class, is_chunk, times_in, without, put_back, with_page}
+use Rattle.mc_pages.specs.SlabState.{SlabState, HasClass, class_at, class_of_owner, class_of_page, class_of_chunk, fresh_slabs}
 use Rattle.mc_pages.specs.Accounted.{truth, IsAccounted}
 use Rattle.mc_pages.specs.Changes.{after_back, after_grow, after_cut, next_page}
 use Rattle.mc_serial_spec.specs.Item.{Item}
 use Rattle.mc_serial_spec.specs.Machine.{with_mode}
-use Rattle.mc_serial_spec.specs.Items.{Items, item_at, is_unlinked, without_item, unlinked_in, unlinked_items, linked_chunk}
-use Rattle.mc_serial_spec.specs.Consistent.{places, IsConsistent}
+use Rattle.mc_serial_spec.specs.Items.{Items, item_in_chunk, has_unlinked_item, without_item, unlinked_in, unlinked_items, linked_chunk}
+use Rattle.mc_serial_spec.specs.Consistent.{place_count, IsConsistent}
 use Rattle.mc_serial_spec.proofs.Chunks.{places-unlinked_items, places-without_item, places-without_item-le, places-without_item-other}
 use Rattle.mc_serial_spec.proofs.Links.{links-unlinked_items, links-without_item-le, some_places, LinkedIn, linked_in, unlinked_items_none}
 use Rattle.mc_pages.proofs.Chunks.{is_chunk-same, times-without, times-cons}
@@ -31,14 +31,14 @@ is_chunk-tells : (c d : ChunkId) → ((is_chunk c d ≡ true) × (c ≡ d)) ⊎ 
 is_chunk-tells c d = grind (arith, nat_tests)
 
 -- a class that isn't there has no hand-out order
-no_order : (n : ℕ) (slabs : SlabState) (x : ChunkId) → length slabs.classes ≤ n - 1 → times x (class_at slabs n).order ≡ 0
+no_order : (n : ℕ) (slabs : SlabState) (x : ChunkId) → length slabs.classes ≤ n - 1 → times_in x (class_at slabs n).order ≡ 0
 no_order n slabs x past =
     let none : (class_at slabs n).order ≡ [] = ap (λ (c : ClassState). c.order) (get_or_past slabs.classes (n - 1) (new_class 0 0) past) in
     rw none refl
 
 -- a chunk that stands in the hand-out order of its page's class: that class is there
 class_there : (n : ℕ) (slabs : SlabState) (x : ChunkId) → IsAccounted slabs → class_of_page slabs x.page ≡ n
-    → 1 ≤ times x (class_at slabs n).order → IsClass slabs n
+    → 1 ≤ times_in x (class_at slabs n).order → HasClass slabs n
 class_there zero slabs x accounted is here = elim (leb_tells 1 (length slabs.classes)) [
   | inl some ↦
       let one : class_of_page slabs x.page ≡ 1 = page_of_listed slabs 1 x accounted (omega arith, some.1) (omega arith) in
@@ -62,8 +62,8 @@ order-fresh page [] place = refl
 order-fresh page (size ∷ sizes) zero = refl
 order-fresh page (size ∷ sizes) (suc place) = order-fresh page sizes place
 
-no_orders_fresh : (table : Classes) (class : ℕ) (x : ChunkId) → times x (class_at (fresh_slabs table) class).order ≤ 0
-no_orders_fresh table class x = omega (arith, ap (λ (cs : List ChunkId). times x cs) (order-fresh table.page table.sizes (class - 1)))
+no_orders_fresh : (table : Classes) (class : ℕ) (x : ChunkId) → times_in x (class_at (fresh_slabs table) class).order ≤ 0
+no_orders_fresh table class x = omega (arith, ap (λ (cs : List ChunkId). times_in x cs) (order-fresh table.page table.sizes (class - 1)))
 
 -- where nothing is stored yet
 pub kept_fresh : (table : Classes) (mode : ℕ) (slabs : SlabState) (items : Items)
@@ -83,16 +83,16 @@ kept_fresh table mode slabs items sound slabs_is accounted items_is = rw items_i
 
 -- an item's chunk stands in the hand-out order of a class that is there
 pub listed : (table : Classes) (slabs : SlabState) (items : Items) (x : ChunkId)
-    → IsConsistent table slabs items → 1 ≤ places x items → IsClass slabs (class_of_page slabs x.page)
+    → IsConsistent table slabs items → 1 ≤ place_count x items → HasClass slabs (class_of_page slabs x.page)
 listed table slabs items x kept there =
     class_there (class_of_page slabs x.page) slabs x kept.accounted refl (omega (arith, kept.handed_out x))
 
 -- no chunk stands among the items twice
 pub place_once : (table : Classes) (slabs : SlabState) (items : Items) (x : ChunkId)
-    → IsConsistent table slabs items → places x items ≤ 1
-place_once table slabs items x kept = elim (leb_tells 1 (places x items)) [
+    → IsConsistent table slabs items → place_count x items ≤ 1
+place_once table slabs items x kept = elim (leb_tells 1 (place_count x items)) [
   | inl some ↦
-      let there : IsClass slabs (class_of_page slabs x.page) = listed table slabs items x kept some.1 in
+      let there : HasClass slabs (class_of_page slabs x.page) = listed table slabs items x kept some.1 in
       omega (arith, kept.handed_out x, in_lists_once slabs (class_of_page slabs x.page) x kept.accounted there)
   | inr none ↦ omega (arith, none.1)
 ]
@@ -100,7 +100,7 @@ place_once table slabs items x kept = elim (leb_tells 1 (places x items)) [
 -- the item that the key leads to is the one that is unlinked
 pub unlinks_found : (table : Classes) (slabs : SlabState) (items : Items) (key : ℕ) (chunk : ChunkId)
     → IsConsistent table slabs items → linked_chunk items key ≡ Some chunk
-    → unlinked_in items chunk (item_at items chunk) ≡ unlinked_items items key
+    → unlinked_in items chunk (item_in_chunk items chunk) ≡ unlinked_items items key
 unlinks_found table slabs items key chunk kept leads =
     let item : LinkedIn key chunk items = linked_in key chunk items leads (place_once table slabs items chunk kept) (kept.one_link key) in
     rw item.there item.unlinks
@@ -127,9 +127,9 @@ kept_unlink table slabs items key kept = record {
 }
 
 -- a put back takes one chunk out of one hand-out order
-order_back_step : (b : Bool) (slabs : SlabState) (other : ℕ) (x y : ChunkId) → IsClass slabs (class_of_page slabs x.page) → IsClass slabs other
-    → 1 ≤ times x (class_of_chunk slabs x).order → is_chunk x y ≡ false → eqb other (class_of_page slabs x.page) ≡ b
-    → times y (class_at (after_back slabs x) other).order ≡ times y (class_at slabs other).order
+order_back_step : (b : Bool) (slabs : SlabState) (other : ℕ) (x y : ChunkId) → HasClass slabs (class_of_page slabs x.page) → HasClass slabs other
+    → 1 ≤ times_in x (class_of_chunk slabs x).order → is_chunk x y ≡ false → eqb other (class_of_page slabs x.page) ≡ b
+    → times_in y (class_at (after_back slabs x) other).order ≡ times_in y (class_at slabs other).order
 order_back_step true slabs other x y valid valid_other handed apart is =
     let same : other ≡ class_of_page slabs x.page = grind (arith, nat_tests) in
     rw (same, class_at-with_class_same slabs (class_of_page slabs x.page) (put_back (class_of_chunk slabs x) x) valid)
@@ -139,22 +139,22 @@ order_back_step false slabs other x y valid valid_other handed apart is =
     rw (class_at-with_class_other slabs (class_of_page slabs x.page) other (put_back (class_of_chunk slabs x) x) valid.0 valid_other.0 elsewhere) refl
 
 -- the chunk itself is in none then
-none_back : (slabs : SlabState) (class : ℕ) (x : ChunkId) → IsAccounted (after_back slabs x) → IsClass slabs (class_of_page slabs x.page)
-    → IsClass (after_back slabs x) class → times x (class_at (after_back slabs x) class).order ≡ 0
-none_back slabs class x accounted valid valid_new = elim (leb_tells 1 (times x (class_at (after_back slabs x) class).order)) [
+none_back : (slabs : SlabState) (class : ℕ) (x : ChunkId) → IsAccounted (after_back slabs x) → HasClass slabs (class_of_page slabs x.page)
+    → HasClass (after_back slabs x) class → times_in x (class_at (after_back slabs x) class).order ≡ 0
+none_back slabs class x accounted valid valid_new = elim (leb_tells 1 (times_in x (class_at (after_back slabs x) class).order)) [
   | inl some ↦
       let own : class_of_page slabs x.page ≡ class = page_of_listed (after_back slabs x) class x accounted valid_new (omega arith) in
-      let listed_in = λ (c : ClassState). times x c.free + times x c.order in
+      let listed_in = λ (c : ClassState). times_in x c.free + times_in x c.order in
       let back : class_at (after_back slabs x) class ≡ put_back (class_of_chunk slabs x) x
       = ap (λ (n : ℕ). class_at (after_back slabs x) n) (sym own)
       ∙ class_at-with_class_same slabs (class_of_page slabs x.page) (put_back (class_of_chunk slabs x) x) valid in
-      let free : times x (x ∷ (class_of_chunk slabs x).free) ≡ 1 + times x (class_of_chunk slabs x).free
-      = times-cons x x (class_of_chunk slabs x).free ∙ ap (λ b. truth b + times x (class_of_chunk slabs x).free) (is_chunk-same x) in
+      let free : times_in x (x ∷ (class_of_chunk slabs x).free) ≡ 1 + times_in x (class_of_chunk slabs x).free
+      = times-cons x x (class_of_chunk slabs x).free ∙ ap (λ b. truth b + times_in x (class_of_chunk slabs x).free) (is_chunk-same x) in
       absurd (omega (
         arith,
         in_lists_once (after_back slabs x) class x accounted valid_new,
         ap listed_in back,
-        ap (λ (c : ClassState). times x c.order) back,
+        ap (λ (c : ClassState). times_in x c.order) back,
         free,
       ))
   | inr none ↦ omega (arith, none.1)
@@ -162,11 +162,11 @@ none_back slabs class x accounted valid valid_new = elim (leb_tells 1 (times x (
 
 -- after a chunk is put back and its item is gone
 pub kept_back : (table : Classes) (slabs : SlabState) (items : Items) (x : ChunkId)
-    → IsConsistent table slabs items → IsAccounted (after_back slabs x) → 1 ≤ places x items
+    → IsConsistent table slabs items → IsAccounted (after_back slabs x) → 1 ≤ place_count x items
     → IsConsistent table (after_back slabs x) (without_item items x)
 kept_back table slabs items x kept accounted there =
-    let valid : IsClass slabs (class_of_page slabs x.page) = listed table slabs items x kept there in
-    let handed : 1 ≤ times x (class_of_chunk slabs x).order = omega (arith, kept.handed_out x) in
+    let valid : HasClass slabs (class_of_page slabs x.page) = listed table slabs items x kept there in
+    let handed : 1 ≤ times_in x (class_of_chunk slabs x).order = omega (arith, kept.handed_out x) in
     let classes : length (after_back slabs x).classes ≡ length slabs.classes = length-set slabs.classes _ _ in
     record {
       sound = kept.sound;
@@ -181,12 +181,12 @@ kept_back table slabs items x kept accounted there =
         | inl same ↦
             let back : class_at (after_back slabs x) (class_of_page slabs x.page) ≡ put_back (class_of_chunk slabs x) x
             = class_at-with_class_same slabs (class_of_page slabs x.page) (put_back (class_of_chunk slabs x) x) valid in
-            let less : times x (without x (class_of_chunk slabs x).order) + 1 ≡ times x (class_of_chunk slabs x).order
+            let less : times_in x (without x (class_of_chunk slabs x).order) + 1 ≡ times_in x (class_of_chunk slabs x).order
             = grind (arith, is_chunk-same x, times-without x x (class_of_chunk slabs x).order handed) in
             rw (← same.1) (rw back (omega (arith, kept.handed_out x, less, places-without_item x items there)))
-        | inr other ↦ elim (leb_tells 1 (places y items)) [
+        | inr other ↦ elim (leb_tells 1 (place_count y items)) [
           | inl some ↦
-              let there_too : IsClass slabs (class_of_page slabs y.page) = listed table slabs items y kept some.1 in
+              let there_too : HasClass slabs (class_of_page slabs y.page) = listed table slabs items y kept some.1 in
               omega (
                 arith,
                 kept.handed_out y,
@@ -197,7 +197,7 @@ kept_back table slabs items x kept accounted there =
         ]
       ];
       stored = λ class y valid_new.
-          let valid_old : IsClass slabs class = (valid_new.0, rw (← classes) valid_new.1) in
+          let valid_old : HasClass slabs class = (valid_new.0, rw (← classes) valid_new.1) in
           elim (is_chunk-tells x y) [
             | inl same ↦ rw (← same.1) (omega (arith, none_back slabs class x accounted valid valid_new))
             | inr other ↦
@@ -211,24 +211,24 @@ kept_back table slabs items x kept accounted there =
     }
 
 -- what has an item that its key doesn't lead to is there
-pub unlinked_item : (items : Items) (x : ChunkId) → is_unlinked items x ≡ true → (item : Item) × (item_at items x ≡ Some item) × (item.linked ≡ false)
-unlinked_item items x is = found_in (item_at items x) refl is
+pub unlinked_item : (items : Items) (x : ChunkId) → has_unlinked_item items x ≡ true → (item : Item) × (item_in_chunk items x ≡ Some item) × (item.linked ≡ false)
+unlinked_item items x is = found_in (item_in_chunk items x) refl is
   where
-    found_in : (found : Option Item) → item_at items x ≡ found → option_map_or (λ (item : Item). not item.linked) found false ≡ true
-        → (item : Item) × (item_at items x ≡ Some item) × (item.linked ≡ false)
+    found_in : (found : Option Item) → item_in_chunk items x ≡ found → option_map_or (λ (item : Item). not item.linked) found false ≡ true
+        → (item : Item) × (item_in_chunk items x ≡ Some item) × (item.linked ≡ false)
     found_in None at bad = cc
     found_in (Some item) at holds = (item, at, not-true item.linked holds)
 
 -- after a dead chunk is put back and its item is gone
 pub kept_reclaim : (table : Classes) (slabs : SlabState) (items : Items) (x : ChunkId)
-    → IsConsistent table slabs items → IsAccounted (after_back slabs x) → is_unlinked items x ≡ true → IsConsistent table (after_back slabs x) (without_item items x)
+    → IsConsistent table slabs items → IsAccounted (after_back slabs x) → has_unlinked_item items x ≡ true → IsConsistent table (after_back slabs x) (without_item items x)
 kept_reclaim table slabs items x kept accounted unlinked =
     let found = unlinked_item items x unlinked in
     kept_back table slabs items x kept accounted (some_places x found.0 items found.1)
 
 -- after a class got the next page and its chunks were cut
 pub kept_grow : (table : Classes) (slabs : SlabState) (items : Items) (class page : ℕ) (chunks : List ChunkId)
-    → IsConsistent table slabs items → IsClass slabs class → next_page slabs class ≡ Some page
+    → IsConsistent table slabs items → HasClass slabs class → next_page slabs class ≡ Some page
     → IsAccounted (fold after_cut (after_grow slabs class page) chunks)
     → (fold after_cut (after_grow slabs class page) chunks).uncut ≡ None
     → IsConsistent table (fold after_cut (after_grow slabs class page) chunks) items
@@ -236,7 +236,7 @@ kept_grow table slabs items class page chunks kept valid next accounted whole =
     let new = after_grow slabs class page in
     let nobody = (nobody_next slabs class page kept.accounted next).0 in
     let classes : length new.classes ≡ length slabs.classes = ap length (classes-grown slabs class page) ∙ length-set slabs.classes _ _ in
-    let orders = λ (n : ℕ) (there : IsClass slabs n).
+    let orders = λ (n : ℕ) (there : HasClass slabs n).
     order-cuts new chunks n (there.0, rw classes there.1)
     ∙ ap (λ (c : ClassState). c.order) (class_at-grown slabs class page n)
     ∙ order-with_class slabs class n (with_page (class_at slabs class) page) there refl in
@@ -251,9 +251,9 @@ kept_grow table slabs items class page chunks kept valid next accounted whole =
       whole = whole;
       accounted = accounted;
       one_link = kept.one_link;
-      handed_out = λ y. elim (leb_tells 1 (places y items)) [
+      handed_out = λ y. elim (leb_tells 1 (place_count y items)) [
         | inl some ↦
-            let there : IsClass slabs (class_of_page slabs y.page) = listed table slabs items y kept some.1 in
+            let there : HasClass slabs (class_of_page slabs y.page) = listed table slabs items y kept some.1 in
             let apart : y.page ≢ page = λ same.
             let none : class_of_page slabs y.page ≡ 0 = ap (λ (p : ℕ). class_of_page slabs p) same ∙ nobody in
             omega (arith, there.0, none) in
@@ -266,7 +266,7 @@ kept_grow table slabs items class page chunks kept valid next accounted whole =
         | inr none ↦ omega (arith, none.1)
       ];
       stored = λ n y valid_new.
-          let there : IsClass slabs n = (valid_new.0, rw (← (classes-cuts new chunks ∙ classes)) valid_new.1) in
+          let there : HasClass slabs n = (valid_new.0, rw (← (classes-cuts new chunks ∙ classes)) valid_new.1) in
           let order : (class_at (fold after_cut new chunks) n).order ≡ (class_at slabs n).order = orders n there in
           rw order (kept.stored n y there);
     }

@@ -7,14 +7,14 @@ use Rattle.mc_classes.specs.Classes.{Classes}
 use Rattle.mc_pages.specs.declared.ids.ChunkId.{ChunkId}
 use Rattle.mc_pages.specs.declared.ledger.Owner.{Owner}
 use Rattle.mc_pages.specs.Ledger.{owner_at}
-use Rattle.mc_pages.specs.ClassState.{ClassState, new_class, times}
-use Rattle.mc_pages.specs.SlabState.{SlabState, IsClass, class_at, class_of_owner, class_of_page, class_of_chunk}
+use Rattle.mc_pages.specs.ClassState.{ClassState, new_class, times_in}
+use Rattle.mc_pages.specs.SlabState.{SlabState, HasClass, class_at, class_of_owner, class_of_page, class_of_chunk}
 use Rattle.mc_pages.specs.Accounted.{IsAccounted}
 use Rattle.mc_pages.specs.Changes.{with_class}
 use Rattle.mc_pages.proofs.HandedOut.{class_of_placed}
 use Rattle.mc_pages.proofs.OneClass.{length-with_class}
 use Rattle.mc_serial_spec.specs.Items.{Items}
-use Rattle.mc_serial_spec.specs.Consistent.{places, links, IsConsistent}
+use Rattle.mc_serial_spec.specs.Consistent.{place_count, links_of_key, IsConsistent}
 use Rattle.mc_pages.proofs.ClassChanges.{per_pages-with_class}
 
 -- the lists of one class are other ones, and all else of the pages and chunks is as before
@@ -53,28 +53,28 @@ changes_again slabs new last class first then = record {
 }
 
 -- a chunk of another class's page isn't in a class's hand-out order
-not_listed : (slabs : SlabState) (class : ℕ) (x : ChunkId) → IsAccounted slabs → IsClass slabs class → class_of_page slabs x.page ≢ class
-    → times x (class_at slabs class).order ≡ 0
-not_listed slabs class x accounted valid apart = elim (cases_lt (times x (class_at slabs class).order) 1) [
+not_listed : (slabs : SlabState) (class : ℕ) (x : ChunkId) → IsAccounted slabs → HasClass slabs class → class_of_page slabs x.page ≢ class
+    → times_in x (class_at slabs class).order ≡ 0
+not_listed slabs class x accounted valid apart = elim (cases_lt (times_in x (class_at slabs class).order) 1) [
   | inl none ↦ omega (arith, none)
   | inr some ↦ absurd (apart (class_of_placed slabs class x accounted valid (omega (arith, some))))
 ]
 
 -- a class's hand-out order gains and loses a chunk as often as the items do: all is kept
 module _ (table : Classes) (slabs new : SlabState) (items new_items : Items) (class : ℕ)
-    (kept : IsConsistent table slabs items) (valid : IsClass slabs class) (changes : ChangesClass slabs new class) (accounted : IsAccounted new)
-    (balance : (x : ChunkId) → times x (class_at new class).order + places x items ≡ times x (class_at slabs class).order + places x new_items) where
-  valid_new : (n : ℕ) → IsClass slabs n → IsClass new n
+    (kept : IsConsistent table slabs items) (valid : HasClass slabs class) (changes : ChangesClass slabs new class) (accounted : IsAccounted new)
+    (balance : (x : ChunkId) → times_in x (class_at new class).order + place_count x items ≡ times_in x (class_at slabs class).order + place_count x new_items) where
+  valid_new : (n : ℕ) → HasClass slabs n → HasClass new n
   valid_new n is = (is.0, omega (arith, is.1, changes.classes))
 
-  valid_old : (n : ℕ) → IsClass new n → IsClass slabs n
+  valid_old : (n : ℕ) → HasClass new n → HasClass slabs n
   valid_old n is = (is.0, omega (arith, is.1, changes.classes))
 
   own_new : (x : ChunkId) → class_of_page new x.page ≡ class_of_page slabs x.page
   own_new x = ap (λ (owners : List Owner). class_of_owner (owner_at owners x.page)) changes.owners
 
   -- a chunk of another class's page has as many places as before
-  places_other : (x : ChunkId) → class_of_page slabs x.page ≢ class → places x new_items ≡ places x items
+  places_other : (x : ChunkId) → class_of_page slabs x.page ≢ class → place_count x new_items ≡ place_count x items
   places_other x apart =
       omega (
         arith,
@@ -84,16 +84,16 @@ module _ (table : Classes) (slabs new : SlabState) (items new_items : Items) (cl
       )
 
   order_there : (n : ℕ) (x : ChunkId) → n - 1 ≡ class - 1
-      → (times x (class_at new n).order ≡ times x (class_at new class).order) × (times x (class_at slabs n).order ≡ times x (class_at slabs class).order)
+      → (times_in x (class_at new n).order ≡ times_in x (class_at new class).order) × (times_in x (class_at slabs n).order ≡ times_in x (class_at slabs class).order)
   order_there n x same = (
-    ap (λ i. times x (slice_index_or new.classes i (new_class 0 0)).order) same,
-    ap (λ i. times x (slice_index_or slabs.classes i (new_class 0 0)).order) same,
+    ap (λ i. times_in x (slice_index_or new.classes i (new_class 0 0)).order) same,
+    ap (λ i. times_in x (slice_index_or slabs.classes i (new_class 0 0)).order) same,
   )
 
-  order_elsewhere : (n : ℕ) (x : ChunkId) → n - 1 ≢ class - 1 → times x (class_at new n).order ≡ times x (class_at slabs n).order
-  order_elsewhere n x apart = ap (λ (c : ClassState). times x c.order) (changes.other n apart)
+  order_elsewhere : (n : ℕ) (x : ChunkId) → n - 1 ≢ class - 1 → times_in x (class_at new n).order ≡ times_in x (class_at slabs n).order
+  order_elsewhere n x apart = ap (λ (c : ClassState). times_in x c.order) (changes.other n apart)
 
-  handed_now : (x : ChunkId) → places x new_items ≤ times x (class_of_chunk new x).order
+  handed_now : (x : ChunkId) → place_count x new_items ≤ times_in x (class_of_chunk new x).order
   handed_now x = rw (own_new x) (elim (cases_eq (class_of_page slabs x.page - 1) (class - 1)) [
     | inl same ↦
         let there = order_there (class_of_page slabs x.page) x same in
@@ -107,12 +107,12 @@ module _ (table : Classes) (slabs new : SlabState) (items new_items : Items) (cl
         )
   ])
 
-  stored_now : (n : ℕ) (x : ChunkId) → IsClass new n → times x (class_at new n).order ≤ places x new_items
+  stored_now : (n : ℕ) (x : ChunkId) → HasClass new n → times_in x (class_at new n).order ≤ place_count x new_items
   stored_now n x is = elim (cases_eq (n - 1) (class - 1)) [
     | inl same ↦
         let there = order_there n x same in
         omega (arith, there.0, there.1, balance x, kept.stored class x valid)
-    | inr apart ↦ elim (cases_lt (times x (class_at new n).order) 1) [
+    | inr apart ↦ elim (cases_lt (times_in x (class_at new n).order) 1) [
       | inl none ↦ omega (arith, none)
       | inr some ↦
           let own : class_of_page new x.page ≡ n = class_of_placed new n x accounted is (omega (arith, some)) in
@@ -121,7 +121,7 @@ module _ (table : Classes) (slabs new : SlabState) (items new_items : Items) (cl
     ]
   ]
 
-  pub kept_changed : ((key : ℕ) → links key new_items ≤ 1)
+  pub kept_changed : ((key : ℕ) → links_of_key key new_items ≤ 1)
       → IsConsistent table new new_items
   kept_changed one_link = record {
     sound = kept.sound;

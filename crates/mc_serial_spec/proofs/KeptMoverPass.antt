@@ -6,16 +6,16 @@ use Rattle.mc_classes.specs.Classes.{Classes}
 use Rattle.mc_pages.specs.declared.ids.ChunkId.{ChunkId}
 use Rattle.mc_pages.specs.declared.ids.Moving.{Moving}
 use Rattle.mc_pages.specs.declared.moves.Found.{Found}
-use Rattle.mc_pages.specs.ClassState.{ClassState, cleared, put_back, replaced}
+use Rattle.mc_pages.specs.ClassState.{ClassState, class_after_clear, put_back, class_after_replacement}
 use Rattle.mc_pages.specs.SlabState.{SlabState, class_at, class_of_page, class_of_chunk}
 use Rattle.mc_pages.specs.Accounted.{is_cut, is_cleared, IsMove, IsAccounted}
 use Rattle.mc_pages.specs.Changes.{with_class, after_back, after_clear, after_replace}
 use Rattle.mc_pages.specs.Moves.{is_held_up, chunk_at_position, CanPass}
 use Rattle.mc_serial_spec.specs.Items.{Items}
 use Rattle.mc_serial_spec.specs.Consistent.{IsConsistent}
-use Rattle.mc_serial_spec.specs.Machine.{Machine, is_dead, is_linked_unheld, dead_chunks, after_reclaim, swept}
-use Rattle.mc_serial_spec.specs.Mover.{Looked, looked_at, saved, target, with_cleared, with_saved}
-use Rattle.mc_pages.specs.ClassState.{times}
+use Rattle.mc_serial_spec.specs.Machine.{Machine, is_dead_in, has_unheld_linked_item, dead_chunks, after_reclaim, machine_after_sweep}
+use Rattle.mc_serial_spec.specs.Mover.{MoverLook, looked_at, machine_after_save, target, with_cleared, with_saved}
+use Rattle.mc_pages.specs.ClassState.{times_in}
 use Rattle.std.specs.Prelude.{nat_lt}
 use Rattle.mc_pages.specs.declared.moves.Found.TheVariants.{Cleared, Busy, Already}
 use Rattle.mc_pages.proofs.ClassChanges.{per_pages-with_class}
@@ -54,10 +54,10 @@ keeps_class : (slabs : SlabState) (class : ℕ) (state : ClassState) → state.p
 keeps_class slabs class state same = record { moving = refl; per_page = per_pages-with_class slabs class state same }
 
 keeps_clear : (slabs : SlabState) (chunk : ChunkId) → KeepsMove slabs (after_clear slabs chunk)
-keeps_clear slabs chunk = keeps_class slabs (class_of_page slabs chunk.page) (cleared (class_of_chunk slabs chunk) chunk) refl
+keeps_clear slabs chunk = keeps_class slabs (class_of_page slabs chunk.page) (class_after_clear (class_of_chunk slabs chunk) chunk) refl
 
 keeps_replace : (slabs : SlabState) (new old : ChunkId) → KeepsMove slabs (after_replace slabs new old)
-keeps_replace slabs new old = keeps_class slabs (class_of_page slabs old.page) (replaced (class_of_chunk slabs old) new old) refl
+keeps_replace slabs new old = keeps_class slabs (class_of_page slabs old.page) (class_after_replacement (class_of_chunk slabs old) new old) refl
 
 keeps_reclaims : (m : Machine) (chunks : List ChunkId) → KeepsMove m.slabs (fold after_reclaim m chunks).slabs
 keeps_reclaims m [] = keeps_same m.slabs
@@ -73,11 +73,11 @@ keeps_saved m old (Some new) =
 
 -- whichever way a chunk is looked at
 keeps_ways : (before free dead idle : Bool) (m : Machine) (class : ℕ) (chunk : ChunkId) → KeepsMove m.slabs (
-    let looked : Looked =
+    let looked : MoverLook =
     if before then record { machine = m; found = Already }
     else if free then record { machine = record m { slabs = after_clear m.slabs chunk }; found = Cleared }
     else if dead then record { machine = with_cleared m chunk; found = Cleared }
-    else if idle then saved m class chunk
+    else if idle then machine_after_save m class chunk
     else record { machine = m; found = Busy } in
     looked.machine.slabs
     )
@@ -85,20 +85,20 @@ keeps_ways true free dead idle m class chunk = keeps_same m.slabs
 keeps_ways false true dead idle m class chunk = keeps_clear m.slabs chunk
 keeps_ways false false true idle m class chunk = keeps_clear m.slabs chunk
 keeps_ways false false false true m class chunk =
-    keeps_then m.slabs (swept m class).slabs (saved m class chunk).machine.slabs (keeps_reclaims m (dead_chunks m class))
-    (keeps_saved (swept m class) chunk (target (swept m class) class chunk.page))
+    keeps_then m.slabs (machine_after_sweep m class).slabs (machine_after_save m class chunk).machine.slabs (keeps_reclaims m (dead_chunks m class))
+    (keeps_saved (machine_after_sweep m class) chunk (target (machine_after_sweep m class) class chunk.page))
 keeps_ways false false false false m class chunk = keeps_same m.slabs
 
 keeps_looked : (m : Machine) (class : ℕ) (chunk : ChunkId) → KeepsMove m.slabs (looked_at m class chunk).machine.slabs
 keeps_looked m class chunk =
-    keeps_ways (is_cleared m.slabs class chunk) (nat_lt 0 (times chunk (class_at m.slabs class).free)) (is_dead m chunk) (is_linked_unheld m chunk) m class chunk
+    keeps_ways (is_cleared m.slabs class chunk) (nat_lt 0 (times_in chunk (class_at m.slabs class).free)) (is_dead_in m chunk) (has_unheld_linked_item m chunk) m class chunk
 
 -- what was looked at may be passed
 pub can_pass : (m new : Machine) (found : Found) (move : Moving) → looked_at m move.src (chunk_at_position move) ≡ record { machine = new; found = found }
     → m.slabs.moving ≡ Some move → move.at < (class_at m.slabs move.src).per_page
     → (is_held_up found ≡ false → is_cleared new.slabs move.src (chunk_at_position move) ≡ true) → CanPass new.slabs found move
 can_pass m new found move looked runs within done =
-    let keeps : KeepsMove m.slabs new.slabs = rw (ap (λ (l : Looked). l.machine) looked) at (keeps_looked m move.src (chunk_at_position move)) in
+    let keeps : KeepsMove m.slabs new.slabs = rw (ap (λ (l : MoverLook). l.machine) looked) at (keeps_looked m move.src (chunk_at_position move)) in
     record {
       runs = keeps.moving ∙ runs;
       within = rw (per_page-map m.slabs new.slabs move.src keeps.per_page) within;

@@ -5,8 +5,8 @@ use Rattle.mc_pages.specs.declared.ids.ChunkId.{ChunkId}
 use Rattle.mc_pages.specs.SlabState.{SlabState, class_at}
 use Rattle.mc_pages.specs.Accounted.{first_chunks}
 use Rattle.mc_pages.specs.Changes.{after_cut, after_grant, after_grow, after_take, next_page}
-use Rattle.mc_serial_spec.specs.Machine.{Machine, after_reclaim, dead_chunks, extended, has_free, stocked, swept, with_cut_page, with_new_page}
-use Rattle.mc_serial_spec.specs.Supply.{supplied, victim, with_eviction}
+use Rattle.mc_serial_spec.specs.Machine.{Machine, after_reclaim, dead_chunks, machine_after_growth, has_free, machine_after_stocking, machine_after_sweep, with_cut_page, with_new_page}
+use Rattle.mc_serial_spec.specs.Supply.{machine_after_supply, victim, with_eviction}
 
 mode-reclaims : (m : Machine) (chunks : List ChunkId) → (fold after_reclaim m chunks).slabs.automove ≡ m.slabs.automove
 mode-reclaims m [] = refl
@@ -33,9 +33,9 @@ extended_way : (b : Bool) (m : Machine) (class : ℕ) → (if b then m else with
 extended_way true m class = refl
 extended_way false m class = mode-new_page m class (next_page m.slabs class)
 
-stocked_way : (b : Bool) (m : Machine) (class : ℕ) → (if b then m else extended (swept m class) class).slabs.automove ≡ m.slabs.automove
+stocked_way : (b : Bool) (m : Machine) (class : ℕ) → (if b then m else machine_after_growth (machine_after_sweep m class) class).slabs.automove ≡ m.slabs.automove
 stocked_way true m class = refl
-stocked_way false m class = extended_way (has_free (swept m class) class) (swept m class) class ∙ mode-reclaims m (dead_chunks m class)
+stocked_way false m class = extended_way (has_free (machine_after_sweep m class) class) (machine_after_sweep m class) class ∙ mode-reclaims m (dead_chunks m class)
 
 mode-eviction : (m : Machine) (class : ℕ) (found : Option ChunkId) → (with_eviction m class found).slabs.automove ≡ m.slabs.automove
 mode-eviction m class None = refl
@@ -45,5 +45,5 @@ relieved_way : (b : Bool) (m : Machine) (class : ℕ) → (if b then m else with
 relieved_way true m class = refl
 relieved_way false m class = mode-eviction m class (victim m class)
 
-pub mode-supplied : (m : Machine) (class : ℕ) → (supplied m class).slabs.automove ≡ m.slabs.automove
-mode-supplied m class = relieved_way (has_free (stocked m class) class) (stocked m class) class ∙ stocked_way (has_free m class) m class
+pub mode-supplied : (m : Machine) (class : ℕ) → (machine_after_supply m class).slabs.automove ≡ m.slabs.automove
+mode-supplied m class = relieved_way (has_free (machine_after_stocking m class) class) (machine_after_stocking m class) class ∙ stocked_way (has_free m class) m class

@@ -4,8 +4,8 @@ use Rattle.std.specs.Prelude.{find}
 use Rattle.std.proofs.lemmas.Option.{get_or_from_slice_get, slice_get_within}
 use Rattle.std.proofs.Math.Seq.{drop-cons, drop-nil}
 use Rattle.mc_pages.specs.declared.ids.ChunkId.{ChunkId}
-use Rattle.mc_pages.specs.ClassState.{behind, times}
-use Rattle.mc_pages.specs.SlabState.{IsClass, class_at, class_of_chunk, class_of_page}
+use Rattle.mc_pages.specs.ClassState.{behind, times_in}
+use Rattle.mc_pages.specs.SlabState.{HasClass, class_at, class_of_chunk, class_of_page}
 use Rattle.mc_pages.proofs.Chunks.{times_from_Contains}
 use Rattle.mc_serial_spec.specs.Consistent.{IsConsistent}
 use Rattle.mc_serial_spec.specs.Machine.{Machine}
@@ -41,7 +41,7 @@ pub record FreeAt (m : Machine) (class place : ℕ) (x : ChunkId) : Type 0 where
   pub at : slice_get (class_at m.slabs class).free place ≡ Some x
   pub inside : place < length (class_at m.slabs class).free
   pub listed : Contains (class_of_chunk m.slabs x).free x
-  pub once : (y : ChunkId) → times y (class_at m.slabs class).free ≤ 1
+  pub once : (y : ChunkId) → times_in y (class_at m.slabs class).free ≤ 1
   -- and the chunk behind it is at the next
   pub next : behind x (class_of_chunk m.slabs x).free ≡ slice_get (class_at m.slabs class).free (place + 1)
   -- so that one chunk less is left from there on
@@ -49,15 +49,15 @@ pub record FreeAt (m : Machine) (class place : ℕ) (x : ChunkId) : Type 0 where
       → length (rest_from next (class_at m.slabs class).free) + 1 ≤ length (rest_from (Some x) (class_at m.slabs class).free)
 
 pub found_free : (m now : Machine) (class place : ℕ) (x : ChunkId) → IsConsistent m.table m.slabs m.items → m ≡ now
-    → IsClass now.slabs class → slice_get (class_at now.slabs class).free place ≡ Some x → FreeAt now class place x
+    → HasClass now.slabs class → slice_get (class_at now.slabs class).free place ≡ Some x → FreeAt now class place x
 found_free m now class place x kept same valid at =
     let kept_now : IsConsistent now.table now.slabs now.items = rw same at kept in
     let free : List ChunkId = (class_at now.slabs class).free in
     let inside : place < length free = slice_get_within free place x at in
     let here : Contains free x = (place, inside, get_or_from_slice_get free place x x at) in
-    let some : 1 ≤ times x free = times_from_Contains x free here in
+    let some : 1 ≤ times_in x free = times_from_Contains x free here in
     let own : class_of_page now.slabs x.page ≡ class = page_of_listed now.slabs class x kept_now.accounted valid (omega (arith, some)) in
-    let once : (y : ChunkId) → times y free ≤ 1 = λ y. omega (arith, in_lists_once now.slabs class y kept_now.accounted valid) in
+    let once : (y : ChunkId) → times_in y free ≤ 1 = λ y. omega (arith, in_lists_once now.slabs class y kept_now.accounted valid) in
     record {
       at = at;
       inside = inside;

@@ -7,15 +7,15 @@ use Rattle.std.proofs.lemmas.Option.{get_or_from_slice_get, slice_get_within}
 use Rattle.std.proofs.Math.Seq.{drop-cons, take-append_seam, take-nil}
 use Rattle.std.proofs.lemmas.List.Elements.{filter-append}
 use Rattle.mc_pages.specs.declared.ids.ChunkId.{ChunkId}
-use Rattle.mc_pages.specs.ClassState.{ClassState, is_chunk, times, without, put_back}
-use Rattle.mc_pages.specs.SlabState.{IsClass, class_at, class_of_page}
-use Rattle.mc_serial_spec.specs.Items.{Items, item_at, without_item}
-use Rattle.mc_serial_spec.specs.Machine.{Machine, is_dead, after_reclaim, swept}
+use Rattle.mc_pages.specs.ClassState.{ClassState, is_chunk, times_in, without, put_back}
+use Rattle.mc_pages.specs.SlabState.{HasClass, class_at, class_of_page}
+use Rattle.mc_serial_spec.specs.Items.{Items, item_in_chunk, without_item}
+use Rattle.mc_serial_spec.specs.Machine.{Machine, is_dead_in, after_reclaim, machine_after_sweep}
 use Rattle.mc_pages.proofs.Chunks.{same_from_is_chunk, is_chunk-same, times-cons, times-append}
 use Rattle.mc_pages.proofs.OneClass.{class_at-with_class_same}
 
 -- another chunk's item stays
-pub item_at-without_item : (items : Items) (x y : ChunkId) → is_chunk x y ≡ false → item_at (without_item items x) y ≡ item_at items y
+pub item_at-without_item : (items : Items) (x y : ChunkId) → is_chunk x y ≡ false → item_in_chunk (without_item items x) y ≡ item_in_chunk items y
 item_at-without_item [] x y apart = refl
 item_at-without_item (e ∷ items) x y apart = grind (arith, nat_tests, item_at-without_item items x y apart)
 
@@ -37,17 +37,17 @@ without-append p x (c ∷ before) after none pass = without_step (p c) (is_chunk
         rw same (ap (λ cs. c ∷ cs) (more rest pass))
 
 -- the tests of the other chunks stay as they were
-pub is_dead-reclaimed : (m : Machine) (x y : ChunkId) → is_chunk x y ≡ false → is_dead (after_reclaim m x) y ≡ is_dead m y
+pub is_dead-reclaimed : (m : Machine) (x y : ChunkId) → is_chunk x y ≡ false → is_dead_in (after_reclaim m x) y ≡ is_dead_in m y
 is_dead-reclaimed m x y apart = rw (item_at-without_item m.items x y apart) refl
 
-filter-reclaimed : (m : Machine) (x : ChunkId) (chunks : List ChunkId) → times x chunks ≡ 0
-    → filter (is_dead (after_reclaim m x)) chunks ≡ filter (is_dead m) chunks
+filter-reclaimed : (m : Machine) (x : ChunkId) (chunks : List ChunkId) → times_in x chunks ≡ 0
+    → filter (is_dead_in (after_reclaim m x)) chunks ≡ filter (is_dead_in m) chunks
 filter-reclaimed m x [] none = refl
 filter-reclaimed m x (c ∷ chunks) none =
     let apart : is_chunk c x ≡ false = grind (arith, nat_tests, times-cons x c chunks) in
     let apart_too : is_chunk x c ≡ false = grind (arith, nat_tests) in
-    let rest : times x chunks ≡ 0 = omega (arith, times-cons x c chunks) in
-    keeps_one (is_dead m) (is_dead (after_reclaim m x)) c chunks (is_dead-reclaimed m x c apart_too) (filter-reclaimed m x chunks rest)
+    let rest : times_in x chunks ≡ 0 = omega (arith, times-cons x c chunks) in
+    keeps_one (is_dead_in m) (is_dead_in (after_reclaim m x)) c chunks (is_dead-reclaimed m x c apart_too) (filter-reclaimed m x chunks rest)
   where
     keeps_one : (p q : ChunkId → Bool) (c : ChunkId) (chunks : List ChunkId) → q c ≡ p c → filter q chunks ≡ filter p chunks → filter q (c ∷ chunks) ≡ filter p (c ∷ chunks)
     keeps_one p q c chunks same rest = rw (same, rest) refl
@@ -63,13 +63,13 @@ split_at chunks place x at =
 -- a dead chunk in a hand-out order, with no other before it
 pub record FindsDead (m : Machine) (before : List ChunkId) (x : ChunkId) (after : List ChunkId) : Type 0 where
   -- the dead: this chunk first
-  pub dead : filter (is_dead m) (before ++ x ∷ after) ≡ x ∷ filter (is_dead m) after
+  pub dead : filter (is_dead_in m) (before ++ x ∷ after) ≡ x ∷ filter (is_dead_in m) after
   -- without it
   pub taken : without x (before ++ x ∷ after) ≡ before ++ after
   -- the dead then
-  pub left : filter (is_dead (after_reclaim m x)) (before ++ after) ≡ filter (is_dead m) after
+  pub left : filter (is_dead_in (after_reclaim m x)) (before ++ after) ≡ filter (is_dead_in m) after
   -- still none before
-  pub none : filter (is_dead (after_reclaim m x)) before ≡ []
+  pub none : filter (is_dead_in (after_reclaim m x)) before ≡ []
 
 -- what passes in a list at one of its places, where none before it does
 filter-at : (p : ChunkId → Bool) (before : List ChunkId) (x : ChunkId) (after : List ChunkId) → filter p before ≡ [] → p x ≡ true
@@ -79,17 +79,17 @@ filter-at p before x after none passes = filter-append p before (x ∷ after) �
 filter-behind : (p : ChunkId → Bool) (before after found : List ChunkId) → filter p before ≡ [] → filter p after ≡ found → filter p (before ++ after) ≡ found
 filter-behind p before after found none is = filter-append p before after ∙ rw (none, is) refl
 
-pub finds_dead : (m : Machine) (before : List ChunkId) (x : ChunkId) (after : List ChunkId) → times x (before ++ x ∷ after) ≤ 1
-    → filter (is_dead m) before ≡ [] → is_dead m x ≡ true → FindsDead m before x after
+pub finds_dead : (m : Machine) (before : List ChunkId) (x : ChunkId) (after : List ChunkId) → times_in x (before ++ x ∷ after) ≤ 1
+    → filter (is_dead_in m) before ≡ [] → is_dead_in m x ≡ true → FindsDead m before x after
 finds_dead m before x after once none dead =
-    let here : times x (x ∷ after) ≡ 1 + times x after = rw (times-cons x x after, is_chunk-same x) refl in
-    let none_before : times x before ≡ 0 = omega (arith, here, times-append x before (x ∷ after)) in
-    let none_after : times x after ≡ 0 = omega (arith, here, times-append x before (x ∷ after)) in
-    let none_then : filter (is_dead (after_reclaim m x)) before ≡ [] = filter-reclaimed m x before none_before ∙ none in
+    let here : times_in x (x ∷ after) ≡ 1 + times_in x after = rw (times-cons x x after, is_chunk-same x) refl in
+    let none_before : times_in x before ≡ 0 = omega (arith, here, times-append x before (x ∷ after)) in
+    let none_after : times_in x after ≡ 0 = omega (arith, here, times-append x before (x ∷ after)) in
+    let none_then : filter (is_dead_in (after_reclaim m x)) before ≡ [] = filter-reclaimed m x before none_before ∙ none in
     record {
-      dead = filter-at (is_dead m) before x after none dead;
-      taken = without-append (is_dead m) x before after none dead;
-      left = filter-behind (is_dead (after_reclaim m x)) before after (filter (is_dead m) after) none_then (filter-reclaimed m x after none_after);
+      dead = filter-at (is_dead_in m) before x after none dead;
+      taken = without-append (is_dead_in m) x before after none dead;
+      left = filter-behind (is_dead_in (after_reclaim m x)) before after (filter (is_dead_in m) after) none_then (filter-reclaimed m x after none_after);
       none = none_then;
     }
 
@@ -103,23 +103,23 @@ skipped (c ∷ chunks) (suc place) =
 
 -- one turn of a sweep: the first dead chunk is put back, and the rest of the sweep is what it was
 pub record SweepsOn (m : Machine) (class : ℕ) (place : ℕ) (x : ChunkId) : Type 0 where
-  pub same : swept (after_reclaim m x) class ≡ swept m class
-  pub none : filter (is_dead (after_reclaim m x)) (take place (class_at (after_reclaim m x).slabs class).order) ≡ []
+  pub same : machine_after_sweep (after_reclaim m x) class ≡ machine_after_sweep m class
+  pub none : filter (is_dead_in (after_reclaim m x)) (take place (class_at (after_reclaim m x).slabs class).order) ≡ []
   pub shorter : length (class_at (after_reclaim m x).slabs class).order + 1 ≡ length (class_at m.slabs class).order
   pub within : place ≤ length (class_at (after_reclaim m x).slabs class).order
   -- the chunk behind it comes to its place
   pub behind : slice_get (class_at (after_reclaim m x).slabs class).order place ≡ slice_get (class_at m.slabs class).order (place + 1)
-  pub once : (y : ChunkId) → times y (class_at m.slabs class).order ≤ 1 → times y (class_at (after_reclaim m x).slabs class).order ≤ 1
+  pub once : (y : ChunkId) → times_in y (class_at m.slabs class).order ≤ 1 → times_in y (class_at (after_reclaim m x).slabs class).order ≤ 1
 
-pub sweeps_on : (m : Machine) (class place : ℕ) (x : ChunkId) → IsClass m.slabs class → class_of_page m.slabs x.page ≡ class
-    → times x (class_at m.slabs class).order ≤ 1 → slice_get (class_at m.slabs class).order place ≡ Some x
-    → filter (is_dead m) (take place (class_at m.slabs class).order) ≡ [] → is_dead m x ≡ true → SweepsOn m class place x
+pub sweeps_on : (m : Machine) (class place : ℕ) (x : ChunkId) → HasClass m.slabs class → class_of_page m.slabs x.page ≡ class
+    → times_in x (class_at m.slabs class).order ≤ 1 → slice_get (class_at m.slabs class).order place ≡ Some x
+    → filter (is_dead_in m) (take place (class_at m.slabs class).order) ≡ [] → is_dead_in m x ≡ true → SweepsOn m class place x
 sweeps_on m class place x valid own once at none dead =
     let order : List ChunkId = (class_at m.slabs class).order in
     let before : List ChunkId = take place order in
     let after : List ChunkId = drop (suc place) order in
     let split : order ≡ before ++ x ∷ after = split_at order place x at in
-    let once_there : times x (before ++ x ∷ after) ≤ 1 = rw split at once in
+    let once_there : times_in x (before ++ x ∷ after) ≤ 1 = rw split at once in
     let found : FindsDead m before x after = finds_dead m before x after once_there none dead in
     let inside : place < length order = slice_get_within order place x at in
     let long : length before ≡ place = omega (arith, length-take place order) in
@@ -133,32 +133,32 @@ sweeps_on m class place x valid own once at none dead =
     let new_length : length (class_at (after_reclaim m x).slabs class).order ≡ length before + length after
     = ap length new_order ∙ length-append before after in
     record {
-      same = ap (λ cs. fold after_reclaim (after_reclaim m x) cs) (ap (λ cs. filter (is_dead (after_reclaim m x)) cs) new_order ∙ found.left)
-          ∙ sym (ap (λ cs. fold after_reclaim m cs) (ap (λ cs. filter (is_dead m) cs) split ∙ found.dead));
-      none = ap (λ cs. filter (is_dead (after_reclaim m x)) cs) (ap (λ cs. take place cs) new_order ∙ kept_before) ∙ found.none;
+      same = ap (λ cs. fold after_reclaim (after_reclaim m x) cs) (ap (λ cs. filter (is_dead_in (after_reclaim m x)) cs) new_order ∙ found.left)
+          ∙ sym (ap (λ cs. fold after_reclaim m cs) (ap (λ cs. filter (is_dead_in m) cs) split ∙ found.dead));
+      none = ap (λ cs. filter (is_dead_in (after_reclaim m x)) cs) (ap (λ cs. take place cs) new_order ∙ kept_before) ∙ found.none;
       shorter = omega (arith, lengths, new_length);
       within = omega (arith, long, new_length);
       behind = ap (λ cs. slice_get cs place) new_order ∙ skipped order place;
       once = λ y one.
-          omega (arith, one, ap (λ cs. times y cs) split, ap (λ cs. times y cs) new_order, times-append y before (x ∷ after), times-append y before after, times-cons y x after);
+          omega (arith, one, ap (λ cs. times_in y cs) split, ap (λ cs. times_in y cs) new_order, times-append y before (x ∷ after), times-append y before after, times-cons y x after);
     }
 
 -- where no chunk up to a place is dead and the chunk there isn't, none up to the next place is
 pub none_more : (m : Machine) (order : List ChunkId) (place : ℕ) (x : ChunkId) → slice_get order place ≡ Some x
-    → filter (is_dead m) (take place order) ≡ [] → is_dead m x ≡ false → filter (is_dead m) (take (place + 1) order) ≡ []
+    → filter (is_dead_in m) (take place order) ≡ [] → is_dead_in m x ≡ false → filter (is_dead_in m) (take (place + 1) order) ≡ []
 none_more m order place x at none alive =
     let inside : place < length order = slice_get_within order place x at in
     let here : get_or order place x ≡ x = get_or_from_slice_get order place x x at in
-    ap (λ cs. filter (is_dead m) cs) (rw (take_more order place x inside, here) refl) ∙ none_behind (is_dead m) (take place order) none alive
+    ap (λ cs. filter (is_dead_in m) cs) (rw (take_more order place x inside, here) refl) ∙ none_behind (is_dead_in m) (take place order) none alive
   where
     none_behind : (p : ChunkId → Bool) (before : List ChunkId) → filter p before ≡ [] → p x ≡ false → filter p (before ++ x ∷ []) ≡ []
     none_behind p before none fails = filter-append p before (x ∷ []) ∙ rw (none, fails) refl
 
 -- where no chunk is dead a sweep changes nothing
-pub swept_none : (m : Machine) (class place : ℕ) → filter (is_dead m) (take place (class_at m.slabs class).order) ≡ []
-    → length (class_at m.slabs class).order ≤ place → swept m class ≡ m
+pub swept_none : (m : Machine) (class place : ℕ) → filter (is_dead_in m) (take place (class_at m.slabs class).order) ≡ []
+    → length (class_at m.slabs class).order ≤ place → machine_after_sweep m class ≡ m
 swept_none m class place none all =
-    ap (λ cs. fold after_reclaim m cs) (ap (λ cs. filter (is_dead m) cs) (sym (take_all place (class_at m.slabs class).order all)) ∙ none)
+    ap (λ cs. fold after_reclaim m cs) (ap (λ cs. filter (is_dead_in m) cs) (sym (take_all place (class_at m.slabs class).order all)) ∙ none)
 
 -- a sweep leaves the table and the number of classes
 pub classes-reclaims : (m : Machine) (chunks : List ChunkId) → length (fold after_reclaim m chunks).slabs.classes ≡ length m.slabs.classes

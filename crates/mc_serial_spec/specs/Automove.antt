@@ -13,25 +13,25 @@ abbrev pub eviction_counts : SlabState → List ℕ
 eviction_counts slabs = map (λ class. class.evictions) slabs.classes
 
 -- how many pages each class has
-abbrev pub page_counts : SlabState → List ℕ
-page_counts slabs = map (λ class. length class.pages) slabs.classes
+abbrev pub class_page_counts : SlabState → List ℕ
+class_page_counts slabs = map (λ class. length class.pages) slabs.classes
 
 -- how many free chunks each class has
 abbrev pub free_counts : SlabState → List ℕ
 free_counts slabs = map (λ class. length class.free) slabs.classes
 
 -- the machine after a page began to move, where the answer allows that
-abbrev pub begun : Machine → Option ℕ → ℕ → Result ℕ Reassign → Machine
-begun m src dst (Err refusal) = m
-begun m src dst (Ok source) = record m { slabs = after_begin m.slabs src source dst }
+abbrev pub machine_after_begin : Machine → Option ℕ → ℕ → Result ℕ Reassign → Machine
+machine_after_begin m src dst (Err refusal) = m
+machine_after_begin m src dst (Ok source) = record m { slabs = after_begin m.slabs src source dst }
 
 -- a page is asked for, from any class to this one; the answer doesn't matter
 abbrev pub with_asked_page : Machine → ℕ → Machine
-with_asked_page m class = begun m None class (answer_of m.slabs None class)
+with_asked_page m class = machine_after_begin m None class (answer_of m.slabs None class)
 
 -- the machine after a window ended, with its numbers fed to the automover
 abbrev pub with_window : Machine → Machine
-with_window m = record m { decider = after_window m.decider (eviction_counts m.slabs) (page_counts m.slabs) (free_counts m.slabs) }
+with_window m = record m { decider = after_window m.decider (eviction_counts m.slabs) (class_page_counts m.slabs) (free_counts m.slabs) }
 
 -- the decision that is acted on: in mode 1 alone there may be one
 abbrev pub decision : Machine → Option Decision

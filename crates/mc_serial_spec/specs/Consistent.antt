@@ -3,21 +3,21 @@ use Rattle.std.specs.Prelude.{◌≡◌, ℕ, ◌+◌, ◌/◌, ◌≤◌, [], �
 use Rattle.std.specs.BTreeMap.{is_at}
 use Rattle.mc_classes.specs.Classes.{Classes, IsSound}
 use Rattle.mc_pages.specs.declared.ids.ChunkId.{ChunkId}
-use Rattle.mc_pages.specs.ClassState.{times}
-use Rattle.mc_pages.specs.SlabState.{SlabState, IsClass, class_at, class_of_chunk}
+use Rattle.mc_pages.specs.ClassState.{times_in}
+use Rattle.mc_pages.specs.SlabState.{SlabState, HasClass, class_at, class_of_chunk}
 use Rattle.mc_pages.specs.Accounted.{truth, IsAccounted}
 use Rattle.mc_serial_spec.specs.Item.{is_linked_to}
 use Rattle.mc_serial_spec.specs.Items.{Items, chunk_cmp}
 
 -- how often the chunk is among the items
-abbrev pub places : ChunkId → Items → ℕ
-places chunk [] = 0
-places chunk (placed ∷ items) = truth (is_at (chunk_cmp chunk) placed.chunk) + places chunk items
+abbrev pub place_count : ChunkId → Items → ℕ
+place_count chunk [] = 0
+place_count chunk (placed ∷ items) = truth (is_at (chunk_cmp chunk) placed.chunk) + place_count chunk items
 
 -- how many items the key leads to
-abbrev pub links : ℕ → Items → ℕ
-links key [] = 0
-links key (placed ∷ items) = truth (is_linked_to key placed.item) + links key items
+abbrev pub links_of_key : ℕ → Items → ℕ
+links_of_key key [] = 0
+links_of_key key (placed ∷ items) = truth (is_linked_to key placed.item) + links_of_key key items
 
 -- table, pages and items agree
 pub record IsConsistent (table : Classes) (slabs : SlabState) (items : Items) : Type 0 where
@@ -30,8 +30,8 @@ pub record IsConsistent (table : Classes) (slabs : SlabState) (items : Items) : 
   pub whole : slabs.uncut ≡ None
   pub accounted : IsAccounted slabs
   -- a key leads to one item at most
-  pub one_link : (key : ℕ) → links key items ≤ 1
+  pub one_link : (key : ℕ) → links_of_key key items ≤ 1
   -- a chunk with an item is handed out
-  pub handed_out : (chunk : ChunkId) → places chunk items ≤ times chunk (class_of_chunk slabs chunk).order
+  pub handed_out : (chunk : ChunkId) → place_count chunk items ≤ times_in chunk (class_of_chunk slabs chunk).order
   -- a chunk that is handed out has an item
-  pub stored : (class : ℕ) (chunk : ChunkId) → IsClass slabs class → times chunk (class_at slabs class).order ≤ places chunk items
+  pub stored : (class : ℕ) (chunk : ChunkId) → HasClass slabs class → times_in chunk (class_at slabs class).order ≤ place_count chunk items

@@ -2,7 +2,7 @@
 use Rattle.std.specs.Prelude.{ℕ, Bool, nat_lt, not, List, [], ◌∷◌, length, sum_by, slice_index_or, slice_set, replicate}
 use Rattle.mc_classes.specs.Limits.{most_refs}
 use Rattle.mc_pages.specs.declared.ids.ChunkId.{ChunkId}
-use Rattle.mc_pages.specs.ClassState.{times, without}
+use Rattle.mc_pages.specs.ClassState.{times_in, without}
 
 -- for each worker, from 0, the chunks that it holds, a chunk once for each hold; the one that was taken last first
 abbrev pub Holds : Type 0
@@ -26,7 +26,7 @@ is_full holds worker = not (nat_lt (length (held_by holds worker)) most_holds)
 
 -- how many holds there are of the chunk
 abbrev pub hold_count : Holds → ChunkId → ℕ
-hold_count holds chunk = sum_by (times chunk) holds
+hold_count holds chunk = sum_by (times_in chunk) holds
 
 -- somebody holds the chunk
 abbrev pub is_held : Holds → ChunkId → Bool

@@ -13,8 +13,8 @@ abbrev pub item_bytes : ℕ → ℕ
 item_bytes words = 24 + 8 * words
 
 -- n words: base, base + 1 and so on, modulo 2^64
-abbrev pub words_from : ℕ → ℕ → List ℕ
-words_from base words = map (λ i. (base + i) % 2 ^ 64) (range_with_len 0 words)
+abbrev pub counting_words : ℕ → ℕ → List ℕ
+counting_words base words = map (λ i. (base + i) % 2 ^ 64) (range_with_len 0 words)
 
 -- an item that its key leads to
 abbrev pub new_item : ℕ → List ℕ → Item
@@ -25,5 +25,5 @@ abbrev pub is_linked_to : ℕ → Item → Bool
 is_linked_to key item = item.linked && item.key == key
 
 -- the item after its key leads to it no more; whoever holds it still does
-abbrev pub unlinked : Item → Item
-unlinked item = record item { linked = false }
+abbrev pub item_after_unlink : Item → Item
+item_after_unlink item = record item { linked = false }

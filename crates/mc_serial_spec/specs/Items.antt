@@ -5,7 +5,7 @@ use Rattle.std.specs.Ordering.{nat_cmp, ordering_then, match_ordering}
 use Rattle.std.specs.declared.cmp.Ordering.{Ordering}
 use Rattle.std.specs.BTreeMap.{is_at}
 use Rattle.mc_pages.specs.declared.ids.ChunkId.{ChunkId}
-use Rattle.mc_serial_spec.specs.Item.{Item, is_linked_to, unlinked}
+use Rattle.mc_serial_spec.specs.Item.{Item, is_linked_to, item_after_unlink}
 
 -- the order of chunks: by page, then by index
 abbrev pub chunk_cmp : ChunkId → ChunkId → Ordering
@@ -25,9 +25,9 @@ abbrev pub Items : Type 0
 Items = List PlacedItem
 
 -- the item in a chunk
-abbrev pub item_at : Items → ChunkId → Option Item
-item_at [] chunk = None
-item_at (placed ∷ items) chunk = cond (is_at (chunk_cmp chunk) placed.chunk) (Some placed.item) (item_at items chunk)
+abbrev pub item_in_chunk : Items → ChunkId → Option Item
+item_in_chunk [] chunk = None
+item_in_chunk (placed ∷ items) chunk = cond (is_at (chunk_cmp chunk) placed.chunk) (Some placed.item) (item_in_chunk items chunk)
 
 -- an item comes into a chunk, in the place of what was there
 abbrev pub with_item : Items → ChunkId → Item → Items
@@ -54,24 +54,24 @@ linked_chunk (placed ∷ items) key = if is_linked_to key placed.item then Some 
 
 -- the key leads to no item any more
 abbrev pub unlinked_items : Items → ℕ → Items
-unlinked_items items key = map (λ placed. at_chunk placed.chunk (if is_linked_to key placed.item then unlinked placed.item else placed.item)) items
+unlinked_items items key = map (λ placed. at_chunk placed.chunk (if is_linked_to key placed.item then item_after_unlink placed.item else placed.item)) items
 
 -- the item that was found in the chunk is linked no more
 abbrev pub unlinked_in : Items → ChunkId → Option Item → Items
 unlinked_in items chunk None = items
-unlinked_in items chunk (Some item) = with_changed_item items chunk (unlinked item)
+unlinked_in items chunk (Some item) = with_changed_item items chunk (item_after_unlink item)
 
 -- the chunk has an item that its key leads to
-abbrev pub is_linked : Items → ChunkId → Bool
-is_linked items chunk = option_map_or (λ item. item.linked) (item_at items chunk) false
+abbrev pub has_linked_item : Items → ChunkId → Bool
+has_linked_item items chunk = option_map_or (λ item. item.linked) (item_in_chunk items chunk) false
 
 -- the chunk has an item that its key leads to no more
-abbrev pub is_unlinked : Items → ChunkId → Bool
-is_unlinked items chunk = option_map_or (λ item. not item.linked) (item_at items chunk) false
+abbrev pub has_unlinked_item : Items → ChunkId → Bool
+has_unlinked_item items chunk = option_map_or (λ item. not item.linked) (item_in_chunk items chunk) false
 
 -- the chunk has an item of this key
 abbrev pub has_key : Items → ℕ → ChunkId → Bool
-has_key items key chunk = option_map_or (λ item. item.key == key) (item_at items chunk) false
+has_key items key chunk = option_map_or (λ item. item.key == key) (item_in_chunk items chunk) false
 
 -- what was found in a chunk comes into another
 abbrev pub with_found_item : Items → ChunkId → ChunkId → Option Item → Items
@@ -80,4 +80,4 @@ with_found_item items old new (Some item) = with_item (without_item items old) n
 
 -- the item of a chunk comes into another
 abbrev pub with_moved_item : Items → ChunkId → ChunkId → Items
-with_moved_item items old new = with_found_item items old new (item_at items old)
+with_moved_item items old new = with_found_item items old new (item_in_chunk items old)

@@ -5,7 +5,7 @@ use Rattle.mc_pages.specs.declared.ids.Moving.{Moving}
 use Rattle.mc_pages.specs.declared.moves.Found.{Found}
 use Rattle.mc_pages.specs.declared.moves.Found.TheVariants.{Cleared, Rescued, Evicted, Busy, Locked, Already}
 use Rattle.mc_pages.specs.SlabState.{class_at}
-use Rattle.mc_pages.specs.ClassState.{times}
+use Rattle.mc_pages.specs.ClassState.{times_in}
 use Rattle.mc_pages.specs.Changes.{after_clear, after_replace}
 use Rattle.mc_pages.specs.Accounted.{is_cleared}
 use Rattle.mc_pages.specs.Moves.{after_finish, after_passed, after_wrap, chunk_at_position}
@@ -13,10 +13,10 @@ use Rattle.mc_serial_spec.specs.declared.turn.Counts.{Counts}
 use Rattle.mc_serial_spec.specs.declared.turn.Ending.{Ending}
 use Rattle.mc_serial_spec.specs.declared.turn.Ending.TheVariants.{Idle, Went, Finished}
 use Rattle.mc_serial_spec.specs.Items.{with_moved_item, without_item}
-use Rattle.mc_serial_spec.specs.Machine.{Machine, is_dead, is_linked_unheld, swept, with_cut_page}
+use Rattle.mc_serial_spec.specs.Machine.{Machine, is_dead_in, has_unheld_linked_item, machine_after_sweep, with_cut_page}
 
 -- a machine, and what the mover found on its way to it
-pub record Looked : Type 0 where
+pub record MoverLook : Type 0 where
   pub machine : Machine
   pub found : Found
 
@@ -30,7 +30,7 @@ with_cleared m chunk = record m { slabs = after_clear m.slabs chunk; items = wit
 
 -- an item's chunk is cleared: the item goes to the new chunk, in the old one's place of the hand-out order, or is evicted where there is no
 -- new chunk
-abbrev pub with_saved : Machine → ChunkId → Option ChunkId → Looked
+abbrev pub with_saved : Machine → ChunkId → Option ChunkId → MoverLook
 with_saved m old None = record { machine = with_cleared m old; found = Evicted }
 with_saved m old (Some new) = record {
   machine = record m { slabs = after_clear (after_replace m.slabs new old) old; items = with_moved_item m.items old new };
@@ -38,21 +38,21 @@ with_saved m old (Some new) = record {
 }
 
 -- an idle item's chunk is cleared: the class's dead chunks are put back before, so that the item may go to one of them
-abbrev pub saved : Machine → ℕ → ChunkId → Looked
-saved m class chunk = let ready = swept m class in with_saved ready chunk (target ready class chunk.page)
+abbrev pub machine_after_save : Machine → ℕ → ChunkId → MoverLook
+machine_after_save m class chunk = let ready = machine_after_sweep m class in with_saved ready chunk (target ready class chunk.page)
 
 -- what the mover does with this chunk of the moving page and of the class
-abbrev pub looked_at : Machine → ℕ → ChunkId → Looked
+abbrev pub looked_at : Machine → ℕ → ChunkId → MoverLook
 looked_at m class chunk =
     if is_cleared m.slabs class chunk then record { machine = m; found = Already }
-    else if nat_lt 0 (times chunk (class_at m.slabs class).free) then record { machine = record m { slabs = after_clear m.slabs chunk }; found = Cleared }
-    else if is_dead m chunk then record { machine = with_cleared m chunk; found = Cleared }
-    else if is_linked_unheld m chunk then saved m class chunk
+    else if nat_lt 0 (times_in chunk (class_at m.slabs class).free) then record { machine = record m { slabs = after_clear m.slabs chunk }; found = Cleared }
+    else if is_dead_in m chunk then record { machine = with_cleared m chunk; found = Cleared }
+    else if has_unheld_linked_item m chunk then machine_after_save m class chunk
     else record { machine = m; found = Busy }
 
 -- nothing was done yet
-abbrev pub no_counts : Counts
-no_counts = record { cleared = 0; rescued = 0; evicted = 0; busy = 0; locked = 0 }
+abbrev pub zero_counts : Counts
+zero_counts = record { cleared = 0; rescued = 0; evicted = 0; busy = 0; locked = 0 }
 
 -- no count is above n
 pub record AreAtMost (most : ℕ) (counts : Counts) : Type 0 where
@@ -72,7 +72,7 @@ with_count counts Locked = record counts { locked = counts.locked + 1 }
 with_count counts Already = counts
 
 -- a machine, and what the mover did on the way to it
-pub record Counted : Type 0 where
+pub record MoverCount : Type 0 where
   pub machine : Machine
   pub counts : Counts
 
@@ -81,24 +81,24 @@ abbrev pub is_at_end : Machine → Moving → Bool
 is_at_end m move = leb (class_at m.slabs move.src).per_page move.at
 
 -- the chunk at the position was looked at and passed
-abbrev pub with_looked : Counts → Looked → Counted
+abbrev pub with_looked : Counts → MoverLook → MoverCount
 with_looked counts looked = record {
   machine = record looked.machine { slabs = after_passed looked.machine.slabs looked.found };
   counts = with_count counts looked.found;
 }
 
 -- one chunk is looked at, unless no page moves or all of the page was looked at
-abbrev pub with_chunk : Counted → Option Moving → Counted
+abbrev pub with_chunk : MoverCount → Option Moving → MoverCount
 with_chunk c None = c
 with_chunk c (Some move) = if is_at_end c.machine move then c else with_looked c.counts (looked_at c.machine move.src (chunk_at_position move))
 
 -- the state after at most n looks at chunks
-abbrev pub with_chunks : ℕ → Counted → Counted
+abbrev pub with_chunks : ℕ → MoverCount → MoverCount
 with_chunks zero c = c
 with_chunks (suc count) c = with_chunks count (with_chunk c c.machine.slabs.moving)
 
 -- the machine after one turn or more, their counts, and how the last one ended
-pub record Turned : Type 0 where
+pub record TurnsOfMover : Type 0 where
   pub machine : Machine
   pub counts : Counts
   pub ending : Ending
@@ -109,7 +109,7 @@ with_finish m move = let slabs = after_finish m.slabs (Some move) in
     record m { slabs = if move.dst == 0 then slabs else with_cut_page slabs move.dst move.page }
 
 -- the end of a turn: at the page's end the pass begins anew, or the move ends where nothing held it up
-abbrev pub with_end : Counted → Option Moving → Turned
+abbrev pub with_end : MoverCount → Option Moving → TurnsOfMover
 with_end c None = record { machine = c.machine; counts = c.counts; ending = Idle }
 with_end c (Some move) =
     if not (is_at_end c.machine move) then record { machine = c.machine; counts = c.counts; ending = Went }
@@ -117,8 +117,8 @@ with_end c (Some move) =
     else record { machine = with_finish c.machine move; counts = c.counts; ending = Finished }
 
 -- one turn, which goes on counting from these counts
-abbrev pub turned : Machine → Counts → Turned
-turned m counts =
+abbrev pub turns_after_one : Machine → Counts → TurnsOfMover
+turns_after_one m counts =
     let begun = record m { turns = m.turns + 1 } in
     let c = with_chunks m.bulk (record { machine = begun; counts = counts }) in
     with_end c c.machine.slabs.moving
@@ -133,14 +133,14 @@ is_went Went = true
 is_went ending = false
 
 -- one turn and then more, until n are done or one is idle or ends a move; none where the run has no turns left
-abbrev pub turns_from : ℕ → Turned → Option Turned
+abbrev pub turns_from : ℕ → TurnsOfMover → Option TurnsOfMover
 turns_from zero t = Some t
 turns_from (suc count) t =
     if nat_lt t.machine.turns most_turns then (
-    let next = turned t.machine t.counts in
+    let next = turns_after_one t.machine t.counts in
     if is_went next.ending then turns_from count next else Some next)
     else None
 
 -- n turns, as far as there is something to do
-abbrev pub after_turns : Machine → ℕ → Option Turned
-after_turns m count = turns_from count (record { machine = m; counts = no_counts; ending = Idle })
+abbrev pub after_turns : Machine → ℕ → Option TurnsOfMover
+after_turns m count = turns_from count (record { machine = m; counts = zero_counts; ending = Idle })

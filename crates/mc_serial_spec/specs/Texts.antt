@@ -10,20 +10,20 @@ abbrev pub key_line : List ℕ → ℕ → List ℕ
 key_line answer key = line (answer ++ codes " " ++ decimal key)
 
 -- words after an answer, a space before each
-abbrev pub spaced : List ℕ → List ℕ
-spaced words = flat_map (λ word. codes " " ++ decimal word) words
+abbrev pub spaced_words : List ℕ → List ℕ
+spaced_words words = flat_map (λ word. codes " " ++ decimal word) words
 
 -- an answer about a key, with the item's words
 abbrev pub words_line : List ℕ → ℕ → List ℕ → List ℕ
-words_line answer key words = line (answer ++ codes " " ++ decimal key ++ codes " " ++ decimal (length words) ++ spaced words)
+words_line answer key words = line (answer ++ codes " " ++ decimal key ++ codes " " ++ decimal (length words) ++ spaced_words words)
 
 -- the word for how the last turn ended
-abbrev pub word_of : Ending → List ℕ
-word_of Idle = codes "IDLE"
-word_of Went = codes "WENT"
-word_of Finished = codes "FINISHED"
+abbrev pub ending_word : Ending → List ℕ
+ending_word Idle = codes "IDLE"
+ending_word Went = codes "WENT"
+ending_word Finished = codes "FINISHED"
 
 -- what some turns did
 abbrev pub turn_line : Ending → Counts → List ℕ
 turn_line ending counts =
-    line (codes "TURN " ++ word_of ending ++ spaced (counts.cleared ∷ counts.rescued ∷ counts.evicted ∷ counts.busy ∷ counts.locked ∷ []))
+    line (codes "TURN " ++ ending_word ending ++ spaced_words (counts.cleared ∷ counts.rescued ∷ counts.evicted ∷ counts.busy ∷ counts.locked ∷ []))

@@ -1,6 +1,6 @@
 //! What turns of the mover did, and how the last one ended.
 ghost use Rattle.std.specs.Prelude.{◌≡◌};
-ghost use Rattle.mc_serial_spec.specs.Mover.{AreAtMost, no_counts, with_count};
+ghost use Rattle.mc_serial_spec.specs.Mover.{AreAtMost, zero_counts, with_count};
 
 use mc_pages::Found;
 
@@ -17,7 +17,7 @@ pub struct Counts {
 impl Counts {
     /// Nothing was done yet.
     pub fn new() -> Counts
-        ensures { result ≡ no_counts }
+        ensures { result ≡ zero_counts }
     {
         Counts {
             cleared: 0,

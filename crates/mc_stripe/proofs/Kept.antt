@@ -6,10 +6,10 @@ use Rattle.mc_pages.specs.declared.ids.ChunkId.{ChunkId}
 use Rattle.mc_stripe.specs.declared.history.Call.{Call}
 use Rattle.mc_stripe.specs.declared.history.Call.TheVariants.{Set, Get, Delete, Evict, Rescue}
 use Rattle.mc_stripe.specs.Entries.{entry_at, with_entry, without_entry, AreRising}
-use Rattle.mc_stripe.specs.History.{Stamps, fits, stamps_after, replay}
+use Rattle.mc_stripe.specs.History.{Stamps, is_reply_right, stamps_after, stamps_after_calls}
 use Rattle.mc_stripe.specs.Recorded.{count_trimmed, recorded_behind}
-use Rattle.mc_stripe.specs.StripeState.{Index, StripeState, new_stripe, key_aside, place_of, stamp_of, with_aside, stamps_in, stamps_of}
-use Rattle.mc_stripe.specs.Changes.{after_link, after_unlink, after_got, after_evict, after_lift, after_rescue, after_trim, after_forget, stamp_aside}
+use Rattle.mc_stripe.specs.StripeState.{Index, StripeState, new_stripe, key_aside, chunk_and_stamp, stamp_of_key, with_aside, index_stamps, stamps_of}
+use Rattle.mc_stripe.specs.Changes.{after_link, after_unlink, after_got, after_evict, after_lift, after_rescue, stripe_after_trim, after_forget, stamp_aside}
 use Rattle.mc_stripe.specs.Legal.{IsLegal}
 use Rattle.mc_stripe.proofs.Entries.{by_equal, nat_eq_same, nat_eq_other, at_with_entry, at_without_entry, rising_with_entry, rising_without_entry}
 use Rattle.mc_stripe.proofs.Stamps.{Place, stamps-with_entry, stamps-without_entry, stamp_at, with_entry_twice, with_entry_again, with_entry_without}
@@ -28,14 +28,14 @@ all_trimmed : (history : List Call) (from : Option ℕ) → count_trimmed histor
 all_trimmed history None = omega arith
 all_trimmed history (Some from) = omega arith
 
-pub IsLegal-after_trim : (stripe : StripeState) → IsLegal stripe → IsLegal (after_trim stripe)
+pub IsLegal-after_trim : (stripe : StripeState) → IsLegal stripe → IsLegal (stripe_after_trim stripe)
 IsLegal-after_trim stripe legal = record { rising = legal.rising; apart = legal.apart; replayed = legal.replayed; trimmed = all_trimmed stripe.history stripe.recorded_from }
 
 pub IsLegal-after_forget : (stripe : StripeState) → IsLegal stripe → IsLegal (after_forget stripe)
 IsLegal-after_forget stripe legal = record { rising = legal.rising; apart = legal.apart; replayed = legal.replayed; trimmed = omega arith }
 
 -- one more call, whose reply is right
-replayed-told : (start stamps after : Stamps) (history : List Call) (call : Call) → replay start history ≡ Some stamps → fits call stamps ≡ true → stamps_after call stamps ≡ after → replay start (history ++ call ∷ []) ≡ Some after
+replayed-told : (start stamps after : Stamps) (history : List Call) (call : Call) → stamps_after_calls start history ≡ Some stamps → is_reply_right call stamps ≡ true → stamps_after call stamps ≡ after → stamps_after_calls start (history ++ call ∷ []) ≡ Some after
 replayed-told start stamps after history call h fit leaves = replay-push start stamps history call h fit ∙ ap (λ (s : Stamps). Some s) leaves
 
 -- a reply that tells what is there is right
@@ -52,23 +52,23 @@ is_some-map None = refl
 is_some-map (Some place) = refl
 
 -- a key that isn't aside has the stamp that the index has
-stamp_known : (index : Index) (aside : Option (ℕ × Place)) (key : ℕ) → IfSome (option_map (λ (entry : ℕ × Place). entry.0) aside) (λ other. other ≢ key) → entry_at (stamps_in (with_aside index aside)) key ≡ option_map (λ (place : Place). place.1) (entry_at index key)
+stamp_known : (index : Index) (aside : Option (ℕ × Place)) (key : ℕ) → IfSome (option_map (λ (entry : ℕ × Place). entry.0) aside) (λ other. other ≢ key) → entry_at (index_stamps (with_aside index aside)) key ≡ option_map (λ (place : Place). place.1) (entry_at index key)
 stamp_known index None key apart = stamp_at index key
 stamp_known index (Some entry) key apart =
     stamp_at (with_entry index entry.0 entry.1) key
     ∙ ap (option_map (λ (place : Place). place.1)) (at_with_entry index entry.0 entry.1 key ∙ rw (nat_eq_other key entry.0 (λ is. apart (sym is))) refl)
 
 -- what is left of the stamps without a key that isn't aside
-stamps_without : (index : Index) (aside : Option (ℕ × Place)) (key : ℕ) → AreRising index → IfSome (option_map (λ (entry : ℕ × Place). entry.0) aside) (λ other. other ≢ key) → without_entry (stamps_in (with_aside index aside)) key ≡ stamps_in (with_aside (without_entry index key) aside)
+stamps_without : (index : Index) (aside : Option (ℕ × Place)) (key : ℕ) → AreRising index → IfSome (option_map (λ (entry : ℕ × Place). entry.0) aside) (λ other. other ≢ key) → without_entry (index_stamps (with_aside index aside)) key ≡ index_stamps (with_aside (without_entry index key) aside)
 stamps_without index None key rising apart = sym (stamps-without_entry index key)
-stamps_without index (Some entry) key rising apart = sym (stamps-without_entry (with_entry index entry.0 entry.1) key) ∙ ap stamps_in (sym (with_entry_without index entry.0 key entry.1 rising apart))
+stamps_without index (Some entry) key rising apart = sym (stamps-without_entry (with_entry index entry.0 entry.1) key) ∙ ap index_stamps (sym (with_entry_without index entry.0 key entry.1 rising apart))
 
 -- the stamps with a key that is new or aside
-stamps_with : (index : Index) (aside : Option (ℕ × Place)) (key : ℕ) (place : Place) → AreRising index → IfSome (option_map (λ (entry : ℕ × Place). entry.0) aside) (λ other. other ≡ key) → with_entry (stamps_in (with_aside index aside)) key place.1 ≡ stamps_in (with_entry index key place)
+stamps_with : (index : Index) (aside : Option (ℕ × Place)) (key : ℕ) (place : Place) → AreRising index → IfSome (option_map (λ (entry : ℕ × Place). entry.0) aside) (λ other. other ≡ key) → with_entry (index_stamps (with_aside index aside)) key place.1 ≡ index_stamps (with_entry index key place)
 stamps_with index None key place rising same = sym (stamps-with_entry index key place)
 stamps_with index (Some entry) key place rising same =
     sym (stamps-with_entry (with_entry index entry.0 entry.1) key place)
-    ∙ ap stamps_in (ap (λ (k : ℕ). with_entry (with_entry index k entry.1) key place) same ∙ with_entry_twice index key entry.1 place rising)
+    ∙ ap index_stamps (ap (λ (k : ℕ). with_entry (with_entry index k entry.1) key place) same ∙ with_entry_twice index key entry.1 place rising)
 
 pub IsLegal-after_link : (stripe : StripeState) (hand key : ℕ) (chunk : ChunkId) (stamp : ℕ) → IsLegal stripe → IfSome (key_aside stripe) (λ other. other ≡ key) → IsLegal (after_link stripe hand key chunk stamp)
 IsLegal-after_link stripe hand key chunk stamp legal same = record {
@@ -87,8 +87,8 @@ apart_without stripe key legal entry is =
 pub IsLegal-after_unlink : (stripe : StripeState) (hand key : ℕ) → IsLegal stripe → IfSome (key_aside stripe) (λ other. other ≢ key) → IsLegal (after_unlink stripe hand key)
 IsLegal-after_unlink stripe hand key legal apart =
     let known = stamp_known stripe.index stripe.aside key apart in
-    let call = Delete hand key (is_some (place_of stripe key)) in
-    let fit : fits call (stamps_of stripe) ≡ true = rw (known, sym (is_some-map (place_of stripe key))) (there_is_there (stamp_of stripe key)) in
+    let call = Delete hand key (is_some (chunk_and_stamp stripe key)) in
+    let fit : is_reply_right call (stamps_of stripe) ≡ true = rw (known, sym (is_some-map (chunk_and_stamp stripe key))) (there_is_there (stamp_of_key stripe key)) in
     record {
       rising = rising_without_entry stripe.index key legal.rising;
       apart = apart_without stripe key legal;
@@ -98,8 +98,8 @@ IsLegal-after_unlink stripe hand key legal apart =
 
 pub IsLegal-after_got : (stripe : StripeState) (hand key : ℕ) → IsLegal stripe → IfSome (key_aside stripe) (λ other. other ≢ key) → IsLegal (after_got stripe hand key)
 IsLegal-after_got stripe hand key legal apart =
-    let call = Get hand key (stamp_of stripe key) in
-    let fit : fits call (stamps_of stripe) ≡ true = rw (stamp_known stripe.index stripe.aside key apart) (found_is_found (stamp_of stripe key)) in
+    let call = Get hand key (stamp_of_key stripe key) in
+    let fit : is_reply_right call (stamps_of stripe) ≡ true = rw (stamp_known stripe.index stripe.aside key apart) (found_is_found (stamp_of_key stripe key)) in
     record {
       rising = legal.rising;
       apart = legal.apart;
@@ -117,10 +117,10 @@ not_aside : (index : Index) (aside : Option (ℕ × Place)) (key : ℕ) → ((en
 not_aside index None key apart there = tt
 not_aside index (Some entry) key apart there = λ is. missing (entry_at index key) (ap (entry_at index) (sym is) ∙ apart entry refl) there
 
-pub IsLegal-after_evict : (stripe : StripeState) (hand key : ℕ) → IsLegal stripe → IsSome (place_of stripe key) → IsLegal (after_evict stripe hand key)
+pub IsLegal-after_evict : (stripe : StripeState) (hand key : ℕ) → IsLegal stripe → IsSome (chunk_and_stamp stripe key) → IsLegal (after_evict stripe hand key)
 IsLegal-after_evict stripe hand key legal there =
     let apart = not_aside stripe.index stripe.aside key legal.apart there in
-    let fit : fits (Evict hand key) (stamps_of stripe) ≡ true = rw (stamp_known stripe.index stripe.aside key apart) (is_some-map (place_of stripe key) ∙ there) in
+    let fit : is_reply_right (Evict hand key) (stamps_of stripe) ≡ true = rw (stamp_known stripe.index stripe.aside key apart) (is_some-map (chunk_and_stamp stripe key) ∙ there) in
     record {
       rising = rising_without_entry stripe.index key legal.rising;
       apart = apart_without stripe key legal;
@@ -138,24 +138,24 @@ lifted_key : (key : ℕ) (entry : ℕ × Place) (found : Option Place) → optio
 lifted_key key entry None is = absurd cc
 lifted_key key entry (Some place) is = let same : (key, place) ≡ entry = cc in ap (λ (e : ℕ × Place). e.0) (sym same)
 
-pub IsLegal-after_lift : (stripe : StripeState) (key : ℕ) → IsLegal stripe → IsSome (place_of stripe key) → stripe.aside ≡ None → IsLegal (after_lift stripe key)
+pub IsLegal-after_lift : (stripe : StripeState) (key : ℕ) → IsLegal stripe → IsSome (chunk_and_stamp stripe key) → stripe.aside ≡ None → IsLegal (after_lift stripe key)
 IsLegal-after_lift stripe key legal there none =
     record {
       rising = rising_without_entry stripe.index key legal.rising;
-      apart = λ entry is. at_without_entry stripe.index key entry.0 legal.rising ∙ rw (nat_eq_same entry.0 key (lifted_key key entry (place_of stripe key) is)) refl;
-      replayed = legal.replayed ∙ ap (λ (index : Index). Some (stamps_in index)) (ap (with_aside stripe.index) none ∙ sym (lifted_counts stripe.index key (place_of stripe key) legal.rising refl there));
+      apart = λ entry is. at_without_entry stripe.index key entry.0 legal.rising ∙ rw (nat_eq_same entry.0 key (lifted_key key entry (chunk_and_stamp stripe key) is)) refl;
+      replayed = legal.replayed ∙ ap (λ (index : Index). Some (index_stamps index)) (ap (with_aside stripe.index) none ∙ sym (lifted_counts stripe.index key (chunk_and_stamp stripe key) legal.rising refl there));
       trimmed = legal.trimmed;
     }
 
 -- the stamps with the entry aside in another chunk
-stamps_rescued : (index : Index) (aside : Option (ℕ × Place)) (key : ℕ) (chunk : ChunkId) → option_map (λ (entry : ℕ × Place). entry.0) aside ≡ Some key → stamps_in (with_aside index aside) ≡ stamps_in (with_entry index key (chunk, option_map_or (λ (entry : ℕ × Place). entry.1.1) aside 0))
+stamps_rescued : (index : Index) (aside : Option (ℕ × Place)) (key : ℕ) (chunk : ChunkId) → option_map (λ (entry : ℕ × Place). entry.0) aside ≡ Some key → index_stamps (with_aside index aside) ≡ index_stamps (with_entry index key (chunk, option_map_or (λ (entry : ℕ × Place). entry.1.1) aside 0))
 stamps_rescued index None key chunk is = absurd cc
 stamps_rescued index (Some entry) key chunk is =
     let same : entry.0 ≡ key = cc in
-    stamps-with_entry index entry.0 entry.1 ∙ (ap (λ (k : ℕ). with_entry (stamps_in index) k entry.1.1) same ∙ sym (stamps-with_entry index key (chunk, entry.1.1)))
+    stamps-with_entry index entry.0 entry.1 ∙ (ap (λ (k : ℕ). with_entry (index_stamps index) k entry.1.1) same ∙ sym (stamps-with_entry index key (chunk, entry.1.1)))
 
 -- the key aside has a stamp
-aside_has_stamp : (index : Index) (aside : Option (ℕ × Place)) (key : ℕ) → option_map (λ (entry : ℕ × Place). entry.0) aside ≡ Some key → is_some (entry_at (stamps_in (with_aside index aside)) key) ≡ true
+aside_has_stamp : (index : Index) (aside : Option (ℕ × Place)) (key : ℕ) → option_map (λ (entry : ℕ × Place). entry.0) aside ≡ Some key → is_some (entry_at (index_stamps (with_aside index aside)) key) ≡ true
 aside_has_stamp index None key is = absurd cc
 aside_has_stamp index (Some entry) key is =
     let same : entry.0 ≡ key = cc in

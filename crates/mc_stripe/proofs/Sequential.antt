@@ -5,7 +5,7 @@ use Rattle.std.proofs.lemmas.Bool.{cases_Bool}
 use Rattle.mc_stripe.specs.declared.history.Call.{Call}
 use Rattle.mc_stripe.specs.declared.history.Call.TheVariants.{Set, Get, Delete, Evict, Rescue}
 use Rattle.mc_stripe.specs.Entries.{entry_at, AreRising}
-use Rattle.mc_stripe.specs.History.{Stamps, fits, stamps_after, replay}
+use Rattle.mc_stripe.specs.History.{Stamps, is_reply_right, stamps_after, stamps_after_calls}
 use Rattle.mc_stripe.specs.Sequential.{StampMap, IsReply, map_after, Leads}
 use Rattle.mc_stripe.proofs.Entries.{by_equal, nat_eq_same, at_with_entry, at_without_entry, rising_with_entry, rising_without_entry}
 use Rattle.mc_stripe.proofs.Histories.{None≢Some}
@@ -43,14 +43,14 @@ is_was_there false None is = refl
 is_was_there false (Some stamp) is = absurd cc
 
 -- the two say the same of a reply
-reply_from_fits : (call : Call) (map : StampMap) (stamps : Stamps) → IsMapOf map stamps → fits call stamps ≡ true → IsReply call map
+reply_from_fits : (call : Call) (map : StampMap) (stamps : Stamps) → IsMapOf map stamps → is_reply_right call stamps ≡ true → IsReply call map
 reply_from_fits (Set hand key stamp) map stamps same fit = tt
 reply_from_fits (Get hand key found) map stamps same fit = found_is_there found (entry_at stamps key) fit ∙ sym (same key)
 reply_from_fits (Delete hand key was_there) map stamps same fit = was_there_is was_there (entry_at stamps key) fit ∙ ap is_some (sym (same key))
 reply_from_fits (Evict hand key) map stamps same fit = ap is_some (same key) ∙ fit
 reply_from_fits (Rescue hand key) map stamps same fit = ap is_some (same key) ∙ fit
 
-fits_from_reply : (call : Call) (map : StampMap) (stamps : Stamps) → IsMapOf map stamps → IsReply call map → fits call stamps ≡ true
+fits_from_reply : (call : Call) (map : StampMap) (stamps : Stamps) → IsMapOf map stamps → IsReply call map → is_reply_right call stamps ≡ true
 fits_from_reply (Set hand key stamp) map stamps same reply = refl
 fits_from_reply (Get hand key found) map stamps same reply = there_is_found found (entry_at stamps key) (reply ∙ same key)
 fits_from_reply (Delete hand key was_there) map stamps same reply = is_was_there was_there (entry_at stamps key) (reply ∙ ap is_some (same key))
@@ -73,16 +73,16 @@ rising_after (Evict hand key) stamps rising = rising_without_entry stamps key ri
 rising_after (Rescue hand key) stamps rising = rising
 
 -- what a replay leaves, the history leaves
-pub leads_from_replay : (history : List Call) (map : StampMap) (start after : Stamps) → AreRising start → IsMapOf map start → replay start history ≡ Some after → Leads map history (entry_at after)
+pub leads_from_replay : (history : List Call) (map : StampMap) (start after : Stamps) → AreRising start → IsMapOf map start → stamps_after_calls start history ≡ Some after → Leads map history (entry_at after)
 leads_from_replay [] map start after rising same is = λ key. let is_start : start ≡ after = cc in ap (λ (s : Stamps). entry_at s key) (sym is_start) ∙ sym (same key)
 leads_from_replay (call ∷ history) map start after rising same is =
-    elim (cases_Bool (fits call start)) [
+    elim (cases_Bool (is_reply_right call start)) [
       | inl right ↦ (reply_from_fits call map start same right, leads_from_replay history (map_after call map) (stamps_after call start) after (rising_after call start rising) (same_after call map start rising same) (rw right at is))
       | inr wrong ↦ absurd (None≢Some after (rw wrong at is))
     ]
 
 -- what a legal history leaves, its replay leaves
-pub replay_from_leads : (history : List Call) (map after : StampMap) (start : Stamps) → AreRising start → IsMapOf map start → Leads map history after → (end : Stamps) × (replay start history ≡ Some end) × IsMapOf after end
+pub replay_from_leads : (history : List Call) (map after : StampMap) (start : Stamps) → AreRising start → IsMapOf map start → Leads map history after → (end : Stamps) × (stamps_after_calls start history ≡ Some end) × IsMapOf after end
 replay_from_leads [] map after start rising same leads = (start, refl, λ key. leads key ∙ same key)
 replay_from_leads (call ∷ history) map after start rising same leads =
     rw (fits_from_reply call map start same leads.0) (replay_from_leads history (map_after call map) after (stamps_after call start) (rising_after call start rising) (same_after call map start rising same) leads.1)

@@ -3,14 +3,14 @@ use Rattle.std.proofs.Common.{◌≡◌, ◌≢◌, ℕ, List, [], ◌∷◌, So
 use Rattle.std.specs.Option.{option_map}
 use Rattle.mc_pages.specs.declared.ids.ChunkId.{ChunkId}
 use Rattle.mc_stripe.specs.Entries.{entry_at, with_entry, without_entry, AreRising}
-use Rattle.mc_stripe.specs.StripeState.{Index, stamps_in}
+use Rattle.mc_stripe.specs.StripeState.{Index, index_stamps}
 use Rattle.mc_stripe.proofs.Entries.{by_order, by_equal, nat_eq_other, at_with_entry, at_without_entry, rising_with_entry, rising_without_entry, one_list}
 
 -- what can be in an index
 abbrev pub Place : Type 0
 Place = ChunkId × ℕ
 
-pub stamps-with_entry : (index : Index) (key : ℕ) (place : Place) → stamps_in (with_entry index key place) ≡ with_entry (stamps_in index) key place.1
+pub stamps-with_entry : (index : Index) (key : ℕ) (place : Place) → index_stamps (with_entry index key place) ≡ with_entry (index_stamps index) key place.1
 stamps-with_entry [] key place = refl
 stamps-with_entry (entry ∷ index) key place =
     by_order key entry.0
@@ -18,14 +18,14 @@ stamps-with_entry (entry ∷ index) key place =
     (λ not_before equal _. rw (not_before, equal) refl)
     (λ not_before apart _. rw (not_before, apart) (ap (λ (es : List (ℕ × ℕ)). (entry.0, entry.1.1) ∷ es) (stamps-with_entry index key place)))
 
-pub stamps-without_entry : (index : Index) (key : ℕ) → stamps_in (without_entry index key) ≡ without_entry (stamps_in index) key
+pub stamps-without_entry : (index : Index) (key : ℕ) → index_stamps (without_entry index key) ≡ without_entry (index_stamps index) key
 stamps-without_entry [] key = refl
 stamps-without_entry (entry ∷ index) key =
     by_equal key entry.0
     (λ here _. rw here refl)
     (λ apart _. rw apart (ap (λ (es : List (ℕ × ℕ)). (entry.0, entry.1.1) ∷ es) (stamps-without_entry index key)))
 
-pub stamp_at : (index : Index) (key : ℕ) → entry_at (stamps_in index) key ≡ option_map (λ (place : Place). place.1) (entry_at index key)
+pub stamp_at : (index : Index) (key : ℕ) → entry_at (index_stamps index) key ≡ option_map (λ (place : Place). place.1) (entry_at index key)
 stamp_at [] key = refl
 stamp_at (entry ∷ index) key =
     by_equal key entry.0

@@ -4,7 +4,7 @@ use Rattle.std.specs.Option.{option_map_or}
 use Rattle.std.proofs.lemmas.Bool.{cases_Bool}
 use Rattle.std.proofs.lemmas.List.{take-append-drop}
 use Rattle.mc_stripe.specs.declared.history.Call.{Call}
-use Rattle.mc_stripe.specs.History.{Stamps, fits, stamps_after, replay}
+use Rattle.mc_stripe.specs.History.{Stamps, is_reply_right, stamps_after, stamps_after_calls}
 use Rattle.mc_stripe.proofs.Histories.{None≢Some}
 
 -- the stamps, or none where there are none
@@ -12,16 +12,16 @@ abbrev stamps_or_none : Option Stamps → Stamps
 stamps_or_none found = option_map_or (λ stamps. stamps) found []
 
 -- a replay of two parts goes on from the first
-pub replay-parts : (start stamps : Stamps) (first last : List Call) → replay start (first ++ last) ≡ Some stamps → replay (stamps_or_none (replay start first)) last ≡ Some stamps
+pub replay-parts : (start stamps : Stamps) (first last : List Call) → stamps_after_calls start (first ++ last) ≡ Some stamps → stamps_after_calls (stamps_or_none (stamps_after_calls start first)) last ≡ Some stamps
 replay-parts start stamps [] last h = h
 replay-parts start stamps (call ∷ first) last h =
-    elim (cases_Bool (fits call start)) [
+    elim (cases_Bool (is_reply_right call start)) [
       | inl right ↦ rw right (replay-parts (stamps_after call start) stamps first last (rw right at h))
       | inr wrong ↦ absurd (None≢Some stamps (rw wrong at h))
     ]
 
-pub replay-behind : (count : ℕ) (stamps : Stamps) (history : List Call) → replay [] history ≡ Some stamps → replay (stamps_or_none (replay [] (take count history))) (drop count history) ≡ Some stamps
-replay-behind count stamps history h = replay-parts [] stamps (take count history) (drop count history) (ap (replay []) (take-append-drop count history) ∙ h)
+pub replay-behind : (count : ℕ) (stamps : Stamps) (history : List Call) → stamps_after_calls [] history ≡ Some stamps → stamps_after_calls (stamps_or_none (stamps_after_calls [] (take count history))) (drop count history) ≡ Some stamps
+replay-behind count stamps history h = replay-parts [] stamps (take count history) (drop count history) (ap (stamps_after_calls []) (take-append-drop count history) ∙ h)
 
 -- calls that pass a test, of two parts
 filter-parts : (test : Call → Bool) (first last : List Call) → filter test (first ++ last) ≡ filter test first ++ filter test last

@@ -6,11 +6,11 @@ use Rattle.mc_stripe.specs.declared.history.Call.{Call}
 use Rattle.mc_stripe.specs.declared.history.Call.TheVariants.{Set, Get, Delete, Evict, Rescue}
 use Rattle.mc_stripe.specs.Entries.{with_entry, without_entry}
 use Rattle.mc_stripe.specs.Recorded.{recorded_behind}
-use Rattle.mc_stripe.specs.StripeState.{StripeState, ReadyStripe, place_of, stamp_of}
+use Rattle.mc_stripe.specs.StripeState.{StripeState, ReadyStripe, chunk_and_stamp, stamp_of_key}
 
 -- the call comes last in the history
-abbrev pub told : StripeState → Call → StripeState
-told stripe call = record stripe { history = stripe.history ++ call ∷ [] }
+abbrev pub with_call : StripeState → Call → StripeState
+with_call stripe call = record stripe { history = stripe.history ++ call ∷ [] }
 
 -- a key that is in no entry of the index comes there, and none is aside then
 abbrev pub with_place : StripeState → ℕ → ChunkId × ℕ → StripeState
@@ -22,23 +22,23 @@ without_place stripe key = record stripe { index = without_entry stripe.index ke
 
 -- an item is stored in the chunk
 abbrev pub after_link : StripeState → ℕ → ℕ → ChunkId → ℕ → StripeState
-after_link stripe hand key chunk stamp = told (with_place stripe key (chunk, stamp)) (Set hand key stamp)
+after_link stripe hand key chunk stamp = with_call (with_place stripe key (chunk, stamp)) (Set hand key stamp)
 
 -- the key is deleted
 abbrev pub after_unlink : StripeState → ℕ → ℕ → StripeState
-after_unlink stripe hand key = told (without_place stripe key) (Delete hand key (is_some (place_of stripe key)))
+after_unlink stripe hand key = with_call (without_place stripe key) (Delete hand key (is_some (chunk_and_stamp stripe key)))
 
 -- the key is looked up
 abbrev pub after_got : StripeState → ℕ → ℕ → StripeState
-after_got stripe hand key = told stripe (Get hand key (stamp_of stripe key))
+after_got stripe hand key = with_call stripe (Get hand key (stamp_of_key stripe key))
 
 -- the key's item is evicted
 abbrev pub after_evict : StripeState → ℕ → ℕ → StripeState
-after_evict stripe hand key = told (without_place stripe key) (Evict hand key)
+after_evict stripe hand key = with_call (without_place stripe key) (Evict hand key)
 
 -- the key's entry is put aside
 abbrev pub after_lift : StripeState → ℕ → StripeState
-after_lift stripe key = record (without_place stripe key) { aside = option_map (λ place. (key, place)) (place_of stripe key) }
+after_lift stripe key = record (without_place stripe key) { aside = option_map (λ place. (key, place)) (chunk_and_stamp stripe key) }
 
 -- the stamp of the entry aside
 abbrev pub stamp_aside : StripeState → ℕ
@@ -46,11 +46,11 @@ stamp_aside stripe = option_map_or (λ entry. entry.1.1) stripe.aside 0
 
 -- the entry aside comes back, with another chunk and the same stamp
 abbrev pub after_rescue : StripeState → ℕ → ℕ → ChunkId → StripeState
-after_rescue stripe hand key chunk = told (with_place stripe key (chunk, stamp_aside stripe)) (Rescue hand key)
+after_rescue stripe hand key chunk = with_call (with_place stripe key (chunk, stamp_aside stripe)) (Rescue hand key)
 
 -- the calls so far aren't recorded any more
-abbrev pub after_trim : StripeState → StripeState
-after_trim stripe = record stripe { recorded_from = recorded_behind stripe.recorded_from (length stripe.history) }
+abbrev pub stripe_after_trim : StripeState → StripeState
+stripe_after_trim stripe = record stripe { recorded_from = recorded_behind stripe.recorded_from (length stripe.history) }
 
 -- no call is recorded from now on, and none of those so far
 abbrev pub after_forget : StripeState → StripeState

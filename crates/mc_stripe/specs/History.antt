@@ -10,12 +10,12 @@ abbrev pub Stamps : Type 0
 Stamps = List (ℕ × ℕ)
 
 -- the reply is right where the keys have these stamps
-abbrev pub fits : Call → Stamps → Bool
-fits (Set hand key stamp) stamps = true
-fits (Get hand key found) stamps = option_eq nat_eq found (entry_at stamps key)
-fits (Delete hand key was_there) stamps = if was_there then is_some (entry_at stamps key) else is_none (entry_at stamps key)
-fits (Evict hand key) stamps = is_some (entry_at stamps key)
-fits (Rescue hand key) stamps = is_some (entry_at stamps key)
+abbrev pub is_reply_right : Call → Stamps → Bool
+is_reply_right (Set hand key stamp) stamps = true
+is_reply_right (Get hand key found) stamps = option_eq nat_eq found (entry_at stamps key)
+is_reply_right (Delete hand key was_there) stamps = if was_there then is_some (entry_at stamps key) else is_none (entry_at stamps key)
+is_reply_right (Evict hand key) stamps = is_some (entry_at stamps key)
+is_reply_right (Rescue hand key) stamps = is_some (entry_at stamps key)
 
 -- the stamps that a call leaves
 abbrev pub stamps_after : Call → Stamps → Stamps
@@ -26,6 +26,6 @@ stamps_after (Evict hand key) stamps = without_entry stamps key
 stamps_after (Rescue hand key) stamps = stamps
 
 -- the stamps after these calls, or none where a reply isn't right
-abbrev pub replay : Stamps → List Call → Option Stamps
-replay stamps [] = Some stamps
-replay stamps (call ∷ history) = if fits call stamps then replay (stamps_after call stamps) history else None
+abbrev pub stamps_after_calls : Stamps → List Call → Option Stamps
+stamps_after_calls stamps [] = Some stamps
+stamps_after_calls stamps (call ∷ history) = if is_reply_right call stamps then stamps_after_calls (stamps_after call stamps) history else None

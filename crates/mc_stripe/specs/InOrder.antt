@@ -4,8 +4,8 @@ use Rattle.std.specs.HashMap.{spare}
 use Rattle.mc_stripe.specs.declared.recorded.Recorded.TheInside.{Inside as RecordedInside}
 use Rattle.mc_stripe.specs.declared.stripe.Stripe.TheInside.{Inside}
 use Rattle.mc_stripe.specs.Entries.{by_key, HasEachKeyOnce}
-use Rattle.mc_stripe.specs.History.{replay}
-use Rattle.mc_stripe.specs.Recorded.{Calls, CanTell}
+use Rattle.mc_stripe.specs.History.{stamps_after_calls}
+use Rattle.mc_stripe.specs.Recorded.{Calls, CanRecord}
 use Rattle.mc_stripe.specs.StripeState.{StripeState, ReadyStripe}
 use Rattle.mc_stripe.specs.Legal.{IsLegal}
 
@@ -18,32 +18,32 @@ calls_of calls = record {
 }
 
 -- the calls that aren't in memory are counted; where calls are recorded, the base has the stamps that they left
-pub record IsRecorded (calls : RecordedInside) : Type 0 where
+pub record AreCallsRecorded (calls : RecordedInside) : Type 0 where
   -- the count of the calls that aren't in memory, which stops at 2^64 - 1
   pub trimmed : calls.trimmed ≡ min (length calls.past.calls) (2 ^ 64 - 1)
   -- where calls are recorded, the count of those that aren't in memory is below 2^64
   pub fits : calls.is_recorded ≡ true → length calls.past.calls < 2 ^ 64
   -- the base is what the calls that aren't in memory left
-  pub base : calls.is_recorded ≡ true → replay [] calls.past.calls ≡ Some (by_key calls.base.items)
+  pub base : calls.is_recorded ≡ true → stamps_after_calls [] calls.past.calls ≡ Some (by_key calls.base.items)
   -- the base has no key twice
   pub once : HasEachKeyOnce calls.base.items
   -- no call is in memory where none is recorded
   pub none : calls.is_recorded ≡ false → calls.tail.items ≡ []
 
 -- the stripe as its callers see it: the index by rising key, in whatever order the table has it
-abbrev pub state_of : Inside → StripeState
-state_of stripe = record { index = by_key stripe.index.entries; aside = stripe.aside; history = stripe.calls.all; recorded_from = stripe.calls.recorded_from }
+abbrev pub callers_stripe : Inside → StripeState
+callers_stripe stripe = record { index = by_key stripe.index.entries; aside = stripe.aside; history = stripe.calls.all; recorded_from = stripe.calls.recorded_from }
 
 -- the stripe and its room
 abbrev pub ready_of : Inside → ReadyStripe
-ready_of stripe = record { state = state_of stripe; ready = stripe.ready; entry = stripe.entry }
+ready_of stripe = record { state = callers_stripe stripe; ready = stripe.ready; entry = stripe.entry }
 
 -- the stripe is legal and has the room that its flags promise: `entry` for an entry, and `ready` for a call. Room for an entry stays until
 -- an entry uses it
-pub record IsInOrder (stripe : Inside) : Type 0 where
-  pub legal : IsLegal (state_of stripe)
+pub record IsStripeInOrder (stripe : Inside) : Type 0 where
+  pub legal : IsLegal (callers_stripe stripe)
   -- the index has room where that is known
   pub spare : stripe.spare_entry ≡ true → 0 < spare stripe.index
   -- where the stripe has room for an entry of the call that comes, that room is known
   pub entry : stripe.entry ≡ true → stripe.spare_entry ≡ true
-  pub call : stripe.ready ≡ true → CanTell stripe.calls
+  pub call : stripe.ready ≡ true → CanRecord stripe.calls

@@ -5,7 +5,7 @@ use Rattle.mc_pages.specs.declared.ids.ChunkId.{ChunkId}
 use Rattle.mc_stripe.specs.declared.history.Call.{Call}
 use Rattle.mc_stripe.specs.Entries.{entry_at, with_entry}
 use Rattle.mc_stripe.specs.History.{Stamps}
-use Rattle.mc_stripe.specs.Recorded.{count_trimmed, left_by_trimmed, recorded}
+use Rattle.mc_stripe.specs.Recorded.{count_trimmed, left_by_trimmed, recorded_calls}
 
 -- the keys, each with the chunk and the stamp of its item, by rising key
 abbrev pub Index : Type 0
@@ -42,12 +42,12 @@ abbrev pub key_aside : StripeState → Option ℕ
 key_aside stripe = option_map (λ entry. entry.0) stripe.aside
 
 -- the key's chunk and stamp
-abbrev pub place_of : StripeState → ℕ → Option (ChunkId × ℕ)
-place_of stripe key = entry_at stripe.index key
+abbrev pub chunk_and_stamp : StripeState → ℕ → Option (ChunkId × ℕ)
+chunk_and_stamp stripe key = entry_at stripe.index key
 
 -- the key's stamp
-abbrev pub stamp_of : StripeState → ℕ → Option ℕ
-stamp_of stripe key = option_map (λ place. place.1) (place_of stripe key)
+abbrev pub stamp_of_key : StripeState → ℕ → Option ℕ
+stamp_of_key stripe key = option_map (λ place. place.1) (chunk_and_stamp stripe key)
 
 -- the index, an entry aside counted in
 abbrev pub with_aside : Index → Option (ℕ × (ChunkId × ℕ)) → Index
@@ -55,21 +55,21 @@ with_aside index None = index
 with_aside index (Some entry) = with_entry index entry.0 entry.1
 
 -- the stamps of these keys
-abbrev pub stamps_in : Index → Stamps
-stamps_in index = map (λ entry. (entry.0, entry.1.1)) index
+abbrev pub index_stamps : Index → Stamps
+index_stamps index = map (λ entry. (entry.0, entry.1.1)) index
 
 -- the stamps of all keys, the one aside counted in
 abbrev pub stamps_of : StripeState → Stamps
-stamps_of stripe = stamps_in (with_aside stripe.index stripe.aside)
+stamps_of stripe = index_stamps (with_aside stripe.index stripe.aside)
 
 -- how many calls aren't recorded
 abbrev pub trimmed_of : StripeState → ℕ
 trimmed_of stripe = count_trimmed stripe.history stripe.recorded_from
 
 -- the calls that are recorded
-abbrev pub tail_of : StripeState → List Call
-tail_of stripe = recorded stripe.history stripe.recorded_from
+abbrev pub history_tail : StripeState → List Call
+history_tail stripe = recorded_calls stripe.history stripe.recorded_from
 
 -- the stamps of the keys as the calls that aren't recorded left them
-abbrev pub base_of : StripeState → Stamps
-base_of stripe = left_by_trimmed stripe.history stripe.recorded_from
+abbrev pub base_stamps : StripeState → Stamps
+base_stamps stripe = left_by_trimmed stripe.history stripe.recorded_from

@@ -1,9 +1,9 @@
 //! The calls of a stripe: those that are recorded, and what the others leave.
 ghost use Rattle.std.specs.Prelude.{◌≡◌, ◌≤◌, ◌^◌, ◌-◌, [], ◌∷◌, ◌++◌, true, length, min, Some, None, OnOk, OnErr, Err, IsOk, IfSome, is_some, ◌+◌, vec_len, vec_capacity};
 ghost use Rattle.mc_stripe.specs.Entries.{HasEachKeyOnce, by_key, entry_at};
-ghost use Rattle.mc_stripe.specs.History.{replay};
-ghost use Rattle.mc_stripe.specs.Recorded.{CanTell, count_trimmed, left_by_trimmed, recorded, recorded_behind};
-ghost use Rattle.mc_stripe.specs.StripeState.{stamps_in, with_aside};
+ghost use Rattle.mc_stripe.specs.History.{stamps_after_calls};
+ghost use Rattle.mc_stripe.specs.Recorded.{CanRecord, count_trimmed, left_by_trimmed, recorded_calls, recorded_behind};
+ghost use Rattle.mc_stripe.specs.StripeState.{index_stamps, with_aside};
 
 use crate::history::{Call, Key, Stamp};
 use crate::index::Index;
@@ -36,11 +36,11 @@ impl Model for Recorded {
 
     ghost Value = { Calls };
 
-    ghost use Rattle.mc_stripe.specs.InOrder.{calls_of, IsRecorded};
+    ghost use Rattle.mc_stripe.specs.InOrder.{calls_of, AreCallsRecorded};
 
     ghost view = { calls_of };
 
-    ghost invariant = { IsRecorded };
+    ghost invariant = { AreCallsRecorded };
 }
 
 impl Recorded {
@@ -63,9 +63,9 @@ impl Recorded {
     pub(crate) fn reserve(&mut self) -> Result<(), Refused>
         ensures all { self.new.all ≡ self.old.all }
         ensures from { self.new.recorded_from ≡ self.old.recorded_from }
-        ensures room { OnOk result (CanTell self.new) }
-        ensures kept { CanTell self.old → CanTell self.new }
-        ensures succeeds { CanTell self.old → IsOk result }
+        ensures room { OnOk result (CanRecord self.new) }
+        ensures kept { CanRecord self.old → CanRecord self.new }
+        ensures succeeds { CanRecord self.old → IsOk result }
     {
         if self.is_recorded {
             reserve(&mut self.tail, 1)?;
@@ -75,7 +75,7 @@ impl Recorded {
 
     /// The call comes behind the others.
     pub(crate) fn tell(&mut self, call: Call)
-        requires { CanTell self.old }
+        requires { CanRecord self.old }
         ensures all { self.new.all ≡ self.old.all ++ call ∷ [] }
         ensures from { self.new.recorded_from ≡ self.old.recorded_from }
     {
@@ -89,7 +89,7 @@ impl Recorded {
 
     /// The calls so far aren't recorded any more: they leave what index and entry aside have. Where none is recorded, nothing changes.
     pub(crate) fn trim(&mut self, index: &Index, aside: Option<(Key, Place)>) -> Result<(), Trim>
-        requires replayed { replay [] self.old.all ≡ Some (stamps_in (with_aside (by_key index.now.entries) aside)) }
+        requires replayed { stamps_after_calls [] self.old.all ≡ Some (index_stamps (with_aside (by_key index.now.entries) aside)) }
         requires apart { IfSome aside (λ entry. entry_at (by_key index.now.entries) entry.0 ≡ None) }
         ensures all { self.new.all ≡ self.old.all }
         ensures from { OnOk result (self.new.recorded_from ≡ recorded_behind self.old.recorded_from (length self.old.all)) }
@@ -97,7 +97,7 @@ impl Recorded {
         ensures full { result ≡ Err Trim.Full → (is_some self.old.recorded_from ≡ true) × (2 ^ 64 ≤ length self.old.all) }
         ensures first { is_some self.old.recorded_from ≡ true → 2 ^ 64 ≤ length self.old.all → result ≡ Err Trim.Full }
         ensures idle { self.old.recorded_from ≡ None → IsOk result }
-        ensures kept { CanTell self.old → CanTell self.new }
+        ensures kept { CanRecord self.old → CanRecord self.new }
     {
         if !self.is_recorded {
             return Ok(());
@@ -149,7 +149,7 @@ impl Recorded {
 
     /// The calls that are recorded, the oldest first.
     pub(crate) fn tail(&self) -> &[Call]
-        ensures { result.now ≡ recorded self.now.all self.now.recorded_from }
+        ensures { result.now ≡ recorded_calls self.now.all self.now.recorded_from }
     {
         self.tail.as_slice()
     }
@@ -162,7 +162,7 @@ fn copy_stamps(
     aside: Option<(Key, Place)>,
 ) -> Result<(), Refused>
     requires apart { IfSome aside (λ entry. entry_at (by_key index.now.entries) entry.0 ≡ None) }
-    ensures copied { OnOk result (by_key base.new.items ≡ stamps_in (with_aside (by_key index.now.entries) aside)) }
+    ensures copied { OnOk result (by_key base.new.items ≡ index_stamps (with_aside (by_key index.now.entries) aside)) }
     ensures each_once { OnOk result (HasEachKeyOnce base.new.items) }
     ensures refused { OnErr result (base.new.items ≡ base.old.items) }
 {
@@ -179,7 +179,7 @@ fn copy_stamps(
 // The stamps of the index come behind what is there. There is room for them.
 fn push_stamps(base: &mut Vec<(Key, Stamp)>, index: &Index)
     requires { vec_len base.old + length index.now.entries ≤ vec_capacity base.old }
-    ensures { base.new.items ≡ base.old.items ++ stamps_in index.now.entries }
+    ensures { base.new.items ≡ base.old.items ++ index_stamps index.now.entries }
 {
     for (key, place) in index.iter() {
         base.push((*key, place.1)).unwrap();

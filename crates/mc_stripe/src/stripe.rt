@@ -1,7 +1,7 @@
 //! The stripe: the sequential value behind a stripe's lock.
 ghost use Rattle.std.specs.Prelude.{◌≡◌, ◌≢◌, ◌≤◌, ◌^◌, true, length, is_some, None, Some, Err, OnOk, OnErr, IsOk, IsSome, IfSome};
-ghost use Rattle.mc_stripe.specs.StripeState.{can_store, new_stripe, key_aside, place_of};
-ghost use Rattle.mc_stripe.specs.Changes.{after_link, after_unlink, after_got, after_evict, after_lift, after_rescue, after_reserve, after_reserve_call, after_trim, after_forget, used_up};
+ghost use Rattle.mc_stripe.specs.StripeState.{can_store, new_stripe, key_aside, chunk_and_stamp};
+ghost use Rattle.mc_stripe.specs.Changes.{after_link, after_unlink, after_got, after_evict, after_lift, after_rescue, after_reserve, after_reserve_call, stripe_after_trim, after_forget, used_up};
 ghost use Rattle.mc_stripe.specs.Legal.{IsLegal};
 
 mod looks;
@@ -39,11 +39,11 @@ impl Model for Stripe {
 
     ghost Value = { ReadyStripe };
 
-    ghost use Rattle.mc_stripe.specs.InOrder.{ready_of, IsInOrder};
+    ghost use Rattle.mc_stripe.specs.InOrder.{ready_of, IsStripeInOrder};
 
     ghost view = { ready_of };
 
-    ghost invariant = { IsInOrder };
+    ghost invariant = { IsStripeInOrder };
 }
 
 impl Stripe {
@@ -96,7 +96,7 @@ impl Stripe {
     /// An item is stored under the key, in this chunk. (items.c's `do_item_link`)
     pub fn link(&mut self, hand: HandId, key: Key, chunk: ChunkId, stamp: Stamp)
         requires room { can_store self.old ≡ true }
-        requires new { place_of self.old.state key ≡ None }
+        requires new { chunk_and_stamp self.old.state key ≡ None }
         requires aside { IfSome (key_aside self.old.state) (λ other. other ≡ key) }
         ensures linked { self.new ≡ used_up (after_link self.old.state hand key chunk stamp) }
         ensures legal { IsLegal self.new.state }
@@ -115,7 +115,7 @@ impl Stripe {
     /// `Full` where the next call's place would pass the greatest number of 64 bits, which is tested first, and `NoMemory` where the room for the
     /// copy was refused: all is as before.
     pub fn trim(&mut self) -> Result<(), Trim>
-        ensures trimmed { OnOk result (self.new ≡ record self.old { state = after_trim self.old.state }) }
+        ensures trimmed { OnOk result (self.new ≡ record self.old { state = stripe_after_trim self.old.state }) }
         ensures refused { OnErr result (self.new ≡ self.old) }
         ensures full { result ≡ Err Trim.Full → (is_some self.old.state.recorded_from ≡ true) × (2 ^ 64 ≤ length self.old.state.history) }
         ensures first { is_some self.old.state.recorded_from ≡ true → 2 ^ 64 ≤ length self.old.state.history → result ≡ Err Trim.Full }
@@ -150,7 +150,7 @@ impl Stripe {
     /// The key was looked up, which found this, and its item was got if it has one. It isn't looked up again. (items.c's `do_item_get`)
     pub fn got(&mut self, hand: HandId, key: Key, found: Option<(ChunkId, Stamp)>)
         requires ready { self.old.ready ≡ true }
-        requires found { found ≡ place_of self.old.state key }
+        requires found { found ≡ chunk_and_stamp self.old.state key }
         requires aside { IfSome (key_aside self.old.state) (λ other. other ≢ key) }
         ensures told { self.new ≡ used_up (after_got self.old.state hand key) }
         ensures legal { IsLegal self.new.state }
@@ -164,7 +164,7 @@ impl Stripe {
     /// The key's item is evicted, to make room. (items.c's `do_item_unlink_nolock`)
     pub fn evict(&mut self, hand: HandId, key: Key)
         requires ready { self.old.ready ≡ true }
-        requires there { IsSome (place_of self.old.state key) }
+        requires there { IsSome (chunk_and_stamp self.old.state key) }
         ensures evicted { self.new ≡ used_up (after_evict self.old.state hand key) }
         ensures legal { IsLegal self.new.state }
     {
@@ -176,7 +176,7 @@ impl Stripe {
 
     /// The key's entry is put aside, until its `link` or `rescue`. (own)
     pub fn lift(&mut self, key: Key)
-        requires there { IsSome (place_of self.old.state key) }
+        requires there { IsSome (chunk_and_stamp self.old.state key) }
         requires none { self.old.state.aside ≡ None }
         ensures lifted { self.new ≡ record self.old { state = after_lift self.old.state key } }
         ensures legal { IsLegal self.new.state }

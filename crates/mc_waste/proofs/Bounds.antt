@@ -9,10 +9,10 @@ use Rattle.mc_classes.specs.Classes.{ComesFrom}
 use Rattle.mc_classes.specs.Refusals.{first_size, is_below_max, rounded_up}
 use Rattle.mc_classes.proofs.Accepted.{IsAccepted}
 use Rattle.mc_classes.proofs.Sizes.{at_most_max, last_size, some_class, sound}
-use Rattle.mc_waste.specs.Waste.{grown}
+use Rattle.mc_waste.specs.Waste.{scaled_size}
 
 -- a larger size grows to no less
-pub grown_more : (config : Config) → IsAccepted config → (a b : ℕ) → a ≤ b → grown config a ≤ grown config b
+pub grown_more : (config : Config) → IsAccepted config → (a b : ℕ) → a ≤ b → scaled_size config a ≤ scaled_size config b
 grown_more config acc a b le =
     le-div (a * config.num / config.den) (b * config.num) config.den acc.factor.0
     (le_trans (div-mul-le_self (a * config.num) config.den) (mul-le a config.num b config.num le (le_refl config.num)))
@@ -33,20 +33,20 @@ module _ (config : Config) (raws sizes : List ℕ) (acc : IsAccepted config) (co
       rw at (rw (last_size config raws sizes acc comes) acc.max_multiple))
       (cases_lt (i + 1) (length sizes))
 
-  pub between : (i : ℕ) → (i + 1) + 1 < length sizes → get_or sizes (i + 1) 0 ≡ rounded_up (grown config (get_or sizes i 0))
+  pub between : (i : ℕ) → (i + 1) + 1 < length sizes → get_or sizes (i + 1) 0 ≡ rounded_up (scaled_size config (get_or sizes i 0))
   between i h =
       let grown_is : get_or raws (i + 1) 0 ≡ get_or sizes i 0 * config.num / config.den = (comes.steps i (omega arith)).grown in
       (comes.steps (i + 1) h).raised ∙ ap rounded_up grown_is
 
   -- the last size, where it isn't the 63rd
-  pub last_of_few : (i : ℕ) → (i + 1) + 1 ≡ length sizes → length sizes < 63 → get_or sizes (i + 1) 0 ≤ grown config (grown config (get_or sizes i 0))
+  pub last_of_few : (i : ℕ) → (i + 1) + 1 ≡ length sizes → length sizes < 63 → get_or sizes (i + 1) 0 ≤ scaled_size config (scaled_size config (get_or sizes i 0))
   last_of_few i h few =
-      let grown_is : get_or raws (i + 1) 0 ≡ grown config (get_or sizes i 0) = (comes.steps i (omega arith)).grown in
+      let grown_is : get_or raws (i + 1) 0 ≡ scaled_size config (get_or sizes i 0) = (comes.steps i (omega arith)).grown in
       let at : length raws - 1 ≡ i + 1 = omega (arith, comes.paired) in
-      let raw : get_or raws (length raws - 1) 0 ≡ grown config (get_or sizes i 0) = ap (λ (k : ℕ). get_or raws k 0) at ∙ grown_is in
-      let ends : config.max * config.den ≤ grown config (get_or sizes i 0) * config.num = subst (λ (r : ℕ). config.max * config.den ≤ r * config.num) raw (comes.ends few) in
+      let raw : get_or raws (length raws - 1) 0 ≡ scaled_size config (get_or sizes i 0) = ap (λ (k : ℕ). get_or raws k 0) at ∙ grown_is in
+      let ends : config.max * config.den ≤ scaled_size config (get_or sizes i 0) * config.num = subst (λ (r : ℕ). config.max * config.den ≤ r * config.num) raw (comes.ends few) in
       let top : get_or sizes (i + 1) 0 ≡ config.max = ap (λ (k : ℕ). get_or sizes k 0) (omega arith) ∙ last_size config raws sizes acc comes in
-      rw top (le-div config.max (grown config (get_or sizes i 0) * config.num) config.den acc.factor.0 ends)
+      rw top (le-div config.max (scaled_size config (get_or sizes i 0) * config.num) config.den acc.factor.0 ends)
 
   pub first_is : get_or sizes 0 0 ≡ first_size config
   first_is =
@@ -74,8 +74,8 @@ module _ (config : Config) (raws sizes : List ℕ) (acc : IsAccepted config) (co
       let quarters : size / 4 * 4 ≡ size = omega arith in
       let more : size / 4 * (config.den * 5) ≤ size / 4 * (config.num * 4) = mul-le (size / 4) (config.den * 5) (size / 4) (config.num * 4) (le_refl (size / 4)) factor in
       let whole : size / 4 * (config.num * 4) ≡ size * config.num = subst (λ (s : ℕ). size / 4 * (config.num * 4) ≡ s * config.num) quarters (omega arith) in
-      let grows : size / 4 * 5 ≤ grown config size = le-div (size / 4 * 5) (size * config.num) config.den acc.factor.0 (omega arith) in
-      let next : get_or sizes (i + 1) 0 ≡ rounded_up (grown config size) = between i h in
+      let grows : size / 4 * 5 ≤ scaled_size config size = le-div (size / 4 * 5) (size * config.num) config.den acc.factor.0 (omega arith) in
+      let next : get_or sizes (i + 1) 0 ≡ rounded_up (scaled_size config size) = between i h in
       rw next (omega arith)
 
   powers : config.den * 5 ≤ config.num * 4 → (i : ℕ) → i + 1 < length sizes → 24 * 5 ^ i ≤ get_or sizes i 0 * 4 ^ i

@@ -8,7 +8,7 @@ use Rattle.mc_classes.specs.Refusals.{is_below_max, rounded_up}
 use Rattle.mc_classes.proofs.Begun.{IsBegun, begun_all, begun_more, begun_none}
 use Rattle.mc_classes.proofs.OneTable.{one_table}
 use Rattle.mc_waste.specs.Tables.{sizes_from, table_of}
-use Rattle.mc_waste.specs.Waste.{grown}
+use Rattle.mc_waste.specs.Waste.{scaled_size}
 
 -- the sizes so far, and those from the next raw size on, come from raw sizes
 goes_on : (config : Config) (more : ℕ) (raws sizes : List ℕ) (raw : ℕ) → IsBegun config raws sizes raw → length sizes + more ≡ 62 → (all : List ℕ) × ComesFrom config all (sizes ++ sizes_from more config raw)
@@ -19,7 +19,7 @@ goes_on config (suc more) raws sizes raw begun count =
     (λ (below : raw * config.num < config.max * config.den).
     let is : is_below_max config raw ≡ true = lt-ltb (raw * config.num) (config.max * config.den) below in
     let size = rounded_up raw in
-    let next = grown config size in
+    let next = scaled_size config size in
     let later = goes_on config more (raws ++ next ∷ []) (sizes ++ size ∷ []) next
     (begun_more config raws sizes raw size next begun (record { below = is; raised = refl; grown = refl }))
     (omega (arith, length_push sizes size)) in
@@ -30,7 +30,7 @@ goes_on config (suc more) raws sizes raw begun count =
     (λ (above : config.max * config.den ≤ raw * config.num).
     let is : is_below_max config raw ≡ false = le-ltb (raw * config.num) (config.max * config.den) above in
     let size = rounded_up raw in
-    let sizes_are : sizes_from (suc more) config raw ≡ config.max ∷ [] = cond-false (is_below_max config raw) (size ∷ sizes_from more config (grown config size)) (config.max ∷ []) is in
+    let sizes_are : sizes_from (suc more) config raw ≡ config.max ∷ [] = cond-false (is_below_max config raw) (size ∷ sizes_from more config (scaled_size config size)) (config.max ∷ []) is in
     (raws, subst (λ (rest : List ℕ). ComesFrom config raws (sizes ++ rest)) (sym sizes_are) (begun_all config raws sizes raw begun (omega arith) (λ less. above))))
     (cases_lt (raw * config.num) (config.max * config.den))
 

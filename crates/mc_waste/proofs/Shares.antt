@@ -5,22 +5,22 @@ use Rattle.std.proofs.lemmas.Bool.{cases_lt, cond-true, cond-false, lt-ltb, le-l
 use Rattle.std.proofs.lemmas.Nat.{mul-le}
 use Rattle.mc_classes.specs.declared.config.Config.{Config}
 use Rattle.mc_classes.specs.Classes.{Classes, IsClass, IsTableOf, size_of}
-use Rattle.mc_classes.specs.Refusals.{first_size, refusal_of, rounded_up}
+use Rattle.mc_classes.specs.Refusals.{first_size, config_refusal, rounded_up}
 use Rattle.mc_classes.proofs.Accepted.{IsAccepted, accepted}
 use Rattle.mc_classes.proofs.ClassOf.{class_fits, class_least}
 use Rattle.mc_classes.proofs.Sizes.{at_most_max}
-use Rattle.mc_waste.specs.Waste.{GoesTo, WastesLessThan, grown, item_bytes, most_chunk}
+use Rattle.mc_waste.specs.Waste.{GoesTo, WastesLessThan, scaled_size, item_bytes, most_chunk}
 use Rattle.mc_waste.proofs.Bounds.{between, few, first_is, grown_more, last_of_few, multiple, rounded_more}
 
 -- the most bytes of a chunk, case by case
 most_first : (config : Config) (table : Classes) (bytes : ℕ) → most_chunk config table 1 bytes ≡ first_size config
 most_first config table bytes = refl
 
-most_between : (config : Config) (table : Classes) (class bytes : ℕ) → 1 < class → class < length table.sizes → most_chunk config table class bytes ≡ rounded_up (grown config (bytes - 8))
+most_between : (config : Config) (table : Classes) (class bytes : ℕ) → 1 < class → class < length table.sizes → most_chunk config table class bytes ≡ rounded_up (scaled_size config (bytes - 8))
 most_between config table class bytes above less =
     cond-false (eqb class 1) _ _ (ne_eqb class 1 (omega arith)) ∙ cond-true (ltb class (length table.sizes)) _ _ (lt-ltb class (length table.sizes) less)
 
-most_last : (config : Config) (table : Classes) (class bytes : ℕ) → 1 < class → length table.sizes ≤ class → class < 63 → most_chunk config table class bytes ≡ grown config (grown config (bytes - 8))
+most_last : (config : Config) (table : Classes) (class bytes : ℕ) → 1 < class → length table.sizes ≤ class → class < 63 → most_chunk config table class bytes ≡ scaled_size config (scaled_size config (bytes - 8))
 most_last config table class bytes above last less =
     cond-false (eqb class 1) _ _ (ne_eqb class 1 (omega arith)) ∙ cond-false (ltb class (length table.sizes)) _ _ (le-ltb class (length table.sizes) last) ∙ cond-true (ltb class 63) _ _ (lt-ltb class 63 less)
 
@@ -36,47 +36,47 @@ module _ (config : Config) (table : Classes) (acc : IsAccepted config) (of : IsT
       let even = multiple config of.raws table.sizes acc of.comes ((class - 1) - 1) (omega (arith, is.1)) in
       omega arith
 
-  pub size_between : 1 < class → class < length table.sizes → size_of table class ≡ rounded_up (grown config (size_of table (class - 1)))
+  pub size_between : 1 < class → class < length table.sizes → size_of table class ≡ rounded_up (scaled_size config (size_of table (class - 1)))
   size_between above less =
       let at : ((class - 1) - 1) + 1 ≡ class - 1 = omega arith in
-      subst (λ (k : ℕ). get_or table.sizes k 0 ≡ rounded_up (grown config (size_of table (class - 1)))) at (between config of.raws table.sizes acc of.comes ((class - 1) - 1) (omega arith))
+      subst (λ (k : ℕ). get_or table.sizes k 0 ≡ rounded_up (scaled_size config (size_of table (class - 1)))) at (between config of.raws table.sizes acc of.comes ((class - 1) - 1) (omega arith))
 
-  pub size_last : 1 < class → class ≡ length table.sizes → class < 63 → size_of table class ≤ grown config (grown config (size_of table (class - 1)))
+  pub size_last : 1 < class → class ≡ length table.sizes → class < 63 → size_of table class ≤ scaled_size config (scaled_size config (size_of table (class - 1)))
   size_last above last less =
       let at : ((class - 1) - 1) + 1 ≡ class - 1 = omega arith in
-      subst (λ (k : ℕ). get_or table.sizes k 0 ≤ grown config (grown config (size_of table (class - 1)))) at (last_of_few config of.raws table.sizes acc of.comes ((class - 1) - 1) (omega arith) (omega arith))
+      subst (λ (k : ℕ). get_or table.sizes k 0 ≤ scaled_size config (scaled_size config (size_of table (class - 1)))) at (last_of_few config of.raws table.sizes acc of.comes ((class - 1) - 1) (omega arith) (omega arith))
 
   -- a class between the first and the last
   pub most_of_between : 1 < class → class < length table.sizes → size_of table (class - 1) + 8 ≤ item_bytes words → size_of table class ≤ most_chunk config table class (item_bytes words)
   most_of_between above less room =
       rw (most_between config table class (item_bytes words) above less, size_between above less)
-      (rounded_more (grown config (size_of table (class - 1))) (grown config (item_bytes words - 8)) (grown_more config acc (size_of table (class - 1)) (item_bytes words - 8) (omega arith)))
+      (rounded_more (scaled_size config (size_of table (class - 1))) (scaled_size config (item_bytes words - 8)) (grown_more config acc (size_of table (class - 1)) (item_bytes words - 8) (omega arith)))
 
   pub most_of_last : 1 < class → class ≡ length table.sizes → class < 63 → size_of table (class - 1) + 8 ≤ item_bytes words → size_of table class ≤ most_chunk config table class (item_bytes words)
   most_of_last above last less room =
       let once = grown_more config acc (size_of table (class - 1)) (item_bytes words - 8) (omega arith) in
-      let twice = grown_more config acc (grown config (size_of table (class - 1))) (grown config (item_bytes words - 8)) once in
+      let twice = grown_more config acc (scaled_size config (size_of table (class - 1))) (scaled_size config (item_bytes words - 8)) once in
       rw (most_last config table class (item_bytes words) above (omega arith) less) (le_trans (size_last above last less) twice)
 
   -- the bytes of a class's item, and of its chunk, by the factor
   pub share_between : 1 < class → class < length table.sizes → size_of table (class - 1) + 8 ≤ item_bytes words → size_of table class * config.den < item_bytes words * config.num
   share_between above less room =
       let below = size_of table (class - 1) in
-      let whole : grown config below * config.den ≤ below * config.num = div-mul-le_self (below * config.num) config.den in
-      let most : size_of table class ≤ grown config below + 7 = rw (size_between above less) (omega arith) in
-      let parts : size_of table class * config.den ≤ (grown config below + 7) * config.den = mul-le (size_of table class) config.den (grown config below + 7) config.den most (le_refl config.den) in
+      let whole : scaled_size config below * config.den ≤ below * config.num = div-mul-le_self (below * config.num) config.den in
+      let most : size_of table class ≤ scaled_size config below + 7 = rw (size_between above less) (omega arith) in
+      let parts : size_of table class * config.den ≤ (scaled_size config below + 7) * config.den = mul-le (size_of table class) config.den (scaled_size config below + 7) config.den most (le_refl config.den) in
       let item : (below + 8) * config.num ≤ item_bytes words * config.num = mul-le (below + 8) config.num (item_bytes words) config.num room (le_refl config.num) in
       omega (arith, acc.factor)
 
   pub share_last : 1 < class → class ≡ length table.sizes → class < 63 → size_of table (class - 1) + 8 ≤ item_bytes words → size_of table class * config.den * config.den < item_bytes words * config.num * config.num
   share_last above last less room =
       let below = size_of table (class - 1) in
-      let once : grown config below * config.den ≤ below * config.num = div-mul-le_self (below * config.num) config.den in
-      let twice : grown config (grown config below) * config.den ≤ grown config below * config.num = div-mul-le_self (grown config below * config.num) config.den in
-      let size : size_of table class * config.den ≤ grown config below * config.num = le_trans (mul-le (size_of table class) config.den (grown config (grown config below)) config.den (size_last above last less) (le_refl config.den)) twice in
-      let size_twice : size_of table class * config.den * config.den ≤ grown config below * config.num * config.den = mul-le (size_of table class * config.den) config.den (grown config below * config.num) config.den size (le_refl config.den) in
-      let grown_twice : grown config below * config.den * config.num ≤ below * config.num * config.num = mul-le (grown config below * config.den) config.num (below * config.num) config.num once (le_refl config.num) in
-      let turned : grown config below * config.num * config.den ≡ grown config below * config.den * config.num = omega arith in
+      let once : scaled_size config below * config.den ≤ below * config.num = div-mul-le_self (below * config.num) config.den in
+      let twice : scaled_size config (scaled_size config below) * config.den ≤ scaled_size config below * config.num = div-mul-le_self (scaled_size config below * config.num) config.den in
+      let size : size_of table class * config.den ≤ scaled_size config below * config.num = le_trans (mul-le (size_of table class) config.den (scaled_size config (scaled_size config below)) config.den (size_last above last less) (le_refl config.den)) twice in
+      let size_twice : size_of table class * config.den * config.den ≤ scaled_size config below * config.num * config.den = mul-le (size_of table class * config.den) config.den (scaled_size config below * config.num) config.den size (le_refl config.den) in
+      let grown_twice : scaled_size config below * config.den * config.num ≤ below * config.num * config.num = mul-le (scaled_size config below * config.den) config.num (below * config.num) config.num once (le_refl config.num) in
+      let turned : scaled_size config below * config.num * config.den ≡ scaled_size config below * config.den * config.num = omega arith in
       let item : (below + 8) * (config.num * config.num) ≤ item_bytes words * (config.num * config.num) = mul-le (below + 8) (config.num * config.num) (item_bytes words) (config.num * config.num) room (le_refl (config.num * config.num)) in
       let some : 1 * 1 ≤ config.num * config.num = mul-le 1 1 config.num config.num (omega (arith, acc.factor)) (omega (arith, acc.factor)) in
       omega arith
@@ -117,7 +117,7 @@ above_below config table words class h above =
     below_is_less config table (accepted config h.is_accepted) h.is_table words class (at_class config table words class h).0 above
     (class_least table (item_bytes words) class (class - 1) h.goes (omega arith) (omega arith))
 
-pub no_63 : (config : Config) (table : Classes) → refusal_of config ≡ None → IsTableOf config table → config.num * 4 ≡ config.den * 5 → length table.sizes < 63
+pub no_63 : (config : Config) (table : Classes) → config_refusal config ≡ None → IsTableOf config table → config.num * 4 ≡ config.den * 5 → length table.sizes < 63
 no_63 config table h of factor = few config of.raws table.sizes (accepted config h) of.comes (omega arith)
 
 one_or_more : (class : ℕ) → 1 ≤ class → (class ≡ 1) ⊎ (1 < class)
@@ -176,9 +176,9 @@ pub first_of_item : (config : Config) (table : Classes) (words : ℕ) → GoesTo
 first_of_item config table words h = first_is config h.is_table.raws table.sizes (accepted config h.is_accepted) h.is_table.comes
 
 -- the smallest item of a class between has just the most that it may have
-pub most_met : (config : Config) (table : Classes) (class : ℕ) → refusal_of config ≡ None → IsTableOf config table → 1 < class → class < length table.sizes → size_of table class ≡ most_chunk config table class (size_of table (class - 1) + 8)
+pub most_met : (config : Config) (table : Classes) (class : ℕ) → config_refusal config ≡ None → IsTableOf config table → 1 < class → class < length table.sizes → size_of table class ≡ most_chunk config table class (size_of table (class - 1) + 8)
 most_met config table class h of above less =
     let below = size_of table (class - 1) in
     let same : (below + 8) - 8 ≡ below = omega arith in
     size_between config table (accepted config h) of 0 class above less
-    ∙ ap (λ (b : ℕ). rounded_up (grown config b)) (sym same) ∙ sym (most_between config table class (below + 8) above less)
+    ∙ ap (λ (b : ℕ). rounded_up (scaled_size config b)) (sym same) ∙ sym (most_between config table class (below + 8) above less)

@@ -4,7 +4,7 @@ use Rattle.std.specs.List.{repeat}
 use Rattle.mc_classes.specs.declared.config.Config.{Config}
 use Rattle.mc_classes.specs.Classes.{class_of, size_of}
 use Rattle.mc_classes.specs.Refusals.{rounded_up}
-use Rattle.mc_waste.specs.Waste.{grown, item_bytes, most_chunk}
+use Rattle.mc_waste.specs.Waste.{scaled_size, item_bytes, most_chunk}
 use Rattle.mc_waste.specs.Tables.{table_of, wastes_of}
 
 -- four pages of 1,024 bytes and a first size of 48, with this factor and this greatest size
@@ -46,14 +46,14 @@ LargeWastes = wastes_of (table_of large)
 abbrev pub RoundingCounts : Type 0
 RoundingCounts =
     (class_of (table_of large) (item_bytes 8) ≡ Some 3) × (size_of (table_of large) 3 ≡ 104)
-    × (grown large (item_bytes 8 - 8) ≡ 100) × (most_chunk large (table_of large) 3 (item_bytes 8) ≡ 104)
+    × (scaled_size large (item_bytes 8 - 8) ≡ 100) × (most_chunk large (table_of large) 3 (item_bytes 8) ≡ 104)
 
 -- with the factor once the bound would be wrong in the last class: an item of 200 bytes doesn't fit a chunk of 192, has one of 512, and
 -- twice 192 is 384
 abbrev pub LastIsMore : Type 0
 LastIsMore =
     (class_of (table_of (small 2 1 512)) (item_bytes 22) ≡ Some 4) × (size_of (table_of (small 2 1 512)) 4 ≡ 512)
-    × (rounded_up (grown (small 2 1 512) (item_bytes 22 - 8)) ≡ 384)
+    × (rounded_up (scaled_size (small 2 1 512) (item_bytes 22 - 8)) ≡ 384)
 
 -- with the factor twice the bound is met in the last class: the greatest size may be four times 192
 abbrev pub LastIsMet : Type 0

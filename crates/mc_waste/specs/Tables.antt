@@ -4,13 +4,13 @@ use Rattle.std.specs.List.{range_with_len}
 use Rattle.mc_classes.specs.declared.config.Config.{Config}
 use Rattle.mc_classes.specs.Classes.{Classes, size_of}
 use Rattle.mc_classes.specs.Refusals.{is_below_max, rounded_up}
-use Rattle.mc_waste.specs.Waste.{grown, least_item}
+use Rattle.mc_waste.specs.Waste.{scaled_size, least_item}
 
 -- the sizes from a raw size on, at most n of them before the last one
 unfoldable pub sizes_from : ℕ → Config → ℕ → List ℕ
 sizes_from zero config raw = config.max ∷ []
 sizes_from (suc more) config raw =
-    if is_below_max config raw then rounded_up raw ∷ sizes_from more config (grown config (rounded_up raw))
+    if is_below_max config raw then rounded_up raw ∷ sizes_from more config (scaled_size config (rounded_up raw))
     else config.max ∷ []
 
 -- the configuration's table: 62 sizes at most before the last one

@@ -2,7 +2,7 @@
 ghost use Rattle.std.specs.Prelude.{◌≡◌, ◌≤◌, ◌<◌, ◌+◌, ◌-◌, ◌*◌, ℕ, length, None};
 ghost use Rattle.mc_classes.specs.declared.config.Config.{Config};
 ghost use Rattle.mc_classes.specs.Classes.{Classes, IsTableOf, size_of};
-ghost use Rattle.mc_classes.specs.Refusals.{first_size, refusal_of};
+ghost use Rattle.mc_classes.specs.Refusals.{first_size, config_refusal};
 ghost use Rattle.mc_waste.specs.Cases.{DefaultSizes, DefaultWastes, FinerSizes, FinerWastes, LargeSizes, LargeWastes, LastIsMet, LastIsMore, RoundingCounts, SizesStandStill};
 ghost use Rattle.mc_waste.specs.Tables.{table_of};
 ghost use Rattle.mc_waste.specs.Waste.{GoesTo, WastesLessThan, item_bytes, most_chunk};
@@ -11,7 +11,7 @@ ghost use Rattle.mc_waste.specs.Waste.{GoesTo, WastesLessThan, item_bytes, most_
 /// first class and the last the smallest item of a class has just that many.
 pub fn chunks_are_bounded()
     ensures most { (config : Config) (table : Classes) (words class : ℕ) → GoesTo config table words class → size_of table class ≤ most_chunk config table class (item_bytes words) }
-    ensures met { (config : Config) (table : Classes) (class : ℕ) → refusal_of config ≡ None → IsTableOf config table → 1 < class → class < length table.sizes → size_of table class ≡ most_chunk config table class (size_of table (class - 1) + 8) }
+    ensures met { (config : Config) (table : Classes) (class : ℕ) → config_refusal config ≡ None → IsTableOf config table → 1 < class → class < length table.sizes → size_of table class ≡ most_chunk config table class (size_of table (class - 1) + 8) }
 {}
 
 /// The waste as a share, with no rounding to reckon with. Between the first class and the last an item has more than `den / num`
@@ -27,7 +27,7 @@ pub fn waste_is_a_share()
 /// 24 bytes; a larger one less than 20 of each 100 bytes of its chunk unused, or, in the last class, less than 36.
 pub fn five_quarters()
     ensures first { (config : Config) (table : Classes) (words : ℕ) → GoesTo config table words 1 → size_of table 1 - item_bytes words ≤ first_size config - 24 }
-    ensures few { (config : Config) (table : Classes) → refusal_of config ≡ None → IsTableOf config table → config.num * 4 ≡ config.den * 5 → length table.sizes < 63 }
+    ensures few { (config : Config) (table : Classes) → config_refusal config ≡ None → IsTableOf config table → config.num * 4 ≡ config.den * 5 → length table.sizes < 63 }
     ensures between { (config : Config) (table : Classes) (words class : ℕ) → GoesTo config table words class → config.num * 4 ≡ config.den * 5 → 1 < class → class < length table.sizes → WastesLessThan 20 (item_bytes words) (size_of table class) }
     ensures last { (config : Config) (table : Classes) (words class : ℕ) → GoesTo config table words class → config.num * 4 ≡ config.den * 5 → 1 < class → WastesLessThan 36 (item_bytes words) (size_of table class) }
 {}

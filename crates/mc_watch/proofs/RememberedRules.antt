@@ -6,9 +6,9 @@ use Rattle.std.specs.Option.{option_and_then, option_map, option_map_or}
 use Rattle.std.proofs.lemmas.Bool.Decides.{nat_tests}
 use Rattle.std.proofs.lemmas.List.{length-map}
 use Rattle.mc_watch.specs.declared.watched.Watched.{Watched}
-use Rattle.mc_watch.specs.Decider.{DeciderState, Window, after_window, eviction_rule, evictions_of, free_of, free_page_rule, has_fallen, has_spare_page, is_quiet, leader, lowest, number_of, pages_of, quiet_class, refusal_of, steady_class}
+use Rattle.mc_watch.specs.Decider.{DeciderState, Window, after_window, eviction_rule, evictions_of, free_of, free_page_rule, has_fallen, has_spare_page, is_quiet, leader, lowest, class_value, latest_pages, quiet_class, feed_refusal, steady_class}
 use Rattle.mc_watch.specs.declared.refusal.Feed.TheVariants.{Length, Backwards}
-use Rattle.mc_watch.specs.Remembered.{AreWhole, IsRemembered, Remembered, after_noted, all_noted, fresh_class, has_been_quiet, leader_of, lowest_watched, numbers_of_pages, remembered, steady_leader}
+use Rattle.mc_watch.specs.Remembered.{AreWindowsOf, IsRemembered, WatchMemory, after_noted, all_noted, fresh_class, has_been_quiet, leader_of, lowest_watched, numbers_of_pages, memory_of_windows, steady_leader}
 use Rattle.mc_watch.specs.Remembered as kept
 use Rattle.mc_watch.proofs.WatchedClasses.{found_within, none_found, own_found, place_found, remembered_is, watched_from}
 
@@ -45,17 +45,17 @@ steady_found (Some a) (Some b) (Some c) count within =
 
 -- the classes of these windows, from a number on: whether one's evictions are fewer
 fallen_from : (windows : List Window) (evictions : List ℕ) (class : ℕ) (per_page numbers : List ℕ) → length numbers ≡ length per_page
-    → ((i : ℕ) → get_or numbers i 0 ≡ number_of evictions (class + i))
-    → kept.has_fallen (watched_from windows class per_page) numbers
-    ≡ list_any (λ c. nat_lt (number_of evictions c) (evictions_of windows c)) (range_with_len class (length per_page))
+    → ((i : ℕ) → get_or numbers i 0 ≡ class_value evictions (class + i))
+    → kept.remembered_has_fallen (watched_from windows class per_page) numbers
+    ≡ list_any (λ c. nat_lt (class_value evictions c) (evictions_of windows c)) (range_with_len class (length per_page))
 fallen_from windows evictions class [] numbers same told = refl
 fallen_from windows evictions class (p ∷ per_page) [] same told = absurd (omega (arith, same))
 fallen_from windows evictions class (p ∷ per_page) (e ∷ numbers) same told =
     let none_more : class + 0 ≡ class = omega arith in
     let next : (i : ℕ) → class + suc i ≡ class + 1 + i = λ i. omega arith in
-    let here : e ≡ number_of evictions class = told 0 ∙ ap (number_of evictions) none_more in
+    let here : e ≡ class_value evictions class = told 0 ∙ ap (class_value evictions) none_more in
     ap₂ (λ (b rest : Bool). b || rest) (ap (λ (n : ℕ). nat_lt n (evictions_of windows class)) here)
-    (fallen_from windows evictions (class + 1) per_page numbers (omega (arith, same)) (λ i. told (suc i) ∙ ap (number_of evictions) (next i)))
+    (fallen_from windows evictions (class + 1) per_page numbers (omega (arith, same)) (λ i. told (suc i) ∙ ap (class_value evictions) (next i)))
 
 -- the chunks of a page stay as they are through a window
 pages_noted : (classes : List Watched) (evictions pages free : List ℕ) → length evictions ≡ length classes → length pages ≡ length classes → length free ≡ length classes
@@ -78,23 +78,23 @@ module _ (classes : List Watched) (leaders : List (Option ℕ)) (windows : List 
   abbrev count : ℕ
   count = length (numbers_of_pages classes)
 
-  abbrev told : Remembered
+  abbrev told : WatchMemory
   told = record {
     classes = watched_from windows 1 (numbers_of_pages classes);
     leaders = leader count windows ∷ leader count (drop 1 windows) ∷ leader count (drop 2 windows) ∷ [];
   }
 
-  abbrev here : Remembered
+  abbrev here : WatchMemory
   here = record { classes = classes; leaders = leaders }
 
   all : here ≡ told
   all = is.same ∙ remembered_is per_page windows is.whole
 
   classes_are : classes ≡ watched_from windows 1 per_page
-  classes_are = ap (λ (r : Remembered). r.classes) all
+  classes_are = ap (λ (r : WatchMemory). r.classes) all
 
   leaders_are : leaders ≡ leader count windows ∷ leader count (drop 1 windows) ∷ leader count (drop 2 windows) ∷ []
-  leaders_are = ap (λ (r : Remembered). r.leaders) all
+  leaders_are = ap (λ (r : WatchMemory). r.leaders) all
 
   -- the two that stay when one more leader comes
   pub leaders_two : take 2 leaders ≡ slice_index_or leaders 0 None ∷ slice_index_or leaders 1 None ∷ []
@@ -111,25 +111,25 @@ module _ (classes : List Watched) (leaders : List (Option ℕ)) (windows : List 
       ap steady_leader leaders_are
       ∙ steady_found (leader count windows) (leader count (drop 1 windows)) (leader count (drop 2 windows)) count (λ a led_by. found_within _ 1 count a led_by)
 
-  pub spare_is : lowest_watched kept.has_spare_page classes ≡ lowest count (has_spare_page state)
+  pub spare_is : lowest_watched kept.remembered_has_spare_page classes ≡ lowest count (has_spare_page state)
   spare_is =
       let place : (i : ℕ) → i ≡ 1 + i - 1 = λ i. omega arith in
-      ap (lowest_watched kept.has_spare_page) classes_are
-      ∙ place_found kept.has_spare_page (has_spare_page state) windows 1 per_page
-      (λ i. ap (λ (n : ℕ). nat_le 2 (pages_of windows (1 + i)) && nat_lt (5 * get_or per_page n 0) (2 * free_of windows (1 + i))) (place i))
+      ap (lowest_watched kept.remembered_has_spare_page) classes_are
+      ∙ place_found kept.remembered_has_spare_page (has_spare_page state) windows 1 per_page
+      (λ i. ap (λ (n : ℕ). nat_le 2 (latest_pages windows (1 + i)) && nat_lt (5 * get_or per_page n 0) (2 * free_of windows (1 + i))) (place i))
 
-  pub fallen_is : (evictions : List ℕ) → length evictions ≡ length classes → kept.has_fallen classes evictions ≡ has_fallen state evictions
+  pub fallen_is : (evictions : List ℕ) → length evictions ≡ length classes → kept.remembered_has_fallen classes evictions ≡ has_fallen state evictions
   fallen_is evictions same =
       let place : (i : ℕ) → i ≡ 1 + i - 1 = λ i. omega arith in
-      ap (λ (cs : List Watched). kept.has_fallen cs evictions) classes_are
+      ap (λ (cs : List Watched). kept.remembered_has_fallen cs evictions) classes_are
       ∙ fallen_from windows evictions 1 per_page evictions (same ∙ sym (length-map classes (λ (c : Watched). c.per_page)))
       (λ i. ap (λ (n : ℕ). get_or evictions n 0) (place i))
 
   -- the rules, from what is found among what is lent
-  pub free_rule : (lent : List Watched) (now : DeciderState) (found : Option ℕ) → found ≡ lowest_watched kept.has_spare_page lent → lent ≡ classes → state ≡ now
+  pub free_rule : (lent : List Watched) (now : DeciderState) (found : Option ℕ) → found ≡ lowest_watched kept.remembered_has_spare_page lent → lent ≡ classes → state ≡ now
       → option_map (λ src. record { src = src; dst = 0 }) found ≡ free_page_rule now
   free_rule lent now found is_found same view =
-      ap (option_map (λ src. record { src = src; dst = 0 })) (is_found ∙ ap (lowest_watched kept.has_spare_page) same ∙ spare_is) ∙ ap free_page_rule view
+      ap (option_map (λ src. record { src = src; dst = 0 })) (is_found ∙ ap (lowest_watched kept.remembered_has_spare_page) same ∙ spare_is) ∙ ap free_page_rule view
 
   pub evictions_rule : (lent : List Watched) (now : DeciderState) (src dst : Option ℕ) → src ≡ lowest_watched has_been_quiet lent → dst ≡ steady_leader leaders
       → lent ≡ classes → state ≡ now → option_and_then (λ d. option_map (λ s. record { src = s; dst = d }) src) dst ≡ eviction_rule now
@@ -167,10 +167,10 @@ module _ (classes : List Watched) (leaders : List (Option ℕ)) (windows : List 
   pub remembered_more : (new : List Watched) (led : Option ℕ) (more : List Window) → new ≡ noted → led ≡ leader_of new → more ≡ newest ∷ windows
       → IsRemembered new (led ∷ take 2 leaders) more
   remembered_more new led more is_new is_led is_more =
-      let before : Remembered = record { classes = classes; leaders = leaders } in
+      let before : WatchMemory = record { classes = classes; leaders = leaders } in
       let counted : length (numbers_of_pages noted) ≡ length classes = ap (λ (ns : List ℕ). length ns) same_pages ∙ length-map classes (λ (c : Watched). c.per_page) in
-      let now : after_noted before newest ≡ remembered (numbers_of_pages noted) (newest ∷ windows)
-      = ap (λ (r : Remembered). after_noted r newest) (is.same ∙ ap (λ (ns : List ℕ). remembered ns windows) (sym same_pages)) in
+      let now : after_noted before newest ≡ memory_of_windows (numbers_of_pages noted) (newest ∷ windows)
+      = ap (λ (r : WatchMemory). after_noted r newest) (is.same ∙ ap (λ (ns : List ℕ). memory_of_windows ns windows) (sym same_pages)) in
       let all : IsRemembered noted (leader_of noted ∷ take 2 leaders) (newest ∷ windows)
       = record {
         same = now;
@@ -178,7 +178,7 @@ module _ (classes : List Watched) (leaders : List (Option ℕ)) (windows : List 
           le ∙ sym counted,
           lg ∙ sym counted,
           lf ∙ sym counted,
-          subst (λ (n : ℕ). AreWhole n windows) (length-map classes (λ (c : Watched). c.per_page) ∙ sym counted) is.whole,
+          subst (λ (n : ℕ). AreWindowsOf n windows) (length-map classes (λ (c : Watched). c.per_page) ∙ sym counted) is.whole,
         );
       } in
       rw (is_led, is_new, is_more) all
@@ -191,17 +191,17 @@ module _ (classes : List Watched) (leaders : List (Option ℕ)) (windows : List 
       ∙ ap (λ (d : DeciderState). after_window d evictions pages free) view
 
   -- no list is of another length, so the numbers are refused where evictions fall
-  pub refused_by : (fallen : Bool) (lent : List Watched) (now : DeciderState) → fallen ≡ kept.has_fallen lent evictions → lent ≡ classes
+  pub refused_by : (fallen : Bool) (lent : List Watched) (now : DeciderState) → fallen ≡ kept.remembered_has_fallen lent evictions → lent ≡ classes
       → record { per_page = numbers_of_pages classes; windows = windows } ≡ now
-      → refusal_of now evictions pages free ≡ (if fallen then Some Backwards else None)
+      → feed_refusal now evictions pages free ≡ (if fallen then Some Backwards else None)
   refused_by fallen lent now tells same view =
       let state : DeciderState = record { per_page = numbers_of_pages classes; windows = windows } in
       let count : length (numbers_of_pages classes) ≡ length classes = length-map classes (λ (c : Watched). c.per_page) in
       let falls : fallen ≡ has_fallen state evictions
-      = tells ∙ ap (λ (cs : List Watched). kept.has_fallen cs evictions) same ∙ fallen_is classes leaders windows is evictions le in
+      = tells ∙ ap (λ (cs : List Watched). kept.remembered_has_fallen cs evictions) same ∙ fallen_is classes leaders windows is evictions le in
       let passes : (length evictions == length (numbers_of_pages classes) && length pages == length (numbers_of_pages classes) && length free == length (numbers_of_pages classes)) ≡ true
       = grind (arith, nat_tests, le, lg, lf, count) in
-      ap (λ (d : DeciderState). refusal_of d evictions pages free) (sym view)
+      ap (λ (d : DeciderState). feed_refusal d evictions pages free) (sym view)
       ∙ ap (λ (b : Bool). if not b then Some Length else if has_fallen state evictions then Some Backwards else None) passes
       ∙ ap (λ (b : Bool). if b then Some Backwards else None) (sym falls)
 

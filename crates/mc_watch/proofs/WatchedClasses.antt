@@ -7,8 +7,8 @@ use Rattle.std.proofs.lemmas.Bool.{cases_eq}
 use Rattle.std.proofs.lemmas.Bool.Decides.{nat_tests}
 use Rattle.std.proofs.lemmas.Option.{same_Some}
 use Rattle.mc_watch.specs.declared.watched.Watched.{Watched}
-use Rattle.mc_watch.specs.Decider.{Window, evictions_of, free_of, greatest_rise, is_quiet, leader, number_of, pages_of, rise}
-use Rattle.mc_watch.specs.Remembered.{AreWhole, Remembered, all_noted, after_noted, fresh_class, leader_of, lowest_watched, noted, remembered}
+use Rattle.mc_watch.specs.Decider.{Window, evictions_of, free_of, greatest_rise, is_quiet, leader, class_value, latest_pages, rise}
+use Rattle.mc_watch.specs.Remembered.{AreWindowsOf, WatchMemory, all_noted, after_noted, fresh_class, leader_of, lowest_watched, class_after_window, memory_of_windows}
 use Rattle.mc_watch.specs.Remembered as kept
 
 -- a class of these windows
@@ -17,7 +17,7 @@ watched windows class per_page = record {
   per_page = per_page;
   evictions = evictions_of windows class;
   rise = rise windows class;
-  pages = pages_of windows class;
+  pages = latest_pages windows class;
   free = free_of windows class;
   quiet = is_quiet windows class ∷ is_quiet (drop 1 windows) class ∷ is_quiet (drop 2 windows) class ∷ [];
 }
@@ -37,13 +37,13 @@ module _ (newest : Window) (before : List Window) where
   abbrev all : List Window
   all = newest ∷ before
 
-  noted_one : (class p e g f : ℕ) → e ≡ number_of newest.evictions class → g ≡ number_of newest.pages class → f ≡ number_of newest.free class
-      → noted (watched before class p) e g f ≡ watched all class p
+  noted_one : (class p e g f : ℕ) → e ≡ class_value newest.evictions class → g ≡ class_value newest.pages class → f ≡ class_value newest.free class
+      → class_after_window (watched before class p) e g f ≡ watched all class p
   noted_one class p e g f se sg sf = rw (se, sg, sf) refl
 
   noted_from : (class : ℕ) (per_page evictions pages free : List ℕ) → length evictions ≡ length per_page → length pages ≡ length per_page → length free ≡ length per_page
-      → ((i : ℕ) → get_or evictions i 0 ≡ number_of newest.evictions (class + i)) → ((i : ℕ) → get_or pages i 0 ≡ number_of newest.pages (class + i))
-      → ((i : ℕ) → get_or free i 0 ≡ number_of newest.free (class + i))
+      → ((i : ℕ) → get_or evictions i 0 ≡ class_value newest.evictions (class + i)) → ((i : ℕ) → get_or pages i 0 ≡ class_value newest.pages (class + i))
+      → ((i : ℕ) → get_or free i 0 ≡ class_value newest.free (class + i))
       → all_noted (watched_from before class per_page) evictions pages free ≡ watched_from all class per_page
   noted_from class [] evictions pages free le lg lf se sg sf = refl
   noted_from class (p ∷ per_page) [] pages free le lg lf se sg sf = absurd (omega (arith, le))
@@ -52,11 +52,11 @@ module _ (newest : Window) (before : List Window) where
   noted_from class (p ∷ per_page) (e ∷ evictions) (g ∷ pages) (f ∷ free) le lg lf se sg sf =
       let here : class + 0 ≡ class = omega arith in
       let next : (i : ℕ) → class + suc i ≡ class + 1 + i = λ i. omega arith in
-      let first : noted (watched before class p) e g f ≡ watched all class p
-      = noted_one class p e g f (se 0 ∙ ap (number_of newest.evictions) here) (sg 0 ∙ ap (number_of newest.pages) here) (sf 0 ∙ ap (number_of newest.free) here) in
+      let first : class_after_window (watched before class p) e g f ≡ watched all class p
+      = noted_one class p e g f (se 0 ∙ ap (class_value newest.evictions) here) (sg 0 ∙ ap (class_value newest.pages) here) (sf 0 ∙ ap (class_value newest.free) here) in
       let rest : all_noted (watched_from before (class + 1) per_page) evictions pages free ≡ watched_from all (class + 1) per_page
       = noted_from (class + 1) per_page evictions pages free (omega (arith, le)) (omega (arith, lg)) (omega (arith, lf))
-      (λ i. se (suc i) ∙ ap (number_of newest.evictions) (next i)) (λ i. sg (suc i) ∙ ap (number_of newest.pages) (next i)) (λ i. sf (suc i) ∙ ap (number_of newest.free) (next i)) in
+      (λ i. se (suc i) ∙ ap (class_value newest.evictions) (next i)) (λ i. sg (suc i) ∙ ap (class_value newest.pages) (next i)) (λ i. sf (suc i) ∙ ap (class_value newest.free) (next i)) in
       ap (λ (c : Watched). c ∷ all_noted (watched_from before (class + 1) per_page) evictions pages free) first
       ∙ ap (λ (cs : List Watched). watched all class p ∷ cs) rest
 
@@ -131,7 +131,7 @@ rises_from windows class (p ∷ per_page) = ap (λ (rises : List ℕ). rise wind
 -- who led the newest window
 pub leader_found : (windows : List Window) (per_page : List ℕ) → leader_of (watched_from windows 1 per_page) ≡ leader (length per_page) windows
 leader_found windows per_page =
-    let greatest : ℕ = kept.greatest_rise (watched_from windows 1 per_page) in
+    let greatest : ℕ = kept.remembered_greatest_rise (watched_from windows 1 per_page) in
     let same : greatest ≡ greatest_rise (length per_page) windows = ap (λ (rises : List ℕ). fold max 0 rises) (rises_from windows 1 per_page) in
     place_found (λ c. nat_lt 0 c.rise && c.rise == greatest) (λ class. nat_lt 0 (rise windows class) && rise windows class == greatest) windows 1 per_page (λ i. refl)
     ∙ ap (λ (g : ℕ). find (λ class. nat_lt 0 (rise windows class) && rise windows class == g) (range_with_len 1 (length per_page))) same
@@ -142,8 +142,8 @@ no_leader count = none_found (λ class. nat_lt 0 (rise [] class) && rise [] clas
 
 -- ---- all that is remembered
 
-pub remembered_is : (per_page : List ℕ) (windows : List Window) → AreWhole (length per_page) windows
-    → remembered per_page windows ≡ record {
+pub remembered_is : (per_page : List ℕ) (windows : List Window) → AreWindowsOf (length per_page) windows
+    → memory_of_windows per_page windows ≡ record {
       classes = watched_from windows 1 per_page;
       leaders = leader (length per_page) windows ∷ leader (length per_page) (drop 1 windows) ∷ leader (length per_page) (drop 2 windows) ∷ [];
     }
@@ -152,8 +152,8 @@ remembered_is per_page [] whole =
 remembered_is per_page (newest ∷ before) whole =
     let all : List Window = newest ∷ before in
     let count : ℕ = length per_page in
-    let noted : all_noted (watched_from before 1 per_page) newest.evictions newest.pages newest.free ≡ watched_from all 1 per_page
+    let class_after_window : all_noted (watched_from before 1 per_page) newest.evictions newest.pages newest.free ≡ watched_from all 1 per_page
     = noted_all newest before per_page whole.0 whole.1 whole.2 in
-    ap (λ (r : Remembered). after_noted r newest) (remembered_is per_page before whole.3)
-    ∙ ap (λ (classes : List Watched). record { classes = classes; leaders = leader_of classes ∷ leader count before ∷ leader count (drop 1 before) ∷ [] }) noted
+    ap (λ (r : WatchMemory). after_noted r newest) (remembered_is per_page before whole.3)
+    ∙ ap (λ (classes : List Watched). record { classes = classes; leaders = leader_of classes ∷ leader count before ∷ leader count (drop 1 before) ∷ [] }) class_after_window
     ∙ ap (λ (led : Option ℕ). record { classes = watched_from all 1 per_page; leaders = led ∷ leader count before ∷ leader count (drop 1 before) ∷ [] }) (leader_found all per_page)

@@ -28,23 +28,23 @@ after_window decider evictions pages free =
     record decider { windows = record { evictions = evictions; pages = pages; free = free } ∷ decider.windows }
 
 -- a class's number among those of all classes: they are numbered from 1
-abbrev pub number_of : List ℕ → ℕ → ℕ
-number_of numbers class = slice_index_or numbers (class - 1) 0
+abbrev pub class_value : List ℕ → ℕ → ℕ
+class_value numbers class = slice_index_or numbers (class - 1) 0
 
 -- how many items of the class were evicted by the newest of these windows, 0 before the first
 abbrev pub evictions_of : List Window → ℕ → ℕ
 evictions_of [] class = 0
-evictions_of (newest ∷ before) class = number_of newest.evictions class
+evictions_of (newest ∷ before) class = class_value newest.evictions class
 
 -- how many pages the class has in the newest of these windows, 0 before the first
-abbrev pub pages_of : List Window → ℕ → ℕ
-pages_of [] class = 0
-pages_of (newest ∷ before) class = number_of newest.pages class
+abbrev pub latest_pages : List Window → ℕ → ℕ
+latest_pages [] class = 0
+latest_pages (newest ∷ before) class = class_value newest.pages class
 
 -- how many free chunks the class has in the newest of these windows, 0 before the first
 abbrev pub free_of : List Window → ℕ → ℕ
 free_of [] class = 0
-free_of (newest ∷ before) class = number_of newest.free class
+free_of (newest ∷ before) class = class_value newest.free class
 
 -- how many items of the class were evicted in the newest window
 abbrev pub rise : List Window → ℕ → ℕ
@@ -52,7 +52,7 @@ rise windows class = evictions_of windows class - evictions_of (drop 1 windows) 
 
 -- a class is quiet in a window where nothing of it was evicted and it has more than 2 pages
 abbrev pub is_quiet : List Window → ℕ → Bool
-is_quiet windows class = rise windows class == 0 && nat_lt 2 (pages_of windows class)
+is_quiet windows class = rise windows class == 0 && nat_lt 2 (latest_pages windows class)
 
 -- the lowest of n classes that passes a test
 abbrev pub lowest : ℕ → (ℕ → Bool) → Option ℕ
@@ -88,7 +88,7 @@ eviction_rule decider = option_and_then (λ dst. option_map (λ src. record { sr
 
 -- the class has at least 2 pages in the last window, and more free chunks than two and a half pages have
 abbrev pub has_spare_page : DeciderState → ℕ → Bool
-has_spare_page decider class = nat_le 2 (pages_of decider.windows class) && nat_lt (5 * number_of decider.per_page class) (2 * free_of decider.windows class)
+has_spare_page decider class = nat_le 2 (latest_pages decider.windows class) && nat_lt (5 * class_value decider.per_page class) (2 * free_of decider.windows class)
 
 -- the lowest class that has a page to spare gives it to the pool
 abbrev pub free_page_rule : DeciderState → Option Decision
@@ -101,11 +101,11 @@ decision_of decider = option_or (eviction_rule decider) (free_page_rule decider)
 -- the evictions of some class are fewer than in the window before
 abbrev pub has_fallen : DeciderState → List ℕ → Bool
 has_fallen decider evictions =
-    list_any (λ class. nat_lt (number_of evictions class) (evictions_of decider.windows class)) (range_with_len 1 (length decider.per_page))
+    list_any (λ class. nat_lt (class_value evictions class) (evictions_of decider.windows class)) (range_with_len 1 (length decider.per_page))
 
 -- why the numbers aren't taken: a list of another length comes first
-abbrev pub refusal_of : DeciderState → List ℕ → List ℕ → List ℕ → Option Feed
-refusal_of decider evictions pages free =
+abbrev pub feed_refusal : DeciderState → List ℕ → List ℕ → List ℕ → Option Feed
+feed_refusal decider evictions pages free =
     let count = length decider.per_page in
     if not (length evictions == count && length pages == count && length free == count) then Some Length
     else if has_fallen decider evictions then Some Backwards

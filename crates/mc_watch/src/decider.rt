@@ -44,7 +44,7 @@ impl Model for Decider {
 
 impl Decider {
     ghost use Rattle.std.specs.Prelude.{◌≡◌, IfOk, OnOk, IfErr, OnErr, None, Some};
-    ghost use Rattle.mc_watch.specs.Decider.{fresh_decider, refusal_of, after_window, decision_of, eviction_rule, free_page_rule};
+    ghost use Rattle.mc_watch.specs.Decider.{fresh_decider, feed_refusal, after_window, decision_of, eviction_rule, free_page_rule};
 
     /// No window was fed yet, and nothing was evicted.
     pub fn new(alloc: Global, table: &ClassTable) -> Result<Decider, NoMemory>
@@ -71,8 +71,8 @@ impl Decider {
         pages: &[u64],
         free: &[u64],
     ) -> Result<Option<Decision>, Feed>
-        ensures refused { IfErr result (λ refusal. refusal_of self.old evictions.now pages.now free.now ≡ Some refusal) }
-        ensures accepted { OnOk result (refusal_of self.old evictions.now pages.now free.now ≡ None) }
+        ensures refused { IfErr result (λ refusal. feed_refusal self.old evictions.now pages.now free.now ≡ Some refusal) }
+        ensures accepted { OnOk result (feed_refusal self.old evictions.now pages.now free.now ≡ None) }
         ensures noted { OnOk result (self.new ≡ after_window self.old evictions.now pages.now free.now) }
         ensures decided { IfOk result (λ decision. decision ≡ decision_of self.new) }
         ensures kept { OnErr result (self.new ≡ self.old) }

@@ -1,6 +1,6 @@
 //! A size class as the decider knows it.
 ghost use Rattle.std.specs.Prelude.{◌≡◌, ◌≤◌, length, false};
-ghost use Rattle.mc_watch.specs.Remembered.{fresh_class, noted, all_noted, has_fallen, leader_of, lowest_watched, greatest_rise, has_been_quiet, has_spare_page};
+ghost use Rattle.mc_watch.specs.Remembered.{fresh_class, class_after_window, all_noted, remembered_has_fallen, leader_of, lowest_watched, remembered_greatest_rise, has_been_quiet, remembered_has_spare_page};
 
 use mc_classes::ClassId;
 
@@ -39,7 +39,7 @@ impl Watched {
     /// Takes the numbers of a window.
     fn note(&mut self, evictions: u64, pages: u64, free: u64)
         requires { self.old.evictions ≤ evictions }
-        ensures { self.new ≡ noted self.old evictions pages free }
+        ensures { self.new ≡ class_after_window self.old evictions pages free }
     {
         self.rise = evictions - self.evictions;
         self.evictions = evictions;
@@ -59,7 +59,7 @@ impl Watched {
     /// Whether it has a page to spare (own threshold): more free chunks than two and a half pages have. Both sides are
     /// doubled, and in 128 bits no number is too large for that.
     fn has_spare_page(&self) -> bool
-        ensures { result ≡ has_spare_page self.now }
+        ensures { result ≡ remembered_has_spare_page self.now }
     {
         self.pages >= 2 && 2 * u128::from(self.free) > 5 * u128::from(self.per_page)
     }
@@ -67,7 +67,7 @@ impl Watched {
 
 /// Whether the evictions of some class are fewer than before.
 pub(crate) fn has_fallen(classes: &[Watched], evictions: &[u64]) -> bool
-    ensures { result ≡ has_fallen classes.now evictions.now }
+    ensures { result ≡ remembered_has_fallen classes.now evictions.now }
 {
     classes
         .iter()
@@ -80,7 +80,7 @@ pub(crate) fn note_all(classes: &mut [Watched], evictions: &[u64], pages: &[u64]
     requires evictions { length evictions.now ≡ length classes.old }
     requires pages { length pages.now ≡ length classes.old }
     requires free { length free.now ≡ length classes.old }
-    requires risen { has_fallen classes.old evictions.now ≡ false }
+    requires risen { remembered_has_fallen classes.old evictions.now ≡ false }
     ensures { classes.new ≡ all_noted classes.old evictions.now pages.now free.now }
 {
     for place in 0..classes.len() {
@@ -101,7 +101,7 @@ pub(crate) fn leader(classes: &[Watched]) -> Option<ClassId>
 
 /// The greatest rise of the last window.
 fn greatest_rise(classes: &[Watched]) -> u64
-    ensures { result ≡ greatest_rise classes.now }
+    ensures { result ≡ remembered_greatest_rise classes.now }
 {
     classes
         .iter()
@@ -120,7 +120,7 @@ pub(crate) fn quiet_class(classes: &[Watched]) -> Option<ClassId>
 
 /// The lowest class that has a page to spare.
 pub(crate) fn spare_class(classes: &[Watched]) -> Option<ClassId>
-    ensures { result ≡ lowest_watched has_spare_page classes.now }
+    ensures { result ≡ lowest_watched remembered_has_spare_page classes.now }
 {
     classes
         .iter()

@@ -6,25 +6,25 @@ use lib.ListN.{get_elem?}
 use Rattle.mc_classes.specs.Classes.{arena_pages_of}
 use Rattle.mc_pages.specs.declared.ids.ChunkId.{ChunkId}
 use Rattle.mc_pages.specs.Accounted.{is_moving, is_of_class, is_pool, places_in, truth}
-use Rattle.mc_pages.specs.ClassState.{times}
+use Rattle.mc_pages.specs.ClassState.{times_in}
 use Rattle.mc_pages.specs.Ledger.{KeepsGrace, all_untouched, ordinary_count, owner_at, replay}
-use Rattle.mc_pages.specs.SlabState.{IsClass, SlabState, class_at}
+use Rattle.mc_pages.specs.SlabState.{HasClass, SlabState, class_at}
 use Rattle.mc_core.specs.declared.event.Event.{Event}
 use Rattle.mc_core.specs.declared.head.Head.{Head}
 use Rattle.mc_core.specs.declared.head.Tag.TheVariants.{Free, Linked, Out, Unlinked}
 use Rattle.mc_core.specs.declared.holding.Holding.{Holding}
-use Rattle.mc_core.specs.Columns.{IsHandedOut, holders, holds, link_of}
+use Rattle.mc_core.specs.Columns.{IsHandedOut, holder_count, count_of_holdings, link_count}
 use Rattle.mc_core.specs.Head.{decode}
-use Rattle.mc_core.specs.Holdings.{is_fresh, words_of}
+use Rattle.mc_core.specs.Holdings.{is_fresh, holding_words}
 use Rattle.mc_core.specs.InOrder.{IsOfTable}
 use Rattle.mc_core.specs.Past.{Moment}
 use Rattle.mc_core.specs.State.{has_chunk, holdings_at, room_in}
-use Rattle.mc_core.specs.Stretch.{Holds, KeepsHolding, fills}
+use Rattle.mc_core.specs.Stretch.{HoldsChunk, KeepsHolding, is_fill_of}
 use Rattle.mc_words.specs.declared.lock.slot.Slot.TheVariants.{OfSlabs}
 use Rattle.mc_words.specs.rule.Happens.{LawfulView}
 use Rattle.mc_words.specs.rule.Joins.{Rule}
 use Rattle.mc_words.specs.rule.Layout.{data_word, head_word, page_word, slabs_word}
-use Rattle.mc_words.specs.rule.Meaning.{Words}
+use Rattle.mc_words.specs.rule.Meaning.{WordsOfTable}
 use Rattle.mc_words.specs.hand.View.{Setup, View}
 
 -- a chunk's header, as its word has it
@@ -42,14 +42,14 @@ data_in setup words chunk place = slice_index words (data_word setup (room_in se
 -- how often all hands together hold the chunk
 abbrev pub holders_among : ChunkId → List View → ℕ
 holders_among chunk [] = 0
-holders_among chunk (view ∷ views) = holds chunk view.row.holdings + holders_among chunk views
+holders_among chunk (view ∷ views) = count_of_holdings chunk view.row.holdings + holders_among chunk views
 
 -- each page has the one owner that the ledger replays: untouched, the pool, a class of the table, or the move. It is once in its class's
 -- list or once in the pool's, and in no other list. At most one page moves
 pub record ArePagesOwned (setup : Setup) (slabs : SlabState) : Type 0 where
   pub replays : replay (all_untouched (arena_pages_of setup.table)) slabs.ledger ≡ Some slabs.owners
-  pub classes : (class page : ℕ) → IsClass slabs class → count_by (λ p. p == page) (class_at slabs class).pages ≡ truth (is_of_class class (owner_at slabs.owners page))
-  pub owned : (class page : ℕ) → IsTrue (is_of_class class (owner_at slabs.owners page)) → IsClass slabs class
+  pub classes : (class page : ℕ) → HasClass slabs class → count_by (λ p. p == page) (class_at slabs class).pages ≡ truth (is_of_class class (owner_at slabs.owners page))
+  pub owned : (class page : ℕ) → IsTrue (is_of_class class (owner_at slabs.owners page)) → HasClass slabs class
   pub pool : (page : ℕ) → count_by (λ p. p == page) slabs.pool ≡ truth (is_pool (owner_at slabs.owners page))
   pub move : (a b : ℕ) → IsTrue (is_moving (owner_at slabs.owners a)) → IsTrue (is_moving (owner_at slabs.owners b)) → a ≡ b
 
@@ -61,7 +61,7 @@ pub record KeepLimitAndGrace (setup : Setup) (slabs : SlabState) : Type 0 where
 
 -- the chunk is this often on the class's free list, and this often in its hand-out order
 abbrev pub Stands : SlabState → ℕ → ChunkId → ℕ → ℕ → Type 0
-Stands slabs class chunk free out = (times chunk (class_at slabs class).free ≡ free) × (times chunk (class_at slabs class).order ≡ out)
+Stands slabs class chunk free out = (times_in chunk (class_at slabs class).free ≡ free) × (times_in chunk (class_at slabs class).order ≡ out)
 
 -- the chunk is free; it is once on the class's free list, and not in the hand-out order
 abbrev pub IsFreeChunk : SlabState → ℕ → ChunkId → Head → Type 0
@@ -86,9 +86,9 @@ pub record IsAccountedFor (setup : Setup) (words : List ℕ) (slabs : SlabState)
   pub of_table : IsOfTable setup.table slabs
   pub pages : ArePagesOwned setup slabs
   pub bytes : KeepLimitAndGrace setup slabs
-  pub chunks : (class : ℕ) (chunk : ChunkId) → IsClass slabs class → has_chunk setup.table chunk ≡ true →
+  pub chunks : (class : ℕ) (chunk : ChunkId) → HasClass slabs class → has_chunk setup.table chunk ≡ true →
       is_of_class class (owner_at slabs.owners chunk.page) ≡ true → chunk.index < (class_at slabs class).per_page → IsInOnePlace slabs class chunk (header_in setup words chunk)
-  pub only : (class : ℕ) (chunk : ChunkId) → IsClass slabs class → 1 ≤ places_in slabs class chunk →
+  pub only : (class : ℕ) (chunk : ChunkId) → HasClass slabs class → 1 ≤ places_in slabs class chunk →
       (is_of_class class (owner_at slabs.owners chunk.page) ≡ true) × (chunk.index < (class_at slabs class).per_page)
 
 -- a chunk that somebody holds is handed out with the issue number that it had as the hand got it. Its page is a class's, and each word that
@@ -96,22 +96,22 @@ pub record IsAccountedFor (setup : Setup) (words : List ℕ) (slabs : SlabState)
 pub record IsKeptIn (setup : Setup) (words : List ℕ) (holding : Holding) : Type 0 where
   pub handed_out : IsHandedOut (header_in setup words holding.chunk) holding.issue
   pub owned : 1 ≤ class_in setup words holding.chunk
-  pub shows : (place word : ℕ) → slice_get (words_of holding) place ≡ Some (Some word) → data_in setup words holding.chunk place ≡ word
+  pub shows : (place word : ℕ) → slice_get (holding_words holding) place ≡ Some (Some word) → data_in setup words holding.chunk place ≡ word
 
 -- the promise between any two atomic steps. With the slabs lock free, the value at home accounts for pages, bytes and chunks. Each header
 -- counts exactly its holders, and one more where a key leads to the chunk. What anybody holds is kept
-pub record Headline (setup : Setup) (t : Words) : Type 0 where
+pub record Headline (setup : Setup) (t : WordsOfTable) : Type 0 where
   pub free : slice_index t.words slabs_word ≡ 0 → (slabs : SlabState) × (get_elem? t.homes 0 ≡ some (some (OfSlabs slabs))) × IsAccountedFor setup t.words slabs
   pub counts : (chunk : ChunkId) → has_chunk setup.table chunk ≡ true →
-      (header_in setup t.words chunk).count ≡ link_of (header_in setup t.words chunk).tag + holders_among chunk t.views
+      (header_in setup t.words chunk).count ≡ link_count (header_in setup t.words chunk).tag + holders_among chunk t.views
   pub kept : (hand : ℕ) (view : View) (holding : Holding) → get_elem? t.views hand ≡ some view → Contains view.row.holdings holding → IsKeptIn setup t.words holding
 
 -- *the rule of the table gives the headline*
 abbrev pub RuleGivesHeadline : Type 0
-RuleGivesHeadline = (setup : Setup) (t : Words) → Rule setup t → Headline setup t
+RuleGivesHeadline = (setup : Setup) (t : WordsOfTable) → Rule setup t → Headline setup t
 
 -- a hand has the holding in both states of the table
-pub record IsHeldInBoth (before now : Words) (hand : ℕ) (holding : Holding) : Type 0 where
+pub record IsHeldInBoth (before now : WordsOfTable) (hand : ℕ) (holding : Holding) : Type 0 where
   pub view : View
   pub at : get_elem? before.views hand ≡ some view
   pub had : Contains view.row.holdings holding
@@ -120,22 +120,22 @@ pub record IsHeldInBoth (before now : Words) (hand : ℕ) (holding : Holding) : 
   pub has : Contains after.row.holdings holding
 
 -- the chunk has one issue number in both states, and each word that is known of it is the same
-pub record StaysTheSame (setup : Setup) (before now : Words) (holding : Holding) : Type 0 where
+pub record StaysTheSame (setup : Setup) (before now : WordsOfTable) (holding : Holding) : Type 0 where
   pub same_issue : (header_in setup now.words holding.chunk).issue ≡ (header_in setup before.words holding.chunk).issue
   pub kept_before : IsKeptIn setup before.words holding
   pub kept_now : IsKeptIn setup now.words holding
-  pub same_words : (place word : ℕ) → slice_get (words_of holding) place ≡ Some (Some word) → data_in setup now.words holding.chunk place ≡ data_in setup before.words holding.chunk place
+  pub same_words : (place word : ℕ) → slice_get (holding_words holding) place ≡ Some (Some word) → data_in setup now.words holding.chunk place ≡ data_in setup before.words holding.chunk place
 
 -- *what a hand holds in two states is the same in both*: so between a get and its release the chunk was never handed out, cleared or cut anew
 abbrev pub HeldStaysTheSame : Type 0
-HeldStaysTheSame = (setup : Setup) (before now : Words) (hand : ℕ) (holding : Holding) → Rule setup before → Rule setup now → IsHeldInBoth before now hand holding → StaysTheSame setup before now holding
+HeldStaysTheSame = (setup : Setup) (before now : WordsOfTable) (hand : ℕ) (holding : Holding) → Rule setup before → Rule setup now → IsHeldInBoth before now hand holding → StaysTheSame setup before now holding
 
 -- the headline of a hand's view, in the view's lawful moment: on the words that the table had then, the value behind the slabs lock, and
 -- the holdings of all hands
 pub record HeadlineOf (view : View) (was : LawfulView view) : Type 0 where
   pub free : slice_index was.words slabs_word ≡ 0 → IsAccountedFor view.setup was.words was.moment.state.slabs
   pub counts : (chunk : ChunkId) → has_chunk view.setup.table chunk ≡ true →
-      (header_in view.setup was.words chunk).count ≡ link_of (header_in view.setup was.words chunk).tag + holders chunk was.moment.state.holdings
+      (header_in view.setup was.words chunk).count ≡ link_count (header_in view.setup was.words chunk).tag + holder_count chunk was.moment.state.holdings
   pub kept : (hand : ℕ) (holding : Holding) → Contains (holdings_at was.moment.state hand) holding → IsKeptIn view.setup was.words holding
   pub own : (holding : Holding) → Contains view.row.holdings holding → IsKeptIn view.setup was.words holding
 
@@ -153,13 +153,13 @@ pub record StaysThroughout (setup : Setup) (before now : List ℕ) (moment : Mom
   pub handed_out : IsHandedOut (header_in setup now chunk) issue
   pub owned : 1 ≤ class_in setup now chunk
   pub same_class : class_in setup now chunk ≡ class_in setup before chunk
-  pub unfilled : list_all (λ event. not (fills hand chunk event)) run ≡ true → HasSameData setup before now chunk
-  pub referred : (held : Holds moment hand chunk issue) → is_fresh held.holding ≡ false → HasSameData setup before now chunk
+  pub unfilled : list_all (λ event. not (is_fill_of hand chunk event)) run ≡ true → HasSameData setup before now chunk
+  pub referred : (held : HoldsChunk moment hand chunk issue) → is_fresh held.holding ≡ false → HasSameData setup before now chunk
 
 -- *what a hand keeps over a run stays so in each state of the run*. Events lead from one state to another, each allowed, and the hand holds
 -- the chunk before and after each. Then in each state between, the chunk is handed out with this issue, for one class, with the same words
 abbrev pub HeldStaysThroughout : Type 0
-HeldStaysThroughout = (setup : Setup) (before now : Words) (was : Rule setup before) (is : Rule setup now) (hand : ℕ) (chunk : ChunkId) (issue : ℕ) (run more : List Event) →
+HeldStaysThroughout = (setup : Setup) (before now : WordsOfTable) (was : Rule setup before) (is : Rule setup now) (hand : ℕ) (chunk : ChunkId) (issue : ℕ) (run more : List Event) →
     is.ruled.run ≡ was.ruled.run ++ run → KeepsHolding was.ruled.moment hand chunk issue (run ++ more) → StaysThroughout setup before.words now.words was.ruled.moment hand chunk issue run
 
 -- *what a hand keeps over a run stays so in each moment of which some hand knows its view*

@@ -39,7 +39,7 @@ impl Hand {
     ghost use Rattle.mc_words.specs.rule.Happens.{LawfulView};
     ghost use Rattle.mc_words.specs.hand.Idle.{is_idle, is_unlocked};
     ghost use Rattle.mc_words.specs.lock.Out.{with_last};
-    ghost use Rattle.mc_words.specs.lock.Slots.{number_of};
+    ghost use Rattle.mc_words.specs.lock.Slots.{lock_number};
     ghost use Rattle.mc_words.specs.hand.Tallies.{next_stamp};
 
     /// How many chunks it holds, `MOST_HOLDINGS` at most: fresh ones, and those that it has references to.
@@ -84,7 +84,7 @@ impl Hand {
 
     // Brings the value behind this lock, which the hand has, before the other.
     pub(crate) fn bring_forward(&mut self, lock: Lock)
-        ensures locks { self.new.locks ≡ with_last (number_of lock) self.old.locks }
+        ensures locks { self.new.locks ≡ with_last (lock_number lock) self.old.locks }
         ensures table { self.new.seat.table_id ≡ self.old.seat.table_id }
         ensures view { self.new.seat.me.0 ≡ self.old.seat.me.0 }
     {

@@ -61,16 +61,16 @@ impl Join<HandView> for BothHands {
 pub struct ToldOfBoth;
 
 impl Play<Slot, HandView> for ToldOfBoth {
-    ghost use Rattle.mc_words.specs.rule.Joins.{TellsMade};
+    ghost use Rattle.mc_words.specs.rule.Joins.{ShowsMade};
 
-    ghost then = { TellsMade };
+    ghost then = { ShowsMade };
 }
 
 /// A load that is no event of the core shows a word.
 pub struct ShownWord;
 
 impl Play<Slot, HandView> for ShownWord {
-    ghost use Rattle.mc_words.specs.rule.Shown.{TellsShown};
+    ghost use Rattle.mc_words.specs.rule.Shown.{ShowsWord};
 
-    ghost then = { TellsShown };
+    ghost then = { ShowsWord };
 }

@@ -13,7 +13,7 @@ use Rattle.mc_script.specs.declared.command.Command.{Command}
 use Rattle.mc_workers.specs.declared.threads.Joined.{Joined}
 use Rattle.mc_workers.specs.declared.threads.Served.{Served}
 use Rattle.mc_workers.specs.Moves.{MovesLines}
-use Rattle.mc_workers.specs.Threads.{AreDone, IsMoved, IsServed, JoinsBoth}
+use Rattle.mc_workers.specs.Threads.{AreDone, IsMoved, LinesAreServed, JoinsBoth}
 
 -- an idle hand is ready
 ready_idle : (view : View) → is_idle view ≡ true → IsReady view
@@ -24,7 +24,7 @@ ready_idle view idle =
 
 -- a worker and the others
 pub all_done : (arena : Arena) (worker : ℕ) (commands : List Command) (hand : Hand) (hands : List Hand) (mover : Hand) (own : Served) (others joined : Joined)
-    → IsServed arena worker commands hand own → AreDone arena (worker + 1) commands hands mover others → JoinsBoth arena own others joined → AreDone arena worker commands (hand ∷ hands) mover joined
+    → LinesAreServed arena worker commands hand own → AreDone arena (worker + 1) commands hands mover others → JoinsBoth arena own others joined → AreDone arena worker commands (hand ∷ hands) mover joined
 all_done arena worker commands hand hands mover own others joined served done both = record {
   of_arena = both.of_arena;
   idle = ap is_idle both.both ∙ done.idle;

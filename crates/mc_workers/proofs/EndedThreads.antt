@@ -8,7 +8,7 @@ use Rattle.mc_workers.specs.declared.ended.Ended.{Ended}
 use Rattle.mc_workers.specs.declared.ended.Ended.TheVariants.{Memory, Thread, Turns}
 use Rattle.mc_workers.specs.declared.threads.Joined.{Joined}
 use Rattle.mc_workers.specs.declared.threads.Served.{Served}
-use Rattle.mc_workers.specs.Ends.{AreTurns, EndsServed, PassesAll, PassesLines, PassesMoves, StopsLines, StopsOne, StopsSome}
+use Rattle.mc_workers.specs.Ends.{AreTurns, EndsServed, LetsAllOn, PassesLines, PassesMoves, StopsLines, StopsOne, StopsSome}
 use Rattle.mc_workers.specs.Gates.{LetsOn, Stops}
 use Rattle.mc_workers.specs.Spending.{StopsMoves}
 
@@ -23,14 +23,14 @@ each_of P worker count first others own some few = from (cases_lt worker own)
 
 module _ (lets_on : LetsOn) (stops : Stops) (commands : List Command) (worker : ℕ) where
   -- the mover alone
-  pub passes_alone : PassesMoves lets_on commands → PassesAll lets_on commands worker 0
+  pub passes_alone : PassesMoves lets_on commands → LetsAllOn lets_on commands worker 0
   passes_alone mover = record { workers = λ own some few. absurd (omega (arith, some, few)); mover = mover }
 
   pub stops_alone : StopsMoves lets_on stops 0 commands → StopsSome lets_on stops commands worker 0
   stops_alone mover = record { workers = λ own some few. absurd (omega (arith, some, few)); mover = inr mover; one = inr mover }
 
   -- a worker and the others
-  pub passes_with : (count : ℕ) → PassesLines lets_on commands worker → PassesAll lets_on commands (worker + 1) count → PassesAll lets_on commands worker (suc count)
+  pub passes_with : (count : ℕ) → PassesLines lets_on commands worker → LetsAllOn lets_on commands (worker + 1) count → LetsAllOn lets_on commands worker (suc count)
   passes_with count own others = record { workers = each_of (PassesLines lets_on commands) worker count own others.workers; mover = others.mover }
 
   one_later : (count : ℕ) → StopsOne lets_on stops commands (worker + 1) count → StopsOne lets_on stops commands worker (suc count)
@@ -43,7 +43,7 @@ module _ (lets_on : LetsOn) (stops : Stops) (commands : List Command) (worker : 
   stops_behind : (count : ℕ) → EndsLines worker → StopsSome lets_on stops commands (worker + 1) count → StopsSome lets_on stops commands worker (suc count)
   stops_behind count own others = record { workers = each_of EndsLines worker count own others.workers; mover = others.mover; one = one_later count others.one }
 
-  stops_first : (count : ℕ) → StopsLines lets_on stops commands worker → PassesAll lets_on commands (worker + 1) count → StopsSome lets_on stops commands worker (suc count)
+  stops_first : (count : ℕ) → StopsLines lets_on stops commands worker → LetsAllOn lets_on commands (worker + 1) count → StopsSome lets_on stops commands worker (suc count)
   stops_first count own others = record {
     workers = each_of EndsLines worker count (inr own) (λ at some few. inl (others.workers at some few));
     mover = inl others.mover;
@@ -51,7 +51,7 @@ module _ (lets_on : LetsOn) (stops : Stops) (commands : List Command) (worker : 
   }
 
   pub stops_both : (arena : Arena) (hand : Hand) (count : ℕ) (own : Result Served Ended) (others : Result Joined Ended) → AreTurns own others
-      → EndsServed lets_on stops arena worker commands hand own → OnOk others (PassesAll lets_on commands (worker + 1) count)
+      → EndsServed lets_on stops arena worker commands hand own → OnOk others (LetsAllOn lets_on commands (worker + 1) count)
       → (others ≡ Err Turns → StopsSome lets_on stops commands (worker + 1) count) → StopsSome lets_on stops commands worker (suc count)
   stops_both arena hand count (Ok served) (Err Turns) are first passed stopped = stops_behind count (inl first.passed) (stopped refl)
   stops_both arena hand count (Err Turns) (Err Turns) are first passed stopped = stops_behind count (inr (first.stopped refl)) (stopped refl)

@@ -5,7 +5,7 @@ use Rattle.std.proofs.Math.Seq.{take-append_seam}
 use Rattle.std.proofs.lemmas.List.{length_push, length-append, take-append-drop}
 use Rattle.std.proofs.lemmas.List.Elements.{filter-append, filter_more}
 use Rattle.mc_script.specs.declared.command.Command.{Command}
-use Rattle.mc_workers.specs.Gates.{LetsOn, Passed, PassedEach, Stopped, StoppedAt, Stops}
+use Rattle.mc_workers.specs.Gates.{LetsOn, IsLetOn, PassedEach, IsStopped, StoppedAt, Stops}
 
 -- of the first lines so many are the thread's own, and it counted each
 pub record AreCounted (lets_on : LetsOn) (worker index own nth : ℕ) : Type 0 where
@@ -21,11 +21,11 @@ module _ (lets_on : LetsOn) (worker : ℕ) (is_own : Command → Bool) (commands
   more : (b : Bool) → is_own (get_or commands i other) ≡ b → filter is_own (take (i + 1) commands) ≡ filter is_own (take i commands) ++ cond b (get_or commands i other ∷ []) []
   more b is = filter_more is_own commands i other within ∙ ap (λ (b : Bool). filter is_own (take i commands) ++ cond b (get_or commands i other ∷ []) []) is
 
-  passed_one : Passed lets_on worker (nth + 1) → (at : ℕ) → 1 ≤ at → at ≤ nth + 1 → (at < nth + 1) ⊎ (nth + 1 ≤ at) → Passed lets_on worker at
+  passed_one : IsLetOn lets_on worker (nth + 1) → (at : ℕ) → 1 ≤ at → at ≤ nth + 1 → (at < nth + 1) ⊎ (nth + 1 ≤ at) → IsLetOn lets_on worker at
   passed_one one at some most (inl before) = are.passed at some (omega (arith, before))
-  passed_one one at some most (inr last) = let same : at ≡ nth + 1 = omega (arith, last, most) in subst (Passed lets_on worker) (sym same) one
+  passed_one one at some most (inr last) = let same : at ≡ nth + 1 = omega (arith, last, most) in subst (IsLetOn lets_on worker) (sym same) one
 
-  pub line_counted : is_own (get_or commands i other) ≡ true → Passed lets_on worker (nth + 1) → AreCounted lets_on worker (i + 1) (length (filter is_own (take (i + 1) commands))) (nth + 1)
+  pub line_counted : is_own (get_or commands i other) ≡ true → IsLetOn lets_on worker (nth + 1) → AreCounted lets_on worker (i + 1) (length (filter is_own (take (i + 1) commands))) (nth + 1)
   line_counted is one =
       let longer = ap length (more true is) ∙ length_push (filter is_own (take i commands)) (get_or commands i other) in
       record {
@@ -61,7 +61,7 @@ module _ (lets_on : LetsOn) (worker : ℕ) (is_own : Command → Bool) (commands
       ap (take (nth + 1)) split ∙ (ap (λ (n : ℕ). take n (first ++ behind)) (sym (longer is)) ∙ take-append_seam first behind)
 
   -- the thread was stopped at it
-  pub line_stopped : (stops : Stops) → is_own (get_or commands i other) ≡ true → StoppedAt lets_on stops worker (nth + 1) → Stopped lets_on stops worker (length (filter is_own commands))
+  pub line_stopped : (stops : Stops) → is_own (get_or commands i other) ≡ true → StoppedAt lets_on stops worker (nth + 1) → IsStopped lets_on stops worker (length (filter is_own commands))
   line_stopped stops is here = record { done = nth; fewer = line_within is; passed = are.passed; here = here }
 
 -- behind the last line

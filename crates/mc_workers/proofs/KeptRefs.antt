@@ -10,52 +10,52 @@ use Rattle.mc_pages.specs.ClassState.{is_chunk}
 use Rattle.mc_pages.specs.Accounted.{truth}
 use Rattle.mc_pages.proofs.Chunks.{is_chunk-same}
 use Rattle.mc_core.specs.declared.holding.Holding.{Holding}
-use Rattle.mc_core.specs.Columns.{holds}
-use Rattle.mc_core.specs.Holdings.{holding_of, is_of, lose}
+use Rattle.mc_core.specs.Columns.{count_of_holdings}
+use Rattle.mc_core.specs.Holdings.{holding_of, is_of_chunk, without_first}
 use Rattle.mc_core.proofs.Holders.{holds-cons, holds-lose, holds-push}
 use Rattle.mc_words.specs.hand.View.{View}
 use Rattle.mc_words.specs.hand.Views.{chunk_released}
 use Rattle.mc_words.specs.hand.Idle.{is_idle}
 use Rattle.mc_words.specs.hand.Ready.{IsReady}
-use Rattle.mc_words.specs.item.Refs.{KeepsHeld, KeepsRefs}
+use Rattle.mc_words.specs.item.Refs.{KeepsRemainingRefs, KeepsRefs}
 use Rattle.mc_items.specs.declared.refs.Ref.{Ref}
-use Rattle.mc_items.specs.ItemRefs.{AreKept, IsItemRef, item_chunk, refers_to}
+use Rattle.mc_items.specs.ItemRefs.{RefersToEach, IsItemRef, item_chunk, refers_to}
 use Rattle.mc_items.specs.Keeping.{HoldsAsOften, HoldsLess, HoldsTheSame, HoldsToo, StaysItemRef, holding_by}
 use Rattle.mc_items.proofs.Rows as rows
 use Rattle.mc_items.proofs.Rows.{chunk_found}
 use Rattle.mc_items.proofs.Chains.{held_refs_keep_items, keeping_goes_on, kept_refs_keep_items, releasing_keeps_others}
 use Rattle.mc_workers.specs.Lines.{all_released}
-use Rattle.mc_workers.specs.Kept.{Hold, hold_of, holds_of}
+use Rattle.mc_workers.specs.Kept.{KeptReference, hold_of, kept_references}
 
 -- each is a reference still, and its words are the same
 pub refs_stay : (view now : View) (kept : List Ref) → KeepsRefs view now → All (IsItemRef view) kept → All (IsItemRef now) kept
 refs_stay view now kept keeps all = λ k d below. (kept_refs_keep_items view now (slice_index_or kept k d) keeps (all k d below)).refers
 
-pub holds_stay : (view now : View) (kept : List Ref) → KeepsRefs view now → All (IsItemRef view) kept → holds_of now kept ≡ holds_of view kept
+pub holds_stay : (view now : View) (kept : List Ref) → KeepsRefs view now → All (IsItemRef view) kept → kept_references now kept ≡ kept_references view kept
 holds_stay view now [] keeps all = refl
 holds_stay view now (item ∷ kept) keeps all =
     let first = (kept_refs_keep_items view now item keeps (All-head (IsItemRef view) item kept all)).words in
     let rest = holds_stay view now kept keeps (All-tail (IsItemRef view) item kept all) in
-    ap (λ (words : List ℕ). record { item = item; words = words } ∷ holds_of now kept) first ∙ ap (λ (l : List Hold). hold_of view item ∷ l) rest
+    ap (λ (words : List ℕ). record { item = item; words = words } ∷ kept_references now kept) first ∙ ap (λ (l : List KeptReference). hold_of view item ∷ l) rest
 
 -- so a call that keeps references, and holds each chunk as often, leaves what is kept
-pub kept_stay : (view now : View) (kept : List Ref) → AreKept view kept → KeepsRefs view now → HoldsAsOften view now → AreKept now kept
+pub kept_stay : (view now : View) (kept : List Ref) → RefersToEach view kept → KeepsRefs view now → HoldsAsOften view now → RefersToEach now kept
 kept_stay view now kept are keeps often = record { items = refs_stay view now kept keeps are.items; counts = λ chunk. often chunk ∙ are.counts chunk }
 
 pub as_often : (view now : View) → HoldsTheSame view now → HoldsAsOften view now
-as_often view now same = λ chunk. ap (holds chunk) same
+as_often view now same = λ chunk. ap (count_of_holdings chunk) same
 
 -- one reference more
-pub kept_too : (view now : View) (kept : List Ref) (item : Ref) → AreKept view kept → KeepsRefs view now → HoldsToo (Some item) view now → IsItemRef now item → AreKept now (kept ++ item ∷ [])
+pub kept_too : (view now : View) (kept : List Ref) (item : Ref) → RefersToEach view kept → KeepsRefs view now → HoldsToo (Some item) view now → IsItemRef now item → RefersToEach now (kept ++ item ∷ [])
 kept_too view now kept item are keeps too is = record {
   items = All-push (IsItemRef now) kept item (refs_stay view now kept keeps are.items) is;
-  counts = λ chunk. ap (holds chunk) too ∙ (holds-push chunk view.row.holdings (holding_by now item)
+  counts = λ chunk. ap (count_of_holdings chunk) too ∙ (holds-push chunk view.row.holdings (holding_by now item)
       ∙ (ap (λ (n : ℕ). n + truth (refers_to chunk item)) (are.counts chunk) ∙ sym (sum_by_push (λ (r : Ref). truth (refers_to chunk r)) kept item)));
 }
 
-pub holds_too : (view now : View) (kept : List Ref) (item : Ref) → AreKept view kept → KeepsRefs view now → holds_of now (kept ++ item ∷ []) ≡ holds_of view kept ++ hold_of now item ∷ []
+pub holds_too : (view now : View) (kept : List Ref) (item : Ref) → RefersToEach view kept → KeepsRefs view now → kept_references now (kept ++ item ∷ []) ≡ kept_references view kept ++ hold_of now item ∷ []
 holds_too view now kept item are keeps =
-    map-append (hold_of now) kept (item ∷ []) ∙ ap (λ (l : List Hold). l ++ hold_of now item ∷ []) (holds_stay view now kept keeps are.items)
+    map-append (hold_of now) kept (item ∷ []) ∙ ap (λ (l : List KeptReference). l ++ hold_of now item ∷ []) (holds_stay view now kept keeps are.items)
 
 -- what was got, read and released: the hand holds each chunk as often as before, and refers to what it referred to
 pub gained : (view got : View) (found : Option Ref) (item : Ref) → found ≡ Some item → HoldsToo found view got → HoldsToo (Some item) view got
@@ -63,9 +63,9 @@ gained view got found item is holds = subst (λ (o : Option Ref). HoldsToo o vie
 
 pub as_often_again : (view got next now : View) (item : Ref) → HoldsToo (Some item) view got → HoldsTheSame got next → HoldsLess item next now → HoldsAsOften view now
 as_often_again view got next now item gained same less = λ chunk.
-    ap (holds chunk) (less ∙ ap (lose (is_of (item_chunk item))) (same ∙ gained)) ∙ rows.as_often (item_chunk item) view.row.holdings (holding_by got item) refl chunk
+    ap (count_of_holdings chunk) (less ∙ ap (without_first (is_of_chunk (item_chunk item))) (same ∙ gained)) ∙ rows.as_often (item_chunk item) view.row.holdings (holding_by got item) refl chunk
 
-pub kept_again : (view got next now : View) (item : Ref) → KeepsRefs view got → KeepsRefs got next → HoldsToo (Some item) view got → HoldsTheSame got next → KeepsHeld next now → HoldsLess item next now → KeepsRefs view now
+pub kept_again : (view got next now : View) (item : Ref) → KeepsRefs view got → KeepsRefs got next → HoldsToo (Some item) view got → HoldsTheSame got next → KeepsRemainingRefs next now → HoldsLess item next now → KeepsRefs view now
 kept_again view got next now item first second gained same held less = releasing_keeps_others view got next now item (keeping_goes_on view got next first second) gained same held less
 
 -- a reference in the middle counts beside the others
@@ -90,11 +90,11 @@ counted p (first ∷ kept) (suc k) d below passes =
     omega arith
 
 -- a chunk that is held is found
-found_held : (chunk : ChunkId) (row : List Holding) → 1 ≤ holds chunk row → is_some (holding_of chunk row) ≡ true
+found_held : (chunk : ChunkId) (row : List Holding) → 1 ≤ count_of_holdings chunk row → is_some (holding_of chunk row) ≡ true
 found_held chunk [] some = absurd (omega arith)
-found_held chunk (first ∷ row) some = elim (cases_Bool (is_of chunk first)) [
+found_held chunk (first ∷ row) some = elim (cases_Bool (is_of_chunk chunk first)) [
   | inl is ↦ rw is refl
-  | inr isnt ↦ let none : truth (is_of chunk first) ≡ 0 = ap truth isnt in
+  | inr isnt ↦ let none : truth (is_of_chunk chunk first) ≡ 0 = ap truth isnt in
       rw isnt (found_held chunk row (let sum = holds-cons chunk first row in omega arith))
 ]
 
@@ -110,16 +110,16 @@ there P [] back item all = All-head P item back all
 there P (first ∷ front) back item all = there P front back item (All-tail P first (front ++ item ∷ back) all)
 
 -- one of those that are kept is given back: the others are kept still
-module _ (view now : View) (front back : List Ref) (item : Ref) (are : AreKept view (front ++ item ∷ back)) (held : KeepsHeld view now) (less : HoldsLess item view now) where
+module _ (view now : View) (front back : List Ref) (item : Ref) (are : RefersToEach view (front ++ item ∷ back)) (held : KeepsRemainingRefs view now) (less : HoldsLess item view now) where
   pub is_there : IsItemRef view item
   is_there = there (IsItemRef view) front back item are.items
 
-  counts : (chunk : ChunkId) → holds chunk now.row.holdings ≡ count_by (refers_to chunk) (front ++ back)
+  counts : (chunk : ChunkId) → count_of_holdings chunk now.row.holdings ≡ count_by (refers_to chunk) (front ++ back)
   counts chunk =
       let ref = is_there.reference in
-      let lost = holds-lose chunk (is_of (item_chunk item)) view.row.holdings ref.holding ref.found in
-      let after : holds chunk now.row.holdings ≡ holds chunk (lose (is_of (item_chunk item)) view.row.holdings) = ap (holds chunk) less in
-      let same : truth (is_of chunk ref.holding) ≡ truth (refers_to chunk item) = ap (λ (c : ChunkId). truth (is_chunk c chunk)) (chunk_found (item_chunk item) view.row.holdings ref.holding ref.found) in
+      let lost = holds-lose chunk (is_of_chunk (item_chunk item)) view.row.holdings ref.holding ref.found in
+      let after : count_of_holdings chunk now.row.holdings ≡ count_of_holdings chunk (without_first (is_of_chunk (item_chunk item)) view.row.holdings) = ap (count_of_holdings chunk) less in
+      let same : truth (is_of_chunk chunk ref.holding) ≡ truth (refers_to chunk item) = ap (λ (c : ChunkId). truth (is_chunk c chunk)) (chunk_found (item_chunk item) view.row.holdings ref.holding ref.found) in
       let before = are.counts chunk in
       let middle = count_middle (refers_to chunk) front back item in
       omega arith
@@ -131,65 +131,65 @@ module _ (view now : View) (front back : List Ref) (item : Ref) (are : AreKept v
       let same = counts (item_chunk other) in
       held_refs_keep_items view now other held (all_apart (IsItemRef view) front back item are.items k d below) (found_held (item_chunk other) now.row.holdings (omega arith))
 
-  pub kept_less : AreKept now (front ++ back)
+  pub kept_less : RefersToEach now (front ++ back)
   kept_less = record { items = λ k d below. (stays k d below).refers; counts = counts }
 
-  pub holds_less : holds_of now (front ++ back) ≡ holds_of view (front ++ back)
+  pub holds_less : kept_references now (front ++ back) ≡ kept_references view (front ++ back)
   holds_less = all_same (front ++ back) stays
     where
-      all_same : (kept : List Ref) → ((k : ℕ) (d : Ref) → k < length kept → StaysItemRef view now (slice_index_or kept k d)) → holds_of now kept ≡ holds_of view kept
+      all_same : (kept : List Ref) → ((k : ℕ) (d : Ref) → k < length kept → StaysItemRef view now (slice_index_or kept k d)) → kept_references now kept ≡ kept_references view kept
       all_same [] same = refl
       all_same (first ∷ kept) same =
-          ap (λ (words : List ℕ). record { item = first; words = words } ∷ holds_of now kept) (same 0 first (omega arith)).words
-          ∙ ap (λ (l : List Hold). hold_of view first ∷ l) (all_same kept (λ k d below. same (suc k) d (omega arith)))
+          ap (λ (words : List ℕ). record { item = first; words = words } ∷ kept_references now kept) (same 0 first (omega arith)).words
+          ∙ ap (λ (l : List KeptReference). hold_of view first ∷ l) (all_same kept (λ k d below. same (suc k) d (omega arith)))
 
 -- references that are kept are no more than the hand holds
-pub none_kept : (view : View) → AreKept view [] → view.row.holdings ≡ []
+pub none_kept : (view : View) → RefersToEach view [] → view.row.holdings ≡ []
 none_kept view are = empty view.row.holdings are.counts
   where
-    empty : (row : List Holding) → ((chunk : ChunkId) → holds chunk row ≡ 0) → row ≡ []
+    empty : (row : List Holding) → ((chunk : ChunkId) → count_of_holdings chunk row ≡ 0) → row ≡ []
     empty [] none = refl
     empty (first ∷ row) none =
-        let one : truth (is_of first.chunk first) ≡ 1 = ap truth (is_chunk-same first.chunk) in
+        let one : truth (is_of_chunk first.chunk first) ≡ 1 = ap truth (is_chunk-same first.chunk) in
         let sum = holds-cons first.chunk first row in
         let zero = none first.chunk in
         absurd (omega arith)
 
-pub kept_none : (view : View) → view.row.holdings ≡ [] → AreKept view []
-kept_none view none = record { items = All-nil (IsItemRef view); counts = λ chunk. ap (holds chunk) none }
+pub kept_none : (view : View) → view.row.holdings ≡ [] → RefersToEach view []
+kept_none view none = record { items = All-nil (IsItemRef view); counts = λ chunk. ap (count_of_holdings chunk) none }
 
 -- the last one is given back
-pub last_kept : (view : View) (kept : List Ref) (item : Ref) → AreKept view (kept ++ item ∷ []) → IsItemRef view item
+pub last_kept : (view : View) (kept : List Ref) (item : Ref) → RefersToEach view (kept ++ item ∷ []) → IsItemRef view item
 last_kept view kept item are = there (IsItemRef view) kept [] item are.items
 
-pub kept_but_last : (view now : View) (kept : List Ref) (item : Ref) → AreKept view (kept ++ item ∷ []) → KeepsHeld view now → HoldsLess item view now → AreKept now kept
-kept_but_last view now kept item are held less = subst (AreKept now) (append-nil kept) (kept_less view now kept [] item are held less)
+pub kept_but_last : (view now : View) (kept : List Ref) (item : Ref) → RefersToEach view (kept ++ item ∷ []) → KeepsRemainingRefs view now → HoldsLess item view now → RefersToEach now kept
+kept_but_last view now kept item are held less = subst (RefersToEach now) (append-nil kept) (kept_less view now kept [] item are held less)
 
 pub released_last : (kept : List Ref) (item : Ref) (view : View) → all_released (kept ++ item ∷ []) view ≡ all_released kept (chunk_released (item_chunk item) view)
 released_last [] item view = refl
 released_last (first ∷ kept) item view = ap (chunk_released (item_chunk first)) (released_last kept item view)
 
 -- a ready hand that keeps nothing is idle
-pub idle_then : (view : View) → IsReady view → AreKept view [] → is_idle view ≡ true
+pub idle_then : (view : View) → IsReady view → RefersToEach view [] → is_idle view ≡ true
 idle_then view ready are = and_from _ _ ready.unlocked (ap (λ (row : List Holding). length row == 0) (none_kept view are))
 
 -- one of those that are kept was read and given back
 module _ (before seen now : View) (kept : List Ref) (place : ℕ) (item : Ref) (within : place < length kept) (at : item ≡ get_or kept place item)
-    (are : AreKept before kept) (keeps : KeepsRefs before seen) (same : HoldsTheSame before seen) (held : KeepsHeld seen now) (less : HoldsLess item seen now) where
+    (are : RefersToEach before kept) (keeps : KeepsRefs before seen) (same : HoldsTheSame before seen) (held : KeepsRemainingRefs seen now) (less : HoldsLess item seen now) where
   parts : kept ≡ take place kept ++ item ∷ drop (suc place) kept
   parts = split_at kept place item within ∙ ap (λ (x : Ref). take place kept ++ x ∷ drop (suc place) kept) (sym at)
 
-  are_seen : AreKept seen (take place kept ++ item ∷ drop (suc place) kept)
-  are_seen = subst (AreKept seen) parts (kept_stay before seen kept are keeps (as_often before seen same))
+  are_seen : RefersToEach seen (take place kept ++ item ∷ drop (suc place) kept)
+  are_seen = subst (RefersToEach seen) parts (kept_stay before seen kept are keeps (as_often before seen same))
 
-  pub kept_without : AreKept now (take place kept ++ drop (suc place) kept)
+  pub kept_without : RefersToEach now (take place kept ++ drop (suc place) kept)
   kept_without = kept_less seen now (take place kept) (drop (suc place) kept) item are_seen held less
 
-  pub holds_without : holds_of now (take place kept ++ drop (suc place) kept) ≡ holds_of before (take place kept ++ drop (suc place) kept)
+  pub holds_without : kept_references now (take place kept ++ drop (suc place) kept) ≡ kept_references before (take place kept ++ drop (suc place) kept)
   holds_without = holds_less seen now (take place kept) (drop (suc place) kept) item are_seen held less
       ∙ holds_stay before seen (take place kept ++ drop (suc place) kept) keeps (all_apart (IsItemRef before) (take place kept) (drop (suc place) kept) item (subst (All (IsItemRef before)) parts are.items))
 
 -- the references of holds
-pub items_held : (view : View) (kept : List Ref) → map (λ (h : Hold). h.item) (holds_of view kept) ≡ kept
+pub items_held : (view : View) (kept : List Ref) → map (λ (h : KeptReference). h.item) (kept_references view kept) ≡ kept
 items_held view [] = refl
 items_held view (item ∷ kept) = ap (λ (l : List Ref). item ∷ l) (items_held view kept)

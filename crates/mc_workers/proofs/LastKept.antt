@@ -10,7 +10,7 @@ use Rattle.std.proofs.lemmas.List.Sums.{fails_before_first}
 use Rattle.mc_items.specs.declared.refs.Ref.{Ref}
 use Rattle.mc_items.specs.ItemRefs.{item_key}
 use Rattle.mc_words.specs.hand.View.{View}
-use Rattle.mc_workers.specs.Kept.{IsLastAt, IsLastOf, IsOfOther, IsToOther, Hold, hold_of, holds_of}
+use Rattle.mc_workers.specs.Kept.{IsLastAt, IsLastOf, IsOfOther, IsToOther, KeptReference, hold_of, kept_references}
 
 -- the reference is to an item of the key
 abbrev pub has_key : ℕ → Ref → Bool
@@ -69,27 +69,27 @@ pub parted : (kept : List Ref) (place : ℕ) (d : Ref) → place < length kept �
 parted kept place d within = split_at kept place d within
 
 -- holds of none of the key, where no reference is to one
-pub none_held : (key : ℕ) (view : View) (kept : List Ref) → All (IsToOther key) kept → All (IsOfOther key) (holds_of view kept)
+pub none_held : (key : ℕ) (view : View) (kept : List Ref) → All (IsToOther key) kept → All (IsOfOther key) (kept_references view kept)
 none_held key view kept others = All-map (IsOfOther key) (hold_of view) kept others
 
 -- the hold that came last of the key
 pub last_held : (key : ℕ) (view : View) (kept : List Ref) (place : ℕ) (d : Ref) → IsLastAt key kept place →
-    IsLastOf key (holds_of view kept) (hold_of view (get_or kept place d)) (holds_of view (take place kept ++ drop (suc place) kept))
+    IsLastOf key (kept_references view kept) (hold_of view (get_or kept place d)) (kept_references view (take place kept ++ drop (suc place) kept))
 last_held key view kept place d is = record {
-  before = holds_of view (take place kept);
-  behind = holds_of view (drop (suc place) kept);
-  all = ap (holds_of view) (parted kept place d is.there) ∙ map-append (hold_of view) (take place kept) (get_or kept place d ∷ drop (suc place) kept);
+  before = kept_references view (take place kept);
+  behind = kept_references view (drop (suc place) kept);
+  all = ap (kept_references view) (parted kept place d is.there) ∙ map-append (hold_of view) (take place kept) (get_or kept place d ∷ drop (suc place) kept);
   of_key = is.of_key d;
   later = none_held key view (drop (suc place) kept) (let next : place + 1 ≡ suc place = omega arith in subst (λ (n : ℕ). All (IsToOther key) (drop n kept)) next is.later);
   rest = map-append (hold_of view) (take place kept) (drop (suc place) kept);
 }
 
 -- three holds, the first and the third of one key
-pub last_of_three : (first other third last : Hold) (left : List Hold) → item_key first.item ≡ 5 → item_key other.item ≡ 6 → item_key third.item ≡ 5
+pub last_of_three : (first other third last : KeptReference) (left : List KeptReference) → item_key first.item ≡ 5 → item_key other.item ≡ 6 → item_key third.item ≡ 5
     → IsLastOf 5 (first ∷ other ∷ third ∷ []) last left → (last ≡ third) × (left ≡ first ∷ other ∷ [])
 last_of_three first other third last left is_first is_other is_third is = by is.before is.behind is.all is.later is.rest
   where
-    by : (before behind : List Hold) → first ∷ other ∷ third ∷ [] ≡ before ++ last ∷ behind → All (IsOfOther 5) behind → left ≡ before ++ behind → (last ≡ third) × (left ≡ first ∷ other ∷ [])
+    by : (before behind : List KeptReference) → first ∷ other ∷ third ∷ [] ≡ before ++ last ∷ behind → All (IsOfOther 5) behind → left ≡ before ++ behind → (last ≡ third) × (left ≡ first ∷ other ∷ [])
     by [] behind all later rest =
         let are : behind ≡ other ∷ third ∷ [] = cc in
         absurd (subst (All (IsOfOther 5)) are later 1 third (omega arith) is_third)
@@ -101,6 +101,6 @@ last_of_three first other third last left is_first is_other is_third is = by is.
         let are : left ≡ first ∷ other ∷ [] = cc in
         (is_last, are)
     by (a ∷ b ∷ c ∷ before) behind all later rest =
-        let long = ap (λ (l : List Hold). length l) all in
+        let long = ap (λ (l : List KeptReference). length l) all in
         let more = length-append before (last ∷ behind) in
         absurd (omega arith)

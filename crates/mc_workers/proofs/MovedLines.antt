@@ -6,7 +6,7 @@ use Rattle.mc_classes.specs.Classes.{Classes}
 use Rattle.mc_words.specs.declared.arena.Arena.{Arena}
 use Rattle.mc_words.specs.declared.hand.Hand.{Hand}
 use Rattle.mc_words.specs.hand.Arenas.{IsHandOf, setup_of, view}
-use Rattle.mc_words.specs.hand.Observers.{number_of}
+use Rattle.mc_words.specs.hand.Observers.{hand_number}
 use Rattle.mc_words.specs.hand.Ready.{IsReady}
 use Rattle.mc_script.specs.declared.command.Command.{Command}
 use Rattle.mc_workers.specs.declared.mover.Mover.{Mover}
@@ -34,14 +34,14 @@ texts_more table replies reply =
 pub record MovedSoFar (arena : Arena) (commands : List Command) (mover : Mover) (before : Hand) (text : List ℕ) (left : Mover) (now : Hand) (longer : List ℕ) : Type 0 where
   pub hand : IsHandOf arena now
   pub ready : IsReady (view now)
-  pub number : number_of now ≡ number_of before
+  pub number : hand_number now ≡ hand_number before
   pub holdings : (view now).row.holdings ≡ (view before).row.holdings
   pub moves : AddsMoves (setup_of arena).table commands mover before text left now longer
 
 -- and when it did the next one, too
 module _ (arena : Arena) (commands : List Command) (i : ℕ) (other : Command) (within : i < length commands) (mover : Mover) (before : Hand) (text : List ℕ) (left : Mover) (now : Hand) (longer : List ℕ)
     (so_far : MovedSoFar arena (take i commands) mover before text left now longer) where
-  pub move_done : (after : Mover) (then : Hand) (longest : List ℕ) → is_movers (get_or commands i other) ≡ true → IsHandOf arena then → IsReady (view then) → number_of then ≡ number_of now → (view then).row.holdings ≡ (view now).row.holdings
+  pub move_done : (after : Mover) (then : Hand) (longest : List ℕ) → is_movers (get_or commands i other) ≡ true → IsHandOf arena then → IsReady (view then) → hand_number then ≡ hand_number now → (view then).row.holdings ≡ (view now).row.holdings
       → AddsMove (setup_of arena).table (get_or commands i other) left now longer after then longest → MovedSoFar arena (take (i + 1) commands) mover before text after then longest
   move_done after then longest is hand ready number holdings adds =
       let table = (setup_of arena).table in

@@ -11,7 +11,7 @@ use Rattle.mc_pages.specs.declared.numbers.Numbers.{Numbers}
 use Rattle.mc_pages.specs.declared.numbers.Totals.{Totals}
 use Rattle.mc_pages.specs.Changes.{after_back}
 use Rattle.mc_pages.specs.ClassState.{ClassState, new_class, numbers_of}
-use Rattle.mc_pages.specs.SlabState.{SlabState, IsClass, class_at, granted_count, is_untouched}
+use Rattle.mc_pages.specs.SlabState.{SlabState, HasClass, class_at, granted_count, is_untouched}
 use Rattle.mc_pages.proofs.GrantedPage.{length-pages_le}
 use Rattle.mc_core.specs.declared.event.Step.TheVariants as step
 use Rattle.mc_core.specs.InOrder.{IsOfTable}
@@ -35,11 +35,11 @@ use Rattle.mc_words.specs.lock.Wait.{WaitsForSlabs}
 use Rattle.mc_words.proofs.Locks.Lent.{lent_slabs}
 use Rattle.mc_words.proofs.Locks.TakeAndGive.{held_from}
 use Rattle.mc_mover.specs.declared.numbers.Survey.{Survey}
-use Rattle.mc_mover.specs.Acting.{ActsOnce}
+use Rattle.mc_mover.specs.Acting.{ActsOnceByNumber}
 use Rattle.mc_mover.specs.Surveying.{IsSurvey, Surveys, SweepsClasses, classes_swept, free_in, pages_in}
 use Rattle.mc_mover.proofs.HoldsSlabs.{wait_keeps}
 use Rattle.mc_workers.specs.Script.{SurveysWhole}
-use Rattle.mc_workers.specs.Surveyed.{AreTellable, granted_in}
+use Rattle.mc_workers.specs.Surveyed.{ArePrintable, granted_in}
 
 -- pages and lists that are taken are of the arena's table, and that is sound
 pub taken_of_table : (view : View) (slabs : SlabState) (now : View) → WaitsForSlabs view slabs now → IsOfTable now.setup.table slabs × IsSound now.setup.table
@@ -101,16 +101,16 @@ free_count class = length class.free
 
 -- of pages and lists of a sound table
 module _ (table : Classes) (slabs : SlabState) (sound : IsSound table) (of : IsOfTable table slabs) where
-  there : (class : ℕ) → IsTableClass table class → IsClass slabs class
+  there : (class : ℕ) → IsTableClass table class → HasClass slabs class
   there class valid = let count = class_count table slabs of in (valid.0, omega (arith, valid.1, count))
 
   -- a class has at most as many pages as there are
-  pages_few : (class : ℕ) → IsClass slabs class → length (class_at slabs class).pages ≤ 127
+  pages_few : (class : ℕ) → HasClass slabs class → length (class_at slabs class).pages ≤ 127
   pages_few class valid =
       omega (arith, length-pages_le slabs class of.accounted valid, of.owners, sound.pages.1, sound.count.1)
 
   -- and no more free chunks than these have
-  free_within : (class : ℕ) → IsClass slabs class → length (class_at slabs class).free ≤ length (class_at slabs class).pages * per_page_of table class
+  free_within : (class : ℕ) → HasClass slabs class → length (class_at slabs class).free ≤ length (class_at slabs class).pages * per_page_of table class
   free_within class valid =
       rw (← per_page_is table slabs class of valid) (omega (arith, of.accounted.total class valid))
 
@@ -129,7 +129,7 @@ module _ (table : Classes) (slabs : SlabState) (sound : IsSound table) (of : IsO
   }
 
   -- so the numbers of a survey of them can be told
-  are_tellable : (survey : Survey) → IsSurvey slabs survey → AreTellable table survey
+  are_tellable : (survey : Survey) → IsSurvey slabs survey → ArePrintable table survey
   are_tellable survey is = record {
     counts = subst (λ (p : List ℕ × List ℕ). AreCounts table p.0 p.1) (λ k. (sym pages k, sym free k)) are_counts;
     granted = omega (arith, bytes, few);
@@ -161,14 +161,14 @@ module _ (view now : View) (sweep : Bool) (survey : Survey) (holds : HoldsSlabs 
       (subst (λ (t : Classes). IsOfTable t holds.left) same_table here.1, subst IsSound same_table sound)
 
 -- so its numbers can be told
-survey_tellable : (view now : View) (sweep : Bool) (survey : Survey) → HoldsSlabs (Surveys sweep survey) view now → AreTellable view.setup.table survey
+survey_tellable : (view now : View) (sweep : Bool) (survey : Survey) → HoldsSlabs (Surveys sweep survey) view now → ArePrintable view.setup.table survey
 survey_tellable view now sweep survey holds =
     let (of, sound) = left_of_table view now sweep survey holds in
     are_tellable view.setup.table holds.left sound of survey holds.does.is
 
-pub survey_told : (arena : Arena) (before now : Hand) (sweep : Bool) (survey : Survey) → IsHandOf arena before → ActsOnce (λ number. Surveys sweep survey) before now → AreTellable (setup_of arena).table survey
+pub survey_told : (arena : Arena) (before now : Hand) (sweep : Bool) (survey : Survey) → IsHandOf arena before → ActsOnceByNumber (λ number. Surveys sweep survey) before now → ArePrintable (setup_of arena).table survey
 survey_told arena before now sweep survey of_arena acts =
-    subst (λ (s : Setup). AreTellable s.table survey) of_arena.setup (survey_tellable (view before) (view now) sweep survey acts)
+    subst (λ (s : Setup). ArePrintable s.table survey) of_arena.setup (survey_tellable (view before) (view now) sweep survey acts)
 
 -- and they are those of pages and lists of the table
 pub survey_whole : (view now : View) (survey : Survey) → HoldsSlabs (Surveys true survey) view now → HoldsSlabs (SurveysWhole view.setup.table survey) view now

@@ -12,14 +12,14 @@ use Rattle.mc_mover.specs.declared.counts.Counts as mover
 use Rattle.mc_mover.specs.declared.counts.Turn.{Turn}
 use Rattle.mc_mover.specs.declared.counts.Turn.TheVariants.{Idle, Went, Finished}
 use Rattle.mc_mover.specs.Telling.{counts_in}
-use Rattle.mc_mover.specs.Turning.{AreBelow, LooksFrom, Turns, counted, counts_of, no_counts}
+use Rattle.mc_mover.specs.Turning.{AreBelow, LooksFrom, Turns, counts_with_found, counts_with_all, no_counts}
 use Rattle.mc_serial_spec.specs.declared.turn.Counts.{Counts}
 use Rattle.mc_serial_spec.specs.Mover.{AreAtMost}
 use Rattle.mc_workers.specs.Moving.{counts_of_all, counts_with}
 use Rattle.mc_workers.proofs.Tellable.{taken_of_table}
 
 -- one chunk more
-one_more : (most : ℕ) (found : Found) (counts : mover.Counts) → AreBelow most counts → AreBelow (most + 1) (counted found counts)
+one_more : (most : ℕ) (found : Found) (counts : mover.Counts) → AreBelow most counts → AreBelow (most + 1) (counts_with_found found counts)
 one_more most Cleared counts (a, b, c, d, e) = (omega (arith, a), omega (arith, b), omega (arith, c), omega (arith, d), omega (arith, e))
 one_more most Rescued counts (a, b, c, d, e) = (omega (arith, a), omega (arith, b), omega (arith, c), omega (arith, d), omega (arith, e))
 one_more most Evicted counts (a, b, c, d, e) = (omega (arith, a), omega (arith, b), omega (arith, c), omega (arith, d), omega (arith, e))
@@ -31,10 +31,10 @@ below_more : (few many : ℕ) (counts : mover.Counts) → AreBelow few counts �
 below_more few many counts (a, b, c, d, e) more = (omega (arith, a), omega (arith, b), omega (arith, c), omega (arith, d), omega (arith, e))
 
 -- each number is at most that of the chunks
-all_counted : (found : List Found) (most : ℕ) (counts : mover.Counts) → AreBelow most counts → AreBelow (most + length found) (counts_of found counts)
+all_counted : (found : List Found) (most : ℕ) (counts : mover.Counts) → AreBelow most counts → AreBelow (most + length found) (counts_with_all found counts)
 all_counted [] most counts below = below_more most (most + 0) counts below (omega arith)
 all_counted (one ∷ found) most counts below =
-    below_more (most + 1 + length found) (most + length (one ∷ found)) (counts_of found (counted one counts)) (all_counted found (most + 1) (counted one counts) (one_more most one counts below)) (omega arith)
+    below_more (most + 1 + length found) (most + length (one ∷ found)) (counts_with_all found (counts_with_found one counts)) (all_counted found (most + 1) (counts_with_found one counts) (one_more most one counts below)) (omega arith)
 
 -- a turn looks at no more chunks than a page has
 looks_few : (number : ℕ) (counts : mover.Counts) (view : View) (slabs : SlabState) (now : View) (left : SlabState) → IsOfTable view.setup.table slabs → IsSound view.setup.table → LooksFrom number counts view slabs now left → AreBelow 257 counts
@@ -44,7 +44,7 @@ looks_few number counts view slabs now left of sound looks =
     let same = per_page_is view.setup.table slabs looks.move.src of (of.accounted.move looks.move looks.runs).src in
     let count = looks.count in
     let few : 1 + length looks.found ≤ 257 = omega arith in
-    subst (AreBelow 257) (sym looks.counts_are) (below_more (1 + length looks.found) 257 (counts_of looks.found no_counts) (all_counted looks.found 1 no_counts (omega arith, omega arith, omega arith, omega arith, omega arith)) few)
+    subst (AreBelow 257) (sym looks.counts_are) (below_more (1 + length looks.found) 257 (counts_with_all looks.found no_counts) (all_counted looks.found 1 no_counts (omega arith, omega arith, omega arith, omega arith, omega arith)) few)
 
 -- so a turn counts at most 256 of each kind
 pub turn_few : (number : ℕ) (turn : Turn) (view now : View) → HoldsSlabs (Turns number turn) view now → AreBelow 257 (counts_in turn)

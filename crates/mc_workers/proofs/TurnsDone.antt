@@ -4,19 +4,19 @@ use Rattle.std.proofs.lemmas.List.{length-append}
 use Rattle.std.proofs.lemmas.List.Elements.{All-nil, All-pop, All-push}
 use Rattle.mc_words.specs.declared.hand.Hand.{Hand}
 use Rattle.mc_mover.specs.declared.counts.Turn.{Turn}
-use Rattle.mc_mover.specs.Acting.{ActsOnce, TellsTurn}
+use Rattle.mc_mover.specs.Acting.{ActsOnceByNumber, RecordsTurn}
 use Rattle.mc_mover.specs.Turning.{Turns}
 use Rattle.mc_serial_spec.specs.declared.turn.Counts.{Counts}
 use Rattle.mc_serial_spec.specs.declared.turn.Ending.{Ending}
 use Rattle.mc_serial_spec.specs.declared.turn.Ending.TheVariants.{Went}
-use Rattle.mc_serial_spec.specs.Mover.{AreAtMost, no_counts}
+use Rattle.mc_serial_spec.specs.Mover.{AreAtMost, zero_counts}
 use Rattle.mc_workers.specs.declared.mover.Mover.{Mover}
-use Rattle.mc_workers.specs.Moving.{DoesTurns, RunsOutOfTurns, TurnsEach, WentOn, counts_of_all, counts_with, ending_of}
+use Rattle.mc_workers.specs.Moving.{DoesTurnsInRun, RunsOutOfTurns, TurnsEach, WentOn, counts_of_all, counts_with, ending_of}
 use Rattle.mc_workers.proofs.TurnCounts.{counts_push, more_counts, turn_few}
 
 -- a turn was done, which told its evictions and rescues
 abbrev pub DoesTurn : Turn → Hand → Hand → Type 0
-DoesTurn turn before now = ActsOnce (λ number. Turns number turn) before now × TellsTurn before now turn
+DoesTurn turn before now = ActsOnceByNumber (λ number. Turns number turn) before now × RecordsTurn before now turn
 
 -- one turn more
 each_more : (turns : List Turn) (turn : Turn) (before between now : Hand) → TurnsEach turns before between → DoesTurn turn between now → TurnsEach (turns ++ turn ∷ []) before now
@@ -35,7 +35,7 @@ pub record HaveGone (count : ℕ) (counts : Counts) (mover : Mover) (before : Ha
   pub most : AreAtMost (256 * count) counts
 
 -- at first
-pub gone_none : (counts : Counts) (mover : Mover) (hand : Hand) → counts ≡ no_counts → HaveGone 0 counts mover hand mover hand
+pub gone_none : (counts : Counts) (mover : Mover) (hand : Hand) → counts ≡ zero_counts → HaveGone 0 counts mover hand mover hand
 gone_none counts mover hand none = record {
   turns = [];
   count_is = refl;
@@ -54,10 +54,10 @@ last_of first (next ∷ turns) = let (earlier, last, all) = last_of next turns i
 
 -- all that were asked for went on
 pub gone_all : (asked count : ℕ) (ending : Ending) (counts : Counts) (mover : Mover) (before : Hand) (left : Mover) (now : Hand) → HaveGone count counts mover before left now → count ≡ asked → 1 ≤ count → ending ≡ Went
-    → DoesTurns asked ending counts mover before left now
+    → DoesTurnsInRun asked ending counts mover before left now
 gone_all asked count ending counts mover before left now gone all some went = by gone.turns gone.count_is gone.went gone.does gone.sums
   where
-    by : (turns : List Turn) → length turns ≡ count → All WentOn turns → TurnsEach turns before now → counts ≡ counts_of_all turns → DoesTurns asked ending counts mover before left now
+    by : (turns : List Turn) → length turns ≡ count → All WentOn turns → TurnsEach turns before now → counts ≡ counts_of_all turns → DoesTurnsInRun asked ending counts mover before left now
     by [] none each does sums = absurd (omega (arith, none))
     by (first ∷ turns) count_is each does sums =
         let (earlier, last, is) = last_of first turns in
@@ -122,7 +122,7 @@ module _ (asked count : ℕ) (counts more : Counts) (turn : Turn) (mover : Mover
   }
 
   -- or it was the last
-  pub gone_last : count < asked → (WentOn turn → ⊥) → DoesTurns asked (ending_of turn) more mover before left now
+  pub gone_last : count < asked → (WentOn turn → ⊥) → DoesTurnsInRun asked (ending_of turn) more mover before left now
   gone_last within ended = record {
     turns = gone.turns ++ turn ∷ [];
     are = record {

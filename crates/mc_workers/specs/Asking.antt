@@ -5,12 +5,12 @@ use Rattle.mc_script.specs.declared.command.Command.{Command}
 use Rattle.mc_script.specs.declared.command.Command.TheVariants.{Set, Delete, Get, Hold, Drop, Touch}
 
 -- the worker of a line, and the key that the line is about
-pub record Asked : Type 0 where
+pub record AskedLine : Type 0 where
   pub worker : ℕ
   pub key : ℕ
 
 -- the worker and the key of a worker's line, none where the line is the mover's
-abbrev pub asked_by : Command → Option Asked
+abbrev pub asked_by : Command → Option AskedLine
 asked_by (Set worker key words base) = Some (record { worker = worker; key = key })
 asked_by (Delete worker key) = Some (record { worker = worker; key = key })
 asked_by (Get worker key) = Some (record { worker = worker; key = key })
@@ -40,9 +40,9 @@ abbrev pub lines_of_mover : List Command → List Command
 lines_of_mover commands = filter is_movers commands
 
 -- the worker whose line a command is; the mover is worker 0
-abbrev pub worker_of : Command → ℕ
-worker_of command = option_map_or (λ asked. asked.worker) (asked_by command) 0
+abbrev pub asking_worker : Command → ℕ
+asking_worker command = option_map_or (λ asked. asked.worker) (asked_by command) 0
 
 -- the greatest worker of the lines, and 0 where all are the mover's
 abbrev pub greatest_worker : List Command → ℕ
-greatest_worker commands = fold (λ greatest command. max greatest (worker_of command)) 0 commands
+greatest_worker commands = fold (λ greatest command. max greatest (asking_worker command)) 0 commands

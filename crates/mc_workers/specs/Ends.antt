@@ -8,9 +8,9 @@ use Rattle.mc_workers.specs.declared.ended.Ended.TheVariants.{Turns}
 use Rattle.mc_workers.specs.declared.threads.Joined.{Joined}
 use Rattle.mc_workers.specs.declared.threads.Served.{Served}
 use Rattle.mc_workers.specs.Asking.{greatest_worker, lines_of, lines_of_mover}
-use Rattle.mc_workers.specs.Gates.{LetsOn, PassedEach, Stopped, Stops}
+use Rattle.mc_workers.specs.Gates.{LetsOn, PassedEach, IsStopped, Stops}
 use Rattle.mc_workers.specs.Spending.{StopsMoves}
-use Rattle.mc_workers.specs.Threads.{AreDone, IsServed}
+use Rattle.mc_workers.specs.Threads.{AreDone, LinesAreServed}
 
 -- the worker was let on before and after each of its lines
 abbrev pub PassesLines : LetsOn → List Command → ℕ → Type 0
@@ -22,10 +22,10 @@ PassesMoves lets_on commands = PassedEach lets_on 0 (length (lines_of_mover comm
 
 -- the worker was stopped at one of its lines, and let on at all before
 abbrev pub StopsLines : LetsOn → Stops → List Command → ℕ → Type 0
-StopsLines lets_on stops commands worker = Stopped lets_on stops worker (length (lines_of worker commands))
+StopsLines lets_on stops commands worker = IsStopped lets_on stops worker (length (lines_of worker commands))
 
 -- n workers from this number on, and the mover, were let on at each line
-pub record PassesAll (lets_on : LetsOn) (commands : List Command) (worker count : ℕ) : Type 0 where
+pub record LetsAllOn (lets_on : LetsOn) (commands : List Command) (worker count : ℕ) : Type 0 where
   pub workers : (own : ℕ) → worker ≤ own → own < worker + count → PassesLines lets_on commands own
   pub mover : PassesMoves lets_on commands
 
@@ -44,7 +44,7 @@ pub record StopsSome (lets_on : LetsOn) (stops : Stops) (commands : List Command
 
 -- all workers of a script, up to the greatest, and its mover were let on at each line
 abbrev pub RunPasses : LetsOn → List Command → Type 0
-RunPasses lets_on commands = PassesAll lets_on commands 1 (greatest_worker commands)
+RunPasses lets_on commands = LetsAllOn lets_on commands 1 (greatest_worker commands)
 
 -- some thread of the run was stopped, and each that wasn't was let on at each line
 abbrev pub RunStops : LetsOn → Stops → List Command → Type 0
@@ -52,7 +52,7 @@ RunStops lets_on stops commands = StopsSome lets_on stops commands 1 (greatest_w
 
 -- how a worker's thread ended: its lines were done, each let on; the gate stopped it at one; or memory was refused
 pub record EndsServed (lets_on : LetsOn) (stops : Stops) (arena : Arena) (worker : ℕ) (commands : List Command) (hand : Hand) (ended : Result Served Ended) : Type 0 where
-  pub served : IfOk ended (IsServed arena worker commands hand)
+  pub served : IfOk ended (LinesAreServed arena worker commands hand)
   pub passed : OnOk ended (PassesLines lets_on commands worker)
   pub stopped : ended ≡ Err Turns → StopsLines lets_on stops commands worker
 
@@ -60,7 +60,7 @@ pub record EndsServed (lets_on : LetsOn) (stops : Stops) (arena : Arena) (worker
 -- `Turns` ended them, one was stopped
 pub record EndsJoined (lets_on : LetsOn) (stops : Stops) (arena : Arena) (worker : ℕ) (commands : List Command) (hands : List Hand) (mover : Hand) (ended : Result Joined Ended) : Type 0 where
   pub done : IfOk ended (AreDone arena worker commands hands mover)
-  pub passed : OnOk ended (PassesAll lets_on commands worker (length hands))
+  pub passed : OnOk ended (LetsAllOn lets_on commands worker (length hands))
   pub stopped : ended ≡ Err Turns → StopsSome lets_on stops commands worker (length hands)
 
 -- one of two ends is `Turns`, and the other is `Turns`, too, or no error

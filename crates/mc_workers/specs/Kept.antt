@@ -5,24 +5,24 @@ use Rattle.mc_items.specs.declared.refs.Ref.{Ref}
 use Rattle.mc_items.specs.ItemRefs.{item_key, item_words}
 
 -- a reference that is kept, and the words of its item
-pub record Hold : Type 0 where
+pub record KeptReference : Type 0 where
   pub item : Ref
   pub words : List ℕ
 
 -- the holds by these references, with the words that the hand knows of each
-abbrev pub hold_of : View → Ref → Hold
+abbrev pub hold_of : View → Ref → KeptReference
 hold_of view item = record { item = item; words = item_words view item }
 
 -- the holds by these references, in the same order
-abbrev pub holds_of : View → List Ref → List Hold
-holds_of view kept = map (hold_of view) kept
+abbrev pub kept_references : View → List Ref → List KeptReference
+kept_references view kept = map (hold_of view) kept
 
 -- the reference is to an item of another key
 abbrev pub IsToOther : ℕ → Ref → Type 0
 IsToOther key item = item_key item ≢ key
 
 -- the hold is of an item of another key
-abbrev pub IsOfOther : ℕ → Hold → Type 0
+abbrev pub IsOfOther : ℕ → KeptReference → Type 0
 IsOfOther key hold = IsToOther key hold.item
 
 -- of the references to items of the key the one at this place came last
@@ -32,9 +32,9 @@ pub record IsLastAt (key : ℕ) (kept : List Ref) (place : ℕ) : Type 0 where
   pub later : All (IsToOther key) (drop (place + 1) kept)
 
 -- this hold is the last of the key, and these are the holds without it
-pub record IsLastOf (key : ℕ) (holds : List Hold) (last : Hold) (left : List Hold) : Type 0 where
-  pub before : List Hold
-  pub behind : List Hold
+pub record IsLastOf (key : ℕ) (holds : List KeptReference) (last : KeptReference) (left : List KeptReference) : Type 0 where
+  pub before : List KeptReference
+  pub behind : List KeptReference
   pub all : holds ≡ before ++ last ∷ behind
   pub of_key : item_key last.item ≡ key
   pub later : All (IsOfOther key) behind

@@ -21,22 +21,22 @@ use Rattle.mc_workers.specs.declared.mover.Mover.{Mover}
 use Rattle.mc_workers.specs.declared.mover_reply.Acted.{Acted}
 use Rattle.mc_workers.specs.declared.mover_reply.MoverReply.TheVariants as reply
 use Rattle.mc_workers.specs.MoverReplies.{totals_text, window_text}
-use Rattle.mc_workers.specs.Moving.{ActsOnDecision, AreTurnsOf, DoesTurns, RunsOutOfTurns, ServesMover, TurnsEach, counts_of_all, decider_after, decision_after, refusal_for, turns_of}
-use Rattle.mc_workers.specs.Surveyed.{AreTellable, granted_in}
+use Rattle.mc_workers.specs.Moving.{ActsOnDecisionInRun, AreTurnsOf, DoesTurnsInRun, RunsOutOfTurns, ServesMover, TurnsEach, counts_of_all, decider_after, decision_acted_on, refusal_for, turns_of}
+use Rattle.mc_workers.specs.Surveyed.{ArePrintable, granted_in}
 
 -- a page was to go from class 3 to the pool, and this was answered
-abbrev pub pooled : Result (Unit {0}) Reassign → Option Acted
-pooled answer = Some (record { decision = record { src = 3; dst = 0 }; answer = answer })
+abbrev pub pool_move : Result (Unit {0}) Reassign → Option Acted
+pool_move answer = Some (record { decision = record { src = 3; dst = 0 }; answer = answer })
 
 -- the line of a window has source and destination in this order, and then the answer
-abbrev pub WindowsAreTold : Type 0
-WindowsAreTold =
-    (window_text (pooled (Ok tt)) ≡ codes "WINDOW " ++ decimal 3 ++ codes " " ++ decimal 0 ++ codes " OK\r\n")
-    × (window_text (pooled (Err NoSpare)) ≡ codes "WINDOW " ++ decimal 3 ++ codes " " ++ decimal 0 ++ codes " NOSPARE\r\n")
+abbrev pub WindowsArePrinted : Type 0
+WindowsArePrinted =
+    (window_text (pool_move (Ok tt)) ≡ codes "WINDOW " ++ decimal 3 ++ codes " " ++ decimal 0 ++ codes " OK\r\n")
+    × (window_text (pool_move (Err NoSpare)) ≡ codes "WINDOW " ++ decimal 3 ++ codes " " ++ decimal 0 ++ codes " NOSPARE\r\n")
 
 -- a decision is acted on in mode 1 alone
 abbrev pub DecidesInMode1Alone : Type 0
-DecidesInMode1Alone = (decider : DeciderState) (survey : Survey) → survey.mode ≢ 1 → decision_after decider survey ≡ None
+DecidesInMode1Alone = (decider : DeciderState) (survey : Survey) → survey.mode ≢ 1 → decision_acted_on decider survey ≡ None
 
 -- the decider is fed in every mode
 abbrev pub IsFedInEveryMode : Type 0
@@ -46,12 +46,12 @@ IsFedInEveryMode = (decider : DeciderState) (survey : Survey) → refusal_for de
 -- numbers that the decider refuses change nothing
 abbrev pub RefusedNumbersChangeNothing : Type 0
 RefusedNumbersChangeNothing = (decider : DeciderState) (survey : Survey) (refusal : Feed) → refusal_for decider survey ≡ Some refusal →
-    (decider_after decider survey ≡ decider) × (decision_after decider survey ≡ None)
+    (decider_after decider survey ≡ decider) × (decision_acted_on decider survey ≡ None)
 
 -- no decision is passed over, and none is made up
 abbrev pub DecisionsAreActedOn : Type 0
 DecisionsAreActedOn = (decision : Decision) (acted : Acted) (before now : Hand) →
-    (ActsOnDecision (Some decision) None before now → ⊥) × (ActsOnDecision None (Some acted) before now → ⊥)
+    (ActsOnDecisionInRun (Some decision) None before now → ⊥) × (ActsOnDecisionInRun None (Some acted) before now → ⊥)
 
 -- the counts of a turn that cleared 3 chunks, one of them by a rescue, and found 2 busy
 abbrev pub first_counts : turns.Counts
@@ -84,7 +84,7 @@ TurnsComeApart = (first others : List Turn) (before now : Hand) → TurnsEach (f
 -- a line begins at least one turn, and no more than are asked for; the run never more than 1,000,000
 abbrev pub TurnsAreCounted : Type 0
 TurnsAreCounted = (asked : ℕ) (ending : Ending) (counts : Counts) (mover : Mover) (before : Hand) (left : Mover) (now : Hand) →
-    DoesTurns asked ending counts mover before left now →
+    DoesTurnsInRun asked ending counts mover before left now →
     (turns_of mover < turns_of left) × (turns_of left ≤ turns_of mover + asked) × (turns_of left ≤ 1000000)
 
 -- a line of turns ends the run only where it asks for more turns than are left
@@ -93,8 +93,8 @@ TurnsRunOut = (asked : ℕ) (mover : Mover) (before : Hand) (left : Mover) (now 
     RunsOutOfTurns asked mover before left now → 1000000 < turns_of mover + asked
 
 -- two pages were moved, three items rescued, four evicted, five chunks were busy; a page is in the pool, and one on the move
-abbrev pub TotalsAreTold : Type 0
-TotalsAreTold = (survey : Survey) →
+abbrev pub TotalsArePrinted : Type 0
+TotalsArePrinted = (survey : Survey) →
     survey.totals ≡ record { granted = 9; pool = 1; moved = 2; rescues = 3; evictions_nomem = 4; busy = 5 } → survey.running ≡ true →
     totals_text survey ≡
     stat_line (codes "slab_global_page_pool") 1
@@ -110,9 +110,9 @@ abbrev pub two_a_page : Classes
 two_a_page = record { page = 1024; limit = 4096; sizes = 512 ∷ [] }
 
 -- a page of two chunks can't have three free ones; granted bytes are those of whole pages
-abbrev pub ClassesAreTold : Type 0
-ClassesAreTold = (survey : Survey) →
-    (pages_in survey ≡ 1 ∷ [] → free_in survey ≡ 3 ∷ [] → AreTellable two_a_page survey → ⊥)
+abbrev pub ClassesArePrinted : Type 0
+ClassesArePrinted = (survey : Survey) →
+    (pages_in survey ≡ 1 ∷ [] → free_in survey ≡ 3 ∷ [] → ArePrintable two_a_page survey → ⊥)
     × (survey.totals.granted ≡ 3 → granted_in two_a_page survey ≡ 3072)
 
 -- want of memory is no answer, and no line has the reply of another one

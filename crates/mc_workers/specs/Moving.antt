@@ -4,15 +4,15 @@ use Rattle.mc_pages.specs.declared.moves.Reassign.{Reassign}
 use Rattle.mc_pages.specs.declared.moves.Reassign.TheVariants.{NoMemory}
 use Rattle.mc_words.specs.declared.hand.Hand.{Hand}
 use Rattle.mc_words.specs.hand.Arenas.{view}
-use Rattle.mc_words.specs.hand.Observers.{number_of}
+use Rattle.mc_words.specs.hand.Observers.{hand_number}
 use Rattle.mc_words.specs.page.Moves.{Reassigns}
 use Rattle.mc_mover.specs.declared.counts.Turn.{Turn}
 use Rattle.mc_mover.specs.declared.counts.Turn.TheVariants as turn
 use Rattle.mc_mover.specs.declared.numbers.Survey.{Survey}
-use Rattle.mc_mover.specs.Acting.{ActsOnce, TellsTurn}
+use Rattle.mc_mover.specs.Acting.{ActsOnceByNumber, RecordsTurn}
 use Rattle.mc_stripe.specs.declared.refusal.Trim.{Trim}
 use Rattle.mc_stripe.specs.declared.refusal.Trim.TheVariants as trim
-use Rattle.mc_mover.specs.Recording.{FindsFull, FindsNotFull, StopsTrimming, TrimsAll}
+use Rattle.mc_mover.specs.Recording.{FindsStripeFull, FindsNotFull, StopsTrimming, TrimsAll}
 use Rattle.mc_mover.specs.Reassigning.{SetsMode}
 use Rattle.mc_mover.specs.Surveying.{Surveys, evictions_in, free_in, pages_in}
 use Rattle.mc_mover.specs.Telling.{counts_in}
@@ -21,11 +21,11 @@ use Rattle.mc_script.specs.declared.command.Command.{Command}
 use Rattle.mc_script.specs.declared.command.Command.TheVariants as command
 use Rattle.mc_watch.specs.declared.decider.Decision.{Decision}
 use Rattle.mc_watch.specs.declared.refusal.Feed.{Feed}
-use Rattle.mc_watch.specs.Decider.{DeciderState, after_window, decision_of, refusal_of}
+use Rattle.mc_watch.specs.Decider.{DeciderState, after_window, decision_of, feed_refusal}
 use Rattle.mc_serial_spec.specs.declared.turn.Counts.{Counts}
 use Rattle.mc_serial_spec.specs.declared.turn.Ending.{Ending}
 use Rattle.mc_serial_spec.specs.declared.turn.Ending.TheVariants.{Idle, Went, Finished}
-use Rattle.mc_serial_spec.specs.Mover.{no_counts}
+use Rattle.mc_serial_spec.specs.Mover.{zero_counts}
 use Rattle.mc_workers.specs.declared.mover.Mover.{Mover}
 use Rattle.mc_workers.specs.declared.mover_reply.Acted.{Acted}
 use Rattle.mc_workers.specs.declared.mover_reply.MoverReply.{MoverReply}
@@ -41,12 +41,12 @@ turns_of mover = mover.turns
 
 -- a page was asked for, and got this answer, which isn't that memory was missing
 abbrev pub AsksForPage : Option ℕ → ℕ → Result (Unit {0}) Reassign → Hand → Hand → Type 0
-AsksForPage src dst answer before now = ActsOnce (λ number. Reassigns number src dst answer) before now × (answer ≢ Err (NoMemory tt))
+AsksForPage src dst answer before now = ActsOnceByNumber (λ number. Reassigns number src dst answer) before now × (answer ≢ Err (NoMemory tt))
 
 -- why the decider doesn't take the numbers of a survey. In a run it takes all, as classes stay and evictions never fall, but no contract
 -- states this
 abbrev pub refusal_for : DeciderState → Survey → Option Feed
-refusal_for decider survey = refusal_of decider (evictions_in survey) (pages_in survey) (free_in survey)
+refusal_for decider survey = feed_refusal decider (evictions_in survey) (pages_in survey) (free_in survey)
 
 -- the decider at the end of a window with these numbers, in any mode; a decider that refuses the numbers stays
 abbrev pub decider_after : DeciderState → Survey → DeciderState
@@ -54,46 +54,46 @@ decider_after decider survey =
     if is_some (refusal_for decider survey) then decider else after_window decider (evictions_in survey) (pages_in survey) (free_in survey)
 
 -- the decision at a window's end: in mode 1 alone there may be one, and none where the decider refuses the numbers
-abbrev pub decision_after : DeciderState → Survey → Option Decision
-decision_after decider survey = if is_none (refusal_for decider survey) && survey.mode == 1 then decision_of (decider_after decider survey) else None
+abbrev pub decision_acted_on : DeciderState → Survey → Option Decision
+decision_acted_on decider survey = if is_none (refusal_for decider survey) && survey.mode == 1 then decision_of (decider_after decider survey) else None
 
 -- the page of the decision was asked for, and got the recorded answer; or there is no decision, and nothing was done
-abbrev pub ActsOnDecision : Option Decision → Option Acted → Hand → Hand → Type 0
-ActsOnDecision None None before now = now ≡ before
-ActsOnDecision (Some decision) (Some acted) before now =
+abbrev pub ActsOnDecisionInRun : Option Decision → Option Acted → Hand → Hand → Type 0
+ActsOnDecisionInRun None None before now = now ≡ before
+ActsOnDecisionInRun (Some decision) (Some acted) before now =
     (acted.decision ≡ decision) × AsksForPage (Some decision.src) decision.dst acted.answer before now
-ActsOnDecision decision acted before now = ⊥
+ActsOnDecisionInRun decision acted before now = ⊥
 
 -- at a window's end the dead chunks of all classes were put back; the decider got the numbers of what was left, and its decision was acted
 -- on
 pub record ActsOnWindow (acted : Option Acted) (mover : Mover) (before : Hand) (left : Mover) (now : Hand) : Type 0 where
   pub survey : Survey
   pub surveyed : Hand
-  pub surveys : ActsOnce (λ number. Surveys true survey) before surveyed
+  pub surveys : ActsOnceByNumber (λ number. Surveys true survey) before surveyed
   pub feeds : left ≡ record mover { decider = decider_after mover.decider survey }
-  pub acts : ActsOnDecision (decision_after mover.decider survey) acted surveyed now
+  pub acts : ActsOnDecisionInRun (decision_acted_on mover.decider survey) acted surveyed now
 
 -- each stripe was trimmed and the ledger, or the first stripes, up to one that was full or for whose room memory was refused
 abbrev pub TrimsAs : Result (Unit {0}) Trim → Hand → Hand → Type 0
-TrimsAs (Ok all) before now = TrimsAll (number_of before) (view before).setup.config.stripes (view before) (view now)
-TrimsAs (Err trim.Full) before now = StopsTrimming (number_of before) FindsFull (view before) (view now)
-TrimsAs (Err (trim.NoMemory refused)) before now = StopsTrimming (number_of before) FindsNotFull (view before) (view now)
+TrimsAs (Ok all) before now = TrimsAll (hand_number before) (view before).setup.config.stripes (view before) (view now)
+TrimsAs (Err trim.Full) before now = StopsTrimming (hand_number before) FindsStripeFull (view before) (view now)
+TrimsAs (Err (trim.NoMemory refused)) before now = StopsTrimming (hand_number before) FindsNotFull (view before) (view now)
 
 -- a window ended: the decision was acted on as `acted` reports, and then all was trimmed, as far as `trimmed` reports
-pub record EndsWindow (acted : Option Acted) (trimmed : Result (Unit {0}) Trim) (mover : Mover) (before : Hand) (left : Mover) (now : Hand) : Type 0 where
+pub record EndsWindowInRun (acted : Option Acted) (trimmed : Result (Unit {0}) Trim) (mover : Mover) (before : Hand) (left : Mover) (now : Hand) : Type 0 where
   pub decided : Hand
   pub acts : ActsOnWindow acted mover before left decided
   pub trims : TrimsAs trimmed decided now
 
 -- a page was asked for, and memory was refused
 abbrev pub RefusesPage : Hand → Hand → Type 0
-RefusesPage before now = (src : Option ℕ) × (dst : ℕ) × ActsOnce (λ number. Reassigns number src dst (Err (NoMemory tt))) before now
+RefusesPage before now = (src : Option ℕ) × (dst : ℕ) × ActsOnceByNumber (λ number. Reassigns number src dst (Err (NoMemory tt))) before now
 
 -- memory was refused to a window: to its survey, behind that to the decider, or to the page of its decision; and nothing was trimmed
 abbrev pub RefusesWindow : Hand → Hand → Type 0
 RefusesWindow before now =
     (view now ≡ view before)
-    ⊎ ((survey : Survey) × (surveyed : Hand) × ActsOnce (λ number. Surveys true survey) before surveyed
+    ⊎ ((survey : Survey) × (surveyed : Hand) × ActsOnceByNumber (λ number. Surveys true survey) before surveyed
     × ((view now ≡ view surveyed) ⊎ RefusesPage surveyed now))
 
 -- how a turn ended
@@ -110,7 +110,7 @@ WentOn turn = ending_of turn ≡ Went
 abbrev pub TurnsEach : List Turn → Hand → Hand → Type 0
 TurnsEach [] before now = now ≡ before
 TurnsEach (turn ∷ turns) before now =
-    (next : Hand) × ActsOnce (λ number. Turns number turn) before next × TellsTurn before next turn × TurnsEach turns next now
+    (next : Hand) × ActsOnceByNumber (λ number. Turns number turn) before next × RecordsTurn before next turn × TurnsEach turns next now
 
 -- the counts with those of a turn added
 abbrev pub counts_with : Turn → Counts → Counts
@@ -124,7 +124,7 @@ counts_with turn counts = record {
 
 -- what some turns counted, all together
 abbrev pub counts_of_all : List Turn → Counts
-counts_of_all [] = no_counts
+counts_of_all [] = zero_counts
 counts_of_all (turn ∷ turns) = counts_with turn (counts_of_all turns)
 
 -- the turns of a line that asks for n: all but the last went on, and where the last went on, too, there are n
@@ -138,7 +138,7 @@ pub record AreTurnsOf (asked : ℕ) (turns : List Turn) (ending : Ending) : Type
   pub enough : WentOn last → length turns ≡ asked
 
 -- n turns were asked for, and these were done, of the 1,000,000 that a run has. The reply has their sums, and how the last one ended
-pub record DoesTurns (asked : ℕ) (ending : Ending) (counts : Counts) (mover : Mover) (before : Hand) (left : Mover) (now : Hand) : Type 0 where
+pub record DoesTurnsInRun (asked : ℕ) (ending : Ending) (counts : Counts) (mover : Mover) (before : Hand) (left : Mover) (now : Hand) : Type 0 where
   pub turns : List Turn
   pub are : AreTurnsOf asked turns ending
   pub does : TurnsEach turns before now
@@ -158,11 +158,11 @@ pub record RunsOutOfTurns (asked : ℕ) (mover : Mover) (before : Hand) (left : 
 -- a line of the mover, by its reply: what it did by its hand, and what it made of the decider and of the run's count of turns
 abbrev pub ServesMover : Command → MoverReply → Mover → Hand → Mover → Hand → Type 0
 ServesMover (command.Reassign src dst) (Answer answer) mover before left now = AsksForPage src dst answer before now × (left ≡ mover)
-ServesMover (command.Automove mode) Mode mover before left now = ActsOnce (λ number. SetsMode number mode) before now × (left ≡ mover)
-ServesMover command.Window (Window acted trimmed) mover before left now = EndsWindow acted trimmed mover before left now
-ServesMover (command.Turn asked) (Turned ending counts) mover before left now = DoesTurns asked ending counts mover before left now
-ServesMover command.Stats (Totals survey) mover before left now = ActsOnce (λ number. Surveys false survey) before now × (left ≡ mover)
-ServesMover command.StatsSlabs (Classes survey) mover before left now = ActsOnce (λ number. Surveys true survey) before now × (left ≡ mover)
+ServesMover (command.Automove mode) Mode mover before left now = ActsOnceByNumber (λ number. SetsMode number mode) before now × (left ≡ mover)
+ServesMover command.Window (Window acted trimmed) mover before left now = EndsWindowInRun acted trimmed mover before left now
+ServesMover (command.Turn asked) (Turned ending counts) mover before left now = DoesTurnsInRun asked ending counts mover before left now
+ServesMover command.Stats (Totals survey) mover before left now = ActsOnceByNumber (λ number. Surveys false survey) before now × (left ≡ mover)
+ServesMover command.StatsSlabs (Classes survey) mover before left now = ActsOnceByNumber (λ number. Surveys true survey) before now × (left ≡ mover)
 ServesMover command reply mover before left now = ⊥
 
 -- a line of the mover that ended the run, which only a line of turns does

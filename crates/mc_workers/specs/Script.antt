@@ -9,7 +9,7 @@ use Rattle.mc_words.specs.hand.Arenas.{setup_of}
 use Rattle.mc_words.specs.lock.Doing.{SlabsDoing}
 use Rattle.mc_words.specs.hand.Hands.{AreHandsFrom, IsMadeWith, IsNewHand}
 use Rattle.mc_mover.specs.declared.numbers.Survey.{Survey}
-use Rattle.mc_mover.specs.Acting.{ActsOnce}
+use Rattle.mc_mover.specs.Acting.{ActsOnceByNumber}
 use Rattle.mc_mover.specs.Reassigning.{SetsMode}
 use Rattle.mc_mover.specs.Surveying.{Surveys}
 use Rattle.mc_script.specs.declared.command.Command.{Command}
@@ -23,7 +23,7 @@ pub record IsOpened (config : Config) (mode hands : ℕ) (arena : Arena) (mover 
   pub made : IsMadeWith config hands 0 (setup_of arena)
   pub first : Hand
   pub new : IsNewHand arena 0 first
-  pub sets : ActsOnce (λ number. SetsMode number mode) first mover
+  pub sets : ActsOnceByNumber (λ number. SetsMode number mode) first mover
   pub others : AreHandsFrom arena 1 workers
   pub count : 1 + length workers ≡ hands
 
@@ -32,10 +32,10 @@ abbrev pub SurveysWhole : Classes → Survey → SlabsDoing
 SurveysWhole table survey view slabs now left = Surveys true survey view slabs now left × IsOfTable table left
 
 -- the text has the workers' replies, then the mover's, and then the statistics of a survey that the one hand of all made last
-pub record TellsAll (arena : Arena) (joined : Joined) (text : List ℕ) : Type 0 where
+pub record PrintsAll (arena : Arena) (joined : Joined) (text : List ℕ) : Type 0 where
   pub survey : Survey
   pub last : Hand
-  pub surveys : ActsOnce (λ number. SurveysWhole (setup_of arena).table survey) joined.hand last
+  pub surveys : ActsOnceByNumber (λ number. SurveysWhole (setup_of arena).table survey) joined.hand last
   pub told : text ≡ joined.workers.items ++ joined.mover.items ++ statistics_text (setup_of arena).table survey
 
 -- the script's lines were done on a new arena, with a hand for the mover and one for each worker. The text has their replies
@@ -46,4 +46,4 @@ pub record ServesScript (config : Config) (mode : ℕ) (commands : List Command)
   pub opened : IsOpened config mode (1 + greatest_worker commands) arena mover workers
   pub joined : Joined
   pub done : AreDone arena 1 commands workers mover joined
-  pub tells : TellsAll arena joined text
+  pub tells : PrintsAll arena joined text

@@ -5,7 +5,7 @@ use Rattle.mc_script.specs.declared.command.Command.TheVariants.{Turn}
 use Rattle.mc_workers.specs.declared.gate.Point.TheVariants.{Before}
 use Rattle.mc_workers.specs.declared.mover.Mover.{Mover}
 use Rattle.mc_workers.specs.Asking.{lines_of_mover}
-use Rattle.mc_workers.specs.Gates.{LetsOn, PassedEach, Stopped, StoppedAt, Stops}
+use Rattle.mc_workers.specs.Gates.{LetsOn, PassedEach, IsStopped, StoppedAt, Stops}
 use Rattle.mc_workers.specs.Moving.{turns_of}
 
 -- how many turns a line asks for
@@ -30,5 +30,5 @@ pub record SpendsTurns (lets_on : LetsOn) (begun : ℕ) (lines : List Command) :
 -- the mover was stopped at one of its lines, or let on before one that asks for more turns than the run had left
 abbrev pub StopsMoves : LetsOn → Stops → ℕ → List Command → Type 0
 StopsMoves lets_on stops begun commands =
-    Stopped lets_on stops 0 (length (lines_of_mover commands))
+    IsStopped lets_on stops 0 (length (lines_of_mover commands))
     ⊎ SpendsTurns lets_on begun (lines_of_mover commands)

@@ -10,6 +10,6 @@ abbrev pub granted_in : Classes → Survey → ℕ
 granted_in table survey = survey.totals.granted * table.page
 
 -- the statistics of the classes can be printed: the table has the survey's classes, with room for their chunks, and the bytes fit a number
-pub record AreTellable (table : Classes) (survey : Survey) : Type 0 where
+pub record ArePrintable (table : Classes) (survey : Survey) : Type 0 where
   pub counts : AreCounts table (pages_in survey) (free_in survey)
   pub granted : granted_in table survey < 2 ^ 64

@@ -4,7 +4,7 @@ use Rattle.mc_words.specs.declared.arena.Arena.{Arena}
 use Rattle.mc_words.specs.declared.hand.Hand.{Hand}
 use Rattle.mc_words.specs.hand.Arenas.{IsHandOf, setup_of, view}
 use Rattle.mc_words.specs.hand.Idle.{is_idle}
-use Rattle.mc_words.specs.rule.Joins.{Agrees}
+use Rattle.mc_words.specs.rule.Joins.{KnowledgeAgrees}
 use Rattle.mc_words.specs.hand.Ready.{IsReady}
 use Rattle.mc_words.specs.hand.View.{Setup, both_views}
 use Rattle.mc_script.specs.declared.command.Command.{Command}
@@ -14,7 +14,7 @@ use Rattle.mc_workers.specs.Lines.{DoesLines}
 use Rattle.mc_workers.specs.Moves.{MovesLines}
 
 -- the worker's thread did its lines by this hand: the hand is idle then, and the text has the replies
-pub record IsServed (arena : Arena) (worker : ℕ) (commands : List Command) (hand : Hand) (served : Served) : Type 0 where
+pub record LinesAreServed (arena : Arena) (worker : ℕ) (commands : List Command) (hand : Hand) (served : Served) : Type 0 where
   pub of_arena : IsHandOf arena served.hand
   pub idle : is_idle (view served.hand) ≡ true
   pub does : DoesLines (setup_of arena) worker commands hand served.text.items served.hand
@@ -29,7 +29,7 @@ pub record IsMoved (arena : Arena) (commands : List Command) (hand : Hand) (join
 -- the first hand took the worker's over, and the worker's text is before that of the others
 pub record JoinsBoth (arena : Arena) (own : Served) (others : Joined) (joined : Joined) : Type 0 where
   pub of_arena : IsHandOf arena joined.hand
-  pub agree : Agrees (view joined.hand).row.knows
+  pub agree : KnowledgeAgrees (view joined.hand).row.knows
   pub both : view joined.hand ≡ both_views (view others.hand) (view own.hand)
   pub workers : joined.workers.items ≡ own.text.items ++ others.workers.items
   pub mover : joined.mover.items ≡ others.mover.items
@@ -50,7 +50,7 @@ pub record AreDone (arena : Arena) (worker : ℕ) (commands : List Command) (han
   pub of_arena : IsHandOf arena joined.hand
   pub idle : is_idle (view joined.hand) ≡ true
   pub ready : IsReady (view joined.hand)
-  pub agree : (hands ≡ []) ⊎ Agrees (view joined.hand).row.knows
+  pub agree : (hands ≡ []) ⊎ KnowledgeAgrees (view joined.hand).row.knows
   pub moved : Hand
   pub moves : MovesLines (setup_of arena).table commands mover joined.mover.items moved
   pub runs : RunsWorkers (setup_of arena) commands worker hands moved joined.workers.items joined.hand

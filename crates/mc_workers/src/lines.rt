@@ -4,10 +4,10 @@ ghost use Rattle.std.specs.Option.{option_map};
 ghost use Rattle.mc_script.specs.Command.{IsValid};
 ghost use Rattle.mc_words.specs.hand.Arenas.{IsHandOf, setup_of, view};
 ghost use Rattle.mc_words.specs.hand.Idle.{is_idle};
-ghost use Rattle.mc_words.specs.hand.Observers.{number_of};
+ghost use Rattle.mc_words.specs.hand.Observers.{hand_number};
 ghost use Rattle.mc_workers.specs.Asking.{asked_by, is_asked_by, is_workers};
 ghost use Rattle.mc_workers.specs.Ends.{PassesLines, StopsLines};
-ghost use Rattle.mc_workers.specs.Gates.{Passed, StoppedAt};
+ghost use Rattle.mc_workers.specs.Gates.{IsLetOn, StoppedAt};
 ghost use Rattle.mc_workers.specs.Hands.{IsKeeping, IsReadyHandOf, StaysKeeping};
 ghost use Rattle.mc_workers.specs.Lines.{DoesLines};
 ghost use Rattle.mc_workers.specs.OnHands.{AddsReplyBy, ServesLinesBy};
@@ -36,7 +36,7 @@ pub fn serve_lines<R: Wait, G: Gate>(
     requires valid { All IsValid shared.now.commands.now }
     requires empty { text.old.items ≡ [] }
     ensures arena { IsHandOf shared.now.arena.now hand.new }
-    ensures number { number_of hand.new ≡ number_of hand.old }
+    ensures number { hand_number hand.new ≡ hand_number hand.old }
     ensures idle { OnOk result (is_idle (view hand.new) ≡ true) }
     ensures does { OnOk result (DoesLines (setup_of shared.now.arena.now) worker shared.now.commands.now hand.old text.new.items hand.new) }
     ensures passed { OnOk result
@@ -93,7 +93,7 @@ fn serve_gated<R: Wait, G: Gate>(
     requires worker { is_asked_by worker command ≡ true }
     ensures stays { StaysKeeping shared.now.arena.now hand.old hand.new kept.new.items }
     ensures adds { OnOk result (AddsReplyBy shared.now.arena.now command hand.old kept.old.items text.old.items hand.new kept.new.items text.new.items) }
-    ensures passed { OnOk result (Passed (G.LetsOn shared.now.gate.now) worker nth) }
+    ensures passed { OnOk result (IsLetOn (G.LetsOn shared.now.gate.now) worker nth) }
     ensures stopped { result ≡ Err Ended.Turns
         → StoppedAt (G.LetsOn shared.now.gate.now) (G.Stops shared.now.gate.now) worker nth }
 {

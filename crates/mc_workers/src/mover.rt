@@ -1,7 +1,7 @@
 //! The decider and the count of turns of the mover's thread.
 ghost use Rattle.std.specs.Prelude.{◌≡◌, IfOk, OnErr, OnOk};
 ghost use Rattle.mc_watch.specs.Decider.{fresh_decider};
-ghost use Rattle.mc_workers.specs.Moving.{decider_after, decider_of, decision_after, turns_of};
+ghost use Rattle.mc_workers.specs.Moving.{decider_after, decider_of, decision_acted_on, turns_of};
 
 use mc_classes::ClassTable;
 use mc_memory::Refused;
@@ -35,7 +35,7 @@ impl Mover {
         survey: &Survey,
     ) -> Result<Option<Decision>, Refused>
         ensures fed { OnOk result (decider_of self.new ≡ decider_after (decider_of self.old) survey.now) }
-        ensures decided { IfOk result (λ decided. decided ≡ decision_after (decider_of self.old) survey.now) }
+        ensures decided { IfOk result (λ decided. decided ≡ decision_acted_on (decider_of self.old) survey.now) }
         ensures kept { OnErr result (decider_of self.new ≡ decider_of self.old) }
         ensures turns { turns_of self.new ≡ turns_of self.old }
     {

@@ -1,9 +1,9 @@
 //! Worked cases of what a line of the mover does and replies, each the contract of a function with nothing to do.
-ghost use Rattle.mc_workers.specs.MoverCases.{ClassesAreTold, DecidesInMode1Alone, DecisionsAreActedOn, IsFedInEveryMode, RefusedNumbersChangeNothing, RepliesAreOfTheirLines, TotalsAreTold, TurnsAreCounted, TurnsAreSummed, TurnsComeApart, TurnsGoOnUntilDone, TurnsRunOut, WindowsAreTold};
+ghost use Rattle.mc_workers.specs.MoverCases.{ClassesArePrinted, DecidesInMode1Alone, DecisionsAreActedOn, IsFedInEveryMode, RefusedNumbersChangeNothing, RepliesAreOfTheirLines, TotalsArePrinted, TurnsAreCounted, TurnsAreSummed, TurnsComeApart, TurnsGoOnUntilDone, TurnsRunOut, WindowsArePrinted};
 
 /// The line of a window names source, destination and answer, in this order.
 pub fn windows_are_told()
-    ensures { WindowsAreTold }
+    ensures { WindowsArePrinted }
 {}
 
 /// The decider is fed in every mode; its decision is acted on in mode 1 alone, and there always. Numbers that it refuses change nothing.
@@ -30,8 +30,8 @@ pub fn turns_are_counted()
 
 /// The statistics print each number of a survey under its name, and no class has more free chunks than its pages have.
 pub fn statistics_are_told()
-    ensures totals { TotalsAreTold }
-    ensures classes { ClassesAreTold }
+    ensures totals { TotalsArePrinted }
+    ensures classes { ClassesArePrinted }
 {}
 
 /// Want of memory is no answer, and no line has the reply of another one.

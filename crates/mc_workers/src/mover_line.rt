@@ -4,7 +4,7 @@ ghost use Rattle.mc_script.specs.Command.{IsValid};
 ghost use Rattle.mc_words.specs.hand.Arenas.{setup_of};
 ghost use Rattle.mc_workers.specs.Asking.{is_workers};
 ghost use Rattle.mc_workers.specs.Hands.{IsReadyHandOf, StaysHolding};
-ghost use Rattle.mc_workers.specs.MoverReplies.{CanTell};
+ghost use Rattle.mc_workers.specs.MoverReplies.{CanPrint};
 ghost use Rattle.mc_workers.specs.Moving.{RefusesMover, ServesMover, StopsMover, turns_of};
 ghost use Rattle.mc_workers.specs.Spending.{turns_asked};
 
@@ -37,7 +37,7 @@ pub fn serve_mover_line<R: Wait>(
     requires mover { is_workers command ≡ false }
     ensures stays { StaysHolding arena.now hand.old hand.new }
     ensures moves { IfOk result (λ reply. ServesMover command reply mover.old hand.old mover.new hand.new) }
-    ensures tellable { IfOk result (CanTell (setup_of arena.now).table) }
+    ensures tellable { IfOk result (CanPrint (setup_of arena.now).table) }
     ensures stopped { result ≡ Err Ended.Turns → StopsMover command mover.old hand.old mover.new hand.new }
     ensures begun { OnOk result (turns_of mover.new ≤ turns_of mover.old + turns_asked command) }
     ensures refused { OnErr result (RefusesMover command hand.old hand.new) }

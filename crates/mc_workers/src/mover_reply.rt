@@ -1,7 +1,7 @@
 //! The replies to the mover's lines, and their text.
 ghost use Rattle.std.specs.Prelude.{◌≡◌, ◌++◌, OnOk};
 ghost use Rattle.std.specs.Io.{StartsWith};
-ghost use Rattle.mc_workers.specs.MoverReplies.{CanTell, mover_text, told_name};
+ghost use Rattle.mc_workers.specs.MoverReplies.{CanPrint, mover_text, reassign_word};
 
 use crate::statistics::{push_classes, push_totals};
 use mc_classes::ClassTable;
@@ -48,7 +48,7 @@ pub fn push_mover_reply(
     table: &ClassTable,
     reply: &MoverReply,
 ) -> Result<(), Refused>
-    requires tellable { CanTell table.now reply.now }
+    requires tellable { CanPrint table.now reply.now }
     ensures text { OnOk result (text.new.items ≡ text.old.items ++ mover_text table.now reply.now) }
     ensures kept { StartsWith text.new.items text.old.items }
 {
@@ -68,7 +68,7 @@ pub fn push_mover_reply(
 
 // The word for whether a page began to move.
 fn name_of_answer(answer: &Result<(), Reassign>) -> &'static [u8]
-    ensures name { result.now ≡ told_name answer.now }
+    ensures name { result.now ≡ reassign_word answer.now }
 {
     match answer {
         Ok(()) => b"OK",

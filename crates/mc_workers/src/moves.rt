@@ -4,7 +4,7 @@ ghost use Rattle.mc_script.specs.Command.{IsValid};
 ghost use Rattle.mc_words.specs.hand.Arenas.{setup_of};
 ghost use Rattle.mc_workers.specs.Asking.{is_movers, is_workers};
 ghost use Rattle.mc_workers.specs.Ends.{PassesMoves};
-ghost use Rattle.mc_workers.specs.Gates.{Passed};
+ghost use Rattle.mc_workers.specs.Gates.{IsLetOn};
 ghost use Rattle.mc_workers.specs.Hands.{IsReadyHandOf, StaysHolding};
 ghost use Rattle.mc_workers.specs.Moves.{MovesLines};
 ghost use Rattle.mc_workers.specs.Moving.{turns_of};
@@ -81,7 +81,7 @@ fn move_gated<R: Wait, G: Gate>(
     ensures stays { StaysHolding shared.now.arena.now hand.old hand.new }
     ensures adds { OnOk result (AddsMoveBy shared.now.arena.now command hand.old mover.old text.old.items hand.new mover.new text.new.items) }
     ensures begun { OnOk result (turns_of mover.new ≤ turns_of mover.old + turns_asked command) }
-    ensures passed { OnOk result (Passed (G.LetsOn shared.now.gate.now) 0 nth) }
+    ensures passed { OnOk result (IsLetOn (G.LetsOn shared.now.gate.now) 0 nth) }
     ensures stopped { result ≡ Err Ended.Turns → StopsMove (G.LetsOn shared.now.gate.now)
         (G.Stops shared.now.gate.now) nth command mover.old }
 {

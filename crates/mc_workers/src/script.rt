@@ -1,12 +1,12 @@
 //! All lines of a script, by threads on an arena of its own.
 ghost use Rattle.std.specs.Prelude.{◌≡◌, ◌≤◌, [], All, Err, IfOk, None, OnOk};
-ghost use Rattle.mc_classes.specs.Refusals.{refusal_of};
+ghost use Rattle.mc_classes.specs.Refusals.{config_refusal};
 ghost use Rattle.mc_script.specs.Command.{IsValid};
 ghost use Rattle.mc_words.specs.hand.Arenas.{view};
-ghost use Rattle.mc_workers.specs.Asking.{greatest_worker, worker_of};
+ghost use Rattle.mc_workers.specs.Asking.{greatest_worker, asking_worker};
 ghost use Rattle.mc_workers.specs.Ends.{RunPasses, RunStops};
 ghost use Rattle.mc_workers.specs.Hands.{IsReadyHandOf};
-ghost use Rattle.mc_workers.specs.Script.{IsOpened, ServesScript, TellsAll};
+ghost use Rattle.mc_workers.specs.Script.{IsOpened, ServesScript, PrintsAll};
 
 use crate::ended::Ended;
 use crate::gate::Gate;
@@ -35,7 +35,7 @@ pub fn serve_script<R: Threads + Wait + Sync, G: Gate + Sync>(
     gate: &G,
     commands: &[Command],
 ) -> Result<Vec<u8>, Ended>
-    requires accepted { refusal_of config.now ≡ None }
+    requires accepted { config_refusal config.now ≡ None }
     requires mode { mode ≤ 2 }
     requires valid { All IsValid commands.now }
     ensures serves { IfOk result (λ text. ServesScript config.now mode commands.now text.items) }
@@ -60,7 +60,7 @@ fn greatest_worker(commands: &[Command]) -> u64
 
 // Whose line it is, the mover being worker 0.
 fn worker_of(command: &Command) -> u64
-    ensures worker { result ≡ worker_of command.now }
+    ensures worker { result ≡ asking_worker command.now }
 {
     match *command {
         Command::Set { worker, .. }
@@ -81,7 +81,7 @@ fn open_arena<R: Wait>(
     mode: u64,
     hands: u64,
 ) -> Result<(Arena, Hand, Vec<Hand>), Refused>
-    requires accepted { refusal_of config.now ≡ None }
+    requires accepted { config_refusal config.now ≡ None }
     requires mode { mode ≤ 2 }
     requires some { 1 ≤ hands }
     requires few { hands ≤ 64 }
@@ -109,7 +109,7 @@ fn tell_all<R: Wait>(
     joined: Joined,
 ) -> Result<Vec<u8>, Refused>
     requires ready { IsReadyHandOf arena.now joined.hand }
-    ensures tells { IfOk result (λ text. TellsAll arena.now joined text.items) }
+    ensures tells { IfOk result (λ text. PrintsAll arena.now joined text.items) }
 {
     let Joined {
         mut hand,

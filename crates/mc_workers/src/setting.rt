@@ -1,6 +1,6 @@
 //! The line that stores an item.
 ghost use Rattle.std.specs.Prelude.{◌≡◌, ◌≤◌, IfOk, OnOk};
-ghost use Rattle.mc_serial_spec.specs.Item.{words_from};
+ghost use Rattle.mc_serial_spec.specs.Item.{counting_words};
 ghost use Rattle.mc_words.specs.hand.Arenas.{view};
 ghost use Rattle.mc_words.specs.item.Refs.{KeepsRefs};
 ghost use Rattle.mc_workers.specs.Hands.{IsReadyHandOf, StaysHolding};
@@ -26,7 +26,7 @@ pub(crate) fn set_words<R: Wait>(
     requires ready { IsReadyHandOf arena.now hand.old }
     requires count { count ≤ 4096 }
     ensures stays { StaysHolding arena.now hand.old hand.new }
-    ensures answers { IfOk result (λ reply. AnswersSet key (words_from base count) reply hand.old hand.new) }
+    ensures answers { IfOk result (λ reply. AnswersSet key (counting_words base count) reply hand.old hand.new) }
     ensures keeps { KeepsRefs (view hand.old) (view hand.new) }
 {
     let words = count_up(alloc, base, count)?;
@@ -42,7 +42,7 @@ pub(crate) fn set_words<R: Wait>(
 // The n words that count up from the base, modulo 2^64.
 fn count_up(alloc: Global, base: u64, count: u64) -> Result<Vec<u64>, Refused>
     requires { count ≤ 4096 }
-    ensures words { IfOk result (λ words. words.items ≡ words_from base count) }
+    ensures words { IfOk result (λ words. words.items ≡ counting_words base count) }
 {
     let mut words = with_capacity(alloc, count as usize)?;
     for place in 0..count {

@@ -1,8 +1,8 @@
 //! The texts of the statistics, added to a text in memory.
 ghost use Rattle.std.specs.Prelude.{◌≡◌, ◌++◌, ◌<◌, OnOk};
 ghost use Rattle.std.specs.Io.{StartsWith};
-ghost use Rattle.mc_workers.specs.MoverReplies.{classes_text, statistics_text, totals_text};
-ghost use Rattle.mc_workers.specs.Surveyed.{AreTellable};
+ghost use Rattle.mc_workers.specs.MoverReplies.{class_statistics_text, statistics_text, totals_text};
+ghost use Rattle.mc_workers.specs.Surveyed.{ArePrintable};
 
 use mc_classes::{ClassTable, Failures, Fault};
 use mc_memory::Refused;
@@ -18,7 +18,7 @@ pub(crate) fn push_statistics(
     table: &ClassTable,
     survey: &Survey,
 ) -> Result<(), Refused>
-    requires tellable { AreTellable table.now survey.now }
+    requires tellable { ArePrintable table.now survey.now }
     ensures text { OnOk result (text.new.items ≡ text.old.items ++ statistics_text table.now survey.now) }
     ensures kept { StartsWith text.new.items text.old.items }
 {
@@ -64,8 +64,8 @@ pub(crate) fn push_classes<L: Ledger>(
     requires name { refusals.name ≡ L.name }
     requires parts { refusals.parts ≡ L.parts }
     requires some { 0 < refusals.parts }
-    requires tellable { AreTellable table.now survey.now }
-    ensures text { OnOk result (text.new.items ≡ text.old.items ++ classes_text table.now survey.now) }
+    requires tellable { ArePrintable table.now survey.now }
+    ensures text { OnOk result (text.new.items ≡ text.old.items ++ class_statistics_text table.now survey.now) }
     ensures kept { StartsWith text.new.items text.old.items }
 {
     let pages = survey.pages(*text.allocator())?;

@@ -5,10 +5,10 @@ ghost use Rattle.mc_script.specs.Command.{IsValid};
 ghost use Rattle.mc_words.specs.hand.Arenas.{IsHandOf, view};
 ghost use Rattle.mc_words.specs.hand.Hands.{AreHandsFrom, IsNewHand};
 ghost use Rattle.mc_words.specs.hand.Idle.{is_idle};
-ghost use Rattle.mc_workers.specs.Ends.{AreTurns, EndsJoined, EndsServed, PassesAll, PassesLines, PassesMoves, StopsLines, StopsSome};
+ghost use Rattle.mc_workers.specs.Ends.{AreTurns, EndsJoined, EndsServed, LetsAllOn, PassesLines, PassesMoves, StopsLines, StopsSome};
 ghost use Rattle.mc_workers.specs.Hands.{IsReadyHandOf};
 ghost use Rattle.mc_workers.specs.Spending.{StopsMoves};
-ghost use Rattle.mc_workers.specs.Threads.{AreDone, IsMoved, IsServed, JoinsBoth};
+ghost use Rattle.mc_workers.specs.Threads.{AreDone, IsMoved, LinesAreServed, JoinsBoth};
 
 use crate::ended::Ended;
 use crate::gate::Gate;
@@ -79,7 +79,7 @@ pub fn run_workers<R: Threads + Wait + Sync, G: Gate + Sync>(
     requires valid { All IsValid commands.now }
     ensures done { IfOk result (AreDone arena.now worker commands.now hands.items mover) }
     ensures passed { OnOk result
-        (PassesAll (G.LetsOn gate.now) commands.now worker (length hands.items)) }
+        (LetsAllOn (G.LetsOn gate.now) commands.now worker (length hands.items)) }
     ensures stopped { result ≡ Err Ended.Turns → StopsSome (G.LetsOn gate.now) (G.Stops gate.now)
         commands.now worker (length hands.items) }
 {
@@ -146,7 +146,7 @@ fn serve_worker<R: Wait, G: Gate>(
 ) -> Result<Served, Ended>
     requires hand { IsNewHand arena.now worker hand }
     requires valid { All IsValid commands.now }
-    ensures served { IfOk result (IsServed arena.now worker commands.now hand) }
+    ensures served { IfOk result (LinesAreServed arena.now worker commands.now hand) }
     ensures passed { OnOk result (PassesLines (G.LetsOn gate.now) commands.now worker) }
     ensures stopped { result ≡ Err Ended.Turns
         → StopsLines (G.LetsOn gate.now) (G.Stops gate.now) commands.now worker }

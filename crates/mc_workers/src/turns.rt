@@ -4,7 +4,7 @@ ghost use Rattle.mc_serial_spec.specs.Mover.{AreAtMost};
 ghost use Rattle.mc_mover.specs.Telling.{counts_in};
 ghost use Rattle.mc_mover.specs.Turning.{AreBelow};
 ghost use Rattle.mc_workers.specs.Hands.{IsReadyHandOf, StaysHolding};
-ghost use Rattle.mc_workers.specs.Moving.{DoesTurns, RunsOutOfTurns, counts_with, ending_of};
+ghost use Rattle.mc_workers.specs.Moving.{DoesTurnsInRun, RunsOutOfTurns, counts_with, ending_of};
 
 use crate::ended::Ended;
 use crate::mover::Mover;
@@ -28,7 +28,7 @@ pub(crate) fn do_turns<R: Wait>(
     requires ready { IsReadyHandOf arena.now hand.old }
     requires asked { (1 ≤ asked) × (asked ≤ 1000000) }
     ensures stays { StaysHolding arena.now hand.old hand.new }
-    ensures does { IfOk result (λ done. DoesTurns asked done.0 done.1 mover.old hand.old mover.new hand.new) }
+    ensures does { IfOk result (λ done. DoesTurnsInRun asked done.0 done.1 mover.old hand.old mover.new hand.new) }
     ensures stopped { result ≡ Err Ended.Turns → RunsOutOfTurns asked mover.old hand.old mover.new hand.new }
 {
     let mut ending = Ending::Idle;

@@ -1,7 +1,7 @@
 //! The end of a window of the automover.
 ghost use Rattle.std.specs.Prelude.{Err, IfOk, OnErr};
 ghost use Rattle.mc_workers.specs.Hands.{IsReadyHandOf, StaysHolding};
-ghost use Rattle.mc_workers.specs.Moving.{ActsOnDecision, AsksForPage, EndsWindow, RefusesPage, RefusesWindow, TrimsAs};
+ghost use Rattle.mc_workers.specs.Moving.{ActsOnDecisionInRun, AsksForPage, EndsWindowInRun, RefusesPage, RefusesWindow, TrimsAs};
 
 use crate::mover::Mover;
 use crate::mover_reply::Acted;
@@ -26,7 +26,7 @@ pub(crate) fn end_window<R: Wait>(
 ) -> Result<(Option<Acted>, Result<(), Trim>), Refused>
     requires ready { IsReadyHandOf arena.now hand.old }
     ensures stays { StaysHolding arena.now hand.old hand.new }
-    ensures ends { IfOk result (λ told. EndsWindow told.0 told.1 mover.old hand.old mover.new hand.new) }
+    ensures ends { IfOk result (λ told. EndsWindowInRun told.0 told.1 mover.old hand.old mover.new hand.new) }
     ensures refused { OnErr result (RefusesWindow hand.old hand.new) }
 {
     let survey = survey(rt, alloc, arena, hand, true)?;
@@ -55,7 +55,7 @@ fn act_on<R: Wait>(
 ) -> Result<Option<Acted>, Refused>
     requires ready { IsReadyHandOf arena.now hand.old }
     ensures stays { StaysHolding arena.now hand.old hand.new }
-    ensures acts { IfOk result (λ acted. ActsOnDecision decided acted hand.old hand.new) }
+    ensures acts { IfOk result (λ acted. ActsOnDecisionInRun decided acted hand.old hand.new) }
     ensures refused { OnErr result (RefusesPage hand.old hand.new) }
 {
     let Some(decision) = decided else {

@@ -1,5 +1,5 @@
 //! Worked cases of what a worker's lines do and reply, each the contract of a function with nothing to do.
-ghost use Rattle.mc_workers.specs.WorkerCases.{LinesComeApart, RepliesAreTold, RepliesFitTheirLines, TheGreatestIsFound, TheLastHoldIsDropped, TheLastIsReleasedFirst};
+ghost use Rattle.mc_workers.specs.WorkerCases.{LinesComeApart, RepliesArePrinted, RepliesFitTheirLines, TheGreatestIsFound, TheLastHoldIsDropped, TheLastIsReleasedFirst};
 
 /// A drop gives back the hold of its key that came last, and no other.
 pub fn the_last_hold_is_dropped()
@@ -14,7 +14,7 @@ pub fn lines_come_apart()
 
 /// Replies are printed one behind the other, each about the key of its line; and no line has the reply of another one.
 pub fn replies_to_workers_fit()
-    ensures told { RepliesAreTold }
+    ensures told { RepliesArePrinted }
     ensures fit { RepliesFitTheirLines }
 {}
 

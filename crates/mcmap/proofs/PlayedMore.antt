@@ -9,7 +9,7 @@ use Rattle.mc_serial_spec.specs.Machine.{Machine}
 use Rattle.mc_map.specs.Books.{Book}
 use Rattle.mc_map.specs.Map.{books_after}
 use Rattle.mc_map.specs.declared.script.Mark.{Mark}
-use Rattle.mcmap.specs.Played.{IsShown, LeadTo, ShowsMaps, done_at}
+use Rattle.mcmap.specs.Played.{IsMapShown, LeadTo, ShowsMaps, done_at}
 use Rattle.mcmap.specs.declared.show.Form.{Form}
 
 -- what stands from this place on
@@ -43,7 +43,7 @@ module _ (form : Form) (commands : List Command) where
   -- with the map at this mark and those behind it, the maps from this mark on are shown
   pub shows_more : (done next : ℕ) (marks all : List Mark) (place : ℕ) (mark other : Mark) (m after : Machine) (book later : Book) (old text new : List ℕ)
       → all ≡ marks → place < length all → mark ≡ get_or all place other → next ≡ done_at (length commands) done mark
-      → LeadTo (slice_range commands done next) m book after later → IsShown form mark.line after later old text
+      → LeadTo (slice_range commands done next) m book after later → IsMapShown form mark.line after later old text
       → ShowsMaps form commands next (drop (place + 1) marks) after later text new
       → ShowsMaps form commands done (drop place marks) m book old new
   shows_more done next marks all place mark other m after book later old text new same within is at played shown rest =
@@ -58,7 +58,7 @@ module _ (form : Form) (commands : List Command) where
 
   -- behind the last mark a map at the end is all
   pub shows_last : (done : ℕ) (marks all : List Mark) (place : ℕ) (m after : Machine) (book later : Book) (old new : List ℕ)
-      → all ≡ marks → length all ≤ place → LeadTo (slice_range commands done (length commands)) m book after later → IsShown form 0 after later old new
+      → all ≡ marks → length all ≤ place → LeadTo (slice_range commands done (length commands)) m book after later → IsMapShown form 0 after later old new
       → ShowsMaps form commands done (drop place marks) m book old new
   shows_last done marks all place m after book later old new same past played shown =
       subst (λ (ms : List Mark). ShowsMaps form commands done ms m book old new) (sym (drop_all marks place (subst (λ (ms : List Mark). length ms ≤ place) same past)))

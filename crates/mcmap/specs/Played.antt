@@ -5,7 +5,7 @@ use Rattle.mc_script.specs.declared.command.Command.{Command}
 use Rattle.mc_serial_spec.specs.Lines.{serve}
 use Rattle.mc_serial_spec.specs.Machine.{Machine}
 use Rattle.mc_classes.specs.declared.config.Config.{Config}
-use Rattle.mc_classes.specs.Classes.{Classes, IsTableOf, pages_of}
+use Rattle.mc_classes.specs.Classes.{Classes, IsTableOf, page_limit}
 use Rattle.mc_serial_spec.specs.Machine.{fresh_machine}
 use Rattle.mc_options.specs.declared.settings.Run.{Run}
 use Rattle.mc_map.specs.Books.{Book, fresh_books}
@@ -14,8 +14,8 @@ use Rattle.mc_map.specs.Map.{IsMap, books_after}
 use Rattle.mc_map.specs.declared.script.Mark.{Mark}
 use Rattle.mc_picture.specs.Charts.{IsChart}
 use Rattle.mc_picture.specs.Maps.{map_text}
-use Rattle.mc_picture.specs.Rows.{rows_of}
-use Rattle.mc_picture.specs.Tables.{classes_text}
+use Rattle.mc_picture.specs.Rows.{class_table_rows}
+use Rattle.mc_picture.specs.Tables.{class_table_text}
 use Rattle.serde_json.specs.Written.{compact_text}
 use Rattle.mcmap.specs.Json.{map_json}
 use Rattle.mcmap.specs.declared.show.Form.{Form}
@@ -40,7 +40,7 @@ pub record IsChartOf (run : Run) (commands : List Command) (old new : List ℕ) 
 pub record IsClassesOf (config : Config) (old new : List ℕ) : Type 0 where
   pub table : Classes
   pub is_table : IsTableOf config table
-  pub text : new ≡ old ++ classes_text (pages_of table) table.page (rows_of table (length table.sizes))
+  pub text : new ≡ old ++ class_table_text (page_limit table) table.page (class_table_rows table (length table.sizes))
 
 -- the text of a map's place in the script: this line, or the end, which is line 0
 unfoldable pub place_text : ℕ → List ℕ
@@ -53,7 +53,7 @@ IsMapIn Text line map old new = new ≡ old ++ map_text (place_text line) map
 IsMapIn Json line map old new = new ≡ old ++ (compact_text (map_json line map) ++ codes "\n")
 
 -- a map of this machine and these books in this form is behind the old text
-pub record IsShown (form : Form) (line : ℕ) (m : Machine) (books : Book) (old new : List ℕ) : Type 0 where
+pub record IsMapShown (form : Form) (line : ℕ) (m : Machine) (books : Book) (old new : List ℕ) : Type 0 where
   pub keys : List ℕ
   pub map : Map
   pub is_map : IsMap m books keys map
@@ -62,7 +62,7 @@ pub record IsShown (form : Form) (line : ℕ) (m : Machine) (books : Book) (old 
 -- the commands lead from a machine and its books to others, of which a map is behind the old text
 pub record PlaysAndShows (form : Form) (line : ℕ) (commands : List Command) (m : Machine) (book : Book) (old : List ℕ) (after : Machine) (later : Book) (new : List ℕ) : Type 0 where
   pub played : LeadTo commands m book after later
-  pub shown : IsShown form line after later old new
+  pub shown : IsMapShown form line after later old new
 
 -- how many of n commands are done at a mark: those above it, or as many as were done already
 abbrev pub done_at : ℕ → ℕ → Mark → ℕ

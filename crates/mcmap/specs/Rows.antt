@@ -11,7 +11,7 @@ use Rattle.mcmap.specs.Checked.{wrong_count}
 use Rattle.mcmap.specs.Json.{class_json, entry_json, hang_json, map_members, moving_json, owner_json, totals_json}
 use Rattle.mc_serial_spec.specs.Machine.{Machine}
 use Rattle.mc_map.specs.Books.{Book}
-use Rattle.mcmap.specs.Played.{IsShown, ShowsMaps, done_at, place_text}
+use Rattle.mcmap.specs.Played.{IsMapShown, ShowsMaps, done_at, place_text}
 use Rattle.mcmap.specs.declared.show.Form.{Form}
 
 -- the members in this order, of which the names rise
@@ -102,4 +102,4 @@ WrongLinesCounted = (right wrong : List ℕ) → script_of right ≡ Ok [] → s
 abbrev pub OneMarkShown : Type 0
 OneMarkShown =
     (form : Form) (m : Machine) (book : Book) (old new : List ℕ) → ShowsMaps form [] 0 (record { done = 0; line = 3 } ∷ []) m book old new
-    → (text : List ℕ) × IsShown form 3 m book old text × IsShown form 0 m book text new
+    → (text : List ℕ) × IsMapShown form 3 m book old text × IsMapShown form 0 m book text new

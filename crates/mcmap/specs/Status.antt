@@ -4,18 +4,18 @@ use Rattle.mcmap.specs.declared.fault.Fault.{Fault}
 use Rattle.mcmap.specs.declared.fault.Fault.TheVariants.{Options, Words, Threads, Config, Script, TooLong, Read, Write, Memory, Turns, Chart, Books, WrongOptions, WrongLines}
 
 -- 1 for what the program is started with; 2 for the script; 3 for a stream; 4 for memory; 5 for turns past the limit; 6 for its own books
-abbrev pub status_of : Fault → ℕ
-status_of (Options error) = 1
-status_of Words = 1
-status_of Threads = 1
-status_of (Config number) = 1
-status_of Chart = 1
-status_of (Script line) = 2
-status_of TooLong = 2
-status_of Read = 3
-status_of Write = 3
-status_of Memory = 4
-status_of Turns = 5
-status_of Books = 6
-status_of WrongOptions = 1
-status_of (WrongLines count) = 2
+abbrev pub map_status : Fault → ℕ
+map_status (Options error) = 1
+map_status Words = 1
+map_status Threads = 1
+map_status (Config number) = 1
+map_status Chart = 1
+map_status (Script line) = 2
+map_status TooLong = 2
+map_status Read = 3
+map_status Write = 3
+map_status Memory = 4
+map_status Turns = 5
+map_status Books = 6
+map_status WrongOptions = 1
+map_status (WrongLines count) = 2

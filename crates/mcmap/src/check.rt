@@ -1,7 +1,7 @@
 //! What is wrong with the options and the script, in words, and what would be right.
 ghost use Rattle.std.specs.Prelude.{◌≡◌, ◌≢◌, ◌<◌, ◌^◌, None, IfErr, IfOk, IfSome, OnOk};
 ghost use Rattle.std.specs.Str.Lines.{lines};
-ghost use Rattle.mc_classes.specs.Refusals.{refusal_of};
+ghost use Rattle.mc_classes.specs.Refusals.{config_refusal};
 ghost use Rattle.mcmap.specs.Checked.{IsAcceptedScript, IsRefusalOf, wrong_count};
 
 use crate::fault::Fault;
@@ -15,7 +15,7 @@ use std::fmt::Write;
 
 /// Adds what is wrong with the options, of which these are the words: the first test that refuses them.
 pub fn check_options(config: &Config, words: &[String], text: &mut String) -> Result<(), Fault>
-    ensures accepted { OnOk result (refusal_of config.now ≡ None) }
+    ensures accepted { OnOk result (config_refusal config.now ≡ None) }
 {
     match config.test() {
         Ok(()) => Ok(()),

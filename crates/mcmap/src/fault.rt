@@ -1,6 +1,6 @@
 //! Why the program wasn't done, and the status that it ends with.
 ghost use Rattle.std.specs.Prelude.{◌≡◌};
-ghost use Rattle.mcmap.specs.Status.{status_of};
+ghost use Rattle.mcmap.specs.Status.{map_status};
 
 use mc_map::{ConfigError, MapError, Refused, ScriptError, Stop};
 use mc_options::CommandLineError;
@@ -58,7 +58,7 @@ pub enum Fault {
 impl Fault {
     /// The status that the program ends with.
     pub fn status(&self) -> u8
-        ensures { result ≡ status_of self.now }
+        ensures { result ≡ map_status self.now }
     {
         match self {
             Fault::Options(_) | Fault::Words | Fault::Threads | Fault::Config(_) => 1,

@@ -6,7 +6,7 @@
 #![tactic(auto)]
 
 ghost use Rattle.std.specs.Prelude.{◌≡◌, ◌≤◌, All, IfOk, None};
-ghost use Rattle.mc_classes.specs.Refusals.{refusal_of};
+ghost use Rattle.mc_classes.specs.Refusals.{config_refusal};
 ghost use Rattle.mc_script.specs.Command.{IsValid};
 
 mod asked;
@@ -52,7 +52,7 @@ fn script_bytes<R: Input + AllocGlobal>(rt: &R) -> Result<Vec<u8>, Fault> {
 
 /// The script, which isn't read where the configuration is refused.
 fn script_read<R: Input + AllocGlobal>(rt: &R, config: &Config) -> Result<Script, Fault>
-    ensures accepted { IfOk result (λ script. refusal_of config.now ≡ None) }
+    ensures accepted { IfOk result (λ script. config_refusal config.now ≡ None) }
     ensures valid { IfOk result (λ script. All IsValid script.commands.items) }
 {
     config.test()?;

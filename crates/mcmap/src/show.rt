@@ -2,7 +2,7 @@
 ghost use Rattle.std.specs.Prelude.{◌≡◌, ◌≤◌, ◌++◌, All, OnOk, length, string_bytes};
 ghost use Rattle.mc_picture.specs.Charts.{IsChart};
 ghost use Rattle.mc_picture.specs.Maps.{map_text};
-ghost use Rattle.mcmap.specs.Played.{AreMapsOf, IsChartOf, IsClassesOf, IsMapIn, IsShown, LeadTo, ShowsMaps, done_at, place_text};
+ghost use Rattle.mcmap.specs.Played.{AreMapsOf, IsChartOf, IsClassesOf, IsMapIn, IsMapShown, LeadTo, ShowsMaps, done_at, place_text};
 ghost use Rattle.mc_script.specs.Command.{IsValid};
 
 use crate::fault::Fault;
@@ -91,7 +91,7 @@ fn show_map(
 ) -> Result<(), Fault>
     requires mode { run.now.automove ≤ 2 }
     requires valid { All IsValid commands.now }
-    ensures shown { OnOk result (IsShown form line player.now.keeper player.now.books (string_bytes text.old) (string_bytes text.new)) }
+    ensures shown { OnOk result (IsMapShown form line player.now.keeper player.now.books (string_bytes text.old) (string_bytes text.new)) }
 {
     let map = player.map(run, commands)?;
     let written = write_form(alloc, form, &map, line, text);

@@ -1,7 +1,7 @@
 -- What a hand knows of an item that it is to take away, under the lock of its key's stripe.
 use Rattle.std.specs.Prelude.{◌≡◌, ◌<◌, ℕ, true, None, Some}
 use Rattle.mc_pages.specs.declared.ids.ChunkId.{ChunkId}
-use Rattle.mc_stripe.specs.StripeState.{place_of}
+use Rattle.mc_stripe.specs.StripeState.{chunk_and_stamp}
 use Rattle.mc_core.specs.Looks.{was_linked}
 use Rattle.mc_core.specs.State.{has_chunk}
 use Rattle.mc_words.specs.declared.arena.Arena.{Arena}
@@ -19,10 +19,10 @@ pub record IsKeysStripe (arena : Arena) (hand : Hand) (held : StripeHeld) (chunk
   pub key : stripe_read (view hand) chunk ≡ Some (stripe_number held)
 
 -- the hand was lent the stripe of the chunk's key, where a key leads to the chunk, and the hand saw the chunk linked
-pub record LeadsTo (arena : Arena) (hand : Hand) (held : StripeHeld) (chunk : ChunkId) : Type 0 where
+pub record KeyLeadsTo (arena : Arena) (hand : Hand) (held : StripeHeld) (chunk : ChunkId) : Type 0 where
   pub of_key : IsKeysStripe arena hand held chunk
   pub lent : IsLentStripe (view hand) (stripe_number held) (stripe_lent held)
-  pub leads : (key : ℕ) × (stamp : ℕ) × (place_of (stripe_lent held).state key ≡ Some (chunk, stamp))
+  pub leads : (key : ℕ) × (stamp : ℕ) × (chunk_and_stamp (stripe_lent held).state key ≡ Some (chunk, stamp))
   pub linked : was_linked (view hand).row.looks chunk ≡ true
 
 -- the hand has the stripe of the chunk's key, which has room for a call and nothing aside

@@ -9,8 +9,8 @@ use Rattle.mc_pages.specs.declared.ids.ChunkId.{ChunkId}
 use Rattle.mc_pages.specs.declared.ids.Moving.{Moving}
 use Rattle.mc_pages.specs.declared.moves.Found.{Found}
 use Rattle.mc_pages.specs.Ledger.{owner_at}
-use Rattle.mc_pages.specs.ClassState.{is_chunk, times}
-use Rattle.mc_pages.specs.SlabState.{SlabState, IsClass, class_at, class_of_page, class_of_chunk}
+use Rattle.mc_pages.specs.ClassState.{is_chunk, times_in}
+use Rattle.mc_pages.specs.SlabState.{SlabState, HasClass, class_at, class_of_page, class_of_chunk}
 use Rattle.mc_pages.specs.Accounted.{truth, is_of_class, cut_count, is_cut, places_in, IsAccounted}
 use Rattle.mc_pages.specs.Moves.{is_held_up, chunk_at_position, CanPass}
 use Rattle.mc_pages.proofs.Chunks.{None≢Some, same_from_is_chunk, times_from_Contains, Contains_from_slice_get}
@@ -18,26 +18,26 @@ use Rattle.mc_pages.proofs.HandedOut.{class_of_placed, class_of_handed_out}
 use Rattle.mc_pages.proofs.Owners.{is_of_class-class_of_owner}
 
 -- a chunk of a class's free list is free in its class
-pub free_there_at : (slabs : SlabState) (class place : ℕ) (chunk : ChunkId) → IsAccounted slabs → IsClass slabs class → slice_get (class_at slabs class).free place ≡ Some chunk → Contains (class_of_chunk slabs chunk).free chunk
+pub free_there_at : (slabs : SlabState) (class place : ℕ) (chunk : ChunkId) → IsAccounted slabs → HasClass slabs class → slice_get (class_at slabs class).free place ≡ Some chunk → Contains (class_of_chunk slabs chunk).free chunk
 free_there_at slabs class place chunk all is h =
     let there = Contains_from_slice_get chunk (class_at slabs class).free place h in
     let own = class_of_placed slabs class chunk all is (omega (arith, times_from_Contains chunk (class_at slabs class).free there)) in
     subst (λ (n : ℕ). Contains (class_at slabs n).free chunk) (sym own) there
 
 -- a chunk of a class's hand-out order may come back
-pub handed_out_at : (slabs : SlabState) (class place : ℕ) (chunk : ChunkId) → IsAccounted slabs → IsClass slabs class → slice_get (class_at slabs class).order place ≡ Some chunk → Contains (class_of_chunk slabs chunk).order chunk
+pub handed_out_at : (slabs : SlabState) (class place : ℕ) (chunk : ChunkId) → IsAccounted slabs → HasClass slabs class → slice_get (class_at slabs class).order place ≡ Some chunk → Contains (class_of_chunk slabs chunk).order chunk
 handed_out_at slabs class place chunk all is h =
     let handed = Contains_from_slice_get chunk (class_at slabs class).order place h in
     subst (λ (n : ℕ). Contains (class_at slabs n).order chunk) (sym (class_of_handed_out slabs class chunk all is handed)) handed
 
 -- a handed-out chunk of the class of another one
-pub handed_out_beside : (slabs : SlabState) (class place than : ℕ) (chunk other : ChunkId) → IsAccounted slabs → IsClass slabs class → slice_get (class_at slabs class).order place ≡ Some chunk → slice_get (class_at slabs class).order than ≡ Some other → Contains (class_of_chunk slabs chunk).order other
+pub handed_out_beside : (slabs : SlabState) (class place than : ℕ) (chunk other : ChunkId) → IsAccounted slabs → HasClass slabs class → slice_get (class_at slabs class).order place ≡ Some chunk → slice_get (class_at slabs class).order than ≡ Some other → Contains (class_of_chunk slabs chunk).order other
 handed_out_beside slabs class place than chunk other all is here there =
     let own = class_of_handed_out slabs class chunk all is (Contains_from_slice_get chunk (class_at slabs class).order place here) in
     subst (λ (n : ℕ). Contains (class_at slabs n).order other) (sym own) (Contains_from_slice_get other (class_at slabs class).order than there)
 
 -- a free chunk of the class of a handed-out one
-pub free_beside : (slabs : SlabState) (class free place : ℕ) (new old : ChunkId) → IsAccounted slabs → IsClass slabs class → slice_get (class_at slabs class).free free ≡ Some new → slice_get (class_at slabs class).order place ≡ Some old → Contains (class_of_chunk slabs old).free new
+pub free_beside : (slabs : SlabState) (class free place : ℕ) (new old : ChunkId) → IsAccounted slabs → HasClass slabs class → slice_get (class_at slabs class).free free ≡ Some new → slice_get (class_at slabs class).order place ≡ Some old → Contains (class_of_chunk slabs old).free new
 free_beside slabs class free place new old all is there handed =
     let own = class_of_handed_out slabs class old all is (Contains_from_slice_get old (class_at slabs class).order place handed) in
     subst (λ (n : ℕ). Contains (class_at slabs n).free new) (sym own) (Contains_from_slice_get new (class_at slabs class).free free there)
@@ -63,7 +63,7 @@ can_pass_looked slabs found move all runs whole within looked =
     }
 
 -- a chunk of a page was cut where none is to be cut
-pub cut_looked : (slabs : SlabState) (chunk : ChunkId) → IsClass slabs (class_of_page slabs chunk.page) → slabs.uncut ≡ None → chunk.index < (class_at slabs (class_of_page slabs chunk.page)).per_page → is_cut slabs (class_of_page slabs chunk.page) chunk ≡ true
+pub cut_looked : (slabs : SlabState) (chunk : ChunkId) → HasClass slabs (class_of_page slabs chunk.page) → slabs.uncut ≡ None → chunk.index < (class_at slabs (class_of_page slabs chunk.page)).per_page → is_cut slabs (class_of_page slabs chunk.page) chunk ≡ true
 cut_looked slabs chunk is whole within =
     let own = class_of_page slabs chunk.page in
     let size = (class_at slabs own).per_page in
@@ -71,11 +71,11 @@ cut_looked slabs chunk is whole within =
     and_from _ _ owned (ap (λ (o : Option ChunkId). nat_lt chunk.index (cut_count o chunk.page size)) whole ∙ lt-ltb chunk.index size within)
 
 -- a chunk of the moving page that is in a list may be cleared
-pub placed_looked : (slabs : SlabState) (class : ℕ) (chunk : ChunkId) → IsAccounted slabs → IsClass slabs class → 1 ≤ places_in slabs class chunk → 1 ≤ places_in slabs (class_of_page slabs chunk.page) chunk
+pub placed_looked : (slabs : SlabState) (class : ℕ) (chunk : ChunkId) → IsAccounted slabs → HasClass slabs class → 1 ≤ places_in slabs class chunk → 1 ≤ places_in slabs (class_of_page slabs chunk.page) chunk
 placed_looked slabs class chunk all is placed = subst (λ (n : ℕ). 1 ≤ places_in slabs n chunk) (sym (class_of_placed slabs class chunk all is placed)) placed
 
 -- the class that gives the page that moves is one of the classes
-pub moving_class : (slabs : SlabState) (move : Moving) → IsAccounted slabs → slabs.moving ≡ Some move → IsClass slabs move.src
+pub moving_class : (slabs : SlabState) (move : Moving) → IsAccounted slabs → slabs.moving ≡ Some move → HasClass slabs move.src
 moving_class slabs move all runs = (all.move move runs).src
 
 -- a place at which there is nothing is past the end, and one at which there is something isn't
@@ -92,23 +92,23 @@ within_from_Some chunks place chunk some = elim (slice_get_cases chunks place).1
 ]
 
 -- a chunk that was found at a place of a list stands there
-found_there : (chunk : ChunkId) (chunks : List ChunkId) (place : ℕ) (found : Option ChunkId) → found ≡ slice_get chunks place → option_eq is_chunk found (Some chunk) ≡ true → 1 ≤ times chunk chunks
+found_there : (chunk : ChunkId) (chunks : List ChunkId) (place : ℕ) (found : Option ChunkId) → found ≡ slice_get chunks place → option_eq is_chunk found (Some chunk) ≡ true → 1 ≤ times_in chunk chunks
 found_there chunk chunks place None h same = absurd (false≢true same)
 found_there chunk chunks place (Some c) h same =
     let is = same_from_is_chunk c chunk same in
     times_from_Contains chunk chunks (Contains_from_slice_get chunk chunks place (sym h ∙ ap (λ (x : ChunkId). Some x) is))
 
 -- and one that wasn't found is no more often among the first ones
-not_found_there : (chunk : ChunkId) (chunks : List ChunkId) (place : ℕ) (found : Option ChunkId) → found ≡ slice_get chunks place → option_eq is_chunk found (Some chunk) ≡ false → times chunk (take (place + 1) chunks) ≡ times chunk (take place chunks)
+not_found_there : (chunk : ChunkId) (chunks : List ChunkId) (place : ℕ) (found : Option ChunkId) → found ≡ slice_get chunks place → option_eq is_chunk found (Some chunk) ≡ false → times_in chunk (take (place + 1) chunks) ≡ times_in chunk (take place chunks)
 not_found_there chunk chunks place None h other =
     let past = past_from_None chunks place (sym h) in
-    ap (times chunk) (take_all (place + 1) chunks (omega (arith, past)) ∙ sym (take_all place chunks past))
+    ap (times_in chunk) (take_all (place + 1) chunks (omega (arith, past)) ∙ sym (take_all place chunks past))
 not_found_there chunk chunks place (Some c) h other =
     count_by_more_no (λ x. is_chunk x chunk) chunks place chunk (within_from_Some chunks place c (sym h)) (ap (λ (x : ChunkId). is_chunk x chunk) (get_or_from_slice_get chunks place c chunk (sym h)) ∙ other)
 
 -- how often the chunk stands at the first places of the class's lists
 abbrev pub times_before : SlabState → ℕ → ChunkId → ℕ → ℕ
-times_before slabs class chunk place = times chunk (take place (class_at slabs class).free) + times chunk (take place (class_at slabs class).order)
+times_before slabs class chunk place = times_in chunk (take place (class_at slabs class).free) + times_in chunk (take place (class_at slabs class).order)
 
 -- a chunk that is found is in a list
 pub found_free : (slabs : SlabState) (class place : ℕ) (chunk : ChunkId) (free : Option ChunkId) → free ≡ slice_get (class_at slabs class).free place → option_eq is_chunk free (Some chunk) ≡ true → 1 ≤ places_in slabs class chunk
@@ -128,7 +128,7 @@ pub walked_all : (slabs : SlabState) (class place : ℕ) (chunk : ChunkId) → s
 walked_all slabs class place chunk free out before =
     let all_free = take_all place (class_at slabs class).free (past_from_None _ place free) in
     let all_out = take_all place (class_at slabs class).order (past_from_None _ place out) in
-    omega (arith, ap (times chunk) all_free, ap (times chunk) all_out, before)
+    omega (arith, ap (times_in chunk) all_free, ap (times_in chunk) all_out, before)
 
 -- an option that is told to be none is none
 pub None-is_none : (found : Option ChunkId) (told : Bool) → is_some found ≡ not told → told ≡ true → found ≡ None

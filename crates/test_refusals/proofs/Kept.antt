@@ -14,16 +14,16 @@ use Rattle.mc_words.specs.hand.Arenas.{view}
 use Rattle.mc_words.specs.hand.View.{View}
 use Rattle.mc_words.specs.hand.Views.{head_seen, slabs_given, slabs_taken, stripe_given, stripe_taken}
 use Rattle.mc_words.specs.hand.Hands.{AreHandsFrom, AreNewHands}
-use Rattle.mc_words.specs.lock.Out.{is_neither, with_slabs, with_stripe, without_slabs, without_stripe}
+use Rattle.mc_words.specs.lock.Out.{is_neither, locks_with_slabs, locks_with_stripe, without_slabs, without_stripe}
 use Rattle.mc_words.specs.hand.Ready.{IsReady}
 use Rattle.mc_words.proofs.Locks.Unlocked.{unlocked_from}
-use Rattle.testlib_hands.specs.Hands.{AreHandsOf}
+use Rattle.testlib_hands.specs.Hands.{AreEmptyHandsOf}
 
-hands_from : (arena : Arena) (number : ℕ) (hands : List Hand) → AreHandsFrom arena number hands → AreHandsOf arena hands
+hands_from : (arena : Arena) (number : ℕ) (hands : List Hand) → AreHandsFrom arena number hands → AreEmptyHandsOf arena hands
 hands_from arena number [] are = record {}
 hands_from arena number (hand ∷ hands) are = (((are.0.of_arena, are.0.ready), ap (λ (v : View). v.row.holdings) are.0.new), hands_from arena (1 + number) hands are.1)
 
-pub all_hands : (arena : Arena) (hands : List Hand) → AreNewHands arena hands → AreHandsOf arena hands
+pub all_hands : (arena : Arena) (hands : List Hand) → AreNewHands arena hands → AreEmptyHandsOf arena hands
 all_hands arena hands are = hands_from arena 0 hands are.1
 
 -- a hand that saw a header holds what it held, and has the same locks
@@ -39,12 +39,12 @@ ready_still before now locks holdings ready = record {
 }
 
 -- so is one that took the lock of the slabs, and gave it back
-pub ready_behind_slabs : (hand taken last : Hand) (slabs left : SlabState) → taken.locks ≡ with_slabs hand.locks → view taken ≡ slabs_taken slabs (view hand) → last.locks ≡ without_slabs taken.locks → view last ≡ slabs_given left (view taken) → IsReady (view hand) → IsReady (view last)
+pub ready_behind_slabs : (hand taken last : Hand) (slabs left : SlabState) → taken.locks ≡ locks_with_slabs hand.locks → view taken ≡ slabs_taken slabs (view hand) → last.locks ≡ without_slabs taken.locks → view last ≡ slabs_given left (view taken) → IsReady (view hand) → IsReady (view last)
 ready_behind_slabs hand taken last slabs left took lent gave given ready =
     ready_still hand last (gave ∙ (ap without_slabs took ∙ by hand.locks (unlocked_from hand.seat.me.0 hand.locks hand.noted.4 ∙ ready.unlocked)))
     (ap (λ (v : View). v.row.holdings) given ∙ ap (λ (v : View). v.row.holdings) lent) ready
   where
-    by : (locks : Locks) → is_neither locks ≡ true → without_slabs (with_slabs locks) ≡ locks
+    by : (locks : Locks) → is_neither locks ≡ true → without_slabs (locks_with_slabs locks) ≡ locks
     by Neither none = refl
     by Slabs none = absurd (cc)
     by (Stripe other) none = absurd (cc)
@@ -52,12 +52,12 @@ ready_behind_slabs hand taken last slabs left took lent gave given ready =
     by (StripeLast other) none = absurd (cc)
 
 -- and one that took a stripe's
-pub ready_behind_stripe : (hand taken last : Hand) (stripe : ℕ) (value left : ReadyStripe) → taken.locks ≡ with_stripe stripe hand.locks → view taken ≡ stripe_taken stripe value (view hand) → last.locks ≡ without_stripe taken.locks → view last ≡ stripe_given stripe left (view taken) → IsReady (view hand) → IsReady (view last)
+pub ready_behind_stripe : (hand taken last : Hand) (stripe : ℕ) (value left : ReadyStripe) → taken.locks ≡ locks_with_stripe stripe hand.locks → view taken ≡ stripe_taken stripe value (view hand) → last.locks ≡ without_stripe taken.locks → view last ≡ stripe_given stripe left (view taken) → IsReady (view hand) → IsReady (view last)
 ready_behind_stripe hand taken last stripe value left took lent gave given ready =
     ready_still hand last (gave ∙ (ap without_stripe took ∙ by hand.locks (unlocked_from hand.seat.me.0 hand.locks hand.noted.4 ∙ ready.unlocked)))
     (ap (λ (v : View). v.row.holdings) given ∙ ap (λ (v : View). v.row.holdings) lent) ready
   where
-    by : (locks : Locks) → is_neither locks ≡ true → without_stripe (with_stripe stripe locks) ≡ locks
+    by : (locks : Locks) → is_neither locks ≡ true → without_stripe (locks_with_stripe stripe locks) ≡ locks
     by Neither none = refl
     by Slabs none = absurd (cc)
     by (Stripe other) none = absurd (cc)

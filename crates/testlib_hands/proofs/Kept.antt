@@ -3,7 +3,7 @@ use Rattle.std.proofs.Common.{◌≡◌, ◌∙◌, ℕ, ◌+◌, ◌==◌, Bool
 use Rattle.mc_pages.specs.declared.ids.ChunkId.{ChunkId}
 use Rattle.mc_core.specs.declared.head.Head.{Head}
 use Rattle.mc_core.specs.declared.holding.Holding.{Holding}
-use Rattle.mc_core.specs.Holdings.{is_of, lose}
+use Rattle.mc_core.specs.Holdings.{is_of_chunk, without_first}
 use Rattle.mc_pages.proofs.Chunks.{is_chunk-same}
 use Rattle.mc_words.specs.declared.arena.Arena.{Arena}
 use Rattle.mc_words.specs.declared.hand.Hand.{Hand}
@@ -15,13 +15,13 @@ use Rattle.mc_words.specs.hand.Ready.{IsReady}
 use Rattle.mc_items.specs.declared.refs.Ref.{Ref}
 use Rattle.mc_items.specs.ItemRefs.{item_chunk}
 use Rattle.mc_items.specs.Keeping.{HoldsLess, HoldsTheSame, HoldsToo, holding_by}
-use Rattle.testlib_hands.specs.Hands.{AreHandsOf, HoldsNothing}
+use Rattle.testlib_hands.specs.Hands.{AreEmptyHandsOf, HoldsNothing}
 
-hands_from : (arena : Arena) (number : ℕ) (hands : List Hand) → AreHandsFrom arena number hands → AreHandsOf arena hands
+hands_from : (arena : Arena) (number : ℕ) (hands : List Hand) → AreHandsFrom arena number hands → AreEmptyHandsOf arena hands
 hands_from arena number [] are = record {}
 hands_from arena number (hand ∷ hands) are = (((are.0.of_arena, are.0.ready), ap (λ (v : View). v.row.holdings) are.0.new), hands_from arena (1 + number) hands are.1)
 
-pub all_hands : (arena : Arena) (hands : List Hand) → AreNewHands arena hands → AreHandsOf arena hands
+pub all_hands : (arena : Arena) (hands : List Hand) → AreNewHands arena hands → AreEmptyHandsOf arena hands
 all_hands arena hands are = hands_from arena 0 hands are.1
 
 -- a hand that saw a header holds what it held, and has the same locks
@@ -43,11 +43,11 @@ nothing_of_both kept spent now both none = ap (λ (v : View). v.row.holdings) bo
 pub nothing_left : (view got now : View) (item : Ref) → HoldsNothing view → HoldsToo (Some item) view got → HoldsLess item got now → HoldsNothing now
 nothing_left view got now item none more less =
     let one : Holding = holding_by got item in
-    less ∙ (ap (lose (is_of (item_chunk item))) (more ∙ ap (λ (hs : List Holding). hs ++ one ∷ []) none) ∙ ap (λ (b : Bool). if b then [] else one ∷ []) (is_chunk-same (item_chunk item)))
+    less ∙ (ap (without_first (is_of_chunk (item_chunk item))) (more ∙ ap (λ (hs : List Holding). hs ++ one ∷ []) none) ∙ ap (λ (b : Bool). if b then [] else one ∷ []) (is_chunk-same (item_chunk item)))
 
 -- a hand that gave an item up behind calls that left it what it held holds one less than before them
 pub less_later : (view last now : View) (item : Ref) → HoldsTheSame view last → HoldsLess item last now → HoldsLess item view now
-less_later view last now item same less = less ∙ ap (lose (is_of (item_chunk item))) same
+less_later view last now item same less = less ∙ ap (without_first (is_of_chunk (item_chunk item))) same
 
 -- and nothing, where it got that item when it held nothing
 pub nothing_left_later : (view got last now : View) (item : Ref) → HoldsNothing view → HoldsToo (Some item) view got → HoldsTheSame got last → HoldsLess item last now → HoldsNothing now

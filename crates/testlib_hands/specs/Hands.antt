@@ -15,10 +15,10 @@ abbrev pub HoldsNothing : View → Type 0
 HoldsNothing view = view.row.holdings ≡ []
 
 -- the hand is one of the arena's, may make any call, and holds no chunk, so that another may take it over
-abbrev pub IsIdleHandOf : Arena → Hand → Type 0
-IsIdleHandOf arena hand = IsReadyHandOf arena hand × HoldsNothing (view hand)
+abbrev pub IsEmptyHandOf : Arena → Hand → Type 0
+IsEmptyHandOf arena hand = IsReadyHandOf arena hand × HoldsNothing (view hand)
 
 -- all these hands are hands of the arena that another may take over
-abbrev pub AreHandsOf : Arena → List Hand → Type 0
-AreHandsOf arena [] = ⊤
-AreHandsOf arena (hand ∷ hands) = IsIdleHandOf arena hand × AreHandsOf arena hands
+abbrev pub AreEmptyHandsOf : Arena → List Hand → Type 0
+AreEmptyHandsOf arena [] = ⊤
+AreEmptyHandsOf arena (hand ∷ hands) = IsEmptyHandOf arena hand × AreEmptyHandsOf arena hands

@@ -2,7 +2,7 @@
 use Rattle.mc_words.specs.declared.arena.Arena.{Arena}
 use Rattle.testlib_hands.specs.declared.hands.Pair.{Pair}
 use Rattle.testlib_hands.specs.declared.hands.Two.{Two}
-use Rattle.testlib_hands.specs.Hands.{IsIdleHandOf, IsReadyHandOf}
+use Rattle.testlib_hands.specs.Hands.{IsEmptyHandOf, IsReadyHandOf}
 
 -- the two hands are hands of the arena that may make any call
 abbrev pub AreReady : Two → Type 0
@@ -10,4 +10,4 @@ AreReady two = IsReadyHandOf two.arena two.hand × IsReadyHandOf two.arena two.o
 
 -- the two hands are hands of this arena that another may take over
 abbrev pub AreIdle : Arena → Pair → Type 0
-AreIdle arena pair = IsIdleHandOf arena pair.reader × IsIdleHandOf arena pair.writer
+AreIdle arena pair = IsEmptyHandOf arena pair.reader × IsEmptyHandOf arena pair.writer

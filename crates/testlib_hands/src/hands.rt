@@ -1,6 +1,6 @@
 //! Arenas that are opened, and their hands.
 ghost use Rattle.std.specs.Prelude.{IfOk};
-ghost use Rattle.testlib_hands.specs.Hands.{AreHandsOf, IsIdleHandOf};
+ghost use Rattle.testlib_hands.specs.Hands.{AreEmptyHandsOf, IsEmptyHandOf};
 ghost use Rattle.testlib_hands.specs.Pairs.{AreIdle, AreReady};
 
 use mc_classes::Config;
@@ -11,16 +11,16 @@ use std::test::Fail;
 /// An arena of this configuration, and its hands.
 #[tactic(auto, using(crate::proofs::Kept::all_hands))]
 pub fn opened(alloc: Global, config: &Config, hands: u64) -> Result<(Arena, Vec<Hand>), NewError>
-    ensures hands { IfOk result (λ made. AreHandsOf made.0 made.1.items) }
+    ensures hands { IfOk result (λ made. AreEmptyHandsOf made.0 made.1.items) }
 {
     Arena::new(alloc, config, hands)
 }
 
 /// The hand of the lowest number that is left.
 pub fn next_hand(arena: &Arena, hands: &mut Vec<Hand>) -> Result<Hand, Fail>
-    requires hands { AreHandsOf arena.now hands.old.items }
-    ensures hands { AreHandsOf arena.now hands.new.items }
-    ensures hand { IfOk result (λ hand. IsIdleHandOf arena.now hand) }
+    requires hands { AreEmptyHandsOf arena.now hands.old.items }
+    ensures hands { AreEmptyHandsOf arena.now hands.new.items }
+    ensures hand { IfOk result (λ hand. IsEmptyHandOf arena.now hand) }
 {
     if hands.is_empty() {
         Err(Fail::new("there is a hand left"))
@@ -31,9 +31,9 @@ pub fn next_hand(arena: &Arena, hands: &mut Vec<Hand>) -> Result<Hand, Fail>
 
 /// The two hands of the lowest numbers that are left.
 fn two_of(arena: &Arena, hands: &mut Vec<Hand>) -> Result<(Hand, Hand), Fail>
-    requires hands { AreHandsOf arena.now hands.old.items }
-    ensures hands { AreHandsOf arena.now hands.new.items }
-    ensures two { IfOk result (λ two. IsIdleHandOf arena.now two.0 × IsIdleHandOf arena.now two.1) }
+    requires hands { AreEmptyHandsOf arena.now hands.old.items }
+    ensures hands { AreEmptyHandsOf arena.now hands.new.items }
+    ensures two { IfOk result (λ two. IsEmptyHandOf arena.now two.0 × IsEmptyHandOf arena.now two.1) }
 {
     let first = next_hand(arena, hands)?;
     let second = next_hand(arena, hands)?;
@@ -42,9 +42,9 @@ fn two_of(arena: &Arena, hands: &mut Vec<Hand>) -> Result<(Hand, Hand), Fail>
 
 /// The three hands of the lowest numbers that are left.
 pub fn three_of(arena: &Arena, hands: &mut Vec<Hand>) -> Result<(Hand, Hand, Hand), Fail>
-    requires hands { AreHandsOf arena.now hands.old.items }
-    ensures hands { AreHandsOf arena.now hands.new.items }
-    ensures three { IfOk result (λ three. IsIdleHandOf arena.now three.0 × IsIdleHandOf arena.now three.1 × IsIdleHandOf arena.now three.2) }
+    requires hands { AreEmptyHandsOf arena.now hands.old.items }
+    ensures hands { AreEmptyHandsOf arena.now hands.new.items }
+    ensures three { IfOk result (λ three. IsEmptyHandOf arena.now three.0 × IsEmptyHandOf arena.now three.1 × IsEmptyHandOf arena.now three.2) }
 {
     let first = next_hand(arena, hands)?;
     let second = next_hand(arena, hands)?;
@@ -61,8 +61,8 @@ pub struct Pair {
 
 /// The two hands of the lowest numbers that are left, for a thread.
 pub fn pair_of(arena: &Arena, hands: &mut Vec<Hand>) -> Result<Pair, Fail>
-    requires hands { AreHandsOf arena.now hands.old.items }
-    ensures hands { AreHandsOf arena.now hands.new.items }
+    requires hands { AreEmptyHandsOf arena.now hands.old.items }
+    ensures hands { AreEmptyHandsOf arena.now hands.new.items }
     ensures pair { IfOk result (AreIdle arena.now) }
 {
     let (reader, writer) = two_of(arena, hands)?;
@@ -72,9 +72,9 @@ pub fn pair_of(arena: &Arena, hands: &mut Vec<Hand>) -> Result<Pair, Fail>
 /// One hand of two.
 #[tactic(auto, using(crate::proofs::Kept::idle, crate::proofs::Kept::ready_of_both, crate::proofs::Kept::nothing_of_both))]
 pub fn one_of(arena: &Arena, hand: Hand, other: Hand) -> Hand
-    requires hand { IsIdleHandOf arena.now hand }
-    requires other { IsIdleHandOf arena.now other }
-    ensures hand { IsIdleHandOf arena.now result }
+    requires hand { IsEmptyHandOf arena.now hand }
+    requires other { IsEmptyHandOf arena.now other }
+    ensures hand { IsEmptyHandOf arena.now result }
 {
     arena.join_hands(hand, other)
 }

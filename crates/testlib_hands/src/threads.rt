@@ -1,7 +1,7 @@
 //! Hands that work at once, each in a thread of its own.
 ghost use Rattle.std.specs.Thread.{IsSend, IsSync};
 ghost use Rattle.mc_words.specs.declared.arena.Arena.{Arena};
-ghost use Rattle.testlib_hands.specs.Hands.{IsIdleHandOf};
+ghost use Rattle.testlib_hands.specs.Hands.{IsEmptyHandOf};
 
 use crate::hands::one_of;
 use mc_words::{Arena, Hand};
@@ -27,14 +27,14 @@ pub trait Job: Send + Drop {
     /// Does the job. One hand of the job's is left.
     fn work<R: Wait>(self, rt: &R, alloc: Global, arena: &Arena) -> Worked<Self::Told>
         requires { is_ready arena.now self }
-        ensures { IsIdleHandOf arena.now result.hand };
+        ensures { IsEmptyHandOf arena.now result.hand };
 }
 
 /// One hand of two that worked, and what both return.
 fn both<T, U>(arena: &Arena, first: Worked<T>, second: Worked<U>) -> Worked<(T, U)>
-    requires first { IsIdleHandOf arena.now first.hand }
-    requires second { IsIdleHandOf arena.now second.hand }
-    ensures { IsIdleHandOf arena.now result.hand }
+    requires first { IsEmptyHandOf arena.now first.hand }
+    requires second { IsEmptyHandOf arena.now second.hand }
+    ensures { IsEmptyHandOf arena.now result.hand }
 {
     let Worked { hand, told } = first;
     let Worked {
@@ -55,7 +55,7 @@ fn work_two<R: Threads + Wait + Sync, A: Job, B: Job>(
     jobs: (A, B),
 ) -> Worked<(A::Told, B::Told)>
     requires { A.is_ready arena.now jobs.0 × B.is_ready arena.now jobs.1 }
-    ensures { IsIdleHandOf arena.now result.hand }
+    ensures { IsEmptyHandOf arena.now result.hand }
 {
     let (first, second) = jobs;
     let (first, second) = join(
@@ -76,7 +76,7 @@ pub fn work_three<R: Threads + Wait + Sync, A: Job, B: Job, C: Job>(
 ) -> Worked<(A::Told, (B::Told, C::Told))>
     requires job { A.is_ready arena.now job }
     requires others { B.is_ready arena.now others.0 × C.is_ready arena.now others.1 }
-    ensures { IsIdleHandOf arena.now result.hand }
+    ensures { IsEmptyHandOf arena.now result.hand }
 {
     let (first, others) = join(
         rt,
@@ -98,7 +98,7 @@ pub fn work_four<R: Threads + Wait + Sync, A: Job, B: Job, C: Job, D: Job>(
 ) -> Worked<((A::Told, B::Told), (C::Told, D::Told))>
     requires low { A.is_ready arena.now low.0 × B.is_ready arena.now low.1 }
     requires high { C.is_ready arena.now high.0 × D.is_ready arena.now high.1 }
-    ensures { IsIdleHandOf arena.now result.hand }
+    ensures { IsEmptyHandOf arena.now result.hand }
 {
     let (low, high) = join(
         rt,

@@ -9,13 +9,13 @@ use Rattle.mc_pages.specs.ClassState.{is_chunk}
 use Rattle.mc_pages.specs.Accounted.{truth}
 use Rattle.mc_pages.proofs.Chunks.{is_chunk-same}
 use Rattle.mc_core.specs.declared.holding.Holding.{Holding}
-use Rattle.mc_core.specs.Columns.{holds}
-use Rattle.mc_core.specs.Holdings.{holding_of, is_of, lose}
+use Rattle.mc_core.specs.Columns.{count_of_holdings}
+use Rattle.mc_core.specs.Holdings.{holding_of, is_of_chunk, without_first}
 use Rattle.mc_core.proofs.Holders.{holds-cons, holds-lose, holds-push}
 use Rattle.mc_words.specs.hand.View.{View}
-use Rattle.mc_words.specs.item.Refs.{KeepsHeld, KeepsRefs}
+use Rattle.mc_words.specs.item.Refs.{KeepsRemainingRefs, KeepsRefs}
 use Rattle.mc_items.specs.declared.refs.Ref.{Ref}
-use Rattle.mc_items.specs.ItemRefs.{AreKept, IsItemRef, item_chunk, refers_to}
+use Rattle.mc_items.specs.ItemRefs.{RefersToEach, IsItemRef, item_chunk, refers_to}
 use Rattle.mc_items.specs.Keeping.{HoldsAsOften, HoldsLess, HoldsTheSame, HoldsToo, holding_by}
 use Rattle.mc_items.proofs.Rows.{chunk_found}
 use Rattle.mc_items.proofs.Chains.{held_refs_keep_items, kept_refs_keep_items}
@@ -25,20 +25,20 @@ refs_stay : (view now : View) (kept : List Ref) → KeepsRefs view now → All (
 refs_stay view now kept keeps all = λ k d below. (kept_refs_keep_items view now (slice_index_or kept k d) keeps (all k d below)).refers
 
 -- so a call that keeps references, and holds each chunk as often, leaves what is kept
-pub kept_stay : (view now : View) (kept : List Ref) → AreKept view kept → KeepsRefs view now → HoldsAsOften view now → AreKept now kept
+pub kept_stay : (view now : View) (kept : List Ref) → RefersToEach view kept → KeepsRefs view now → HoldsAsOften view now → RefersToEach now kept
 kept_stay view now kept are keeps often = record { items = refs_stay view now kept keeps are.items; counts = λ chunk. often chunk ∙ are.counts chunk }
 
 pub as_often : (view now : View) → HoldsTheSame view now → HoldsAsOften view now
-as_often view now same = λ chunk. ap (holds chunk) same
+as_often view now same = λ chunk. ap (count_of_holdings chunk) same
 
-pub kept_beside : (view now : View) (kept : List Ref) → AreKept view kept → KeepsRefs view now → HoldsTheSame view now → AreKept now kept
+pub kept_beside : (view now : View) (kept : List Ref) → RefersToEach view kept → KeepsRefs view now → HoldsTheSame view now → RefersToEach now kept
 kept_beside view now kept are keeps same = kept_stay view now kept are keeps (as_often view now same)
 
 -- one reference more
-pub kept_too : (view now : View) (kept : List Ref) (item : Ref) → AreKept view kept → KeepsRefs view now → HoldsToo (Some item) view now → IsItemRef now item → AreKept now (kept ++ item ∷ [])
+pub kept_too : (view now : View) (kept : List Ref) (item : Ref) → RefersToEach view kept → KeepsRefs view now → HoldsToo (Some item) view now → IsItemRef now item → RefersToEach now (kept ++ item ∷ [])
 kept_too view now kept item are keeps too is = record {
   items = All-push (IsItemRef now) kept item (refs_stay view now kept keeps are.items) is;
-  counts = λ chunk. ap (holds chunk) too ∙ (holds-push chunk view.row.holdings (holding_by now item)
+  counts = λ chunk. ap (count_of_holdings chunk) too ∙ (holds-push chunk view.row.holdings (holding_by now item)
       ∙ (ap (λ (n : ℕ). n + truth (refers_to chunk item)) (are.counts chunk) ∙ sym (sum_by_push (λ (r : Ref). truth (refers_to chunk r)) kept item)));
 }
 
@@ -64,11 +64,11 @@ counted p (first ∷ kept) (suc k) d below passes =
     omega arith
 
 -- a chunk that is held is found
-found_held : (chunk : ChunkId) (row : List Holding) → 1 ≤ holds chunk row → is_some (holding_of chunk row) ≡ true
+found_held : (chunk : ChunkId) (row : List Holding) → 1 ≤ count_of_holdings chunk row → is_some (holding_of chunk row) ≡ true
 found_held chunk [] some = absurd (omega arith)
-found_held chunk (first ∷ row) some = elim (cases_Bool (is_of chunk first)) [
+found_held chunk (first ∷ row) some = elim (cases_Bool (is_of_chunk chunk first)) [
   | inl is ↦ rw is refl
-  | inr isnt ↦ let none : truth (is_of chunk first) ≡ 0 = ap truth isnt in
+  | inr isnt ↦ let none : truth (is_of_chunk chunk first) ≡ 0 = ap truth isnt in
       rw isnt (found_held chunk row (let sum = holds-cons chunk first row in omega arith))
 ]
 
@@ -84,16 +84,16 @@ there P [] back item all = All-head P item back all
 there P (first ∷ front) back item all = there P front back item (All-tail P first (front ++ item ∷ back) all)
 
 -- one of those that are kept is given back: the others are kept still
-module _ (view now : View) (front back : List Ref) (item : Ref) (are : AreKept view (front ++ item ∷ back)) (held : KeepsHeld view now) (less : HoldsLess item view now) where
+module _ (view now : View) (front back : List Ref) (item : Ref) (are : RefersToEach view (front ++ item ∷ back)) (held : KeepsRemainingRefs view now) (less : HoldsLess item view now) where
   is_there : IsItemRef view item
   is_there = there (IsItemRef view) front back item are.items
 
-  counts : (chunk : ChunkId) → holds chunk now.row.holdings ≡ count_by (refers_to chunk) (front ++ back)
+  counts : (chunk : ChunkId) → count_of_holdings chunk now.row.holdings ≡ count_by (refers_to chunk) (front ++ back)
   counts chunk =
       let ref = is_there.reference in
-      let lost = holds-lose chunk (is_of (item_chunk item)) view.row.holdings ref.holding ref.found in
-      let after : holds chunk now.row.holdings ≡ holds chunk (lose (is_of (item_chunk item)) view.row.holdings) = ap (holds chunk) less in
-      let same : truth (is_of chunk ref.holding) ≡ truth (refers_to chunk item) = ap (λ (c : ChunkId). truth (is_chunk c chunk)) (chunk_found (item_chunk item) view.row.holdings ref.holding ref.found) in
+      let lost = holds-lose chunk (is_of_chunk (item_chunk item)) view.row.holdings ref.holding ref.found in
+      let after : count_of_holdings chunk now.row.holdings ≡ count_of_holdings chunk (without_first (is_of_chunk (item_chunk item)) view.row.holdings) = ap (count_of_holdings chunk) less in
+      let same : truth (is_of_chunk chunk ref.holding) ≡ truth (refers_to chunk item) = ap (λ (c : ChunkId). truth (is_chunk c chunk)) (chunk_found (item_chunk item) view.row.holdings ref.holding ref.found) in
       let before = are.counts chunk in
       let middle = count_middle (refers_to chunk) front back item in
       omega arith
@@ -105,35 +105,35 @@ module _ (view now : View) (front back : List Ref) (item : Ref) (are : AreKept v
       let same = counts (item_chunk other) in
       (held_refs_keep_items view now other held (all_apart (IsItemRef view) front back item are.items k d below) (found_held (item_chunk other) now.row.holdings (omega arith))).refers
 
-  pub kept_less : AreKept now (front ++ back)
+  pub kept_less : RefersToEach now (front ++ back)
   kept_less = record { items = stays; counts = counts }
 
 -- references that are kept are no more than the hand holds
-pub none_kept : (view : View) → AreKept view [] → view.row.holdings ≡ []
+pub none_kept : (view : View) → RefersToEach view [] → view.row.holdings ≡ []
 none_kept view are = empty view.row.holdings are.counts
   where
-    empty : (row : List Holding) → ((chunk : ChunkId) → holds chunk row ≡ 0) → row ≡ []
+    empty : (row : List Holding) → ((chunk : ChunkId) → count_of_holdings chunk row ≡ 0) → row ≡ []
     empty [] none = refl
     empty (first ∷ row) none =
-        let one : truth (is_of first.chunk first) ≡ 1 = ap truth (is_chunk-same first.chunk) in
+        let one : truth (is_of_chunk first.chunk first) ≡ 1 = ap truth (is_chunk-same first.chunk) in
         let sum = holds-cons first.chunk first row in
         let zero = none first.chunk in
         absurd (omega arith)
 
-pub kept_none : (view : View) → view.row.holdings ≡ [] → AreKept view []
-kept_none view none = record { items = All-nil (IsItemRef view); counts = λ chunk. ap (holds chunk) none }
+pub kept_none : (view : View) → view.row.holdings ≡ [] → RefersToEach view []
+kept_none view none = record { items = All-nil (IsItemRef view); counts = λ chunk. ap (count_of_holdings chunk) none }
 
 -- the last one is given back
-pub last_kept : (view : View) (kept : List Ref) (item : Ref) → AreKept view (kept ++ item ∷ []) → IsItemRef view item
+pub last_kept : (view : View) (kept : List Ref) (item : Ref) → RefersToEach view (kept ++ item ∷ []) → IsItemRef view item
 last_kept view kept item are = there (IsItemRef view) kept [] item are.items
 
-pub kept_but_last : (view now : View) (kept : List Ref) (item : Ref) → AreKept view (kept ++ item ∷ []) → KeepsHeld view now → HoldsLess item view now → AreKept now kept
-kept_but_last view now kept item are held less = subst (AreKept now) (append-nil kept) (kept_less view now kept [] item are held less)
+pub kept_but_last : (view now : View) (kept : List Ref) (item : Ref) → RefersToEach view (kept ++ item ∷ []) → KeepsRemainingRefs view now → HoldsLess item view now → RefersToEach now kept
+kept_but_last view now kept item are held less = subst (RefersToEach now) (append-nil kept) (kept_less view now kept [] item are held less)
 
 -- one at a place is given back
-pub kept_without : (view now : View) (kept : List Ref) (place : ℕ) (item : Ref) → place < length kept → item ≡ get_or kept place item → AreKept view kept → KeepsHeld view now → HoldsLess item view now → AreKept now (take place kept ++ drop (suc place) kept)
+pub kept_without : (view now : View) (kept : List Ref) (place : ℕ) (item : Ref) → place < length kept → item ≡ get_or kept place item → RefersToEach view kept → KeepsRemainingRefs view now → HoldsLess item view now → RefersToEach now (take place kept ++ drop (suc place) kept)
 kept_without view now kept place item within at are held less =
-    kept_less view now (take place kept) (drop (suc place) kept) item (subst (AreKept view) (parts kept place item within at) are) held less
+    kept_less view now (take place kept) (drop (suc place) kept) item (subst (RefersToEach view) (parts kept place item within at) are) held less
   where
     parts : (kept : List Ref) (place : ℕ) (item : Ref) → place < length kept → item ≡ get_or kept place item → kept ≡ take place kept ++ item ∷ drop (suc place) kept
     parts kept place item within at = split_at kept place item within ∙ ap (λ (x : Ref). take place kept ++ x ∷ drop (suc place) kept) (sym at)

@@ -7,12 +7,12 @@ use Rattle.mc_words.specs.declared.item.refs.Hint.{Hint}
 use Rattle.mc_words.specs.hand.Arenas.{setup_of, view}
 use Rattle.mc_words.specs.hand.Observers.{hint_chunk}
 use Rattle.mc_items.specs.declared.refs.Ref.{Ref}
-use Rattle.mc_items.specs.ItemRefs.{AreKept}
+use Rattle.mc_items.specs.ItemRefs.{RefersToEach}
 use Rattle.testlib_hands.specs.Hands.{IsReadyHandOf}
 
 -- the hand may make any call, and keeps these references and no others
 abbrev pub IsKeeperOf : Arena → Hand → List Ref → Type 0
-IsKeeperOf arena hand kept = IsReadyHandOf arena hand × AreKept (view hand) kept
+IsKeeperOf arena hand kept = IsReadyHandOf arena hand × RefersToEach (view hand) kept
 
 -- the hint is of one of the arena's chunks
 abbrev pub IsNear : Arena → Hint → Type 0

@@ -1,37 +1,37 @@
 -- What a look finds.
 use Rattle.std.proofs.Common.{◌≡◌, ◌∙◌, ℕ, Bool, true, false, List, [], Option, None, Some, Ok, Err, Result, IfOk, IfSome, OnErr, ◌⊎◌, refl, sym, ap, subst, inl, inr}
-use Rattle.mc_packing.specs.Packing.{IsPackingOf, packed, value_in}
+use Rattle.mc_packing.specs.Packing.{IsPackingOf, packed_item, value_in}
 use Rattle.mc_words.specs.declared.arena.Arena.{Arena}
 use Rattle.mc_words.specs.declared.hand.Hand.{Hand}
 use Rattle.mc_words.specs.hand.Arenas.{IsHandOf, setup_of, view}
-use Rattle.mc_words.specs.hand.Observers.{number_of}
+use Rattle.mc_words.specs.hand.Observers.{hand_number}
 use Rattle.mc_words.specs.hand.Ready.{IsReady}
 use Rattle.mc_words.specs.hand.View.{Setup}
 use Rattle.mc_items.specs.declared.refs.Ref.{Ref}
 use Rattle.mc_items.specs.Calls.{Deletes}
 use Rattle.mc_items.specs.ItemRefs.{IsItemRef, item_key, item_stamp, item_words}
-use Rattle.mc_items.specs.Keeping.{HoldsToo, SaysNothing}
+use Rattle.mc_items.specs.Keeping.{HoldsToo, StoresNothing}
 use Rattle.mc_items.specs.OnKeys.{ActsOn, FindsNoRoomFor, Gets}
 use Rattle.mc_words.specs.item.Items.{item_with}
 use Rattle.mc_items.proofs.Chains.{words_said}
-use Rattle.mc_cache.specs.shard.Finding.{BumpsItem, DeletesKey, FindsFull, FindsSome, FindsItem, FindsKey, FindsOther, FindsWords, GetsUnder, TriesHint, GivesTouched, GivesTouchedIf, GivesValue, PutsValue, TouchesKey, TouchesValue}
-use Rattle.mc_cache.specs.shard.Hands.{WereSaid, sayings_of}
+use Rattle.mc_cache.specs.shard.Finding.{BumpsItem, DeletesKey, FindsFull, FindsSome, FindsItem, FindsKey, FindsOtherKey, FindsWords, GetsUnder, TriesHint, GivesTouched, GivesTouchedIf, ReturnsValue, PutsValue, TouchesKey, TouchesValue}
+use Rattle.mc_cache.specs.shard.Hands.{WereStored, items_stored_by}
 use Rattle.mc_cache.proofs.Shards.Idle.{alone}
 
 -- the words of an item that was got were said
-were_said : (arena : Arena) (before got : Hand) (item : Ref) → IsHandOf arena got → SaysNothing (view before) (view got) → IsItemRef (view got) item → WereSaid (setup_of arena) (sayings_of before) (item_stamp item) (item_with (item_key item) (item_stamp item) (item_words (view got) item))
+were_said : (arena : Arena) (before got : Hand) (item : Ref) → IsHandOf arena got → StoresNothing (view before) (view got) → IsItemRef (view got) item → WereStored (setup_of arena) (items_stored_by before) (item_stamp item) (item_with (item_key item) (item_stamp item) (item_words (view got) item))
 were_said arena before got item of unsaid is = record { seen = view got; setup_is = of.setup; lawful = of.lawful; own_is = unsaid; said = words_said (view got) of.lawful item is }
 
 -- these words of an item under the hash were said
 abbrev SaidOf : Setup → ℕ → Hand → List ℕ → Type 0
-SaidOf setup hash before words = (stamp : ℕ) × WereSaid setup (sayings_of before) stamp (item_with hash stamp words)
+SaidOf setup hash before words = (stamp : ℕ) × WereStored setup (items_stored_by before) stamp (item_with hash stamp words)
 
 -- no hint was tried
 pub no_hint : (hash : ℕ) (before : Hand) → TriesHint hash before before
 no_hint hash before = record { number = refl; did = inl refl }
 
 -- an item was got
-pub finds_item : (arena : Arena) (hash : ℕ) (before tried got : Hand) (found : Option Ref) (item : Ref) → TriesHint hash before tried → IsHandOf arena got → SaysNothing (view before) (view got) → found ≡ Some item → GetsUnder (setup_of arena) hash found tried got
+pub finds_item : (arena : Arena) (hash : ℕ) (before tried got : Hand) (found : Option Ref) (item : Ref) → TriesHint hash before tried → IsHandOf arena got → StoresNothing (view before) (view got) → found ≡ Some item → GetsUnder (setup_of arena) hash found tried got
     → IfSome found (λ item. IsItemRef (view got) item × (item_key item ≡ hash)) → FindsWords (setup_of arena) hash before (Some (item_words (view got) item))
 finds_item arena hash before tried got found item tries of unsaid some gets is =
     let own : IsItemRef (view got) item × (item_key item ≡ hash) = subst (λ (o : Option Ref). IfSome o (λ item. IsItemRef (view got) item × (item_key item ≡ hash))) some is in
@@ -44,23 +44,23 @@ finds_item arena hash before tried got found item tries of unsaid some gets is =
       words_are = refl;
       said = (
         item_stamp item,
-        subst (λ (k : ℕ). WereSaid (setup_of arena) (sayings_of before) (item_stamp item) (item_with k (item_stamp item) (item_words (view got) item))) own.1 (were_said arena before got item of unsaid own.0),
+        subst (λ (k : ℕ). WereStored (setup_of arena) (items_stored_by before) (item_stamp item) (item_with k (item_stamp item) (item_words (view got) item))) own.1 (were_said arena before got item of unsaid own.0),
       );
     }
 
 -- it is of the key, or of another one
 module _ (setup : Setup) (hash : ℕ) (key : List ℕ) (before : Hand) (words : List ℕ) (finds : FindsWords setup hash before (Some words)) where
-  pub gives_value : (old new : List ℕ) → PutsValue key words old new → GivesValue setup hash key before old new
+  pub gives_value : (old new : List ℕ) → PutsValue key words old new → ReturnsValue setup hash key before old new
   gives_value old new puts = (puts.0, subst (λ (ws : List ℕ). FindsWords setup hash before (Some ws)) puts.1 finds, puts.2)
 
   pub finds_key : IsPackingOf key words → FindsKey setup hash key before
   finds_key is = (value_in words, subst (λ (ws : List ℕ). FindsWords setup hash before (Some ws)) is finds)
 
-  pub finds_other : (IsPackingOf key words → ⊥) → FindsOther setup hash key before
+  pub finds_other : (IsPackingOf key words → ⊥) → FindsOtherKey setup hash key before
   finds_other other = record { words = Some words; finds = finds; other = other }
 
 -- it is all that the hand holds
-pub found_item : (arena : Arena) (hash : ℕ) (before tried got : Hand) (found : Option Ref) → TriesHint hash before tried → IsHandOf arena got → IsReady (view got) → SaysNothing (view before) (view got) → GetsUnder (setup_of arena) hash found tried got
+pub found_item : (arena : Arena) (hash : ℕ) (before tried got : Hand) (found : Option Ref) → TriesHint hash before tried → IsHandOf arena got → IsReady (view got) → StoresNothing (view before) (view got) → GetsUnder (setup_of arena) hash found tried got
     → IfSome found (λ item. IsItemRef (view got) item × (item_key item ≡ hash)) → (view tried).row.holdings ≡ [] → HoldsToo found (view tried) (view got) → IfSome found (λ item. FindsItem arena hash item before got)
 unfolding finds_item
 found_item arena hash before tried got None tries of ready unsaid gets is none more = tt
@@ -78,7 +78,7 @@ the_item arena hash before got found item some is = subst (λ (o : Option Ref). 
 pub none_words : (setup : Setup) (hash : ℕ) (before tried got : Hand) (found : Option Ref) → TriesHint hash before tried → found ≡ None → Gets setup hash found tried got → FindsWords setup hash before None
 none_words setup hash before tried got found tries none gets = record { tried = tried; tries = tries; got = got; item = None; gets = inl (subst (λ (o : Option Ref). Gets setup hash o tried got) none gets); words_are = refl; said = tt }
 
-pub finds_none : (setup : Setup) (hash : ℕ) (key : List ℕ) (before got : Hand) (found : Option Ref) → found ≡ None → Gets setup hash found before got → FindsOther setup hash key before
+pub finds_none : (setup : Setup) (hash : ℕ) (key : List ℕ) (before got : Hand) (found : Option Ref) → found ≡ None → Gets setup hash found before got → FindsOtherKey setup hash key before
 finds_none setup hash key before got found none gets = record { words = None; finds = none_words setup hash before before got found (no_hint hash before) none gets; other = tt }
 
 -- the key was found, and then something was done
@@ -92,7 +92,7 @@ deletes_key {E} setup hash key there before between now result finds is done = r
 
 -- the item that was found was touched
 module _ (arena : Arena) (hash : ℕ) (key : List ℕ) (before got : Hand) (item : Ref) (found : FindsItem arena hash item before got) where
-  touches_words : (value : List ℕ) → item_words (view got) item ≡ packed key value → (now : Hand) → BumpsItem (number_of before) item now → TouchesValue (setup_of arena) hash key value before now
+  touches_words : (value : List ℕ) → item_words (view got) item ≡ packed_item key value → (now : Hand) → BumpsItem (hand_number before) item now → TouchesValue (setup_of arena) hash key value before now
   touches_words value same now bumps =
       let finds = found.finds in record {
         finds = record { tried = finds.tried; tries = finds.tries; got = finds.got; item = finds.item; gets = finds.gets; words_are = ap Some (sym same) ∙ finds.words_are; said = subst (SaidOf (setup_of arena) hash before) same finds.said };
@@ -101,15 +101,15 @@ module _ (arena : Arena) (hash : ℕ) (key : List ℕ) (before got : Hand) (item
         bumps = bumps;
       }
 
-  pub gives_touched : (old new : List ℕ) → PutsValue key (item_words (view got) item) old new → (now : Hand) → BumpsItem (number_of before) item now → GivesTouched (setup_of arena) hash key before now old new
+  pub gives_touched : (old new : List ℕ) → PutsValue key (item_words (view got) item) old new → (now : Hand) → BumpsItem (hand_number before) item now → GivesTouched (setup_of arena) hash key before now old new
   gives_touched old new puts now bumps = (puts.0, touches_words puts.0 puts.1 now bumps, puts.2)
 
-  pub touches_key : IsPackingOf key (item_words (view got) item) → (now : Hand) → BumpsItem (number_of before) item now → TouchesKey (setup_of arena) hash key before now
+  pub touches_key : IsPackingOf key (item_words (view got) item) → (now : Hand) → BumpsItem (hand_number before) item now → TouchesKey (setup_of arena) hash key before now
   touches_key own now bumps = (value_in (item_words (view got) item), touches_words (value_in (item_words (view got) item)) own now bumps)
 
 -- or it was found, and touched if that was asked
 pub gives_touched_if : (touches : Bool) (arena : Arena) (hash : ℕ) (key : List ℕ) (before got : Hand) (item : Ref) → FindsItem arena hash item before got → (old new : List ℕ) → PutsValue key (item_words (view got) item) old new → (now : Hand)
-    → (touches ≡ true → BumpsItem (number_of before) item now) → GivesTouchedIf touches (setup_of arena) hash key before now old new
+    → (touches ≡ true → BumpsItem (hand_number before) item now) → GivesTouchedIf touches (setup_of arena) hash key before now old new
 gives_touched_if true arena hash key before got item found old new puts now bumps = gives_touched arena hash key before got item found old new puts now (bumps refl)
 gives_touched_if false arena hash key before got item found old new puts now bumps = gives_value (setup_of arena) hash key before (item_words (view got) item) found.finds old new puts
 

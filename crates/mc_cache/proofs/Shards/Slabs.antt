@@ -9,7 +9,7 @@ use Rattle.mc_words.specs.declared.item.refs.Again.TheVariants.{Gone, Contended,
 use Rattle.mc_words.specs.declared.item.refs.Hint.{Hint}
 use Rattle.mc_words.specs.item.Again.{FindsContended, FindsGone, FindsOther}
 use Rattle.mc_words.specs.hand.Arenas.{view}
-use Rattle.mc_words.specs.hand.Observers.{number_of}
+use Rattle.mc_words.specs.hand.Observers.{hand_number}
 use Rattle.mc_words.specs.hand.View.{Setup, View}
 use Rattle.mc_words.specs.hand.Views.{chunk_released, word_seen}
 use Rattle.mc_words.specs.lock.Wait.{WaitsForStripe}
@@ -36,7 +36,7 @@ looked number stripe key (Some item) view now (got, on, is) = ap count_of is ∙
 
 -- a get
 pub got_leaves : (setup : Setup) (hash : ℕ) (found : Option Ref) (before got : Hand) → Gets setup hash found before got → LeavesSlabs (view before) (view got)
-got_leaves setup hash found before got gets = looked (number_of before) (stripe_of_key setup hash) hash found (view before) (view got) gets
+got_leaves setup hash found before got gets = looked (hand_number before) (stripe_of_key setup hash) hash found (view before) (view got) gets
 
 -- one that found no room for its entry
 pub no_room_leaves : (setup : Setup) (hash : ℕ) (before now : Hand) → FindsNoRoomFor setup hash before now → LeavesSlabs (view before) (view now)

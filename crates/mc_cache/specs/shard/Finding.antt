@@ -1,14 +1,14 @@
 -- What is found under a hash: the words of an item, and whether they are a packing of a key.
 use Rattle.std.specs.Prelude.{◌≡◌, ◌≢◌, ◌⊎◌, ℕ, Bool, false, true, List, [], ◌∷◌, ◌++◌, Option, None, Some, IfSome}
 use Rattle.std.specs.Option.{option_map}
-use Rattle.mc_packing.specs.Packing.{IsPackingOf, packed}
+use Rattle.mc_packing.specs.Packing.{IsPackingOf, packed_item}
 use Rattle.mc_words.specs.declared.arena.Arena.{Arena}
 use Rattle.mc_words.specs.declared.hand.Hand.{Hand}
 use Rattle.mc_words.specs.hand.Arenas.{setup_of, view}
 use Rattle.mc_words.specs.item.Again.{FindsContended, FindsGone}
 use Rattle.mc_words.specs.item.Items.{item_with}
 use Rattle.mc_words.specs.declared.item.refs.Hint.{Hint}
-use Rattle.mc_words.specs.hand.Observers.{hint_chunk, hint_issue, number_of}
+use Rattle.mc_words.specs.hand.Observers.{hint_chunk, hint_issue, hand_number}
 use Rattle.mc_words.specs.hand.View.{Setup, View}
 use Rattle.mc_words.specs.hand.Views.{chunk_released}
 use Rattle.mc_words.specs.lock.Doing.{HoldsSlabs}
@@ -18,7 +18,7 @@ use Rattle.mc_items.specs.ItemRefs.{item_chunk, item_key, item_words}
 use Rattle.mc_items.specs.OnKeys.{ActsOn, Gets, FindsNoRoomFor}
 use Rattle.mc_items.specs.Calls.{Bumps, Deletes}
 use Rattle.mc_items.specs.Keeping.{holding_by}
-use Rattle.mc_cache.specs.shard.Hands.{WereSaid, sayings_of}
+use Rattle.mc_cache.specs.shard.Hands.{WereStored, items_stored_by}
 use Rattle.mc_cache.specs.shard.Reading.{RefersTo}
 
 -- the hand got the item of this hash by a hint, with no lock. It was the hash's current item at the exchange by which the hand got it
@@ -39,7 +39,7 @@ FollowsInVain hint hash view now =
 
 -- the hand tried a hint of the hash in vain, or had none
 pub record TriesHint (hash : ℕ) (before tried : Hand) : Type 0 where
-  pub number : number_of tried ≡ number_of before
+  pub number : hand_number tried ≡ hand_number before
   pub did : (view tried ≡ view before) ⊎ ((hint : Hint) × FollowsInVain hint hash (view before) (view tried))
 
 -- the hand got the item under the hash, perhaps after a hint led to nothing, and these are its words, which some hand stored; or there was
@@ -51,7 +51,7 @@ pub record FindsWords (setup : Setup) (hash : ℕ) (before : Hand) (words : Opti
   pub item : Option Ref
   pub gets : GetsUnder setup hash item tried got
   pub words_are : words ≡ option_map (item_words (view got)) item
-  pub said : IfSome words (λ words. (stamp : ℕ) × WereSaid setup (sayings_of before) stamp (item_with hash stamp words))
+  pub said : IfSome words (λ words. (stamp : ℕ) × WereStored setup (items_stored_by before) stamp (item_with hash stamp words))
 
 -- some item was under the hash
 abbrev pub FindsSome : Setup → ℕ → Hand → Type 0
@@ -72,22 +72,22 @@ pub record FindsItem (arena : Arena) (hash : ℕ) (item : Ref) (before got : Han
 
 -- the item under the hash is of this key and this value
 abbrev pub FindsValue : Setup → ℕ → List ℕ → List ℕ → Hand → Type 0
-FindsValue setup hash key value before = FindsWords setup hash before (Some (packed key value))
+FindsValue setup hash key value before = FindsWords setup hash before (Some (packed_item key value))
 
 -- the words are the packing of the key and a value, which was added behind the old bytes
 abbrev pub PutsValue : List ℕ → List ℕ → List ℕ → List ℕ → Type 0
-PutsValue key words old new = (value : List ℕ) × (words ≡ packed key value) × (new ≡ old ++ value)
+PutsValue key words old new = (value : List ℕ) × (words ≡ packed_item key value) × (new ≡ old ++ value)
 
 -- the item under the hash is of this key and a value, which was added behind the old bytes
-abbrev pub GivesValue : Setup → ℕ → List ℕ → Hand → List ℕ → List ℕ → Type 0
-GivesValue setup hash key before old new = (value : List ℕ) × FindsValue setup hash key value before × (new ≡ old ++ value)
+abbrev pub ReturnsValue : Setup → ℕ → List ℕ → Hand → List ℕ → List ℕ → Type 0
+ReturnsValue setup hash key before old new = (value : List ℕ) × FindsValue setup hash key value before × (new ≡ old ++ value)
 
 -- the item under the hash is of this key, with some value
 abbrev pub FindsKey : Setup → ℕ → List ℕ → Hand → Type 0
 FindsKey setup hash key before = (value : List ℕ) × FindsValue setup hash key value before
 
 -- no item is under the hash, or one of another key
-pub record FindsOther (setup : Setup) (hash : ℕ) (key : List ℕ) (before : Hand) : Type 0 where
+pub record FindsOtherKey (setup : Setup) (hash : ℕ) (key : List ℕ) (before : Hand) : Type 0 where
   pub words : Option (List ℕ)
   pub finds : FindsWords setup hash before words
   pub other : IfSome words (λ words. ¬ IsPackingOf key words)
@@ -110,7 +110,7 @@ pub record TouchesValue (setup : Setup) (hash : ℕ) (key value : List ℕ) (bef
   pub finds : FindsValue setup hash key value before
   pub item : Ref
   pub is_item : finds.item ≡ Some item
-  pub bumps : BumpsItem (number_of before) item now
+  pub bumps : BumpsItem (hand_number before) item now
 
 -- the item under the hash is of this key, with some value, and became the newest of its class
 abbrev pub TouchesKey : Setup → ℕ → List ℕ → Hand → Hand → Type 0
@@ -124,8 +124,8 @@ GivesTouched setup hash key before now old new = (value : List ℕ) × TouchesVa
 -- that was asked
 abbrev pub GivesTouchedIf : Bool → Setup → ℕ → List ℕ → Hand → Hand → List ℕ → List ℕ → Type 0
 GivesTouchedIf true setup hash key before now old new = GivesTouched setup hash key before now old new
-GivesTouchedIf false setup hash key before now old new = GivesValue setup hash key before old new
+GivesTouchedIf false setup hash key before now old new = ReturnsValue setup hash key before old new
 
 -- no item under the hash was of this key, or it was gone when the hand came to delete it
 abbrev pub DeletesNone : Setup → ℕ → List ℕ → Hand → Hand → Type 0
-DeletesNone setup hash key before now = FindsOther setup hash key before ⊎ DeletesKey setup hash key false before now
+DeletesNone setup hash key before now = FindsOtherKey setup hash key before ⊎ DeletesKey setup hash key false before now

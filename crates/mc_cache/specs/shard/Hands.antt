@@ -1,13 +1,13 @@
 -- Hands between two calls, and what hands of the arena stored.
 use Rattle.std.specs.Prelude.{◌≡◌, ℕ, List, []}
-use Rattle.mc_core.specs.Past.{Saying}
+use Rattle.mc_core.specs.Past.{StoredItem}
 use Rattle.mc_words.specs.declared.arena.Arena.{Arena}
 use Rattle.mc_words.specs.declared.hand.Hand.{Hand}
 use Rattle.mc_words.specs.hand.Arenas.{IsHandOf, view}
 use Rattle.mc_words.specs.rule.Happens.{LawfulView}
 use Rattle.mc_words.specs.hand.Ready.{IsReady}
 use Rattle.mc_words.specs.hand.View.{Setup, View}
-use Rattle.mc_items.specs.Keeping.{AreSaid}
+use Rattle.mc_items.specs.Keeping.{WordsWereStored}
 
 -- the hand is one of the arena's, may make any call, and holds nothing
 pub record IsIdleHandOf (arena : Arena) (hand : Hand) : Type 0 where
@@ -16,13 +16,13 @@ pub record IsIdleHandOf (arena : Arena) (hand : Hand) : Type 0 where
   pub none : (view hand).row.holdings ≡ []
 
 -- the words that the hand stored so far, with their stamps
-abbrev pub sayings_of : Hand → List Saying
-sayings_of hand = (view hand).row.knows.said
+abbrev pub items_stored_by : Hand → List StoredItem
+items_stored_by hand = (view hand).row.knows.said
 
 -- a hand that had stored this much saw, in a lawful moment of such an arena, that these words were stored with the stamp
-pub record WereSaid (setup : Setup) (own : List Saying) (stamp : ℕ) (words : List ℕ) : Type 0 where
+pub record WereStored (setup : Setup) (own : List StoredItem) (stamp : ℕ) (words : List ℕ) : Type 0 where
   pub seen : View
   pub setup_is : seen.setup ≡ setup
   pub lawful : LawfulView seen
   pub own_is : seen.row.knows.said ≡ own
-  pub said : AreSaid seen stamp words
+  pub said : WordsWereStored seen stamp words

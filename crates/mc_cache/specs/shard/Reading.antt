@@ -3,12 +3,12 @@ use Rattle.std.specs.Prelude.{◌≡◌}
 use Rattle.mc_words.specs.declared.arena.Arena.{Arena}
 use Rattle.mc_words.specs.declared.hand.Hand.{Hand}
 use Rattle.mc_words.specs.hand.Arenas.{IsHandOf, view}
-use Rattle.mc_words.specs.hand.Observers.{number_of}
+use Rattle.mc_words.specs.hand.Observers.{hand_number}
 use Rattle.mc_words.specs.hand.Ready.{IsReady}
 use Rattle.mc_words.specs.hand.View.{View}
 use Rattle.mc_items.specs.declared.refs.Ref.{Ref}
 use Rattle.mc_items.specs.ItemRefs.{IsItemRef, item_words}
-use Rattle.mc_items.specs.Keeping.{HoldsTheSame, SaysNothing}
+use Rattle.mc_items.specs.Keeping.{HoldsTheSame, StoresNothing}
 
 -- the hand is one of the arena's, may make any call, and refers to the item
 pub record RefersTo (arena : Arena) (item : Ref) (hand : Hand) : Type 0 where
@@ -23,8 +23,8 @@ LeavesSlabs before now = now.row.knows.hold.count ≡ before.row.knows.hold.coun
 -- the hand read words of the item, or none, and did nothing else
 pub record OnlyReads (arena : Arena) (item : Ref) (before now : Hand) : Type 0 where
   pub hand : RefersTo arena item now
-  pub number : number_of now ≡ number_of before
+  pub number : hand_number now ≡ hand_number before
   pub words : item_words (view now) item ≡ item_words (view before) item
   pub holdings : HoldsTheSame (view before) (view now)
-  pub unsaid : SaysNothing (view before) (view now)
+  pub unsaid : StoresNothing (view before) (view now)
   pub slabs : LeavesSlabs (view before) (view now)

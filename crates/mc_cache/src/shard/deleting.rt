@@ -2,8 +2,8 @@
 ghost use Rattle.std.specs.Prelude.{◌≡◌, Ok, OnErr, false, true};
 ghost use Rattle.mc_words.specs.declared.hand.Hand.{Hand};
 ghost use Rattle.mc_words.specs.hand.Arenas.{setup_of, view};
-ghost use Rattle.mc_words.specs.hand.Observers.{number_of};
-ghost use Rattle.mc_items.specs.Keeping.{SaysNothing};
+ghost use Rattle.mc_words.specs.hand.Observers.{hand_number};
+ghost use Rattle.mc_items.specs.Keeping.{StoresNothing};
 ghost use Rattle.mc_cache.specs.shard.Finding.{DeletesKey, DeletesNone, FindsFull};
 ghost use Rattle.mc_cache.specs.shard.Hands.{IsIdleHandOf};
 
@@ -25,11 +25,11 @@ pub fn delete<R: Wait>(
 ) -> Result<bool, Refused>
     requires { IsIdleHandOf arena.now hand.old }
     ensures idle { IsIdleHandOf arena.now hand.new }
-    ensures number { number_of hand.new ≡ number_of hand.old }
+    ensures number { hand_number hand.new ≡ hand_number hand.old }
     ensures deletes { result ≡ Ok true → DeletesKey (setup_of arena.now) at.entry.hash at.entry.key.now true hand.old hand.new }
     ensures none { result ≡ Ok false → DeletesNone (setup_of arena.now) at.entry.hash at.entry.key.now hand.old hand.new }
     ensures full { OnErr result ((between : Hand) × FindsFull (setup_of arena.now) at.entry.hash between hand.new) }
-    ensures unsaid { SaysNothing (view hand.old) (view hand.new) }
+    ensures unsaid { StoresNothing (view hand.old) (view hand.new) }
 {
     match contains(rt, arena, hints, hand, at) {
         Ok(true) => mc_items::delete(rt, arena, hand, at.hash),

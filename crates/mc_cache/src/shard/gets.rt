@@ -2,10 +2,10 @@
 ghost use Rattle.std.specs.Prelude.{◌≡◌, [], ◌∷◌, ◌⊎◌, Ok, OnErr, false, true};
 ghost use Rattle.mc_packing.specs.Packing.{IsPackingOf};
 ghost use Rattle.mc_words.specs.hand.Arenas.{setup_of, view};
-ghost use Rattle.mc_words.specs.hand.Observers.{number_of};
+ghost use Rattle.mc_words.specs.hand.Observers.{hand_number};
 ghost use Rattle.mc_items.specs.ItemRefs.{item_words};
-ghost use Rattle.mc_items.specs.Keeping.{SaysNothing, holding_by};
-ghost use Rattle.mc_cache.specs.shard.Finding.{BumpsItem, FindsOther, GivesTouchedIf, PutsValue, TouchesKey, FindsFull, FindsSome};
+ghost use Rattle.mc_items.specs.Keeping.{StoresNothing, holding_by};
+ghost use Rattle.mc_cache.specs.shard.Finding.{BumpsItem, FindsOtherKey, GivesTouchedIf, PutsValue, TouchesKey, FindsFull, FindsSome};
 ghost use Rattle.mc_cache.specs.shard.Hands.{IsIdleHandOf};
 ghost use Rattle.mc_cache.specs.shard.Reading.{LeavesSlabs, RefersTo};
 
@@ -36,12 +36,12 @@ pub fn get<R: Wait>(
 ) -> Result<bool, Refused>
     requires { IsIdleHandOf arena.now hand.old }
     ensures idle { IsIdleHandOf arena.now hand.new }
-    ensures number { number_of hand.new ≡ number_of hand.old }
+    ensures number { hand_number hand.new ≡ hand_number hand.old }
     ensures value { result ≡ Ok true → GivesTouchedIf touches (setup_of arena.now) at.entry.hash at.entry.key.now hand.old hand.new into.old.items into.new.items }
-    ensures other { result ≡ Ok false → FindsOther (setup_of arena.now) at.entry.hash at.entry.key.now hand.old }
+    ensures other { result ≡ Ok false → FindsOtherKey (setup_of arena.now) at.entry.hash at.entry.key.now hand.old }
     ensures kept { (result ≡ Ok true → ⊥) → into.new.items ≡ into.old.items }
     ensures full { OnErr result (FindsFull (setup_of arena.now) at.entry.hash hand.old hand.new ⊎ FindsSome (setup_of arena.now) at.entry.hash hand.old) }
-    ensures unsaid { SaysNothing (view hand.old) (view hand.new) }
+    ensures unsaid { StoresNothing (view hand.old) (view hand.new) }
     ensures unasked { touches ≡ false → LeavesSlabs (view hand.old) (view hand.new) }
 {
     let Some(item) = get_item(rt, arena, hints, hand, at.hash)? else {
@@ -61,11 +61,11 @@ pub fn touch<R: Wait>(
 ) -> Result<bool, Refused>
     requires { IsIdleHandOf arena.now hand.old }
     ensures idle { IsIdleHandOf arena.now hand.new }
-    ensures number { number_of hand.new ≡ number_of hand.old }
+    ensures number { hand_number hand.new ≡ hand_number hand.old }
     ensures touches { result ≡ Ok true → TouchesKey (setup_of arena.now) at.entry.hash at.entry.key.now hand.old hand.new }
-    ensures none { result ≡ Ok false → FindsOther (setup_of arena.now) at.entry.hash at.entry.key.now hand.old }
+    ensures none { result ≡ Ok false → FindsOtherKey (setup_of arena.now) at.entry.hash at.entry.key.now hand.old }
     ensures full { OnErr result (FindsFull (setup_of arena.now) at.entry.hash hand.old hand.new) }
-    ensures unsaid { SaysNothing (view hand.old) (view hand.new) }
+    ensures unsaid { StoresNothing (view hand.old) (view hand.new) }
 {
     let Some(item) = get_item(rt, arena, hints, hand, at.hash)? else {
         return Ok(false);
@@ -87,12 +87,12 @@ fn give_and_touch<R: Wait>(
     requires item { RefersTo arena.now item hand.old }
     requires alone { (view hand.old).row.holdings ≡ holding_by (view hand.old) item ∷ [] }
     ensures idle { IsIdleHandOf arena.now hand.new }
-    ensures number { number_of hand.new ≡ number_of hand.old }
+    ensures number { hand_number hand.new ≡ hand_number hand.old }
     ensures value { result ≡ Ok true → PutsValue key.now (item_words (view hand.old) item) into.old.items into.new.items }
-    ensures bumps { result ≡ Ok true → touches ≡ true → BumpsItem (number_of hand.old) item hand.new }
+    ensures bumps { result ≡ Ok true → touches ≡ true → BumpsItem (hand_number hand.old) item hand.new }
     ensures other { result ≡ Ok false → ¬ IsPackingOf key.now (item_words (view hand.old) item) }
     ensures kept { (result ≡ Ok true → ⊥) → into.new.items ≡ into.old.items }
-    ensures unsaid { SaysNothing (view hand.old) (view hand.new) }
+    ensures unsaid { StoresNothing (view hand.old) (view hand.new) }
     ensures unasked { touches ≡ false → LeavesSlabs (view hand.old) (view hand.new) }
 {
     if !touches {
@@ -115,11 +115,11 @@ fn touch_own<R: Wait>(rt: &R, arena: &Arena, hand: &mut Hand, item: Ref, key: &[
     requires item { RefersTo arena.now item hand.old }
     requires alone { (view hand.old).row.holdings ≡ holding_by (view hand.old) item ∷ [] }
     ensures idle { IsIdleHandOf arena.now hand.new }
-    ensures number { number_of hand.new ≡ number_of hand.old }
+    ensures number { hand_number hand.new ≡ hand_number hand.old }
     ensures own { result ≡ true → IsPackingOf key.now (item_words (view hand.old) item) }
-    ensures bumps { result ≡ true → BumpsItem (number_of hand.old) item hand.new }
+    ensures bumps { result ≡ true → BumpsItem (hand_number hand.old) item hand.new }
     ensures other { result ≡ false → ¬ IsPackingOf key.now (item_words (view hand.old) item) }
-    ensures unsaid { SaysNothing (view hand.old) (view hand.new) }
+    ensures unsaid { StoresNothing (view hand.old) (view hand.new) }
 {
     let own = is_of(arena, hand, &item, key);
     let_go(rt, arena, hand, item, own);
@@ -131,9 +131,9 @@ fn let_go<R: Wait>(rt: &R, arena: &Arena, hand: &mut Hand, item: Ref, touches: b
     requires item { RefersTo arena.now item hand.old }
     requires alone { (view hand.old).row.holdings ≡ holding_by (view hand.old) item ∷ [] }
     ensures idle { IsIdleHandOf arena.now hand.new }
-    ensures number { number_of hand.new ≡ number_of hand.old }
-    ensures bumps { touches ≡ true → BumpsItem (number_of hand.old) item hand.new }
-    ensures unsaid { SaysNothing (view hand.old) (view hand.new) }
+    ensures number { hand_number hand.new ≡ hand_number hand.old }
+    ensures bumps { touches ≡ true → BumpsItem (hand_number hand.old) item hand.new }
+    ensures unsaid { StoresNothing (view hand.old) (view hand.new) }
 {
     if touches {
         bump(rt, arena, hand, &item);

@@ -1,8 +1,8 @@
 //! Gets of items by hints, with no lock.
 ghost use Rattle.std.specs.Prelude.{◌≡◌, IfSome, None};
 ghost use Rattle.mc_words.specs.hand.Arenas.{setup_of, view};
-ghost use Rattle.mc_words.specs.hand.Observers.{number_of};
-ghost use Rattle.mc_items.specs.Keeping.{SaysNothing};
+ghost use Rattle.mc_words.specs.hand.Observers.{hand_number};
+ghost use Rattle.mc_items.specs.Keeping.{StoresNothing};
 ghost use Rattle.mc_cache.specs.shard.Finding.{FindsItem, TriesHint};
 ghost use Rattle.mc_cache.specs.shard.Hands.{IsIdleHandOf};
 ghost use Rattle.mc_cache.specs.shard.Reading.{LeavesSlabs};
@@ -24,8 +24,8 @@ pub(crate) fn get_hinted(
     ensures item { IfSome result (λ item. FindsItem arena.now hash item hand.old hand.new) }
     ensures none { result ≡ None → IsIdleHandOf arena.now hand.new }
     ensures tries { result ≡ None → TriesHint hash hand.old hand.new }
-    ensures number { number_of hand.new ≡ number_of hand.old }
-    ensures unsaid { SaysNothing (view hand.old) (view hand.new) }
+    ensures number { hand_number hand.new ≡ hand_number hand.old }
+    ensures unsaid { StoresNothing (view hand.old) (view hand.new) }
     ensures slabs { LeavesSlabs (view hand.old) (view hand.new) }
 {
     let hint = hints.load(arena, hash)?;

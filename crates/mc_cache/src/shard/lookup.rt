@@ -1,8 +1,8 @@
 //! The item under a hash, got by a hand that holds nothing.
 ghost use Rattle.std.specs.Prelude.{◌≡◌, IfOk, IfSome, None, Ok, OnErr};
 ghost use Rattle.mc_words.specs.hand.Arenas.{setup_of, view};
-ghost use Rattle.mc_words.specs.hand.Observers.{number_of};
-ghost use Rattle.mc_items.specs.Keeping.{SaysNothing};
+ghost use Rattle.mc_words.specs.hand.Observers.{hand_number};
+ghost use Rattle.mc_items.specs.Keeping.{StoresNothing};
 ghost use Rattle.mc_cache.specs.shard.Finding.{FindsItem, FindsWords, FindsFull};
 ghost use Rattle.mc_cache.specs.shard.Hands.{IsIdleHandOf};
 ghost use Rattle.mc_cache.specs.shard.Reading.{LeavesSlabs};
@@ -29,8 +29,8 @@ pub(crate) fn get_item<R: Wait>(
     ensures none { result ≡ Ok None → FindsWords (setup_of arena.now) hash hand.old None × IsIdleHandOf arena.now hand.new }
     ensures refused { OnErr result (IsIdleHandOf arena.now hand.new) }
     ensures full { OnErr result (FindsFull (setup_of arena.now) hash hand.old hand.new) }
-    ensures number { number_of hand.new ≡ number_of hand.old }
-    ensures unsaid { SaysNothing (view hand.old) (view hand.new) }
+    ensures number { hand_number hand.new ≡ hand_number hand.old }
+    ensures unsaid { StoresNothing (view hand.old) (view hand.new) }
     ensures slabs { LeavesSlabs (view hand.old) (view hand.new) }
 {
     if let Some(item) = get_hinted(arena, hints, hand, hash) {

@@ -1,6 +1,6 @@
 //! The words of an item, read in place.
 ghost use Rattle.std.specs.Prelude.{◌+◌, ◌≡◌, ◌≢◌, ◌≤◌, ◌<◌, IfSome, None, Ok, drop, false, length, slice_index, true};
-ghost use Rattle.mc_packing.specs.Packing.{AreWords, FillsFrom, IsPackingOf, LooksPacked, bytes_of, key_words, words_for, words_of};
+ghost use Rattle.mc_packing.specs.Packing.{AreWords, FillsFrom, IsPackingOf, LooksPacked, bytes_of_words, key_words, word_count_for, packed_words};
 ghost use Rattle.mc_words.specs.hand.Arenas.{view};
 ghost use Rattle.mc_items.specs.ItemRefs.{item_len, item_words};
 ghost use Rattle.mc_cache.specs.shard.Finding.{PutsValue};
@@ -114,10 +114,10 @@ fn is_filled_from(arena: &Arena, hand: &mut Hand, item: &Ref, place: u64, count:
 /// Whether the item's words behind the two lengths are the key's. It reads no further than the first that differs.
 fn has_key(arena: &Arena, hand: &mut Hand, item: &Ref, key: &[u8]) -> bool
     requires item { RefersTo arena.now item.now hand.old }
-    requires near { 2 + words_for (length key.now) ≤ item_len item.now }
+    requires near { 2 + word_count_for (length key.now) ≤ item_len item.now }
     ensures reads { OnlyReads arena.now item.now hand.old hand.new }
-    ensures same { result ≡ true → key_words key.now (item_words (view hand.old) item.now) ≡ words_of key.now }
-    ensures other { result ≡ false → key_words key.now (item_words (view hand.old) item.now) ≢ words_of key.now }
+    ensures same { result ≡ true → key_words key.now (item_words (view hand.old) item.now) ≡ packed_words key.now }
+    ensures other { result ≡ false → key_words key.now (item_words (view hand.old) item.now) ≢ packed_words key.now }
 {
     let mut rest = key;
     for place in 0..words_for_bytes(key.len() as u64) {
@@ -133,9 +133,9 @@ fn has_key(arena: &Arena, hand: &mut Hand, item: &Ref, key: &[u8]) -> bool
 /// Writes the bytes of the item's words from this place on over the room for them, a word at a time, and of the last as many as are left.
 fn write_value(arena: &Arena, hand: &mut Hand, item: &Ref, begin: u64, room: &mut [u8])
     requires item { RefersTo arena.now item.now hand.old }
-    requires len { item_len item.now ≡ begin + words_for (length room.old) }
+    requires len { item_len item.now ≡ begin + word_count_for (length room.old) }
     ensures reads { OnlyReads arena.now item.now hand.old hand.new }
-    ensures bytes { room.new ≡ bytes_of (length room.old) (drop begin (item_words (view hand.old) item.now)) }
+    ensures bytes { room.new ≡ bytes_of_words (length room.old) (drop begin (item_words (view hand.old) item.now)) }
     ensures words { AreWords (drop begin (item_words (view hand.old) item.now)) }
 {
     let full = room.len() / 8;

@@ -1,10 +1,10 @@
 //! The set of an item of bytes.
 ghost use Rattle.std.specs.Prelude.{◌≡◌, IfErr, IfOk, OnErr};
-ghost use Rattle.mc_packing.specs.Packing.{packed};
+ghost use Rattle.mc_packing.specs.Packing.{packed_item};
 ghost use Rattle.mc_words.specs.hand.Arenas.{view};
 ghost use Rattle.mc_words.specs.item.Items.{item_with};
-ghost use Rattle.mc_words.specs.hand.Observers.{number_of};
-ghost use Rattle.mc_items.specs.Keeping.{Says, SaysNothing};
+ghost use Rattle.mc_words.specs.hand.Observers.{hand_number};
+ghost use Rattle.mc_items.specs.Keeping.{StoresWithStamp, StoresNothing};
 ghost use Rattle.mc_items.specs.Setting.{RefusesSet, SetsItem};
 ghost use Rattle.mc_cache.specs.shard.Hands.{IsIdleHandOf};
 ghost use Rattle.mc_cache.specs.shard.Setting.{RefusesBytes};
@@ -30,11 +30,11 @@ pub fn set<R: Wait>(
 ) -> Result<Stamp, SetError>
     requires { IsIdleHandOf arena.now hand.old }
     ensures idle { IsIdleHandOf arena.now hand.new }
-    ensures number { number_of hand.new ≡ number_of hand.old }
-    ensures sets { IfOk result (λ stamp. SetsItem (number_of hand.old) at.entry.hash stamp (packed at.entry.key.now value.now) (view hand.old) (view hand.new)) }
-    ensures said { IfOk result (λ stamp. Says (item_with at.entry.hash stamp (packed at.entry.key.now value.now)) stamp (view hand.old) (view hand.new)) }
-    ensures refused { IfErr result (λ error. RefusesBytes (number_of hand.old) at.entry.hash (packed at.entry.key.now value.now) error (view hand.old) (view hand.new)) }
-    ensures unsaid { OnErr result (SaysNothing (view hand.old) (view hand.new)) }
+    ensures number { hand_number hand.new ≡ hand_number hand.old }
+    ensures sets { IfOk result (λ stamp. SetsItem (hand_number hand.old) at.entry.hash stamp (packed_item at.entry.key.now value.now) (view hand.old) (view hand.new)) }
+    ensures said { IfOk result (λ stamp. StoresWithStamp (item_with at.entry.hash stamp (packed_item at.entry.key.now value.now)) stamp (view hand.old) (view hand.new)) }
+    ensures refused { IfErr result (λ error. RefusesBytes (hand_number hand.old) at.entry.hash (packed_item at.entry.key.now value.now) error (view hand.old) (view hand.new)) }
+    ensures unsaid { OnErr result (StoresNothing (view hand.old) (view hand.new)) }
 {
     match pack(words, at.key, value) {
         Ok(()) => mc_items::set(rt, arena, hand, at.hash, words),

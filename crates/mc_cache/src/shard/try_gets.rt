@@ -2,11 +2,11 @@
 ghost use Rattle.std.specs.Prelude.{◌≡◌, [], ◌∷◌, ◌⊎◌, Err, Ok, OnErr, false, true};
 ghost use Rattle.mc_packing.specs.Packing.{IsPackingOf};
 ghost use Rattle.mc_words.specs.hand.Arenas.{setup_of, view};
-ghost use Rattle.mc_words.specs.hand.Observers.{number_of};
+ghost use Rattle.mc_words.specs.hand.Observers.{hand_number};
 ghost use Rattle.mc_items.specs.ItemRefs.{item_words};
-ghost use Rattle.mc_items.specs.Keeping.{SaysNothing, holding_by};
+ghost use Rattle.mc_items.specs.Keeping.{StoresNothing, holding_by};
 ghost use Rattle.mc_items.specs.OnKeys.{FindsStripeHeld};
-ghost use Rattle.mc_cache.specs.shard.Finding.{FindsKey, FindsOther, GivesValue, PutsValue, FindsFull, FindsSome};
+ghost use Rattle.mc_cache.specs.shard.Finding.{FindsKey, FindsOtherKey, ReturnsValue, PutsValue, FindsFull, FindsSome};
 ghost use Rattle.mc_cache.specs.declared.shard.try_gets.TryGetError.TheVariants as try_error;
 ghost use Rattle.mc_cache.specs.shard.Hands.{IsIdleHandOf};
 ghost use Rattle.mc_cache.specs.shard.Reading.{LeavesSlabs, RefersTo};
@@ -41,13 +41,13 @@ pub fn try_get(
 ) -> Result<bool, TryGetError>
     requires { IsIdleHandOf arena.now hand.old }
     ensures idle { IsIdleHandOf arena.now hand.new }
-    ensures number { number_of hand.new ≡ number_of hand.old }
-    ensures value { result ≡ Ok true → GivesValue (setup_of arena.now) at.entry.hash at.entry.key.now hand.old into.old.items into.new.items }
-    ensures other { result ≡ Ok false → FindsOther (setup_of arena.now) at.entry.hash at.entry.key.now hand.old }
+    ensures number { hand_number hand.new ≡ hand_number hand.old }
+    ensures value { result ≡ Ok true → ReturnsValue (setup_of arena.now) at.entry.hash at.entry.key.now hand.old into.old.items into.new.items }
+    ensures other { result ≡ Ok false → FindsOtherKey (setup_of arena.now) at.entry.hash at.entry.key.now hand.old }
     ensures kept { (result ≡ Ok true → ⊥) → into.new.items ≡ into.old.items }
     ensures held { result ≡ Err try_error.Held → FindsStripeHeld (setup_of arena.now) at.entry.hash hand.old hand.new }
     ensures full { result ≡ Err (try_error.NoMemory tt) → FindsFull (setup_of arena.now) at.entry.hash hand.old hand.new ⊎ FindsSome (setup_of arena.now) at.entry.hash hand.old }
-    ensures unsaid { SaysNothing (view hand.old) (view hand.new) }
+    ensures unsaid { StoresNothing (view hand.old) (view hand.new) }
     ensures slabs { LeavesSlabs (view hand.old) (view hand.new) }
 {
     match mc_items::try_get(arena, hand, at.hash) {
@@ -72,11 +72,11 @@ pub fn contains<R: Wait>(
 ) -> Result<bool, Refused>
     requires { IsIdleHandOf arena.now hand.old }
     ensures idle { IsIdleHandOf arena.now hand.new }
-    ensures number { number_of hand.new ≡ number_of hand.old }
+    ensures number { hand_number hand.new ≡ hand_number hand.old }
     ensures key { result ≡ Ok true → FindsKey (setup_of arena.now) at.entry.hash at.entry.key.now hand.old }
-    ensures other { result ≡ Ok false → FindsOther (setup_of arena.now) at.entry.hash at.entry.key.now hand.old }
+    ensures other { result ≡ Ok false → FindsOtherKey (setup_of arena.now) at.entry.hash at.entry.key.now hand.old }
     ensures full { OnErr result (FindsFull (setup_of arena.now) at.entry.hash hand.old hand.new) }
-    ensures unsaid { SaysNothing (view hand.old) (view hand.new) }
+    ensures unsaid { StoresNothing (view hand.old) (view hand.new) }
     ensures slabs { LeavesSlabs (view hand.old) (view hand.new) }
 {
     let Some(item) = get_item(rt, arena, hints, hand, at.hash)? else {
@@ -97,11 +97,11 @@ pub(crate) fn give_value(
     requires item { RefersTo arena.now item hand.old }
     requires alone { (view hand.old).row.holdings ≡ holding_by (view hand.old) item ∷ [] }
     ensures idle { IsIdleHandOf arena.now hand.new }
-    ensures number { number_of hand.new ≡ number_of hand.old }
+    ensures number { hand_number hand.new ≡ hand_number hand.old }
     ensures value { result ≡ Ok true → PutsValue key.now (item_words (view hand.old) item) into.old.items into.new.items }
     ensures other { result ≡ Ok false → ¬ IsPackingOf key.now (item_words (view hand.old) item) }
     ensures kept { (result ≡ Ok true → ⊥) → into.new.items ≡ into.old.items }
-    ensures unsaid { SaysNothing (view hand.old) (view hand.new) }
+    ensures unsaid { StoresNothing (view hand.old) (view hand.new) }
     ensures slabs { LeavesSlabs (view hand.old) (view hand.new) }
 {
     let given = push_value(arena, hand, &item, key, into);
@@ -114,10 +114,10 @@ fn tell_key(arena: &Arena, hand: &mut Hand, item: Ref, key: &[u8]) -> bool
     requires item { RefersTo arena.now item hand.old }
     requires alone { (view hand.old).row.holdings ≡ holding_by (view hand.old) item ∷ [] }
     ensures idle { IsIdleHandOf arena.now hand.new }
-    ensures number { number_of hand.new ≡ number_of hand.old }
+    ensures number { hand_number hand.new ≡ hand_number hand.old }
     ensures own { result ≡ true → IsPackingOf key.now (item_words (view hand.old) item) }
     ensures other { result ≡ false → ¬ IsPackingOf key.now (item_words (view hand.old) item) }
-    ensures unsaid { SaysNothing (view hand.old) (view hand.new) }
+    ensures unsaid { StoresNothing (view hand.old) (view hand.new) }
     ensures slabs { LeavesSlabs (view hand.old) (view hand.new) }
 {
     let own = is_of(arena, hand, &item, key);

@@ -3,8 +3,8 @@ ghost use Rattle.std.specs.Prelude.{◌≡◌, ◌<◌, true, length, None, Some
 ghost use Rattle.std.specs.Option.{option_map};
 ghost use Rattle.mc_pages.specs.Pages.{is_on_the_move};
 ghost use Rattle.mc_core.specs.Holdings.{holding_of};
-ghost use Rattle.mc_core.specs.State.{head_at, room_at, holdings_at};
-ghost use Rattle.mc_core.specs.Chunks.{has_place, can_hand_out, with_fresh, next_free, can_pop, after_pop, target_of, can_pop_off, after_pop_off, can_fill, after_fill, holds_as, can_discard, can_release, after_drop, can_put_back, after_put_back, can_clear, after_clear, can_cut, after_cut, handed_out, let_go, with_tag_free, with_tag_out, most_issue};
+ghost use Rattle.mc_core.specs.State.{head_at, chunk_room, holdings_at};
+ghost use Rattle.mc_core.specs.Chunks.{has_place, can_hand_out, with_fresh, next_free, can_pop, state_after_pop, target_of, can_pop_off, after_pop_off, can_fill, after_fill, holds_as, can_discard, can_release, after_drop, can_put_back, after_put_back, can_clear, state_after_clear, can_cut, state_after_cut, head_after_hand_out, head_after_release, with_tag_free, with_tag_out, most_issue};
 
 use super::State;
 use crate::head::{Head, Tag};
@@ -24,7 +24,7 @@ impl Head {
     /// The header after its chunk is handed out: the next issue, one holder.
     fn handed_out(self) -> Head
         requires { self.issue < most_issue }
-        ensures { result ≡ handed_out self }
+        ensures { result ≡ head_after_hand_out self }
     {
         Head {
             issue: self.issue + 1,
@@ -35,7 +35,7 @@ impl Head {
 
     /// The header with one holder less.
     fn let_go(self) -> Head
-        ensures { result ≡ let_go self }
+        ensures { result ≡ head_after_release self }
     {
         Head {
             count: self.count.saturating_sub(1),
@@ -90,7 +90,7 @@ impl State {
     fn hand_out(&mut self, hand: u64, chunk: ChunkId, purpose: Purpose) -> Result<Head, Refused>
         requires here { hand < length self.old.ids }
         requires free { can_hand_out self.old (Some chunk) ≡ true }
-        ensures head { IfOk result (λ head. head ≡ handed_out (head_at self.old chunk)) }
+        ensures head { IfOk result (λ head. head ≡ head_after_hand_out (head_at self.old chunk)) }
         ensures fresh { OnOk result (self.new ≡ with_fresh self.old hand chunk purpose) }
     {
         let head = self.head(chunk).handed_out();
@@ -110,7 +110,7 @@ impl State {
     /// No word of the chunk is filled.
     #[tactic(auto, using(crate::proofs::Lists::replicate_more))]
     fn blank(&self, chunk: ChunkId) -> Result<Series<Option<u64>>, Refused>
-        ensures { IfOk result (λ words. words ≡ replicate (room_at self.now chunk) None) }
+        ensures { IfOk result (λ words. words ≡ replicate (chunk_room self.now chunk) None) }
     {
         let mut words = Series::new(self.alloc);
         for _ in 0..self.room(chunk) {
@@ -146,7 +146,7 @@ impl State {
     pub(super) fn pop(&mut self, hand: u64, class: ClassId) -> Result<(), Refused>
         requires here { hand < length self.old.ids }
         requires allowed { can_pop self.old hand class ≡ true }
-        ensures { OnOk result (self.new ≡ after_pop self.old hand class) }
+        ensures { OnOk result (self.new ≡ state_after_pop self.old hand class) }
     {
         if let Some(chunk) = self.list_pop(class) {
             let head = self.hand_out(hand, chunk, Purpose::Item)?;
@@ -306,7 +306,7 @@ impl State {
     pub(super) fn clear(&mut self, hand: u64, chunk: ChunkId) -> Result<(), Refused>
         requires here { hand < length self.old.ids }
         requires allowed { can_clear self.old hand chunk ≡ true }
-        ensures { OnOk result (self.new ≡ after_clear self.old hand chunk) }
+        ensures { OnOk result (self.new ≡ state_after_clear self.old hand chunk) }
     {
         let head = self.head(chunk).with_tag_out();
         self.list_clear(chunk);
@@ -327,7 +327,7 @@ impl State {
     pub(super) fn cut(&mut self, hand: u64, chunk: ChunkId) -> Result<(), Refused>
         requires here { hand < length self.old.ids }
         requires allowed { can_cut self.old hand chunk ≡ true }
-        ensures { OnOk result (self.new ≡ after_cut self.old hand chunk) }
+        ensures { OnOk result (self.new ≡ state_after_cut self.old hand chunk) }
     {
         let head = self.head(chunk).with_tag_free();
         self.list_cut(chunk);

@@ -2,10 +2,10 @@
 ghost use Rattle.std.specs.Prelude.{◌≡◌, ◌^◌, ◌<◌, [], length, slice_index, IfOk, OnOk};
 ghost use Rattle.std.specs.List.{position};
 ghost use Rattle.std.specs.Option.{option_map};
-ghost use Rattle.mc_core.specs.Holdings.{is_of, holding_of, lose};
+ghost use Rattle.mc_core.specs.Holdings.{is_of_chunk, holding_of, without_first};
 ghost use Rattle.mc_core.specs.State.{with_head, word_at, with_word, item_at, number_at, is_hand, is_held_by, has_slabs, has_stripe, stripe_of, holdings_at, with_holding, without_holding, looks_at, with_look, with_looks};
 ghost use Rattle.mc_core.specs.Silent.{writer_of};
-ghost use Rattle.mc_core.specs.Locks.{lock_word, looked};
+ghost use Rattle.mc_core.specs.Locks.{lock_word, state_after_look};
 
 use super::State;
 use crate::head::Head;
@@ -27,7 +27,7 @@ pub(super) fn is_held_by(word: u64, number: Option<u8>) -> bool
 
 /// The place of the first holding of the chunk.
 fn place_of(holdings: &[Holding], chunk: ChunkId) -> Option<usize>
-    ensures { result ≡ position (is_of chunk) holdings.now }
+    ensures { result ≡ position (is_of_chunk chunk) holdings.now }
 {
     holdings.iter().position(|holding| holding.chunk == chunk)
 }
@@ -35,7 +35,7 @@ fn place_of(holdings: &[Holding], chunk: ChunkId) -> Option<usize>
 /// Takes the first holding of the chunk.
 fn take_of(holdings: &mut Series<Holding>, chunk: ChunkId) -> Option<Holding>
     ensures holding { result ≡ holding_of chunk holdings.old }
-    ensures without { holdings.new ≡ lose (is_of chunk) holdings.old }
+    ensures without { holdings.new ≡ without_first (is_of_chunk chunk) holdings.old }
 {
     match place_of(holdings.as_slice(), chunk) {
         Some(place) => Some(holdings.remove(place)),
@@ -185,7 +185,7 @@ impl State {
     pub(super) fn take_holding(&mut self, hand: u64, chunk: ChunkId) -> Option<Holding>
         requires { hand < length self.old.ids }
         ensures holding { result ≡ holding_of chunk (holdings_at self.old hand) }
-        ensures without { self.new ≡ without_holding self.old hand (is_of chunk) }
+        ensures without { self.new ≡ without_holding self.old hand (is_of_chunk chunk) }
     {
         take_of(&mut self.holdings[hand as usize], chunk)
     }
@@ -226,7 +226,7 @@ impl State {
     /// Notes what the hand saw, if it has the slabs lock.
     pub(super) fn note_if_held(&mut self, hand: u64, look: Look) -> Result<(), Refused>
         requires { hand < length self.old.ids }
-        ensures { OnOk result (self.new ≡ looked self.old hand look) }
+        ensures { OnOk result (self.new ≡ state_after_look self.old hand look) }
     {
         if self.has_slabs(hand) {
             self.note(hand, look)?;

@@ -1,6 +1,6 @@
 //! Hands that become one.
 ghost use Rattle.std.specs.Prelude.{◌≡◌, ◌<◌, length};
-ghost use Rattle.mc_core.specs.Hands.{has_no_stripe, is_idle, can_join, after_join};
+ghost use Rattle.mc_core.specs.Hands.{hand_has_no_stripe, is_hand_idle, can_join, after_join};
 
 use super::State;
 use super::columns::is_held_by;
@@ -9,7 +9,7 @@ use crate::ids::Ids;
 impl State {
     /// Whether the hand has the lock of no stripe.
     fn has_no_stripe(&self, hand: u64) -> bool
-        ensures { result ≡ has_no_stripe self.now hand }
+        ensures { result ≡ hand_has_no_stripe self.now hand }
     {
         let number = self.number(hand);
         self.stripe_locks
@@ -20,7 +20,7 @@ impl State {
     /// Whether the hand has no lock and no chunk.
     fn is_idle(&self, hand: u64) -> bool
         requires { hand < length self.now.ids }
-        ensures { result ≡ is_idle self.now hand }
+        ensures { result ≡ is_hand_idle self.now hand }
     {
         !self.has_slabs(hand) && self.has_no_stripe(hand) && self.holdings(hand).len() == 0
     }

@@ -1,9 +1,9 @@
 //! Items that are linked, referred to, read and unlinked.
 ghost use Rattle.std.specs.Prelude.{◌≡◌, ◌<◌, true, length, Some, OnOk};
 ghost use Rattle.mc_stripe.specs.StripeState.{key_aside};
-ghost use Rattle.mc_core.specs.Holdings.{has_fresh, is_complete, key_in, words_of};
+ghost use Rattle.mc_core.specs.Holdings.{has_fresh, is_complete, known_key, holding_words};
 ghost use Rattle.mc_core.specs.State.{head_at, holdings_at, ids_at, stripe_of, stripe_at};
-ghost use Rattle.mc_core.specs.Items.{linked, unlinked, referred, can_count, is_next_stamp, suits, can_link_key, can_link_holding, can_link, after_link, can_tell_link, with_told_link, with_rescued, with_set, is_none_else_aside, most_stamps, with_reference, chunk_of, can_look_up, can_refer, after_refer, with_got, can_unlink, after_unlink, can_again, can_word, can_word_held, after_word_held};
+ghost use Rattle.mc_core.specs.Items.{head_after_link, head_after_unlink, head_after_refer, can_count, is_next_stamp, is_allowed_for, can_link_key, can_link_holding, can_link, state_after_link, can_record_link, with_recorded_link, with_rescued, with_set, is_none_else_aside, most_stamps, with_reference, chunk_of_key, can_look_up, can_refer, after_refer, with_got, can_unlink, state_after_unlink, can_again, can_word, can_word_held, after_word_held};
 
 use super::State;
 use crate::head::{Head, Tag};
@@ -22,7 +22,7 @@ impl Head {
     /// The header after its chunk is linked: the link counts 1.
     fn linked(self) -> Head
         requires { can_count self ≡ true }
-        ensures { result ≡ linked self }
+        ensures { result ≡ head_after_link self }
     {
         Head {
             tag: Tag::Linked,
@@ -33,7 +33,7 @@ impl Head {
 
     /// The header after its chunk is unlinked.
     fn unlinked(self) -> Head
-        ensures { result ≡ unlinked self }
+        ensures { result ≡ head_after_unlink self }
     {
         Head {
             tag: Tag::Unlinked,
@@ -45,7 +45,7 @@ impl Head {
     /// The header with one holder more.
     fn referred(self) -> Head
         requires { can_count self ≡ true }
-        ensures { result ≡ referred self }
+        ensures { result ≡ head_after_refer self }
     {
         Head {
             count: self.count + 1,
@@ -85,8 +85,8 @@ impl State {
     /// Whether words and purpose of a fresh chunk are such that it can be linked.
     fn suits(&self, hand: u64, holding: &Holding) -> bool
         requires here { hand < length self.now.ids }
-        requires complete { is_complete (words_of holding.now) ≡ true }
-        ensures { result ≡ suits self.now hand (words_of holding.now) holding.now.kind }
+        requires complete { is_complete (holding_words holding.now) ≡ true }
+        ensures { result ≡ is_allowed_for self.now hand (holding_words holding.now) holding.now.kind }
     {
         let key = holding.word(0);
         let stamp = holding.word(1);
@@ -126,7 +126,7 @@ impl State {
     pub(super) fn link(&mut self, hand: u64, chunk: ChunkId) -> Result<(), Refused>
         requires here { hand < length self.old.ids }
         requires allowed { can_link self.old hand chunk ≡ true }
-        ensures { OnOk result (self.new ≡ after_link self.old hand chunk) }
+        ensures { OnOk result (self.new ≡ state_after_link self.old hand chunk) }
     {
         let Some(holding) = self.take_holding(hand, chunk) else {
             return Ok(());
@@ -141,8 +141,8 @@ impl State {
     /// The stripe of the key comes to know of the link, and a stamp is given out, but for a rescue.
     fn tell_link(&mut self, hand: u64, holding: &Holding)
         requires here { hand < length self.old.ids }
-        requires allowed { can_tell_link self.old hand holding.now ≡ true }
-        ensures { self.new ≡ with_told_link self.old hand holding.now }
+        requires allowed { can_record_link self.old hand holding.now ≡ true }
+        ensures { self.new ≡ with_recorded_link self.old hand holding.now }
     {
         if let Kind::Fresh(Purpose::Rescue(_, _), _) = &holding.kind {
             self.tell_rescue(hand, holding);
@@ -153,8 +153,8 @@ impl State {
 
     /// The stripe of the key comes to know of a rescue.
     fn tell_rescue(&mut self, hand: u64, holding: &Holding)
-        requires key { can_link_key self.old hand (key_in (words_of holding.now)) ≡ true }
-        requires aside { key_aside (stripe_at self.old (stripe_of self.old (key_in (words_of holding.now)))).state ≡ Some (key_in (words_of holding.now)) }
+        requires key { can_link_key self.old hand (known_key (holding_words holding.now)) ≡ true }
+        requires aside { key_aside (stripe_at self.old (stripe_of self.old (known_key (holding_words holding.now)))).state ≡ Some (known_key (holding_words holding.now)) }
         ensures { self.new ≡ with_rescued self.old hand holding.now }
     {
         let key = holding.word(0);
@@ -167,8 +167,8 @@ impl State {
     /// The stripe of the key comes to know of an item that is stored, and a stamp is given out.
     fn tell_set(&mut self, hand: u64, holding: &Holding)
         requires here { hand < length self.old.ids }
-        requires key { can_link_key self.old hand (key_in (words_of holding.now)) ≡ true }
-        requires aside { is_none_else_aside (stripe_at self.old (stripe_of self.old (key_in (words_of holding.now)))).state (key_in (words_of holding.now)) ≡ true }
+        requires key { can_link_key self.old hand (known_key (holding_words holding.now)) ≡ true }
+        requires aside { is_none_else_aside (stripe_at self.old (stripe_of self.old (known_key (holding_words holding.now)))).state (known_key (holding_words holding.now)) ≡ true }
         requires stamps { (ids_at self.old hand).stamps < most_stamps }
         ensures { self.new ≡ with_set self.old hand holding.now }
     {
@@ -203,7 +203,7 @@ impl State {
 
     /// The chunk to which the key leads, and the stamp.
     fn chunk_of(&self, key: u64) -> Option<(ChunkId, u64)>
-        ensures { result ≡ chunk_of self.now key }
+        ensures { result ≡ chunk_of_key self.now key }
     {
         let stripe = &self.stripes[self.stripe_of(key) as usize];
         stripe.find(key)
@@ -252,7 +252,7 @@ impl State {
     /// The stripe of the key comes to know that the key was looked up, which found this.
     fn tell_got(&mut self, hand: u64, key: u64, found: Option<(ChunkId, u64)>)
         requires allowed { can_look_up self.old hand key ≡ true }
-        requires found { found ≡ chunk_of self.old key }
+        requires found { found ≡ chunk_of_key self.old key }
         ensures { self.new ≡ with_got self.old hand key }
     {
         let writer = self.writer(hand);
@@ -290,7 +290,7 @@ impl State {
     pub(super) fn unlink(&mut self, hand: u64, key: u64)
         requires here { hand < length self.old.ids }
         requires allowed { can_unlink self.old hand key ≡ true }
-        ensures { self.new ≡ after_unlink self.old hand key }
+        ensures { self.new ≡ state_after_unlink self.old hand key }
     {
         let found = self.chunk_of(key);
         let lifts = self.has_fresh(hand);

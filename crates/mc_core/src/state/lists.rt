@@ -1,6 +1,6 @@
 //! The free list and the hand-out order of a class, copied, and what is in them.
 ghost use Rattle.std.specs.Prelude.{◌≡◌, IfOk};
-ghost use Rattle.mc_pages.specs.SlabState.{IsClass, class_at};
+ghost use Rattle.mc_pages.specs.SlabState.{HasClass, class_at};
 ghost use Rattle.mc_core.specs.Silent.{is_among, has_page, is_handed_out, is_listed, has_listed};
 
 use super::State;
@@ -11,7 +11,7 @@ use std::alloc::Global;
 
 /// The class's free list, from its head.
 pub fn free_of(alloc: Global, slabs: &Slabs, class: ClassId) -> Result<Vec<ChunkId>, Refused>
-    requires { IsClass slabs.now.state class }
+    requires { HasClass slabs.now.state class }
     ensures { IfOk result (λ chunks. chunks.items ≡ (class_at slabs.now.state class).free) }
 {
     let mut chunks = Vec::new(alloc);
@@ -23,7 +23,7 @@ pub fn free_of(alloc: Global, slabs: &Slabs, class: ClassId) -> Result<Vec<Chunk
 
 /// The class's hand-out order, the oldest first.
 pub fn order_of(alloc: Global, slabs: &Slabs, class: ClassId) -> Result<Vec<ChunkId>, Refused>
-    requires { IsClass slabs.now.state class }
+    requires { HasClass slabs.now.state class }
     ensures { IfOk result (λ chunks. chunks.items ≡ (class_at slabs.now.state class).order) }
 {
     let mut chunks = Vec::new(alloc);

@@ -2,7 +2,7 @@
 ghost use Rattle.std.specs.Prelude.{◌≡◌, ◌+◌, ◌*◌, ◌^◌, ◌<◌, ◌≤◌, length, slice_index_or, MatchOption};
 ghost use Rattle.mc_classes.specs.Limits.{most_page_chunks};
 ghost use Rattle.mc_pages.specs.SlabState.{class_of_page};
-ghost use Rattle.mc_core.specs.State.{most_of, is_class, room_in, has_chunk, head_place, room_at, word_place};
+ghost use Rattle.mc_core.specs.State.{most_of, is_class, room_in, has_chunk, head_place, chunk_room, word_place};
 
 use super::State;
 use mc_classes::ClassId;
@@ -76,7 +76,7 @@ impl State {
 
     /// How many words the chunk has.
     pub(super) fn room(&self, chunk: ChunkId) -> u64
-        ensures room { result ≡ room_at self.now chunk }
+        ensures room { result ≡ chunk_room self.now chunk }
         ensures bound { result ≤ 2048 }
     {
         self.room_in(self.class_of_page(chunk.page))

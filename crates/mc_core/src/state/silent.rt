@@ -7,8 +7,8 @@ ghost use Rattle.mc_core.specs.declared.event.Change.TheVariants.{BeginMove, Fin
 ghost use Rattle.mc_core.specs.declared.event.StripeChange.TheVariants.{Trim};
 ghost use Rattle.mc_core.specs.declared.look.Look.TheVariants.{Changed};
 ghost use Rattle.mc_core.specs.State.{has_slabs, stripe_of, stripe_at, with_slabs, with_stripe, with_look};
-ghost use Rattle.mc_core.specs.Silent.{none_half_cut, run_of, is_cleared_at, can_finish, can_pass, can_wrap, can_tell_none, can_change_stripe, stripe_after, writer_of, slabs_after, can_change_slabs, allows_change, after_change, allows_changes, after_changes, told_none, call_of};
-ghost use Rattle.mc_core.specs.Done.{IsDone};
+ghost use Rattle.mc_core.specs.Silent.{none_half_cut, run_of, is_cleared_at, can_finish, can_pass, can_wrap, can_record_miss, can_change_stripe, stripe_after, writer_of, slabs_after, can_change_slabs, allows_change, after_change, allows_changes, after_changes, stripe_after_miss, call_of};
+ghost use Rattle.mc_core.specs.Done.{IsResultOf};
 
 use super::State;
 use crate::event::{Change, StripeChange};
@@ -51,7 +51,7 @@ impl State {
 
     /// The class gets a page, if there is one and none is half cut.
     fn grow(&mut self, class: ClassId) -> Result<bool, Refused>
-        ensures { IfOk result (IsDone (can_change_slabs self.old.table self.old.slabs (Change.Grow class)) (with_slabs self.old (slabs_after self.old.slabs (Change.Grow class))) self.new) }
+        ensures { IfOk result (IsResultOf (can_change_slabs self.old.table self.old.slabs (Change.Grow class)) (with_slabs self.old (slabs_after self.old.slabs (Change.Grow class))) self.new) }
     {
         if !self.is_class(class) || !self.none_half_cut() {
             return Ok(false);
@@ -65,7 +65,7 @@ impl State {
 
     /// A page begins to move, if the answer is OK.
     fn begin_move(&mut self, src: Option<u64>, dst: u64) -> Result<bool, Refused>
-        ensures { IfOk result (IsDone (can_change_slabs self.old.table self.old.slabs (BeginMove src dst)) (with_slabs self.old (slabs_after self.old.slabs (BeginMove src dst))) self.new) }
+        ensures { IfOk result (IsResultOf (can_change_slabs self.old.table self.old.slabs (BeginMove src dst)) (with_slabs self.old (slabs_after self.old.slabs (BeginMove src dst))) self.new) }
     {
         match self.slabs.begin_move(src, dst) {
             Ok(()) => Ok(true),
@@ -86,7 +86,7 @@ impl State {
 
     /// The move ends, if all chunks of its page are cleared.
     fn finish_move(&mut self) -> Result<bool, Refused>
-        ensures { IfOk result (IsDone (can_change_slabs self.old.table self.old.slabs FinishMove) (with_slabs self.old (slabs_after self.old.slabs FinishMove)) self.new) }
+        ensures { IfOk result (IsResultOf (can_change_slabs self.old.table self.old.slabs FinishMove) (with_slabs self.old (slabs_after self.old.slabs FinishMove)) self.new) }
     {
         if !self.can_finish()? {
             return Ok(false);
@@ -97,7 +97,7 @@ impl State {
 
     /// The chunk goes to the back of its hand-out order, if it is handed out.
     fn touch(&mut self, chunk: ChunkId) -> Result<bool, Refused>
-        ensures { IfOk result (IsDone (can_change_slabs self.old.table self.old.slabs (Touch chunk)) (with_slabs self.old (slabs_after self.old.slabs (Touch chunk))) self.new) }
+        ensures { IfOk result (IsResultOf (can_change_slabs self.old.table self.old.slabs (Touch chunk)) (with_slabs self.old (slabs_after self.old.slabs (Touch chunk))) self.new) }
     {
         if !self.is_handed_out(chunk)? {
             return Ok(false);
@@ -108,7 +108,7 @@ impl State {
 
     /// The automover's mode is set, if there is such a mode.
     fn set_automove(&mut self, mode: u64) -> bool
-        ensures { IsDone (can_change_slabs self.old.table self.old.slabs (SetAutomove mode)) (with_slabs self.old (slabs_after self.old.slabs (SetAutomove mode))) self.new result }
+        ensures { IsResultOf (can_change_slabs self.old.table self.old.slabs (SetAutomove mode)) (with_slabs self.old (slabs_after self.old.slabs (SetAutomove mode))) self.new result }
     {
         if mode > 2 {
             return false;
@@ -119,7 +119,7 @@ impl State {
 
     /// The entries of the ledger so far aren't recorded any more.
     fn trim_ledger(&mut self) -> bool
-        ensures { IsDone (can_change_slabs self.old.table self.old.slabs TrimLedger) (with_slabs self.old (slabs_after self.old.slabs TrimLedger)) self.new result }
+        ensures { IsResultOf (can_change_slabs self.old.table self.old.slabs TrimLedger) (with_slabs self.old (slabs_after self.old.slabs TrimLedger)) self.new result }
     {
         self.slabs.trim();
         true
@@ -177,7 +177,7 @@ impl State {
 
     /// The mover goes on behind the chunk at its position, if it is cleared or holds up the move.
     fn pass(&mut self, found: Found) -> Result<bool, Refused>
-        ensures { IfOk result (IsDone (can_change_slabs self.old.table self.old.slabs (Passed found)) (with_slabs self.old (slabs_after self.old.slabs (Passed found))) self.new) }
+        ensures { IfOk result (IsResultOf (can_change_slabs self.old.table self.old.slabs (Passed found)) (with_slabs self.old (slabs_after self.old.slabs (Passed found))) self.new) }
     {
         if !self.can_pass(found)? {
             return Ok(false);
@@ -198,7 +198,7 @@ impl State {
 
     /// The mover begins its pass anew, if it is at the page's end and something held it up.
     fn wrap(&mut self) -> bool
-        ensures { IsDone (can_change_slabs self.old.table self.old.slabs Wrap) (with_slabs self.old (slabs_after self.old.slabs Wrap)) self.new result }
+        ensures { IsResultOf (can_change_slabs self.old.table self.old.slabs Wrap) (with_slabs self.old (slabs_after self.old.slabs Wrap)) self.new result }
     {
         if !self.can_wrap() {
             return false;
@@ -209,7 +209,7 @@ impl State {
 
     /// An eviction of the class is counted, if there is such a class.
     fn count_eviction(&mut self, class: ClassId) -> bool
-        ensures { IsDone (can_change_slabs self.old.table self.old.slabs (Evicted class)) (with_slabs self.old (slabs_after self.old.slabs (Evicted class))) self.new result }
+        ensures { IsResultOf (can_change_slabs self.old.table self.old.slabs (Evicted class)) (with_slabs self.old (slabs_after self.old.slabs (Evicted class))) self.new result }
     {
         if !self.is_class(class) {
             return false;
@@ -220,7 +220,7 @@ impl State {
 
     /// Pages and lists are changed, if that is allowed.
     fn change_slabs(&mut self, change: Change) -> Result<bool, Refused>
-        ensures { IfOk result (IsDone (can_change_slabs self.old.table self.old.slabs change) (with_slabs self.old (slabs_after self.old.slabs change)) self.new) }
+        ensures { IfOk result (IsResultOf (can_change_slabs self.old.table self.old.slabs change) (with_slabs self.old (slabs_after self.old.slabs change)) self.new) }
     {
         match change {
             Change::Grow(class) => self.grow(class),
@@ -238,7 +238,7 @@ impl State {
 
     /// Whether the stripe of the key has room for a call and the key leads nowhere.
     fn can_tell_none(&self, key: u64) -> bool
-        ensures { result ≡ can_tell_none (stripe_at self.now (stripe_of self.now key)) key }
+        ensures { result ≡ can_record_miss (stripe_at self.now (stripe_of self.now key)) key }
     {
         let stripe = &self.stripes[self.stripe_of(key) as usize];
         stripe.is_ready() && stripe.aside() != Some(key) && stripe.find(key).is_none()
@@ -246,7 +246,7 @@ impl State {
 
     /// The stripe changes, if it may.
     fn change_stripe(&mut self, stripe: u64, how: StripeChange) -> Result<bool, Refused>
-        ensures { IfOk result (IsDone (can_change_stripe how (stripe_at self.old stripe).state) (with_stripe self.old stripe (stripe_after how (stripe_at self.old stripe))) self.new) }
+        ensures { IfOk result (IsResultOf (can_change_stripe how (stripe_at self.old stripe).state) (with_stripe self.old stripe (stripe_after how (stripe_at self.old stripe))) self.new) }
     {
         if stripe >= self.stripes.len() as u64 {
             return Ok(true);
@@ -271,8 +271,8 @@ impl State {
 
     /// Records a call on a key that isn't there: it was looked up, or was to be deleted.
     fn tell_none(&mut self, hand: u64, key: u64, deletes: bool)
-        requires { can_tell_none (stripe_at self.old (stripe_of self.old key)) key ≡ true }
-        ensures { self.new ≡ with_stripe self.old (stripe_of self.old key) (used_up (told_none deletes (stripe_at self.old (stripe_of self.old key)).state (writer_of self.old hand) key)) }
+        requires { can_record_miss (stripe_at self.old (stripe_of self.old key)) key ≡ true }
+        ensures { self.new ≡ with_stripe self.old (stripe_of self.old key) (used_up (stripe_after_miss deletes (stripe_at self.old (stripe_of self.old key)).state (writer_of self.old hand) key)) }
     {
         let writer = self.writer(hand);
         let stripe = self.stripe_of(key);
@@ -287,7 +287,7 @@ impl State {
     /// The hand makes the change, if it is allowed.
     fn change(&mut self, hand: u64, change: Change) -> Result<bool, Refused>
         requires { hand < length self.old.ids }
-        ensures { IfOk result (IsDone (allows_change self.old hand change) (after_change self.old hand change) self.new) }
+        ensures { IfOk result (IsResultOf (allows_change self.old hand change) (after_change self.old hand change) self.new) }
     {
         match change {
             Change::OfStripe(stripe, how) => self.change_held(hand, stripe, how),
@@ -300,7 +300,7 @@ impl State {
     /// The hand changes a stripe that it has, if that is allowed.
     fn change_held(&mut self, hand: u64, stripe: u64, how: StripeChange) -> Result<bool, Refused>
         requires { hand < length self.old.ids }
-        ensures { IfOk result (IsDone (allows_change self.old hand (OfStripe stripe how)) (after_change self.old hand (OfStripe stripe how)) self.new) }
+        ensures { IfOk result (IsResultOf (allows_change self.old hand (OfStripe stripe how)) (after_change self.old hand (OfStripe stripe how)) self.new) }
     {
         if !self.has_stripe(hand, stripe) {
             return Ok(false);
@@ -310,7 +310,7 @@ impl State {
 
     /// The hand records a call on a key that isn't there, in a stripe that it has.
     fn change_history(&mut self, hand: u64, key: u64, deletes: bool) -> bool
-        ensures { IsDone (allows_change self.old hand (call_of deletes key)) (after_change self.old hand (call_of deletes key)) self.new result }
+        ensures { IsResultOf (allows_change self.old hand (call_of deletes key)) (after_change self.old hand (call_of deletes key)) self.new result }
     {
         if !self.has_stripe(hand, self.stripe_of(key)) || !self.can_tell_none(key) {
             return false;
@@ -322,7 +322,7 @@ impl State {
     /// The hand changes pages and lists, if it has their lock.
     fn change_pages(&mut self, hand: u64, change: Change) -> Result<bool, Refused>
         requires { hand < length self.old.ids }
-        ensures { IfOk result (IsDone (has_slabs self.old hand && can_change_slabs self.old.table self.old.slabs change) (with_look (with_slabs self.old (slabs_after self.old.slabs change)) hand (Changed change)) self.new) }
+        ensures { IfOk result (IsResultOf (has_slabs self.old hand && can_change_slabs self.old.table self.old.slabs change) (with_look (with_slabs self.old (slabs_after self.old.slabs change)) hand (Changed change)) self.new) }
     {
         if !self.has_slabs(hand) || !self.change_slabs(change)? {
             return Ok(false);
@@ -334,7 +334,7 @@ impl State {
     /// The hand makes all these changes, one after another, if each is allowed.
     pub(super) fn change_all(&mut self, hand: u64, changes: &[Change]) -> Result<bool, Refused>
         requires { hand < length self.old.ids }
-        ensures { IfOk result (IsDone (allows_changes self.old hand changes.now) (after_changes self.old hand changes.now) self.new) }
+        ensures { IfOk result (IsResultOf (allows_changes self.old hand changes.now) (after_changes self.old hand changes.now) self.new) }
     {
         for change in changes {
             if !self.change(hand, *change)? {

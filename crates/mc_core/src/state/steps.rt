@@ -1,7 +1,7 @@
 //! Events, played one after another: whether a step is allowed, and what it does.
 ghost use Rattle.std.specs.Prelude.{◌≡◌, ◌<◌, true, length, IfOk, OnOk};
-ghost use Rattle.mc_core.specs.Done.{IsDone};
-ghost use Rattle.mc_core.specs.Run.{allows_step, after_step, is_allowed, after};
+ghost use Rattle.mc_core.specs.Done.{IsResultOf};
+ghost use Rattle.mc_core.specs.Run.{allows_step, after_step, is_allowed, state_after_event};
 
 use super::State;
 use crate::event::{Event, Step};
@@ -75,7 +75,7 @@ impl State {
 
     /// Does the event, if it is allowed.
     pub(crate) fn play(&mut self, event: &Event) -> Result<bool, Refused>
-        ensures { IfOk result (IsDone (is_allowed self.old event.now) (after self.old event.now) self.new) }
+        ensures { IfOk result (IsResultOf (is_allowed self.old event.now) (state_after_event self.old event.now) self.new) }
     {
         let is_hand = self.is_hand(event.hand);
         if !is_hand {

@@ -1,9 +1,9 @@
 //! How a set comes to a chunk in a full class: an item is evicted.
 ghost use Rattle.std.specs.Prelude.{◌≡◌, true, Contains, IfOk, OnErr, OnOk, Some};
 ghost use Rattle.std.specs.Option.{is_some};
-ghost use Rattle.mc_pages.specs.SlabState.{IsClass, class_at};
-ghost use Rattle.mc_serial_spec.specs.Machine.{is_linked_unheld, swept};
-ghost use Rattle.mc_serial_spec.specs.Supply.{evicts, victim, with_eviction, supplied};
+ghost use Rattle.mc_pages.specs.SlabState.{HasClass, class_at};
+ghost use Rattle.mc_serial_spec.specs.Machine.{has_unheld_linked_item, machine_after_sweep};
+ghost use Rattle.mc_serial_spec.specs.Supply.{needs_eviction, victim, with_eviction, machine_after_supply};
 
 use super::Keeper;
 use mc_classes::ClassId;
@@ -14,10 +14,10 @@ impl Keeper {
     /// Gets the class a free chunk, where there is a way to one. Returns whether an item was evicted for it.
     #[tactic(auto, using(mc_serial_spec::proofs::Stocks::class_stays))]
     pub(super) fn supply(&mut self, class: ClassId) -> Result<bool, Refused>
-        requires { IsClass self.old.slabs class }
-        ensures evicted { IfOk result (λ evicted. evicted ≡ evicts self.old class) }
-        ensures after { OnOk result (self.new ≡ supplied self.old class) }
-        ensures refused { OnErr result (self.new ≡ swept self.old class) }
+        requires { HasClass self.old.slabs class }
+        ensures evicted { IfOk result (λ evicted. evicted ≡ needs_eviction self.old class) }
+        ensures after { OnOk result (self.new ≡ machine_after_supply self.old class) }
+        ensures refused { OnErr result (self.new ≡ machine_after_sweep self.old class) }
     {
         self.stock(class)?;
         if self.has_free(class) {
@@ -29,7 +29,7 @@ impl Keeper {
     /// Evicts the first of the class's oldest items that nobody holds, of those that are looked at, and returns whether there was
     /// one.
     fn relieve(&mut self, class: ClassId) -> bool
-        requires { IsClass self.old.slabs class }
+        requires { HasClass self.old.slabs class }
         ensures evicted { result ≡ is_some (victim self.old class) }
         ensures after { self.new ≡ with_eviction self.old class (victim self.old class) }
     {
@@ -44,7 +44,7 @@ impl Keeper {
 
     /// The chunk of the item to evict.
     fn victim(&self, class: ClassId) -> Option<ChunkId>
-        requires { IsClass self.now.slabs class }
+        requires { HasClass self.now.slabs class }
         ensures victim { result ≡ victim self.now class }
     {
         for place in 0..EVICTION_TRIES {
@@ -58,8 +58,8 @@ impl Keeper {
 
     /// Evicts the chunk's item: it is gone, and the chunk is put back.
     fn evict(&mut self, class: ClassId, chunk: ChunkId)
-        requires class { IsClass self.old.slabs class }
-        requires unheld { is_linked_unheld self.old chunk ≡ true }
+        requires class { HasClass self.old.slabs class }
+        requires unheld { has_unheld_linked_item self.old chunk ≡ true }
         requires listed { Contains (class_at self.old.slabs class).order chunk }
         ensures evicted { self.new ≡ with_eviction self.old class (Some chunk) }
     {

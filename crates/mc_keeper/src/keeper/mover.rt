@@ -1,13 +1,13 @@
 //! The mover: it looks at the chunks of the page on the move, and clears them.
 ghost use Rattle.std.specs.Prelude.{◌≡◌, ◌≢◌, ◌*◌, ◌<◌, ◌≤◌, true, false, IfOk, OnOk, OnErr, Contains, Some, None, Ok, Err};
 ghost use Rattle.std.specs.Option.{option_map};
-ghost use Rattle.mc_pages.specs.SlabState.{IsClass, class_of_page, class_of_chunk};
+ghost use Rattle.mc_pages.specs.SlabState.{HasClass, class_of_page, class_of_chunk};
 ghost use Rattle.mc_pages.specs.Accounted.{is_cleared, is_cut};
 ghost use Rattle.mc_pages.specs.Moves.{CanFinish, is_held_up};
 ghost use Rattle.mc_serial_spec.specs.declared.turn.Counts.{Counts};
-ghost use Rattle.mc_serial_spec.specs.Items.{item_at};
-ghost use Rattle.mc_serial_spec.specs.Machine.{is_dead, is_linked_unheld, swept};
-ghost use Rattle.mc_serial_spec.specs.Mover.{AreAtMost, after_turns, is_at_end, looked_at, no_counts, saved, target, turned, with_chunk, with_chunks, with_cleared, with_end, with_finish, with_saved};
+ghost use Rattle.mc_serial_spec.specs.Items.{item_in_chunk};
+ghost use Rattle.mc_serial_spec.specs.Machine.{is_dead_in, has_unheld_linked_item, machine_after_sweep};
+ghost use Rattle.mc_serial_spec.specs.Mover.{AreAtMost, after_turns, is_at_end, looked_at, zero_counts, machine_after_save, target, turns_after_one, with_chunk, with_chunks, with_cleared, with_end, with_finish, with_saved};
 ghost use Rattle.mc_keeper.specs.Stages.{look_stages, turn_stages, turns_stages, with_source_swept};
 
 use super::Keeper;
@@ -30,10 +30,10 @@ impl Keeper {
     /// A keeper does 1,000,000 turns and no more: then it answers `Turns`, and all is as before (own). Where memory runs out, the turn is
     /// begun, and each chunk up to one was looked at, the dead of whose class were put back.
     pub fn turn(&mut self) -> Result<(Ending, Counts), Stop>
-        ensures done { IfOk result (λ done. turned self.old no_counts ≡ record { machine = self.new; counts = done.1; ending = done.0 }) }
+        ensures done { IfOk result (λ done. turns_after_one self.old zero_counts ≡ record { machine = self.new; counts = done.1; ending = done.0 }) }
         ensures some { OnOk result (self.old.turns < 1000000) }
         ensures stopped { result ≡ Err Stop.Turns → (1000000 ≤ self.old.turns) × (self.new ≡ self.old) }
-        ensures refused { result ≡ Err (Stop.NoMemory tt) → Contains (turn_stages self.old no_counts) self.new }
+        ensures refused { result ≡ Err (Stop.NoMemory tt) → Contains (turn_stages self.old zero_counts) self.new }
     {
         if self.turns >= MAX_TURNS {
             return Err(Stop::Turns);
@@ -72,7 +72,7 @@ impl Keeper {
         requires turns { self.old.turns < 1000000 }
         requires counts { AreAtMost (256 * 999999) counts.old }
         ensures refused { OnErr result (Contains (turn_stages self.old counts.old) self.new) }
-        ensures done { IfOk result (λ ending. turned self.old counts.old ≡ record { machine = self.new; counts = counts.new; ending = ending }) }
+        ensures done { IfOk result (λ ending. turns_after_one self.old counts.old ≡ record { machine = self.new; counts = counts.new; ending = ending }) }
     {
         self.turns += 1;
         self.steps(counts)?;
@@ -119,7 +119,7 @@ impl Keeper {
 
     /// Whether all chunks of the page were looked at.
     fn is_at_end(&self, moving: Moving) -> bool
-        requires { IsClass self.now.slabs moving.src }
+        requires { HasClass self.now.slabs moving.src }
         ensures at_end { result ≡ is_at_end self.now moving }
     {
         moving.at >= self.slabs.per_page(moving.src)
@@ -160,10 +160,10 @@ impl Keeper {
 
     /// Looks at a chunk of the moving page, and clears it where it can.
     fn look(&mut self, class: ClassId, chunk: ChunkId) -> Result<Found, Refused>
-        requires class { IsClass self.old.slabs class }
+        requires class { HasClass self.old.slabs class }
         requires moving { option_map (λ move. move.page) self.old.slabs.moving ≡ Some chunk.page }
         requires cut { is_cut self.old.slabs class chunk ≡ true }
-        ensures refused { OnErr result (self.new ≡ swept self.old class) }
+        ensures refused { OnErr result (self.new ≡ machine_after_sweep self.old class) }
         ensures looked { IfOk result (λ found. looked_at self.old class chunk ≡ record { machine = self.new; found = found }) }
         ensures clears { IfOk result (λ found. is_held_up found ≡ false → is_cleared self.new.slabs class chunk ≡ true) }
     {
@@ -183,10 +183,10 @@ impl Keeper {
 
     /// Clears the chunk, which has no item, if it is free.
     fn clear_free(&mut self, class: ClassId, chunk: ChunkId) -> Found
-        requires class { IsClass self.old.slabs class }
+        requires class { HasClass self.old.slabs class }
         requires moving { option_map (λ move. move.page) self.old.slabs.moving ≡ Some chunk.page }
         requires cut { is_cut self.old.slabs class chunk ≡ true }
-        requires empty { item_at self.old.items chunk ≡ None }
+        requires empty { item_in_chunk self.old.items chunk ≡ None }
         ensures looked { looked_at self.old class chunk ≡ record { machine = self.new; found = result } }
         ensures clears { is_cleared self.new.slabs class chunk ≡ true }
     {
@@ -201,7 +201,7 @@ impl Keeper {
     /// Clears the chunk, and its item is gone.
     fn clear(&mut self, chunk: ChunkId)
         requires moving { option_map (λ move. move.page) self.old.slabs.moving ≡ Some chunk.page }
-        requires dead { is_dead self.old chunk ≡ true }
+        requires dead { is_dead_in self.old chunk ≡ true }
         ensures cleared { self.new ≡ with_cleared self.old chunk }
         ensures clears { is_cleared self.new.slabs (class_of_page self.old.slabs chunk.page) chunk ≡ true }
     {
@@ -214,12 +214,12 @@ impl Keeper {
 
     /// Takes the chunk's item, which nobody holds, to a free chunk off the page, or else evicts it.
     fn save(&mut self, class: ClassId, chunk: ChunkId) -> Result<Found, Refused>
-        requires class { IsClass self.old.slabs class }
+        requires class { HasClass self.old.slabs class }
         requires moving { option_map (λ move. move.page) self.old.slabs.moving ≡ Some chunk.page }
         requires own { class_of_page self.old.slabs chunk.page ≡ class }
-        requires unheld { is_linked_unheld self.old chunk ≡ true }
-        ensures refused { OnErr result (self.new ≡ swept self.old class) }
-        ensures saved { IfOk result (λ found. saved self.old class chunk ≡ record { machine = self.new; found = found }) }
+        requires unheld { has_unheld_linked_item self.old chunk ≡ true }
+        ensures refused { OnErr result (self.new ≡ machine_after_sweep self.old class) }
+        ensures saved { IfOk result (λ found. machine_after_save self.old class chunk ≡ record { machine = self.new; found = found }) }
         ensures clears { IfOk result (λ found. is_held_up found ≡ false → is_cleared self.new.slabs class chunk ≡ true) }
     {
         self.sweep_class(class);
@@ -237,7 +237,7 @@ impl Keeper {
 
     /// The class's first free chunk off the page.
     fn target(&self, class: ClassId, page: PageId) -> Option<ChunkId>
-        requires { IsClass self.now.slabs class }
+        requires { HasClass self.now.slabs class }
         ensures target { result ≡ target self.now class page }
     {
         let mut next = self.slabs.first_free(class);
@@ -253,7 +253,7 @@ impl Keeper {
     /// Takes the item of a chunk to a free one, which gets the old one's place in the hand-out order.
     fn rescue(&mut self, old: ChunkId, new: ChunkId) -> Result<(), Refused>
         requires moving { option_map (λ move. move.page) self.old.slabs.moving ≡ Some old.page }
-        requires unheld { is_linked_unheld self.old old ≡ true }
+        requires unheld { has_unheld_linked_item self.old old ≡ true }
         requires free { Contains (class_of_chunk self.old.slabs old).free new }
         requires off { new.page ≢ old.page }
         ensures rescued { OnOk result (self.new ≡ (with_saved self.old old (Some new)).machine) }
@@ -272,7 +272,7 @@ impl Keeper {
     /// Evicts the chunk's item, and clears the chunk.
     fn evict_moving(&mut self, chunk: ChunkId)
         requires moving { option_map (λ move. move.page) self.old.slabs.moving ≡ Some chunk.page }
-        requires unheld { is_linked_unheld self.old chunk ≡ true }
+        requires unheld { has_unheld_linked_item self.old chunk ≡ true }
         ensures evicted { self.new ≡ (with_saved self.old chunk None).machine }
         ensures clears { is_cleared self.new.slabs (class_of_page self.old.slabs chunk.page) chunk ≡ true }
     {

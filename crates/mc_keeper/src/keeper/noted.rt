@@ -1,6 +1,6 @@
 //! Which chunks died since their class was swept last, so that a sweep finds them without a walk.
 ghost use Rattle.std.specs.Prelude.{◌≡◌, ◌-◌, ◌≤◌, if◌then◌else◌, Some, slice_set};
-ghost use Rattle.mc_pages.specs.SlabState.{IsClass, class_of_page};
+ghost use Rattle.mc_pages.specs.SlabState.{HasClass, class_of_page};
 ghost use Rattle.mc_serial_spec.specs.Holds.{is_held};
 
 use mc_classes::ClassId;
@@ -129,7 +129,7 @@ impl DeadHints {
 
 /// Notes a chunk as its class's last, and among those to be swept, where nobody holds it. No key leads to it any more.
 pub(super) fn note_unheld(hints: &mut DeadHints, holds: &Holds, slabs: &Slabs, chunk: ChunkId)
-    requires { IsClass slabs.now.state (class_of_page slabs.now.state chunk.page) }
+    requires { HasClass slabs.now.state (class_of_page slabs.now.state chunk.page) }
     ensures last { hints.new.last ≡ (if is_held holds.now chunk then hints.old.last else slice_set hints.old.last (class_of_page slabs.now.state chunk.page - 1) (Some chunk)) }
 {
     if !holds.is_held(chunk) {

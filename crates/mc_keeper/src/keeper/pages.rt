@@ -1,9 +1,9 @@
 //! How a class comes to a free chunk.
 ghost use Rattle.std.specs.Prelude.{◌≡◌, ◌≤◌, ◌<◌, None, Some, OnErr, OnOk, fold};
-ghost use Rattle.mc_pages.specs.SlabState.{IsClass, class_of_chunk};
+ghost use Rattle.mc_pages.specs.SlabState.{HasClass, class_of_chunk};
 ghost use Rattle.mc_pages.specs.Changes.{after_cut, next_page};
 ghost use Rattle.mc_pages.specs.Accounted.{IsAccounted, first_chunks};
-ghost use Rattle.mc_serial_spec.specs.Machine.{has_free, stocked, swept, with_new_page};
+ghost use Rattle.mc_serial_spec.specs.Machine.{has_free, machine_after_stocking, machine_after_sweep, with_new_page};
 
 use super::Keeper;
 use mc_classes::{ClassId, PageId};
@@ -14,9 +14,9 @@ impl Keeper {
     /// Gets the class a free chunk, where there is a way: its dead are put back, and where there is none it gets a page.
     #[tactic(auto, using(mc_serial_spec::proofs::Stocks::class_stays))]
     pub(super) fn stock(&mut self, class: ClassId) -> Result<(), Refused>
-        requires { IsClass self.old.slabs class }
-        ensures after { OnOk result (self.new ≡ stocked self.old class) }
-        ensures refused { OnErr result (self.new ≡ swept self.old class) }
+        requires { HasClass self.old.slabs class }
+        ensures after { OnOk result (self.new ≡ machine_after_stocking self.old class) }
+        ensures refused { OnErr result (self.new ≡ machine_after_sweep self.old class) }
     {
         if self.has_free(class) {
             return Ok(());
@@ -30,7 +30,7 @@ impl Keeper {
 
     /// Whether the class has a free chunk.
     pub(super) fn has_free(&self, class: ClassId) -> bool
-        requires { IsClass self.now.slabs class }
+        requires { HasClass self.now.slabs class }
         ensures free { result ≡ has_free self.now class }
     {
         self.slabs.numbers(class).free > 0
@@ -38,7 +38,7 @@ impl Keeper {
 
     /// Gives the class the next page, if there is one, and cuts its chunks.
     fn grow(&mut self, class: ClassId) -> Result<(), Refused>
-        requires { IsClass self.old.slabs class }
+        requires { HasClass self.old.slabs class }
         ensures after { OnOk result (self.new ≡ with_new_page self.old class (next_page self.old.slabs class)) }
         ensures refused { OnErr result (self.new ≡ self.old) }
     {

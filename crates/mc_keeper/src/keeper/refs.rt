@@ -5,9 +5,9 @@ ghost use Rattle.std.specs.Option.{is_some, option_copied, option_map};
 ghost use Rattle.mc_pages.specs.declared.ids.ChunkId.{ChunkId};
 ghost use Rattle.mc_pages.specs.ClassState.{is_chunk};
 ghost use Rattle.mc_serial_spec.specs.Holds.{held_by, is_full, without_hold};
-ghost use Rattle.mc_serial_spec.specs.Items.{has_key, item_at, linked_chunk};
-ghost use Rattle.mc_serial_spec.specs.Lines.{dropped, kept, last_hold, made_youngest};
-ghost use Rattle.mc_keeper.specs.Calls.{held_words, hold_answer, words_of, EndsAs, MayHold};
+ghost use Rattle.mc_serial_spec.specs.Items.{has_key, item_in_chunk, linked_chunk};
+ghost use Rattle.mc_serial_spec.specs.Lines.{release_outcome, hold_outcome, last_hold, touch_outcome};
+ghost use Rattle.mc_keeper.specs.Calls.{words_of_last_hold, hold_answer, item_words_of_key, EndsAs, MayHold};
 
 use super::Keeper;
 use super::noted::note_unheld;
@@ -33,7 +33,7 @@ impl Keeper {
     /// (own, as a reader of the arena holds what it reads). It takes no memory. (items.c's `do_item_get`, without its count)
     pub fn get(&self, worker: u64, key: u64) -> Result<Option<&[u64]>, TooManyRefs>
         requires { worker < 64 }
-        ensures words { IfOk result (λ words. option_copied words ≡ words_of self.now key) }
+        ensures words { IfOk result (λ words. option_copied words ≡ item_words_of_key self.now key) }
         ensures free { OnOk result (is_full self.now.holds worker ≡ false) }
         ensures full { OnErr result (is_full self.now.holds worker ≡ true) }
     {
@@ -54,7 +54,7 @@ impl Keeper {
     pub fn hold(&mut self, worker: u64, key: u64) -> Result<bool, HoldError>
         requires { worker < 64 }
         ensures answer { MayHold (hold_answer self.old worker key) result }
-        ensures after { OnOk result (self.new ≡ (kept self.old worker key).machine) }
+        ensures after { OnOk result (self.new ≡ (hold_outcome self.old worker key).machine) }
         ensures refused { OnErr result (self.new ≡ self.old) }
     {
         if self.holds.is_full(worker) {
@@ -74,7 +74,7 @@ impl Keeper {
     /// (own)
     pub fn held_words(&self, worker: u64, key: u64) -> Option<&[u64]>
         requires { worker < 64 }
-        ensures words { option_copied result ≡ held_words self.now worker key }
+        ensures words { option_copied result ≡ words_of_last_hold self.now worker key }
     {
         let (chunk, _) = self.last_hold(worker, key)?;
         self.words_at(chunk)
@@ -86,8 +86,8 @@ impl Keeper {
     /// is own.)
     pub fn drop(&mut self, worker: u64, key: u64) -> Option<&[u64]>
         requires { worker < 64 }
-        ensures* after { sem 𝓛 (EndsAs self.entry (dropped self.old worker key (last_hold self.old worker key)).machine) }
-        ensures words { option_copied result ≡ held_words self.old worker key }
+        ensures* after { sem 𝓛 (EndsAs self.entry (release_outcome self.old worker key (last_hold self.old worker key)).machine) }
+        ensures words { option_copied result ≡ words_of_last_hold self.old worker key }
     {
         let (chunk, place) = self.last_hold(worker, key)?;
         let is_linked = self.items.get(chunk)?.is_linked();
@@ -99,7 +99,7 @@ impl Keeper {
     /// memory. (items.c's `do_item_update`, without its 60 seconds.) The worker takes no part.
     pub fn touch(&mut self, _worker: u64, key: u64) -> bool
         ensures had { result ≡ is_some (linked_chunk self.old.items key) }
-        ensures after { self.new ≡ (made_youngest self.old key (linked_chunk self.old.items key)).machine }
+        ensures after { self.new ≡ (touch_outcome self.old key (linked_chunk self.old.items key)).machine }
     {
         match self.index.get(key) {
             Some(chunk) => {
@@ -115,7 +115,7 @@ impl Keeper {
     pub(super) fn give_back(&mut self, worker: u64, chunk: ChunkId, place: usize, is_linked: bool)
         requires worker { worker < 64 }
         requires first { position (λ c. is_chunk c chunk) (held_by self.old.holds worker) ≡ Some place }
-        requires item { option_map (λ item. item.linked) (item_at self.old.items chunk) ≡ Some is_linked }
+        requires item { option_map (λ item. item.linked) (item_in_chunk self.old.items chunk) ≡ Some is_linked }
         ensures given_back { self.new ≡ record self.old { holds = without_hold self.old.holds worker chunk } }
     {
         self.holds.give_back(worker, chunk, place);
@@ -127,7 +127,7 @@ impl Keeper {
 
     /// The words of the chunk's item.
     fn words_at(&self, chunk: ChunkId) -> Option<&[u64]>
-        ensures words { option_copied result ≡ option_map (λ item. item.words) (item_at self.now.items chunk) }
+        ensures words { option_copied result ≡ option_map (λ item. item.words) (item_in_chunk self.now.items chunk) }
     {
         match self.items.get(chunk) {
             Some(item) => Some(item.words()),

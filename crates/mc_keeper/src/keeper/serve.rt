@@ -6,11 +6,11 @@ ghost use Rattle.mc_pages.specs.Answer.{answer_of};
 ghost use Rattle.mc_script.specs.Command.{IsValid};
 ghost use Rattle.mc_watch.specs.Texts.{line};
 ghost use Rattle.mc_serial_spec.specs.Automove.{decision, with_window};
-ghost use Rattle.mc_serial_spec.specs.Item.{item_bytes, words_from};
+ghost use Rattle.mc_serial_spec.specs.Item.{item_bytes, counting_words};
 ghost use Rattle.mc_serial_spec.specs.Items.{linked_chunk};
-ghost use Rattle.mc_serial_spec.specs.Lines.{acted, deleted, dropped, general_text_of, kept, last_hold, looked_up, made_youngest, reassigned, serve, set_in, slabs_text_of, IsServed};
+ghost use Rattle.mc_serial_spec.specs.Lines.{decision_outcome, delete_outcome, release_outcome, general_text_of, hold_outcome, last_hold, lookup_outcome, touch_outcome, reassign_outcome, serve, set_outcome_of, slabs_text_of, IsServed};
 ghost use Rattle.mc_serial_spec.specs.Machine.{all_swept, with_mode};
-ghost use Rattle.mc_keeper.specs.Replies.{stored_name, told_name};
+ghost use Rattle.mc_keeper.specs.Replies.{stored_name, reassign_word};
 ghost use Rattle.mc_keeper.specs.Stages.{reassign_stages, set_stages, stages, window_stages};
 ghost use Rattle.mc_keeper.specs.declared.keeper.serve.Stop.TheVariants.{NoMemory};
 
@@ -110,9 +110,9 @@ impl Keeper {
         text: &mut Vec<u8>,
     ) -> Result<(), Refused>
         requires { words ≤ 4096 }
-        ensures reply { OnOk result (text.new.items ≡ text.old.items ++ (set_in self.old (class_of self.old.table (item_bytes words)) key (words_from base words)).reply) }
-        ensures after { OnOk result (self.new ≡ (set_in self.old (class_of self.old.table (item_bytes words)) key (words_from base words)).machine) }
-        ensures refused { OnErr result (Contains (set_stages self.old (class_of self.old.table (item_bytes words)) key (words_from base words)) self.new) }
+        ensures reply { OnOk result (text.new.items ≡ text.old.items ++ (set_outcome_of self.old (class_of self.old.table (item_bytes words)) key (counting_words base words)).reply) }
+        ensures after { OnOk result (self.new ≡ (set_outcome_of self.old (class_of self.old.table (item_bytes words)) key (counting_words base words)).machine) }
+        ensures refused { OnErr result (Contains (set_stages self.old (class_of self.old.table (item_bytes words)) key (counting_words base words)) self.new) }
         ensures kept { StartsWith text.new.items text.old.items }
     {
         let words = NewWords::Counted { base, count: words };
@@ -123,7 +123,7 @@ impl Keeper {
     /// Writes the words of the key's item.
     fn serve_get(&self, worker: u64, key: u64, text: &mut Vec<u8>) -> Result<(), Refused>
         requires { worker < 64 }
-        ensures reply { OnOk result (text.new.items ≡ text.old.items ++ (looked_up self.now worker key).reply) }
+        ensures reply { OnOk result (text.new.items ≡ text.old.items ++ (lookup_outcome self.now worker key).reply) }
         ensures kept { StartsWith text.new.items text.old.items }
     {
         match self.get(worker, key) {
@@ -136,8 +136,8 @@ impl Keeper {
     /// The worker holds the key's item, once there is room for the reply.
     fn serve_hold(&mut self, worker: u64, key: u64, text: &mut Vec<u8>) -> Result<(), Refused>
         requires { worker < 64 }
-        ensures reply { OnOk result (text.new.items ≡ text.old.items ++ (kept self.old worker key).reply) }
-        ensures after { OnOk result (self.new ≡ (kept self.old worker key).machine) }
+        ensures reply { OnOk result (text.new.items ≡ text.old.items ++ (hold_outcome self.old worker key).reply) }
+        ensures after { OnOk result (self.new ≡ (hold_outcome self.old worker key).machine) }
         ensures refused { OnErr result (self.new ≡ self.old) }
         ensures kept { StartsWith text.new.items text.old.items }
     {
@@ -155,8 +155,8 @@ impl Keeper {
     /// Writes the words of the item that the worker's last hold of the key is of, and the worker gives it back.
     fn serve_drop(&mut self, worker: u64, key: u64, text: &mut Vec<u8>) -> Result<(), Refused>
         requires { worker < 64 }
-        ensures reply { OnOk result (text.new.items ≡ text.old.items ++ (dropped self.old worker key (last_hold self.old worker key)).reply) }
-        ensures after { OnOk result (self.new ≡ (dropped self.old worker key (last_hold self.old worker key)).machine) }
+        ensures reply { OnOk result (text.new.items ≡ text.old.items ++ (release_outcome self.old worker key (last_hold self.old worker key)).reply) }
+        ensures after { OnOk result (self.new ≡ (release_outcome self.old worker key (last_hold self.old worker key)).machine) }
         ensures refused { OnErr result (self.new ≡ self.old) }
         ensures kept { StartsWith text.new.items text.old.items }
     {
@@ -176,8 +176,8 @@ impl Keeper {
 
     /// Unlinks the key's item, and answers whether it had one.
     fn serve_delete(&mut self, worker: u64, key: u64, text: &mut Vec<u8>) -> Result<(), Refused>
-        ensures reply { OnOk result (text.new.items ≡ text.old.items ++ (deleted self.old key (linked_chunk self.old.items key)).reply) }
-        ensures after { self.new ≡ (deleted self.old key (linked_chunk self.old.items key)).machine }
+        ensures reply { OnOk result (text.new.items ≡ text.old.items ++ (delete_outcome self.old key (linked_chunk self.old.items key)).reply) }
+        ensures after { self.new ≡ (delete_outcome self.old key (linked_chunk self.old.items key)).machine }
         ensures kept { StartsWith text.new.items text.old.items }
     {
         let had = self.delete(worker, key);
@@ -186,8 +186,8 @@ impl Keeper {
 
     /// The key's item becomes the youngest of its class, once there is room for the reply.
     fn serve_touch(&mut self, worker: u64, key: u64, text: &mut Vec<u8>) -> Result<(), Refused>
-        ensures reply { OnOk result (text.new.items ≡ text.old.items ++ (made_youngest self.old key (linked_chunk self.old.items key)).reply) }
-        ensures after { OnOk result (self.new ≡ (made_youngest self.old key (linked_chunk self.old.items key)).machine) }
+        ensures reply { OnOk result (text.new.items ≡ text.old.items ++ (touch_outcome self.old key (linked_chunk self.old.items key)).reply) }
+        ensures after { OnOk result (self.new ≡ (touch_outcome self.old key (linked_chunk self.old.items key)).machine) }
         ensures refused { OnErr result (self.new ≡ self.old) }
         ensures kept { StartsWith text.new.items text.old.items }
     {
@@ -204,8 +204,8 @@ impl Keeper {
         dst: u64,
         text: &mut Vec<u8>,
     ) -> Result<(), Refused>
-        ensures reply { OnOk result (text.new.items ≡ text.old.items ++ (reassigned self.old src dst (answer_of self.old.slabs src dst)).reply) }
-        ensures after { OnOk result (self.new ≡ (reassigned self.old src dst (answer_of self.old.slabs src dst)).machine) }
+        ensures reply { OnOk result (text.new.items ≡ text.old.items ++ (reassign_outcome self.old src dst (answer_of self.old.slabs src dst)).reply) }
+        ensures after { OnOk result (self.new ≡ (reassign_outcome self.old src dst (answer_of self.old.slabs src dst)).machine) }
         ensures refused { OnErr result (Contains (reassign_stages self.old src dst) self.new) }
         ensures kept { StartsWith text.new.items text.old.items }
     {
@@ -226,8 +226,8 @@ impl Keeper {
 
     /// Ends a window, and writes what became of the automover's decision.
     fn serve_window(&mut self, text: &mut Vec<u8>) -> Result<(), Refused>
-        ensures reply { OnOk result (text.new.items ≡ text.old.items ++ (acted (with_window (all_swept self.old)) (decision (with_window (all_swept self.old)))).reply) }
-        ensures after { OnOk result (self.new ≡ (acted (with_window (all_swept self.old)) (decision (with_window (all_swept self.old)))).machine) }
+        ensures reply { OnOk result (text.new.items ≡ text.old.items ++ (decision_outcome (with_window (all_swept self.old)) (decision (with_window (all_swept self.old)))).reply) }
+        ensures after { OnOk result (self.new ≡ (decision_outcome (with_window (all_swept self.old)) (decision (with_window (all_swept self.old)))).machine) }
         ensures refused { OnErr result (Contains (window_stages self.old) self.new) }
         ensures kept { StartsWith text.new.items text.old.items }
     {
@@ -319,7 +319,7 @@ fn name_of_stored(stored: Stored) -> &'static [u8]
 
 /// The word for whether a page began to move.
 fn name_of_answer(answer: Result<(), Reassign>) -> &'static [u8]
-    ensures name { result.now ≡ told_name answer }
+    ensures name { result.now ≡ reassign_word answer }
 {
     match answer {
         Ok(()) => b"OK",

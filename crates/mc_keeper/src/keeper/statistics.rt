@@ -1,8 +1,8 @@
 //! The numbers that the statistics print.
 ghost use Rattle.std.specs.Prelude.{◌≡◌, length, IfOk};
 ghost use Rattle.mc_pages.specs.ClassState.{numbers_of};
-ghost use Rattle.mc_pages.specs.SlabState.{IsClass, class_at, totals_of};
-ghost use Rattle.mc_serial_spec.specs.Automove.{eviction_counts, free_counts, page_counts};
+ghost use Rattle.mc_pages.specs.SlabState.{HasClass, class_at, totals_of};
+ghost use Rattle.mc_serial_spec.specs.Automove.{eviction_counts, free_counts, class_page_counts};
 
 use super::Keeper;
 use mc_classes::{ClassId, ClassTable};
@@ -34,7 +34,7 @@ impl Keeper {
     /// What the class has: its pages, a moving one included, its free chunks, and how many of its items were evicted to make room.
     /// Dead chunks aren't free until they are swept. (slabs.c's and items.c's statistics of a class)
     pub fn numbers(&self, class: ClassId) -> Numbers
-        requires { IsClass self.now.slabs class }
+        requires { HasClass self.now.slabs class }
         ensures numbers { result ≡ numbers_of (class_at self.now.slabs class) }
     {
         self.slabs.numbers(class)
@@ -65,7 +65,7 @@ impl Keeper {
     /// The numbers of all classes.
     pub(super) fn counts(&self) -> Result<ClassCounts, Refused>
         ensures evictions { IfOk result (λ counts. counts.evictions.items ≡ eviction_counts self.now.slabs) }
-        ensures pages { IfOk result (λ counts. counts.pages.items ≡ page_counts self.now.slabs) }
+        ensures pages { IfOk result (λ counts. counts.pages.items ≡ class_page_counts self.now.slabs) }
         ensures free { IfOk result (λ counts. counts.free.items ≡ free_counts self.now.slabs) }
     {
         let mut evictions = Vec::new(self.alloc);

@@ -3,13 +3,13 @@ ghost use Rattle.std.specs.Prelude.{◌≡◌, ◌≤◌, ◌^◌, Option, None,
 ghost use Rattle.std.specs.Option.{is_some};
 ghost use Rattle.mc_classes.specs.Classes.{class_of};
 ghost use Rattle.mc_pages.specs.ClassState.{first_free};
-ghost use Rattle.mc_pages.specs.SlabState.{IsClass, class_at};
+ghost use Rattle.mc_pages.specs.SlabState.{HasClass, class_at};
 ghost use Rattle.mc_pages.specs.Changes.{after_pop};
 ghost use Rattle.mc_serial_spec.specs.Items.{linked_chunk, unlinked_items, with_item};
 ghost use Rattle.mc_serial_spec.specs.Item.{item_bytes, new_item};
-ghost use Rattle.mc_serial_spec.specs.Lines.{deleted, set_in, stored};
-ghost use Rattle.mc_serial_spec.specs.Supply.{asks_for_page, supplied, supply};
-ghost use Rattle.mc_serial_parts.specs.NewWords.{words_in};
+ghost use Rattle.mc_serial_spec.specs.Lines.{delete_outcome, set_outcome_of, set_outcome};
+ghost use Rattle.mc_serial_spec.specs.Supply.{asks_for_page, machine_after_supply, supply};
+ghost use Rattle.mc_serial_parts.specs.NewWords.{words_of_new};
 ghost use Rattle.mc_keeper.specs.Calls.{stored_answer};
 ghost use Rattle.mc_keeper.specs.Stages.{set_stages, store_stages};
 
@@ -44,7 +44,7 @@ impl Keeper {
     /// stored and no page asked for.
     pub fn set(&mut self, _worker: u64, key: u64, words: &[u64]) -> Result<Stored, Refused>
         ensures answer { IfOk result (λ answer. answer ≡ stored_answer self.old (class_of self.old.table (item_bytes (length words.now)))) }
-        ensures after { OnOk result (self.new ≡ (set_in self.old (class_of self.old.table (item_bytes (length words.now))) key words.now).machine) }
+        ensures after { OnOk result (self.new ≡ (set_outcome_of self.old (class_of self.old.table (item_bytes (length words.now))) key words.now).machine) }
         ensures refused { OnErr result (Contains (set_stages self.old (class_of self.old.table (item_bytes (length words.now))) key words.now) self.new) }
     {
         self.set_words(key, NewWords::Copied(words))
@@ -52,10 +52,10 @@ impl Keeper {
 
     /// Stores an item of these words under the key, and returns whether it did.
     pub(super) fn set_words(&mut self, key: u64, words: NewWords) -> Result<Stored, Refused>
-        requires { length (words_in words) ≤ 2 ^ 60 }
-        ensures answer { IfOk result (λ answer. answer ≡ stored_answer self.old (class_of self.old.table (item_bytes (length (words_in words.entry))))) }
-        ensures after { OnOk result (self.new ≡ (set_in self.old (class_of self.old.table (item_bytes (length (words_in words.entry)))) key (words_in words.entry)).machine) }
-        ensures refused { OnErr result (Contains (set_stages self.old (class_of self.old.table (item_bytes (length (words_in words.entry)))) key (words_in words.entry)) self.new) }
+        requires { length (words_of_new words) ≤ 2 ^ 60 }
+        ensures answer { IfOk result (λ answer. answer ≡ stored_answer self.old (class_of self.old.table (item_bytes (length (words_of_new words.entry))))) }
+        ensures after { OnOk result (self.new ≡ (set_outcome_of self.old (class_of self.old.table (item_bytes (length (words_of_new words.entry)))) key (words_of_new words.entry)).machine) }
+        ensures refused { OnErr result (Contains (set_stages self.old (class_of self.old.table (item_bytes (length (words_of_new words.entry)))) key (words_of_new words.entry)) self.new) }
     {
         match self.table.class_for(24 + 8 * words.count()) {
             Some(class) => {
@@ -71,10 +71,10 @@ impl Keeper {
     /// for a page (after memcached's `slabs automove 2`).
     #[tactic(auto, using(mc_serial_spec::proofs::Stocks::store_steps))]
     fn store(&mut self, class: ClassId, key: u64, words: NewWords) -> Result<bool, Refused>
-        requires { IsClass self.old.slabs class }
+        requires { HasClass self.old.slabs class }
         ensures stored { IfOk result (λ stored. stored ≡ is_some (supply self.old class)) }
-        ensures after { OnOk result (self.new ≡ (stored (supplied self.old class) class key (words_in words.entry) (asks_for_page self.old class) (supply self.old class)).machine) }
-        ensures refused { OnErr result (Contains (store_stages self.old class key (words_in words.entry)) self.new) }
+        ensures after { OnOk result (self.new ≡ (set_outcome (machine_after_supply self.old class) class key (words_of_new words.entry) (asks_for_page self.old class) (supply self.old class)).machine) }
+        ensures refused { OnErr result (Contains (store_stages self.old class key (words_of_new words.entry)) self.new) }
     {
         let evicted = self.supply(class)?;
         match self.slabs.first_free(class) {
@@ -95,7 +95,7 @@ impl Keeper {
     /// worker takes no part.
     pub fn delete(&mut self, _worker: u64, key: u64) -> bool
         ensures was { result ≡ is_some (linked_chunk self.old.items key) }
-        ensures after { self.new ≡ (deleted self.old key (linked_chunk self.old.items key)).machine }
+        ensures after { self.new ≡ (delete_outcome self.old key (linked_chunk self.old.items key)).machine }
     {
         match self.index.remove(key) {
             Some(chunk) => {
@@ -117,11 +117,11 @@ impl Keeper {
         key: u64,
         words: NewWords,
     ) -> Result<(), Refused>
-        requires class { IsClass self.old.slabs class }
+        requires class { HasClass self.old.slabs class }
         requires free { first_free (class_at self.old.slabs class) ≡ Some chunk }
         ensures put { OnOk result (self.new ≡ record self.old {
           slabs = after_pop self.old.slabs class;
-          items = with_item (unlinked_items self.old.items key) chunk (new_item key (words_in words.entry));
+          items = with_item (unlinked_items self.old.items key) chunk (new_item key (words_of_new words.entry));
         }) }
         ensures refused { OnErr result (self.new ≡ self.old) }
     {

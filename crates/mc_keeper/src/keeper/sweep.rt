@@ -1,7 +1,7 @@
 //! Dead chunks are put back: those that neither a key leads to nor anybody holds.
 ghost use Rattle.std.specs.Prelude.{◌≡◌, nat_lt, true, [], ◌∷◌, Contains, IfSome, length};
-ghost use Rattle.mc_pages.specs.SlabState.{IsClass, class_at, class_of_page, class_of_chunk};
-ghost use Rattle.mc_serial_spec.specs.Machine.{dead_chunks, is_dead, is_linked_unheld, swept, all_swept, after_reclaim};
+ghost use Rattle.mc_pages.specs.SlabState.{HasClass, class_at, class_of_page, class_of_chunk};
+ghost use Rattle.mc_serial_spec.specs.Machine.{dead_chunks, is_dead_in, has_unheld_linked_item, machine_after_sweep, all_swept, after_reclaim};
 
 use super::Keeper;
 use super::noted::DeadNotes;
@@ -13,8 +13,8 @@ use std::mem;
 impl Keeper {
     /// Puts back the dead chunks of a class, the one that was handed out first of all first.
     pub(super) fn sweep_class(&mut self, class: ClassId)
-        requires { IsClass self.old.slabs class }
-        ensures swept { self.new ≡ swept self.old class }
+        requires { HasClass self.old.slabs class }
+        ensures swept { self.new ≡ machine_after_sweep self.old class }
     {
         match self.only_dead(class) {
             Some(chunk) => self.reclaim_only(class, chunk),
@@ -24,9 +24,9 @@ impl Keeper {
 
     /// Puts back the only dead chunk of the class.
     fn reclaim_only(&mut self, class: ClassId, chunk: ChunkId)
-        requires class { IsClass self.old.slabs class }
+        requires class { HasClass self.old.slabs class }
         requires own { class_of_page self.old.slabs chunk.page ≡ class }
-        requires dead { is_dead self.old chunk ≡ true }
+        requires dead { is_dead_in self.old chunk ≡ true }
         requires listed { Contains (class_at self.old.slabs class).order chunk }
         ensures reclaimed { self.new ≡ after_reclaim self.old chunk }
     {
@@ -36,8 +36,8 @@ impl Keeper {
 
     /// Puts back the dead chunks of a class, as they are noted where those are all, else on a walk.
     fn sweep_several(&mut self, class: ClassId)
-        requires { IsClass self.old.slabs class }
-        ensures swept { self.new ≡ swept self.old class }
+        requires { HasClass self.old.slabs class }
+        ensures swept { self.new ≡ machine_after_sweep self.old class }
     {
         let mut noted = mem::replace(&mut self.hints.noted, DeadNotes::none(self.alloc));
         match noted.of_mut(class) {
@@ -50,8 +50,8 @@ impl Keeper {
 
     /// Puts back the dead chunks of a class, these where they are all, else on a walk.
     fn sweep_noted(&mut self, class: ClassId, chunks: &mut [ChunkId])
-        requires { IsClass self.old.slabs class }
-        ensures swept { self.new ≡ swept self.old class }
+        requires { HasClass self.old.slabs class }
+        ensures swept { self.new ≡ machine_after_sweep self.old class }
     {
         self.sort_dead(class, chunks);
         if self.is_dead_order(class, chunks) {
@@ -63,9 +63,9 @@ impl Keeper {
 
     /// Puts back the dead chunks of a class, which these are.
     fn reclaim_each(&mut self, class: ClassId, chunks: &[ChunkId])
-        requires class { IsClass self.old.slabs class }
+        requires class { HasClass self.old.slabs class }
         requires all { dead_chunks self.old class ≡ chunks.now }
-        ensures swept { self.new ≡ swept self.old class }
+        ensures swept { self.new ≡ machine_after_sweep self.old class }
     {
         for place in 0..chunks.len() {
             // a look at one of the keeper's fields makes it known that the keeper is consistent
@@ -76,9 +76,9 @@ impl Keeper {
 
     /// The only dead chunk of the class, where it has one alone and that is the one which came last.
     fn only_dead(&self, class: ClassId) -> Option<ChunkId>
-        requires { IsClass self.now.slabs class }
+        requires { HasClass self.now.slabs class }
         ensures only { IfSome result (λ chunk. dead_chunks self.now class ≡ chunk ∷ []) }
-        ensures dead { IfSome result (λ chunk. is_dead self.now chunk ≡ true) }
+        ensures dead { IfSome result (λ chunk. is_dead_in self.now chunk ≡ true) }
         ensures own { IfSome result (λ chunk. class_of_page self.now.slabs chunk.page ≡ class) }
         ensures listed { IfSome result (λ chunk. Contains (class_at self.now.slabs class).order chunk) }
     {
@@ -94,8 +94,8 @@ impl Keeper {
 
     /// Puts back the dead chunks of a class, on a walk along the hand-out order as far as the last of them.
     fn sweep_order(&mut self, class: ClassId)
-        requires { IsClass self.old.slabs class }
-        ensures swept { self.new ≡ swept self.old class }
+        requires { HasClass self.old.slabs class }
+        ensures swept { self.new ≡ machine_after_sweep self.old class }
     {
         let mut next = self.slabs.first_out(class);
         while let Some(chunk) = next {
@@ -122,7 +122,7 @@ impl Keeper {
 
     /// Whether a handed-out chunk of the class is dead.
     fn has_dead(&self, class: ClassId) -> bool
-        requires { IsClass self.now.slabs class }
+        requires { HasClass self.now.slabs class }
         ensures some { result ≡ nat_lt 0 (length (dead_chunks self.now class)) }
     {
         self.dead.of(class) > 0
@@ -130,7 +130,7 @@ impl Keeper {
 
     /// Whether neither a key leads to the chunk's item nor anybody holds it.
     pub(super) fn is_dead(&self, chunk: ChunkId) -> bool
-        ensures dead { result ≡ is_dead self.now chunk }
+        ensures dead { result ≡ is_dead_in self.now chunk }
     {
         match self.items.get(chunk) {
             Some(item) => !item.is_linked() && !self.holds.is_held(chunk),
@@ -140,7 +140,7 @@ impl Keeper {
 
     /// Whether a key leads to the chunk's item, and nobody holds it.
     pub(super) fn is_linked_unheld(&self, chunk: ChunkId) -> bool
-        ensures unheld { result ≡ is_linked_unheld self.now chunk }
+        ensures unheld { result ≡ has_unheld_linked_item self.now chunk }
     {
         match self.items.get(chunk) {
             Some(item) => item.is_linked() && !self.holds.is_held(chunk),
@@ -150,8 +150,8 @@ impl Keeper {
 
     /// Puts a dead chunk back, and its item is gone.
     fn reclaim(&mut self, chunk: ChunkId)
-        requires dead { is_dead self.old chunk ≡ true }
-        requires class { IsClass self.old.slabs (class_of_page self.old.slabs chunk.page) }
+        requires dead { is_dead_in self.old chunk ≡ true }
+        requires class { HasClass self.old.slabs (class_of_page self.old.slabs chunk.page) }
         requires listed { Contains (class_of_chunk self.old.slabs chunk).order chunk }
         ensures reclaimed { self.new ≡ after_reclaim self.old chunk }
     {

@@ -2,9 +2,9 @@
 ghost use Rattle.std.specs.Prelude.{◌≡◌, ◌+◌, ◌<◌, ◌≤◌, slice_get, Contains};
 ghost use Rattle.mc_pages.specs.declared.rows.ListName.{ListName};
 ghost use Rattle.mc_pages.specs.declared.rows.ListName.TheVariants.{Free, HandedOut};
-ghost use Rattle.mc_pages.specs.ClassState.{popped, put_back, touched, replaced, cleared, with_cut, times, behind};
-ghost use Rattle.mc_pages.specs.Rows.{IsRow, IsList, length_of};
-ghost use Rattle.mc_pages.specs.Linked.{AreLinked, IsUnlisted, chunks_of};
+ghost use Rattle.mc_pages.specs.ClassState.{class_after_pop, put_back, class_after_touch, class_after_replacement, class_after_clear, with_cut, times_in, behind};
+ghost use Rattle.mc_pages.specs.Rows.{IsRow, IsList, list_length};
+ghost use Rattle.mc_pages.specs.Linked.{AreLinked, IsUnlisted, list_chunks};
 ghost use Rattle.mc_pages.specs.ClassRows.{IsPlace, HasBecome};
 
 use super::{Field, ListName, Mark, Rows};
@@ -16,9 +16,9 @@ impl Rows {
     pub(crate) fn pop(&mut self, class: usize) -> Option<ChunkId>
         requires linked { AreLinked self.old }
         requires class { IsPlace self.old class }
-        requires below { length_of self.old (HandedOut class) < 65536 }
-        ensures chunk { result ≡ slice_get (chunks_of self.old (Free class)) 0 }
-        ensures popped { HasBecome self.old self.new class popped }
+        requires below { list_length self.old (HandedOut class) < 65536 }
+        ensures chunk { result ≡ slice_get (list_chunks self.old (Free class)) 0 }
+        ensures popped { HasBecome self.old self.new class class_after_pop }
         ensures writes { self.new.writes ≤ self.old.writes + 8 }
     {
         let Some(head) = self.get(Field::Head(ListName::Free(class))) else {
@@ -34,8 +34,8 @@ impl Rows {
     pub(crate) fn back(&mut self, class: usize, chunk: ChunkId)
         requires linked { AreLinked self.old }
         requires class { IsPlace self.old class }
-        requires handed_out { Contains (chunks_of self.old (HandedOut class)) chunk }
-        requires below { length_of self.old (Free class) < 65536 }
+        requires handed_out { Contains (list_chunks self.old (HandedOut class)) chunk }
+        requires below { list_length self.old (Free class) < 65536 }
         ensures back { HasBecome self.old self.new class (λ state. put_back state chunk) }
         ensures writes { self.new.writes ≤ self.old.writes + 8 }
     {
@@ -48,9 +48,9 @@ impl Rows {
     pub(crate) fn touch(&mut self, class: usize, chunk: ChunkId)
         requires linked { AreLinked self.old }
         requires class { IsPlace self.old class }
-        requires handed_out { Contains (chunks_of self.old (HandedOut class)) chunk }
-        requires below { length_of self.old (HandedOut class) < 65536 }
-        ensures touched { HasBecome self.old self.new class (λ state. touched state chunk) }
+        requires handed_out { Contains (list_chunks self.old (HandedOut class)) chunk }
+        requires below { list_length self.old (HandedOut class) < 65536 }
+        ensures touched { HasBecome self.old self.new class (λ state. class_after_touch state chunk) }
         ensures writes { self.new.writes ≤ self.old.writes + 8 }
     {
         self.unlink(ListName::HandedOut(class), chunk);
@@ -62,10 +62,10 @@ impl Rows {
     pub(crate) fn replace(&mut self, class: usize, new: ChunkId, old: ChunkId)
         requires linked { AreLinked self.old }
         requires class { IsPlace self.old class }
-        requires free { Contains (chunks_of self.old (Free class)) new }
-        requires handed_out { Contains (chunks_of self.old (HandedOut class)) old }
-        requires below { length_of self.old (HandedOut class) < 65536 }
-        ensures replaced { HasBecome self.old self.new class (λ state. replaced state new old) }
+        requires free { Contains (list_chunks self.old (Free class)) new }
+        requires handed_out { Contains (list_chunks self.old (HandedOut class)) old }
+        requires below { list_length self.old (HandedOut class) < 65536 }
+        ensures replaced { HasBecome self.old self.new class (λ state. class_after_replacement state new old) }
         ensures writes { self.new.writes ≤ self.old.writes + 8 }
     {
         self.unlink(ListName::Free(class), new);
@@ -77,8 +77,8 @@ impl Rows {
     pub(crate) fn clear(&mut self, class: usize, chunk: ChunkId)
         requires linked { AreLinked self.old }
         requires class { IsPlace self.old class }
-        requires listed { 1 ≤ times chunk (chunks_of self.old (Free class)) + times chunk (chunks_of self.old (HandedOut class)) }
-        ensures cleared { HasBecome self.old self.new class (λ state. cleared state chunk) }
+        requires listed { 1 ≤ times_in chunk (list_chunks self.old (Free class)) + times_in chunk (list_chunks self.old (HandedOut class)) }
+        ensures cleared { HasBecome self.old self.new class (λ state. class_after_clear state chunk) }
         ensures writes { self.new.writes ≤ self.old.writes + 8 }
     {
         match self.mark(chunk) {
@@ -94,7 +94,7 @@ impl Rows {
         requires class { IsPlace self.old class }
         requires row { IsRow self.old next }
         requires unlisted { IsUnlisted self.old next }
-        requires below { length_of self.old (Free class) < 65536 }
+        requires below { list_length self.old (Free class) < 65536 }
         ensures cut { HasBecome self.old self.new class (λ state. with_cut state next) }
         ensures writes { self.new.writes ≤ self.old.writes + 8 }
     {
@@ -105,7 +105,7 @@ impl Rows {
     pub(crate) fn first(&self, list: ListName) -> Option<ChunkId>
         requires linked { AreLinked self.now }
         requires list { IsList self.now list }
-        ensures { result ≡ slice_get (chunks_of self.now list) 0 }
+        ensures { result ≡ slice_get (list_chunks self.now list) 0 }
     {
         self.get(Field::Head(list))
     }
@@ -113,8 +113,8 @@ impl Rows {
     /// The chunk behind another in its list.
     pub(crate) fn next(&self, list: ListName, chunk: ChunkId) -> Option<ChunkId>
         requires linked { AreLinked self.now }
-        requires there { Contains (chunks_of self.now list) chunk }
-        ensures { result ≡ behind chunk (chunks_of self.now list) }
+        requires there { Contains (list_chunks self.now list) chunk }
+        ensures { result ≡ behind chunk (list_chunks self.now list) }
     {
         self.get(Field::Next(chunk))
     }
@@ -123,7 +123,7 @@ impl Rows {
     pub(crate) fn at(&self, list: ListName, place: u64) -> Option<ChunkId>
         requires linked { AreLinked self.now }
         requires list { IsList self.now list }
-        ensures { result ≡ slice_get (chunks_of self.now list) place }
+        ensures { result ≡ slice_get (list_chunks self.now list) place }
     {
         let mut link = self.first(list);
         for _ in 0..place {

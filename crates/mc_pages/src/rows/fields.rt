@@ -3,8 +3,8 @@
 //! No module is below this one, so that no other reaches what is private here: lists and calls write by `put`.
 ghost use Rattle.std.specs.Prelude.{◌≡◌, ℕ, ◌+◌, ◌*◌, ◌<◌, ◌≤◌, IfOk, length};
 ghost use Rattle.mc_classes.specs.Limits.{most_arena_pages, most_page_chunks};
-ghost use Rattle.mc_pages.specs.Rows.{RowsState, IsChange, IsField, IsRow, IsList, field_of, with_change, row_at, row_place, length_of, lengthened, shortened, fresh_rows};
-ghost use Rattle.mc_pages.specs.RowsInside.{rows_of, HasSpace};
+ghost use Rattle.mc_pages.specs.Rows.{RowsState, IsChange, IsField, IsRow, IsList, field_of, with_change, row_of_chunk, row_place, list_length, longer_list, shorter_list, fresh_rows};
+ghost use Rattle.mc_pages.specs.RowsInside.{list_rows, HasSpace};
 
 use super::link::Link;
 use super::{Change, Field, ListName, Mark};
@@ -40,7 +40,7 @@ pub struct Rows {
 impl Model for Rows {
     ghost Value = { RowsState };
 
-    ghost view = { rows_of };
+    ghost view = { list_rows };
 
     ghost invariant = { HasSpace };
 }
@@ -92,7 +92,7 @@ impl Rows {
     /// In which kind of list the chunk is.
     pub(crate) fn mark(&self, chunk: ChunkId) -> Mark
         requires { IsRow self.now chunk }
-        ensures { result ≡ (row_at self.now chunk).mark }
+        ensures { result ≡ (row_of_chunk self.now chunk).mark }
     {
         self.rows[self.place(chunk)].mark
     }
@@ -131,7 +131,7 @@ impl Rows {
     /// How many chunks the list has.
     pub(crate) fn length(&self, list: ListName) -> u64
         requires { IsList self.now list }
-        ensures { result ≡ length_of self.now list }
+        ensures { result ≡ list_length self.now list }
     {
         match list {
             ListName::Free(class) => self.free_lengths[class],
@@ -142,8 +142,8 @@ impl Rows {
     /// The list has one chunk more.
     pub(super) fn lengthen(&mut self, list: ListName)
         requires list { IsList self.old list }
-        requires below { length_of self.old list < 65536 }
-        ensures { self.new ≡ lengthened self.old list }
+        requires below { list_length self.old list < 65536 }
+        ensures { self.new ≡ longer_list self.old list }
     {
         match list {
             ListName::Free(class) => self.free_lengths[class] += 1,
@@ -154,8 +154,8 @@ impl Rows {
     /// The list has one chunk less.
     pub(super) fn shorten(&mut self, list: ListName)
         requires list { IsList self.old list }
-        requires some { 1 ≤ length_of self.old list }
-        ensures { self.new ≡ shortened self.old list }
+        requires some { 1 ≤ list_length self.old list }
+        ensures { self.new ≡ shorter_list self.old list }
     {
         match list {
             ListName::Free(class) => self.free_lengths[class] -= 1,

@@ -19,11 +19,11 @@ impl Model for Link {
 
     ghost Value = { Option ChunkId };
 
-    ghost use Rattle.mc_pages.specs.Links.{link_of, number_of};
+    ghost use Rattle.mc_pages.specs.Links.{link_of_number, link_number};
 
-    ghost view = { link_of };
+    ghost view = { link_of_number };
 
-    ghost inverse = { number_of };
+    ghost inverse = { link_number };
 }
 
 impl Link {

@@ -1,9 +1,9 @@
 //! How a chunk comes into a list and leaves it.
 ghost use Rattle.std.specs.Prelude.{◌≡◌, ◌+◌, ◌<◌, ◌≤◌, [], ◌∷◌, ◌++◌};
 ghost use Rattle.mc_pages.specs.declared.rows.ListName.{ListName};
-ghost use Rattle.mc_pages.specs.ClassState.{times, without, with_before};
-ghost use Rattle.mc_pages.specs.Rows.{IsRow, IsList, IsField, length_of};
-ghost use Rattle.mc_pages.specs.Linked.{AreLinked, AreLinkedBut, IsUnlisted, chunks_of, with_list, forth, back, mark_of, joined, linked, sizes_of};
+ghost use Rattle.mc_pages.specs.ClassState.{times_in, without, with_before};
+ghost use Rattle.mc_pages.specs.Rows.{IsRow, IsList, IsField, list_length};
+ghost use Rattle.mc_pages.specs.Linked.{AreLinked, AreLinkedBut, IsUnlisted, list_chunks, with_list, forth, back, list_mark, with_neighbours, with_chunk_between, sizes_of};
 
 use super::{Change, Field, ListName, Mark, Rows};
 use crate::ids::ChunkId;
@@ -14,9 +14,9 @@ impl Rows {
     pub(super) fn unlink(&mut self, list: ListName, chunk: ChunkId)
         requires linked { AreLinked self.old }
         requires list { IsList self.old list }
-        requires there { 1 ≤ times chunk (chunks_of self.old list) }
+        requires there { 1 ≤ times_in chunk (list_chunks self.old list) }
         ensures linked { AreLinkedBut self.new chunk }
-        ensures lists { (other : ListName) → chunks_of self.new other ≡ with_list (chunks_of self.old) list (without chunk (chunks_of self.old list)) other }
+        ensures lists { (other : ListName) → list_chunks self.new other ≡ with_list (list_chunks self.old) list (without chunk (list_chunks self.old list)) other }
         ensures sizes { sizes_of self.new ≡ sizes_of self.old }
         ensures writes { self.new.writes ≡ self.old.writes + 2 }
     {
@@ -30,9 +30,9 @@ impl Rows {
     pub(super) fn take_out(&mut self, list: ListName, chunk: ChunkId)
         requires linked { AreLinked self.old }
         requires list { IsList self.old list }
-        requires there { 1 ≤ times chunk (chunks_of self.old list) }
+        requires there { 1 ≤ times_in chunk (list_chunks self.old list) }
         ensures linked { AreLinked self.new }
-        ensures lists { (other : ListName) → chunks_of self.new other ≡ with_list (chunks_of self.old) list (without chunk (chunks_of self.old list)) other }
+        ensures lists { (other : ListName) → list_chunks self.new other ≡ with_list (list_chunks self.old) list (without chunk (list_chunks self.old list)) other }
         ensures sizes { sizes_of self.new ≡ sizes_of self.old }
         ensures writes { self.new.writes ≡ self.old.writes + 3 }
     {
@@ -47,9 +47,9 @@ impl Rows {
         requires list { IsList self.old list }
         requires row { IsRow self.old chunk }
         requires unlisted { IsUnlisted self.old chunk }
-        requires below { length_of self.old list < 65536 }
+        requires below { list_length self.old list < 65536 }
         ensures linked { AreLinked self.new }
-        ensures lists { (other : ListName) → chunks_of self.new other ≡ with_list (chunks_of self.old) list (chunk ∷ chunks_of self.old list) other }
+        ensures lists { (other : ListName) → list_chunks self.new other ≡ with_list (list_chunks self.old) list (chunk ∷ list_chunks self.old list) other }
         ensures sizes { sizes_of self.new ≡ sizes_of self.old }
         ensures writes { self.new.writes ≡ self.old.writes + 5 }
     {
@@ -64,9 +64,9 @@ impl Rows {
         requires list { IsList self.old list }
         requires row { IsRow self.old chunk }
         requires unlisted { IsUnlisted self.old chunk }
-        requires below { length_of self.old list < 65536 }
+        requires below { list_length self.old list < 65536 }
         ensures linked { AreLinked self.new }
-        ensures lists { (other : ListName) → chunks_of self.new other ≡ with_list (chunks_of self.old) list (chunks_of self.old list ++ chunk ∷ []) other }
+        ensures lists { (other : ListName) → list_chunks self.new other ≡ with_list (list_chunks self.old) list (list_chunks self.old list ++ chunk ∷ []) other }
         ensures sizes { sizes_of self.new ≡ sizes_of self.old }
         ensures writes { self.new.writes ≡ self.old.writes + 5 }
     {
@@ -81,10 +81,10 @@ impl Rows {
         requires list { IsList self.old list }
         requires row { IsRow self.old chunk }
         requires unlisted { IsUnlisted self.old chunk }
-        requires there { 1 ≤ times old (chunks_of self.old list) }
-        requires below { length_of self.old list < 65536 }
+        requires there { 1 ≤ times_in old (list_chunks self.old list) }
+        requires below { list_length self.old list < 65536 }
         ensures linked { AreLinked self.new }
-        ensures lists { (other : ListName) → chunks_of self.new other ≡ with_list (chunks_of self.old) list (with_before chunk old (chunks_of self.old list)) other }
+        ensures lists { (other : ListName) → list_chunks self.new other ≡ with_list (list_chunks self.old) list (with_before chunk old (list_chunks self.old list)) other }
         ensures sizes { sizes_of self.new ≡ sizes_of self.old }
         ensures writes { self.new.writes ≡ self.old.writes + 5 }
     {
@@ -105,8 +105,8 @@ impl Rows {
         requires row { IsRow self.old chunk }
         requires before { IsField self.old (forth list before) }
         requires behind { IsField self.old (back list behind) }
-        requires below { length_of self.old list < 65536 }
-        ensures { self.new ≡ linked self.old list before chunk behind }
+        requires below { list_length self.old list < 65536 }
+        ensures { self.new ≡ with_chunk_between self.old list before chunk behind }
     {
         self.join(list, before, Some(chunk));
         self.join(list, Some(chunk), behind);
@@ -119,7 +119,7 @@ impl Rows {
     fn join(&mut self, list: ListName, before: Option<ChunkId>, behind: Option<ChunkId>)
         requires before { IsField self.old (forth list before) }
         requires behind { IsField self.old (back list behind) }
-        ensures { self.new ≡ joined self.old list before behind }
+        ensures { self.new ≡ with_neighbours self.old list before behind }
     {
         self.put(Change::Link(forth(list, before), behind));
         self.put(Change::Link(back(list, behind), before));
@@ -148,7 +148,7 @@ fn back(list: ListName, link: Option<ChunkId>) -> Field
 
 /// How the chunks of the list are marked.
 fn mark_of(list: ListName) -> Mark
-    ensures { result ≡ mark_of list }
+    ensures { result ≡ list_mark list }
 {
     match list {
         ListName::Free(_) => Mark::Free,

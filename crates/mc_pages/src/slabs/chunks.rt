@@ -4,9 +4,9 @@
 //! `replace`, each writes one age beside them, which `writes` doesn't count.
 ghost use Rattle.std.specs.Prelude.{◌≡◌, ◌+◌, ◌<◌, ◌≤◌, slice_get, nat_lt, Contains, None, Some, true};
 ghost use Rattle.std.specs.Option.{option_map};
-ghost use Rattle.mc_pages.specs.ClassState.{first_free, behind, times};
+ghost use Rattle.mc_pages.specs.ClassState.{first_free, behind, times_in};
 ghost use Rattle.mc_pages.specs.Before.{comes_before};
-ghost use Rattle.mc_pages.specs.SlabState.{IsClass, class_at, class_of_page, class_of_chunk};
+ghost use Rattle.mc_pages.specs.SlabState.{HasClass, class_at, class_of_page, class_of_chunk};
 ghost use Rattle.mc_pages.specs.Changes.{after_pop, after_back, after_touch, after_replace, after_clear, after_cut, after_evicted, next_uncut};
 ghost use Rattle.mc_pages.specs.Accounted.{IsAccounted, is_cut, places_in};
 
@@ -18,7 +18,7 @@ use mc_classes::{ClassId, PageId};
 impl Slabs {
     /// Hands out the head of the class's free list: it goes to the back of the hand-out order. (slabs.c's `do_slabs_alloc`)
     pub fn pop(&mut self, class: ClassId) -> Option<ChunkId>
-        requires { IsClass self.old.state class }
+        requires { HasClass self.old.state class }
         ensures chunk { result ≡ first_free (class_at self.old.state class) }
         ensures popped { self.new.state ≡ after_pop self.old.state class }
         ensures accounted { IsAccounted self.new.state }
@@ -99,7 +99,7 @@ impl Slabs {
 
     /// Counts an eviction from the class. The counter stays at 2^64 - 1 once there (own).
     pub fn evicted(&mut self, class: ClassId)
-        requires { IsClass self.old.state class }
+        requires { HasClass self.old.state class }
         ensures evicted { self.new.state ≡ after_evicted self.old.state class }
         ensures accounted { IsAccounted self.new.state }
         ensures writes { self.new.writes ≡ self.old.writes }
@@ -126,9 +126,9 @@ impl Slabs {
     /// Whether a chunk is in the free list of its class. It must have been cut. This reads the chunk's row and walks along
     /// no list. (after the flag `ITEM_SLABBED` of memcached's items, by which `slab_rebalance_move` knows a free chunk)
     pub fn is_free(&self, chunk: ChunkId) -> bool
-        requires class { IsClass self.now.state (class_of_page self.now.state chunk.page) }
+        requires class { HasClass self.now.state (class_of_page self.now.state chunk.page) }
         requires cut { is_cut self.now.state (class_of_page self.now.state chunk.page) chunk ≡ true }
-        ensures free { result ≡ nat_lt 0 (times chunk (class_of_chunk self.now.state chunk).free) }
+        ensures free { result ≡ nat_lt 0 (times_in chunk (class_of_chunk self.now.state chunk).free) }
         ensures accounted { IsAccounted self.now.state }
     {
         self.rows.mark(chunk) == Mark::Free
@@ -136,7 +136,7 @@ impl Slabs {
 
     /// The head of the class's free list: the chunk that is handed out next. None where the list is empty.
     pub fn first_free(&self, class: ClassId) -> Option<ChunkId>
-        requires { IsClass self.now.state class }
+        requires { HasClass self.now.state class }
         ensures chunk { result ≡ slice_get (class_at self.now.state class).free 0 }
         ensures accounted { IsAccounted self.now.state }
     {
@@ -155,7 +155,7 @@ impl Slabs {
 
     /// The oldest chunk of the class's hand-out order. None where nothing is handed out.
     pub fn first_out(&self, class: ClassId) -> Option<ChunkId>
-        requires { IsClass self.now.state class }
+        requires { HasClass self.now.state class }
         ensures chunk { result ≡ slice_get (class_at self.now.state class).order 0 }
         ensures accounted { IsAccounted self.now.state }
     {
@@ -189,7 +189,7 @@ impl Slabs {
 
     /// The chunk at this place of the class's free list: 0 is handed out next. None past its end. It walks to it.
     pub fn free_at(&self, class: ClassId, place: u64) -> Option<ChunkId>
-        requires { IsClass self.now.state class }
+        requires { HasClass self.now.state class }
         ensures chunk { result ≡ slice_get (class_at self.now.state class).free place }
         ensures accounted { IsAccounted self.now.state }
     {
@@ -198,7 +198,7 @@ impl Slabs {
 
     /// The chunk at this place of the class's hand-out order: 0 is the oldest. None past its end. It walks to it.
     pub fn order_at(&self, class: ClassId, place: u64) -> Option<ChunkId>
-        requires { IsClass self.now.state class }
+        requires { HasClass self.now.state class }
         ensures chunk { result ≡ slice_get (class_at self.now.state class).order place }
         ensures accounted { IsAccounted self.now.state }
     {

@@ -2,8 +2,8 @@
 ghost use Rattle.std.specs.Prelude.{◌≡◌, ◌^◌, ◌<◌, ◌≤◌, length, nat_lt, IfOk, OnOk, OnErr, None};
 ghost use Rattle.std.specs.Option.{ForSome};
 ghost use Rattle.mc_pages.specs.declared.ids.Moving.{Moving};
-ghost use Rattle.mc_pages.specs.SlabState.{IsClass, class_at};
-ghost use Rattle.mc_pages.specs.Answer.{answer_of, cursor_after, pick, MayAnswer};
+ghost use Rattle.mc_pages.specs.SlabState.{HasClass, class_at};
+ghost use Rattle.mc_pages.specs.Answer.{answer_of, cursor_after, picked_class, MayAnswer};
 ghost use Rattle.mc_pages.specs.Moves.{first_page, after_begin, after_finish, after_passed, after_wrap, CanPass, CanWrap, CanFinish};
 ghost use Rattle.mc_pages.specs.Accounted.{IsAccounted, IsMove};
 
@@ -143,7 +143,7 @@ impl Slabs {
 
     /// The first class behind the cursor, class 1 after the last, that isn't the destination and has more than one page.
     fn pick(&self, dst: u64) -> Option<ClassId>
-        ensures { result ≡ pick self.now.state dst }
+        ensures { result ≡ picked_class self.now.state dst }
     {
         let count = self.class_count();
         (self.cursor + 1..count + 1)
@@ -163,7 +163,7 @@ impl Slabs {
 
     /// The first page of the class.
     fn first_page(&self, class: ClassId) -> PageId
-        requires class { IsClass self.now.state class }
+        requires class { HasClass self.now.state class }
         requires some { 1 ≤ length (class_at self.now.state class).pages }
         ensures { result ≡ first_page self.now.state class }
     {

@@ -1,6 +1,6 @@
 //! How a class gets a page.
 ghost use Rattle.std.specs.Prelude.{◌≡◌, ◌↔◌, IfOk, OnErr, None, Some, Err, is_some};
-ghost use Rattle.mc_pages.specs.SlabState.{IsClass};
+ghost use Rattle.mc_pages.specs.SlabState.{HasClass};
 ghost use Rattle.mc_pages.specs.Changes.{HasNoPageFor, after_grow, has_ordinary_page, is_without_page, next_page};
 ghost use Rattle.mc_pages.specs.Accounted.{IsAccounted};
 ghost use Rattle.mc_pages.specs.InOrder.{is_awaited};
@@ -38,7 +38,7 @@ impl Slabs {
     /// runs. `NoMemory` comes only where there is a page, and what is refused changes nothing. (slabs.c's `do_slabs_newslab`,
     /// which gives a class without pages its first beyond the limit, too)
     pub fn grow(&mut self, class: ClassId) -> Result<PageId, Grow>
-        requires class { IsClass self.old.state class }
+        requires class { HasClass self.old.state class }
         requires whole { self.old.state.uncut ≡ None }
         ensures given { IfOk result (λ page. (next_page self.old.state class ≡ Some page) × (self.new.state ≡ after_grow self.old.state class page)) }
         ensures no_room { (result ≡ Err Grow.NoRoom) ↔ (next_page self.old.state class ≡ None) }
@@ -71,7 +71,7 @@ impl Slabs {
 
     /// Whether `grow` has a page for the class.
     pub fn has_page_for(&self, class: ClassId) -> bool
-        requires { IsClass self.now.state class }
+        requires { HasClass self.now.state class }
         ensures page { result ≡ is_some (next_page self.now.state class) }
         ensures accounted { IsAccounted self.now.state }
     {
@@ -80,7 +80,7 @@ impl Slabs {
 
     /// The page that a class gets next, if one is left for it.
     fn next_page(&self, class: ClassId) -> Option<PageId>
-        requires { IsClass self.now.state class }
+        requires { HasClass self.now.state class }
         ensures page { result ≡ next_page self.now.state class }
         ensures accounted { IsAccounted self.now.state }
     {
@@ -102,7 +102,7 @@ impl Slabs {
 
     /// Whether the class has no page.
     fn is_without_page(&self, class: ClassId) -> bool
-        requires { IsClass self.now.state class }
+        requires { HasClass self.now.state class }
         ensures { result ≡ is_without_page self.now.state class }
     {
         let slab = &self.classes[class as usize - 1];

@@ -1,9 +1,9 @@
 //! The changes before an event, by their names and arguments.
 ghost use Rattle.std.specs.Prelude.{◌≡◌, ◌==◌, [], ◌∷◌, map, Some, None, Err, IfOk};
 ghost use Rattle.std.specs.List.{slice_split};
-ghost use Rattle.mc_script.specs.Words.{words_of};
+ghost use Rattle.mc_script.specs.Words.{line_words};
 ghost use Rattle.mc_replay.specs.Changes.{change_of, changes_in, changes_of, found_of, number_change};
-ghost use Rattle.mc_script.specs.Forms.{source_of};
+ghost use Rattle.mc_script.specs.Forms.{parsed_source};
 
 use super::word::is;
 use crate::fault::Refusal;
@@ -47,7 +47,7 @@ fn parts(alloc: Global, text: &[u8]) -> Result<Vec<&[u8]>, AllocError>
 
 /// The change that a text writes, if it writes one.
 fn change_in(alloc: Global, text: &[u8]) -> Result<Option<Change>, AllocError>
-    ensures { IfOk result (λ found. found ≡ change_of (words_of text.now)) }
+    ensures { IfOk result (λ found. found ≡ change_of (line_words text.now)) }
 {
     let words = words(alloc, text)?;
     Ok(change(&words))
@@ -140,7 +140,7 @@ fn found_of(name: &[u8]) -> Option<Found>
 
 /// The source that a word names: none, where one is to be picked, if it is `-1`, and else its number.
 fn source(word: &[u8]) -> Option<Option<u64>>
-    ensures { result ≡ source_of word.now }
+    ensures { result ≡ parsed_source word.now }
 {
     if is(word, b"-1") {
         Some(None)

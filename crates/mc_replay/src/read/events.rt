@@ -1,7 +1,7 @@
 //! The line of an event.
 ghost use Rattle.std.specs.Prelude.{◌≡◌, ◌==◌, map, position, Some, None, Err, IfOk};
-ghost use Rattle.mc_script.specs.Words.{words_of};
-ghost use Rattle.mc_replay.specs.Events.{deed_of, event_after, event_of};
+ghost use Rattle.mc_script.specs.Words.{line_words};
+ghost use Rattle.mc_replay.specs.Events.{deed_of, event_after, written_event};
 
 use super::changes::changes;
 use super::steps::step;
@@ -13,10 +13,10 @@ use mc_script::number::number;
 use std::alloc::Global;
 
 /// The event that a line writes.
-#[tactic(auto, unfolding(crate::specs::Events::event_of))]
+#[tactic(auto, unfolding(crate::specs::Events::written_event))]
 pub(super) fn event(alloc: Global, line: &[u8]) -> Result<Event, Refusal>
-    ensures ok { IfOk result (λ event. event_of line.now ≡ Some event) }
-    ensures refused { result ≡ Err Refusal.Form → event_of line.now ≡ None }
+    ensures ok { IfOk result (λ event. written_event line.now ≡ Some event) }
+    ensures refused { result ≡ Err Refusal.Form → written_event line.now ≡ None }
 {
     match colon_in(line) {
         Some(colon) => {
@@ -37,8 +37,8 @@ fn colon_in(line: &[u8]) -> Option<usize>
 /// The event that a text writes, with the changes before it.
 #[tactic(auto, unfolding(crate::specs::Events::event_after))]
 fn event_after(alloc: Global, text: &[u8], before: Series<Change>) -> Result<Event, Refusal>
-    ensures ok { IfOk result (λ event. event_after before (deed_of (words_of text.now)) ≡ Some event) }
-    ensures refused { result ≡ Err Refusal.Form → event_after before (deed_of (words_of text.now)) ≡ None }
+    ensures ok { IfOk result (λ event. event_after before (deed_of (line_words text.now)) ≡ Some event) }
+    ensures refused { result ≡ Err Refusal.Form → event_after before (deed_of (line_words text.now)) ≡ None }
 {
     let words = words(alloc, text)?;
     match deed(&words) {

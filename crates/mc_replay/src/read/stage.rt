@@ -1,6 +1,6 @@
 //! How far a list was read, line by line.
 ghost use Rattle.std.specs.Prelude.{◌≡◌, None, map};
-ghost use Rattle.mc_replay.specs.Heads.{config_of, four_of, hands_of, last_four_of};
+ghost use Rattle.mc_replay.specs.Heads.{written_config, four_of, written_hands, last_four_of};
 
 use super::events::event;
 use super::word::is;
@@ -71,9 +71,9 @@ fn accepted(alloc: Global, line: &[u8]) -> Result<Accepted, Refusal> {
 }
 
 /// The configuration that these words write, if they write one.
-#[tactic(auto, unfolding(crate::specs::Heads::config_of))]
+#[tactic(auto, unfolding(crate::specs::Heads::written_config))]
 fn config(words: &[&[u8]]) -> Option<Config>
-    ensures { result ≡ config_of (map (λ word. word.now) words.now) }
+    ensures { result ≡ written_config (map (λ word. word.now) words.now) }
 {
     match words {
         [verb, page, limit, first, num, others @ ..] if is(verb, b"config") => {
@@ -136,9 +136,9 @@ fn begun<'a>(
 }
 
 /// The number of hands that these words write, if they write one.
-#[tactic(auto, unfolding(crate::specs::Heads::hands_of))]
+#[tactic(auto, unfolding(crate::specs::Heads::written_hands))]
 fn hands(words: &[&[u8]]) -> Option<u64>
-    ensures { result ≡ hands_of (map (λ word. word.now) words.now) }
+    ensures { result ≡ written_hands (map (λ word. word.now) words.now) }
 {
     match words {
         [verb, hands] if is(verb, b"hands") => number(hands),

@@ -1,6 +1,6 @@
 //! The lines of the headers that aren't 0.
 ghost use Rattle.std.specs.Prelude.{◌≡◌, ◌++◌, OnOk, string_bytes};
-ghost use Rattle.mc_replay.specs.Written.{heads_text, page_text, word_text};
+ghost use Rattle.mc_replay.specs.Written.{heads_text, page_headers_text, word_text};
 
 use mc_core::State;
 use mc_pages::ChunkId;
@@ -21,7 +21,7 @@ pub(super) fn heads(text: &mut String, state: &State) -> Result<(), AllocError>
 
 /// The headers of a page with n chunks.
 fn page_heads(text: &mut String, state: &State, page: u64, count: u64) -> Result<(), AllocError>
-    ensures { OnOk result (string_bytes text.new ≡ string_bytes text.old ++ page_text state.now count page) }
+    ensures { OnOk result (string_bytes text.new ≡ string_bytes text.old ++ page_headers_text state.now count page) }
 {
     for index in 0..count {
         let chunk = ChunkId { page, index };

@@ -1,9 +1,9 @@
 //! The text of what is behind the slabs lock.
 ghost use Rattle.std.specs.Prelude.{◌≡◌, ◌++◌, OnOk, flat_map, length, string_bytes};
 ghost use Rattle.mc_classes.specs.Classes.{arena_pages_of};
-ghost use Rattle.mc_pages.specs.SlabState.{IsClass, class_at, totals_of};
+ghost use Rattle.mc_pages.specs.SlabState.{HasClass, class_at, totals_of};
 ghost use Rattle.mc_core.specs.InOrder.{IsOfTable};
-ghost use Rattle.mc_replay.specs.Written.{chunk_text, chunks_text, class_line, classes_text, entry_line, entry_text, evictions_text, free_text, item_counts, ledger_text, mode_text, moving_line, moving_text, order_text, owner_line, owners_text, page_counts, slabs_text, totals_line, trimmed_entries};
+ghost use Rattle.mc_replay.specs.Written.{chunk_text, chunks_text, class_state_line, class_states_text, ledger_entry_line, ledger_entry_text, evictions_text, free_text, item_counts, stored_ledger_text, mode_text, moving_line, moving_text, order_text, owner_line, owners_text, page_counts, slab_state_text, totals_line, trimmed_entries};
 
 use crate::fault::NoMemory;
 use mc_classes::{ClassId, ClassTable, PageId};
@@ -21,7 +21,7 @@ pub(super) fn slabs(
     slabs: &Slabs,
 ) -> Result<(), NoMemory>
     requires { IsOfTable table.now slabs.now.state }
-    ensures { OnOk result (string_bytes text.new ≡ string_bytes text.old ++ slabs_text table.now slabs.now.state) }
+    ensures { OnOk result (string_bytes text.new ≡ string_bytes text.old ++ slab_state_text table.now slabs.now.state) }
 {
     pages(text, table, slabs)?;
     classes(alloc, text, table, slabs)?;
@@ -31,7 +31,7 @@ pub(super) fn slabs(
 /// Owners, and what the ledger records.
 fn pages(text: &mut String, table: &ClassTable, slabs: &Slabs) -> Result<(), NoMemory>
     requires { IsOfTable table.now slabs.now.state }
-    ensures { OnOk result (string_bytes text.new ≡ string_bytes text.old ++ (owners_text (arena_pages_of table.now) slabs.now.state ++ ledger_text slabs.now.state)) }
+    ensures { OnOk result (string_bytes text.new ≡ string_bytes text.old ++ (owners_text (arena_pages_of table.now) slabs.now.state ++ stored_ledger_text slabs.now.state)) }
 {
     owners(text, table, slabs)?;
     ledger(text, slabs)
@@ -70,7 +70,7 @@ fn owner(text: &mut String, page: PageId, owner: Owner) -> Result<(), AllocError
 
 /// How many entries of the ledger were trimmed, and those behind them.
 fn ledger(text: &mut String, slabs: &Slabs) -> Result<(), NoMemory>
-    ensures { OnOk result (string_bytes text.new ≡ string_bytes text.old ++ ledger_text slabs.now.state) }
+    ensures { OnOk result (string_bytes text.new ≡ string_bytes text.old ++ stored_ledger_text slabs.now.state) }
 {
     trimmed_entries(text, slabs.trimmed())?;
     entries(text, slabs.ledger())
@@ -88,7 +88,7 @@ fn trimmed_entries(text: &mut String, count: u64) -> Result<(), AllocError>
 
 /// How pages changed hands.
 fn entries(text: &mut String, entries: &[Entry]) -> Result<(), NoMemory>
-    ensures { OnOk result (string_bytes text.new ≡ string_bytes text.old ++ flat_map entry_line entries.now) }
+    ensures { OnOk result (string_bytes text.new ≡ string_bytes text.old ++ flat_map ledger_entry_line entries.now) }
 {
     for change in entries {
         push_str(text, "ledger ")?;
@@ -99,7 +99,7 @@ fn entries(text: &mut String, entries: &[Entry]) -> Result<(), NoMemory>
 
 /// How a page changed hands.
 fn entry(text: &mut String, entry: Entry) -> Result<(), AllocError>
-    ensures { OnOk result (string_bytes text.new ≡ string_bytes text.old ++ entry_text entry) }
+    ensures { OnOk result (string_bytes text.new ≡ string_bytes text.old ++ ledger_entry_text entry) }
 {
     match entry {
         Entry::Granted(page, class, grace) => {
@@ -120,7 +120,7 @@ fn classes(
     slabs: &Slabs,
 ) -> Result<(), NoMemory>
     requires { IsOfTable table.now slabs.now.state }
-    ensures { OnOk result (string_bytes text.new ≡ string_bytes text.old ++ classes_text (length table.now.sizes) slabs.now.state) }
+    ensures { OnOk result (string_bytes text.new ≡ string_bytes text.old ++ class_states_text (length table.now.sizes) slabs.now.state) }
 {
     for place in 0..table.count() {
         class(alloc, text, slabs, place + 1)?;
@@ -130,8 +130,8 @@ fn classes(
 
 /// The lists of a class, and how often it evicted.
 fn class(alloc: Global, text: &mut String, slabs: &Slabs, class: ClassId) -> Result<(), NoMemory>
-    requires { IsClass slabs.now.state class }
-    ensures { OnOk result (string_bytes text.new ≡ string_bytes text.old ++ class_line class (class_at slabs.now.state class)) }
+    requires { HasClass slabs.now.state class }
+    ensures { OnOk result (string_bytes text.new ≡ string_bytes text.old ++ class_state_line class (class_at slabs.now.state class)) }
 {
     lists(alloc, text, slabs, class)?;
     Ok(evictions(text, slabs.numbers(class).evictions)?)
@@ -139,7 +139,7 @@ fn class(alloc: Global, text: &mut String, slabs: &Slabs, class: ClassId) -> Res
 
 /// A class, its free list and its hand-out order.
 fn lists(alloc: Global, text: &mut String, slabs: &Slabs, class: ClassId) -> Result<(), NoMemory>
-    requires { IsClass slabs.now.state class }
+    requires { HasClass slabs.now.state class }
     ensures { OnOk result (string_bytes text.new ≡ string_bytes text.old ++ (free_text class (class_at slabs.now.state class).free ++ order_text (class_at slabs.now.state class).order)) }
 {
     let free = free_of(alloc, slabs, class)?;

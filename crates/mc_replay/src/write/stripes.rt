@@ -1,8 +1,8 @@
 //! The text of what is behind the lock of a stripe.
 ghost use Rattle.std.specs.Prelude.{◌≡◌, ◌++◌, [], flat_map, map, IfOk, OnOk, string_bytes};
 ghost use Rattle.mc_stripe.specs.Entries.{by_key};
-ghost use Rattle.mc_stripe.specs.StripeState.{tail_of};
-ghost use Rattle.mc_replay.specs.Written.{call_line, call_text, key_line, keys_text, left_keys, stripe_text, trimmed_line, with_stored};
+ghost use Rattle.mc_stripe.specs.StripeState.{history_tail};
+ghost use Rattle.mc_replay.specs.Written.{call_line, call_text, index_line, keys_text, left_keys, stripe_text, trimmed_line, keys_with_stored};
 
 use mc_pages::ChunkId;
 use mc_stripe::{Call, Key, Stamp, Stripe};
@@ -27,7 +27,7 @@ pub(super) fn stripe(
 
 /// The keys that trimmed calls left and those under which something was stored since, by rising key.
 fn stored_keys(alloc: Global, stripe: &Stripe) -> Result<Vec<Key>, AllocError>
-    ensures { IfOk result (λ keys. keys.items ≡ with_stored (left_keys stripe.now.state) (tail_of stripe.now.state)) }
+    ensures { IfOk result (λ keys. keys.items ≡ keys_with_stored (left_keys stripe.now.state) (history_tail stripe.now.state)) }
 {
     let mut keys = BTreeSet::new(alloc);
     add_left(&mut keys, stripe.base().unwrap_or(&[]))?;
@@ -50,7 +50,7 @@ fn add_left(keys: &mut BTreeSet<Key>, base: &[(Key, Stamp)]) -> Result<(), Alloc
 
 /// Adds the keys under which something was stored.
 fn add_stored(keys: &mut BTreeSet<Key>, history: &[Call]) -> Result<(), AllocError>
-    ensures { OnOk result (keys.new.keys ≡ with_stored keys.old.keys history.now) }
+    ensures { OnOk result (keys.new.keys ≡ keys_with_stored keys.old.keys history.now) }
 {
     for call in history {
         if let Call::Set(_, key, _) = *call {
@@ -77,7 +77,7 @@ fn place(
     key: Key,
     place: Option<(ChunkId, Stamp)>,
 ) -> Result<(), AllocError>
-    ensures { OnOk result (string_bytes text.new ≡ string_bytes text.old ++ key_line number key place) }
+    ensures { OnOk result (string_bytes text.new ≡ string_bytes text.old ++ index_line number key place) }
 {
     let Some((ChunkId { page, index }, stamp)) = place else {
         return Ok(());

@@ -1,7 +1,7 @@
 //! What a stripe shows of itself.
 ghost use Rattle.std.specs.Prelude.{◌≡◌, ◌^◌, ◌-◌, min, IfSome, is_some};
 ghost use Rattle.mc_stripe.specs.Entries.{HasEachKeyOnce, by_key};
-ghost use Rattle.mc_stripe.specs.StripeState.{base_of, can_store, key_aside, place_of, tail_of, trimmed_of};
+ghost use Rattle.mc_stripe.specs.StripeState.{base_stamps, can_store, key_aside, chunk_and_stamp, history_tail, trimmed_of};
 ghost use Rattle.mc_stripe.specs.Legal.{IsLegal};
 
 use super::Stripe;
@@ -12,7 +12,7 @@ use mc_pages::ChunkId;
 impl Stripe {
     /// The key's chunk and stamp, if the index has it.
     pub fn find(&self, key: Key) -> Option<(ChunkId, Stamp)>
-        ensures { result ≡ place_of self.now.state key }
+        ensures { result ≡ chunk_and_stamp self.now.state key }
     {
         index::place_in(&self.index, key)
     }
@@ -47,7 +47,7 @@ impl Stripe {
 
     /// The calls that are recorded, the oldest first: all behind those that were trimmed.
     pub fn history(&self) -> &[Call]
-        ensures history { result.now ≡ tail_of self.now.state }
+        ensures history { result.now ≡ history_tail self.now.state }
         ensures legal { IsLegal self.now.state }
     {
         self.calls.tail()
@@ -65,7 +65,7 @@ impl Stripe {
     /// Each key's stamp, no key twice, in no order, as the calls left them that aren't recorded any more. None where no call is recorded: then it
     /// is the index.
     pub fn base(&self) -> Option<&[(Key, Stamp)]>
-        ensures base { IfSome result (λ base. by_key base.now ≡ base_of self.now.state) }
+        ensures base { IfSome result (λ base. by_key base.now ≡ base_stamps self.now.state) }
         ensures each_once { IfSome result (λ base. HasEachKeyOnce base.now) }
         ensures some { is_some result ≡ is_some self.now.state.recorded_from }
     {

@@ -11,7 +11,7 @@ use Rattle.mc_core.specs.declared.head.Tag.{Tag}
 use Rattle.mc_core.specs.declared.head.Tag.TheVariants.{Free}
 use Rattle.mc_core.specs.declared.event.Step.TheVariants as core
 use Rattle.mc_core.specs.Chunks.{can_clear, with_tag_out}
-use Rattle.mc_core.specs.Codes.{FitsBits, minus}
+use Rattle.mc_core.specs.Codes.{FitsBits, word_minus}
 use Rattle.mc_core.specs.Head.{code, decode, tag_of, is_dead, is_free, is_unlinked}
 use Rattle.mc_core.specs.Seen.{seen_head}
 use Rattle.mc_core.specs.Silent.{is_listed}
@@ -65,16 +65,16 @@ neither_unused word isnt alive = elim (cases_Bool (is_free (decode word).tag)) [
 ]
 
 -- what is taken from its word is its tag
-unused_sum : (word : ℕ) → word < 2 ^ 64 → FitsBits (decode word) → is_unused (decode word) ≡ true → code (with_tag_out (decode word)) ≡ minus (word / 65536 % 4 * 65536) (code (decode word))
+unused_sum : (word : ℕ) → word < 2 ^ 64 → FitsBits (decode word) → is_unused (decode word) ≡ true → code (with_tag_out (decode word)) ≡ word_minus (word / 65536 % 4 * 65536) (code (decode word))
 unfolding decode
 unused_sum word fits small unused = elim (cases_Bool (is_free (decode word).tag)) [
   | inl free ↦
       let tag : word / 65536 % 4 ≡ 1 = free_one (word / 65536 % 4) (omega arith) free in
-      (all_are_sums (decode word) small).clear_free (free_tag (decode word).tag free) ∙ ap (λ (n : ℕ). minus (n * 65536) (code (decode word))) (sym tag)
+      (all_are_sums (decode word) small).clear_free (free_tag (decode word).tag free) ∙ ap (λ (n : ℕ). word_minus (n * 65536) (code (decode word))) (sym tag)
   | inr isnt ↦
       let dead : is_dead (decode word) ≡ true = ap (λ (b : Bool). b || is_dead (decode word)) (sym isnt) ∙ unused in
       let tag : word / 65536 % 4 ≡ 2 = dead_two (word / 65536 % 4) (omega arith) (and_parts (is_unlinked (decode word).tag) ((decode word).count == 0) dead).0 in
-      (all_are_sums (decode word) small).clear_dead dead ∙ ap (λ (n : ℕ). minus (n * 65536) (code (decode word))) (sym tag)
+      (all_are_sums (decode word) small).clear_dead dead ∙ ap (λ (n : ℕ). word_minus (n * 65536) (code (decode word))) (sym tag)
 ]
 
 module _ (view : View) (slabs : SlabState) (chunk : ChunkId) (seen : ℕ) (mine : view.slabs ≡ Some slabs) (near : has_chunk view.setup.table chunk ≡ true) (moves : is_on_the_move slabs chunk.page ≡ true) (last : seen_head view.row.looks chunk ≡ Some (decode seen)) (unused : is_unused (decode seen) ≡ true) where
@@ -84,7 +84,7 @@ module _ (view : View) (slabs : SlabState) (chunk : ChunkId) (seen : ℕ) (mine 
       let held = slabs_here view was slabs mine in
       (judged view was slabs mine).clear chunk (decode seen) (near_here view chunk near was) (ap (λ (x : SlabState). is_on_the_move x chunk.page) held.1 ∙ moves) (ap (λ looks. seen_head looks chunk) (looks_here view was) ∙ last) unused
 
-  pub may_clear : MayWrite view (core.Clear chunk) (head_word view.setup chunk) (minus (seen / 65536 % 4 * 65536))
+  pub may_clear : MayWrite view (core.Clear chunk) (head_word view.setup chunk) (word_minus (seen / 65536 % 4 * 65536))
   may_clear was fits =
       let word = slice_index was.words (head_word view.setup chunk) in
       let judge = judged_clear was in
@@ -92,11 +92,11 @@ module _ (view : View) (slabs : SlabState) (chunk : ChunkId) (seen : ℕ) (mine 
       let same : word ≡ seen = sym (are_one_word.again word) ∙ (ap code (sym is_word ∙ judge.0) ∙ are_one_word.again seen) in
       let small : FitsBits (decode word) = subst FitsBits is_word (fits_here view was chunk near) in
       let unused' : is_unused (decode word) ≡ true = ap (λ (n : ℕ). is_unused (decode n)) same ∙ unused in
-      let less : code (with_tag_out (decode word)) ≡ minus (seen / 65536 % 4 * 65536) (code (decode word)) = unused_sum word fits small unused' ∙ ap (λ (n : ℕ). minus (n / 65536 % 4 * 65536) (code (decode word))) same in
-      let out : decode (minus (seen / 65536 % 4 * 65536) word) ≡ with_tag_out (head_at was.moment.state chunk) =
-      summed word fits with_tag_out (minus (seen / 65536 % 4 * 65536)) less (record { issue = small.issue; count = small.count }) ∙ ap with_tag_out (sym is_word) in (
+      let less : code (with_tag_out (decode word)) ≡ word_minus (seen / 65536 % 4 * 65536) (code (decode word)) = unused_sum word fits small unused' ∙ ap (λ (n : ℕ). word_minus (n / 65536 % 4 * 65536) (code (decode word))) same in
+      let out : decode (word_minus (seen / 65536 % 4 * 65536) word) ≡ with_tag_out (head_at was.moment.state chunk) =
+      summed word fits with_tag_out (word_minus (seen / 65536 % 4 * 65536)) less (record { issue = small.issue; count = small.count }) ∙ ap with_tag_out (sym is_word) in (
         judge.1,
-        header_written view chunk near was (minus (seen / 65536 % 4 * 65536) word) (with_tag_out (head_at was.moment.state chunk)) out,
+        header_written view chunk near was (word_minus (seen / 65536 % 4 * 65536) word) (with_tag_out (head_at was.moment.state chunk)) out,
       )
 
   pub clears_it : (now : View) → Happens view [] (core.Clear chunk) now → now ≡ chunk_cleared slabs chunk (decode seen) view

@@ -18,11 +18,11 @@ use Rattle.mc_core.specs.declared.head.Tag.TheVariants.{Free}
 use Rattle.mc_core.specs.declared.holding.Holding.{Holding}
 use Rattle.mc_core.specs.declared.event.Step.TheVariants as core
 use Rattle.mc_core.specs.Chunks as chunks
-use Rattle.mc_core.specs.Chunks.{handed_out, has_place, most_holdings, most_issue, popped_off, target_of}
-use Rattle.mc_core.specs.Codes.{FitsBits, plus}
-use Rattle.mc_core.specs.Columns.{holders}
+use Rattle.mc_core.specs.Chunks.{head_after_hand_out, has_place, most_holdings, most_issue, popped_off, target_of}
+use Rattle.mc_core.specs.Codes.{FitsBits, word_plus}
+use Rattle.mc_core.specs.Columns.{holder_count}
 use Rattle.mc_core.specs.Head.{decode, is_free}
-use Rattle.mc_core.specs.Holdings.{holding_of, is_of}
+use Rattle.mc_core.specs.Holdings.{holding_of, is_of_chunk}
 use Rattle.mc_core.specs.InOrder.{IsOfTable}
 use Rattle.mc_core.specs.Judged.{SeesTarget}
 use Rattle.mc_core.specs.Silent.{is_handed_out}
@@ -98,10 +98,10 @@ module _ (view : View) (slabs : SlabState) (old chunk : ChunkId) (mine : view.sl
         let here = near_here view chunk target_near was in
         let count = was.lawful.counted.counted chunk here in
         let shut = was.lawful.counted.shut chunk here (inl (ap is_free free_here.1)) in
-        let none : holders chunk m.state.holdings ≡ 0 = omega arith in
-        none_found chunk view.row.holdings (subst (All (λ holding. is_of chunk holding ≡ false)) (holdings_here view was) (none_held chunk m.state.holdings none was.hand [] (holding_rows view was)))
+        let none : holder_count chunk m.state.holdings ≡ 0 = omega arith in
+        none_found chunk view.row.holdings (subst (All (λ holding. is_of_chunk chunk holding ≡ false)) (holdings_here view was) (none_held chunk m.state.holdings none was.hand [] (holding_rows view was)))
 
-  pub may_pop_off : is_handed_out slabs old ≡ true → length view.row.holdings < most_holdings → MayWrite view (core.PopOff old) (head_word view.setup chunk) (plus 327681)
+  pub may_pop_off : is_handed_out slabs old ≡ true → length view.row.holdings < most_holdings → MayWrite view (core.PopOff old) (head_word view.setup chunk) (word_plus 327681)
   may_pop_off out few was fits =
       let m = was.moment in
       let word = slice_index was.words (head_word view.setup chunk) in
@@ -114,13 +114,13 @@ module _ (view : View) (slabs : SlabState) (old chunk : ChunkId) (mine : view.sl
       let is_word : head_at m.state chunk ≡ decode word = head_is view chunk near was in
       let small : FitsBits (decode word) = subst FitsBits is_word (fits_here view was chunk near) in
       let left : (decode word).issue < most_issue = subst (λ (h : Head). h.issue < most_issue) (sym found.1 ∙ is_word) sees.unused in
-      let taken : decode (plus 327681 word) ≡ handed_out (head_at m.state chunk) =
-      summed word fits handed_out (plus 327681) ((all_are_sums (decode word) small).hand_out (sym (ap (λ (h : Head). h.tag) is_word) ∙ free) (sym (ap (λ (h : Head). h.count) is_word) ∙ count) left) (record { issue = omega arith; count = omega arith })
-      ∙ ap handed_out (sym is_word) in
-      let after : columns (chunks.after_pop_off m.state was.hand old) ≡ (m.state.slabs_lock, m.state.stripe_locks, slice_set m.state.heads (head_place m.state.table chunk) (handed_out (head_at m.state chunk)), m.state.words) =
+      let taken : decode (word_plus 327681 word) ≡ head_after_hand_out (head_at m.state chunk) =
+      summed word fits head_after_hand_out (word_plus 327681) ((all_are_sums (decode word) small).hand_out (sym (ap (λ (h : Head). h.tag) is_word) ∙ free) (sym (ap (λ (h : Head). h.count) is_word) ∙ count) left) (record { issue = omega arith; count = omega arith })
+      ∙ ap head_after_hand_out (sym is_word) in
+      let after : columns (chunks.after_pop_off m.state was.hand old) ≡ (m.state.slabs_lock, m.state.stripe_locks, slice_set m.state.heads (head_place m.state.table chunk) (head_after_hand_out (head_at m.state chunk)), m.state.words) =
       ap (λ o. columns (popped_off m.state was.hand old o)) found.0 in (
         (judged view was slabs mine).pop_off old chunk (moves_here was) out_here place (target_here was),
-        subst (AreAll view.setup was.cuts (slice_set was.words (head_word view.setup chunk) (plus 327681 word))) (sym after) (header_written view chunk near was (plus 327681 word) (handed_out (head_at m.state chunk)) taken),
+        subst (AreAll view.setup was.cuts (slice_set was.words (head_word view.setup chunk) (word_plus 327681 word))) (sym after) (header_written view chunk near was (word_plus 327681 word) (head_after_hand_out (head_at m.state chunk)) taken),
       )
 
   -- what the hand has then
@@ -135,7 +135,7 @@ module _ (view : View) (slabs : SlabState) (old chunk : ChunkId) (mine : view.sl
       let holding : Holding = copy_holding old chunk (sees.seen.issue + 1) room in record {
         holding = holding;
         found = ap (λ (v : View). holding_of chunk v.row.holdings) popped
-            ∙ (find-append (is_of chunk) view.row.holdings (holding ∷ [])
+            ∙ (find-append (is_of_chunk chunk) view.row.holdings (holding ∷ [])
             ∙ (ap (λ found. option_or found (holding_of chunk (holding ∷ []))) (target_not_held was) ∙ ap (λ (b : Bool). if b then Some holding else None) (is_chunk-same chunk)));
         fresh = refl;
         room_is = length-replicate room None;

@@ -7,8 +7,8 @@ use Rattle.std.proofs.lemmas.Bool.{and_from, and_parts, cases_Bool, or_right}
 use Rattle.std.proofs.lemmas.List.Sums.{fold-append}
 use Rattle.mc_pages.specs.declared.ids.ChunkId.{ChunkId}
 use Rattle.mc_pages.specs.Accounted.{is_cut}
-use Rattle.mc_pages.specs.ClassState.{is_chunk, times}
-use Rattle.mc_pages.specs.SlabState.{SlabState, IsClass, class_at, class_of_chunk, class_of_page}
+use Rattle.mc_pages.specs.ClassState.{is_chunk, times_in}
+use Rattle.mc_pages.specs.SlabState.{SlabState, HasClass, class_at, class_of_chunk, class_of_page}
 use Rattle.mc_pages.proofs.Chunks.{is_chunk-same, times_from_Contains}
 use Rattle.mc_pages.proofs.Cleared.{truth-le_one}
 use Rattle.mc_core.specs.declared.head.Head.{Head}
@@ -42,23 +42,23 @@ among_there chunk [] more = ap (λ b. b || is_among more chunk) (is_chunk-same c
 among_there chunk (c ∷ before) more = or_right (is_chunk c chunk) (is_among (before ++ chunk ∷ more) chunk) (among_there chunk before more)
 
 module _ (view : View) (was : LawfulView view) (slabs : SlabState) (mine : view.slabs ≡ Some slabs) (class : ℕ) (is : is_class view.setup.table class ≡ true) where
-  class_there : IsClass was.moment.state.slabs class
-  class_there = subst (λ (x : SlabState). IsClass x class) (sym (slabs_here view was slabs mine).1) (class_of_slabs view was slabs class mine is)
+  class_there : HasClass was.moment.state.slabs class
+  class_there = subst (λ (x : SlabState). HasClass x class) (sym (slabs_here view was slabs mine).1) (class_of_slabs view was slabs class mine is)
 
   -- no chunk stands twice in it
-  pub free_once : (chunk : ChunkId) → times chunk (class_at slabs class).free ≤ 1
+  pub free_once : (chunk : ChunkId) → times_in chunk (class_at slabs class).free ≤ 1
   free_once chunk =
       let tag = (head_at was.moment.state chunk).tag in
       let count = was.lawful.placed.free class chunk class_there in
       let most = truth-le_one (is_cut was.moment.state.slabs class chunk && is_free tag) in
-      subst (λ (x : SlabState). times chunk (class_at x class).free ≤ 1) (slabs_here view was slabs mine).1 (omega arith)
+      subst (λ (x : SlabState). times_in chunk (class_at x class).free ≤ 1) (slabs_here view was slabs mine).1 (omega arith)
 
   -- and each that does is of the class
   pub stands_free : (chunk : ChunkId) (before more : List ChunkId) → (class_at slabs class).free ≡ before ++ chunk ∷ more → StandsFree view slabs class chunk
   stands_free chunk before more stands =
       let same = (slabs_here view was slabs mine).1 in
       let there : Contains (class_at slabs class).free chunk = Contains_from_among (class_at slabs class).free chunk (ap (λ chunks. is_among chunks chunk) stands ∙ among_there chunk before more) in
-      let some : 1 ≤ times chunk (class_at was.moment.state.slabs class).free = subst (λ (x : SlabState). 1 ≤ times chunk (class_at x class).free) (sym same) (times_from_Contains chunk (class_at slabs class).free there) in
+      let some : 1 ≤ times_in chunk (class_at was.moment.state.slabs class).free = subst (λ (x : SlabState). 1 ≤ times_in chunk (class_at x class).free) (sym same) (times_from_Contains chunk (class_at slabs class).free there) in
       let placed = free_placed was.moment was.lawful class chunk class_there some in
       let own : class_of_page slabs chunk.page ≡ class = ap (λ (x : SlabState). class_of_page x chunk.page) (sym same) ∙ placed.0 in record {
         own = own;
@@ -96,7 +96,7 @@ module _ (looks : List Look) (page : ℕ) (chunk : ChunkId) (head : Head) where
   all_worn worn (c ∷ chunks) all = let parts = and_parts (is_seen_unfit looks page c) (list_all (is_seen_unfit looks page) chunks) all in and_from _ _ (worn_unfit worn c parts.0) (all_worn worn chunks parts.1)
 
   -- a look at a chunk that isn't among these says nothing of them
-  pub others_unfit : (chunks : List ChunkId) → times chunk chunks ≡ 0 → list_all (is_seen_unfit looks page) chunks ≡ true → list_all (is_seen_unfit more page) chunks ≡ true
+  pub others_unfit : (chunks : List ChunkId) → times_in chunk chunks ≡ 0 → list_all (is_seen_unfit looks page) chunks ≡ true → list_all (is_seen_unfit more page) chunks ≡ true
   others_unfit [] none all = refl
   others_unfit (c ∷ chunks) none all =
       let parts = and_parts (is_seen_unfit looks page c) (list_all (is_seen_unfit looks page) chunks) all in
@@ -137,12 +137,12 @@ passed_unfit page slabs (chunk ∷ chunks) done view now mine all (next, inr (of
     (after.0, both.1, and_from _ _ both.0 after.2)
 
 -- the target that was found, as the core judges it
-abbrev pub sees_target : (page : ℕ) (slabs : SlabState) (chunk : ChunkId) (view now : View) → view.slabs ≡ Some slabs → ((other : ChunkId) → times other (class_at slabs (class_of_page slabs page)).free ≤ 1)
+abbrev pub sees_target : (page : ℕ) (slabs : SlabState) (chunk : ChunkId) (view now : View) → view.slabs ≡ Some slabs → ((other : ChunkId) → times_in other (class_at slabs (class_of_page slabs page)).free ≤ 1)
     → FindsFit slabs (class_of_page slabs page) page chunk view now → SeesTarget slabs now.row.looks page chunk
 sees_target page slabs chunk view now mine once finds =
     let after = passed_unfit page slabs finds.before [] view finds.passed mine refl finds.passes in
     let looks : now.row.looks ≡ finds.passed.row.looks ++ Saw chunk finds.fit.head ∷ [] = ap (λ (v : View). v.row.looks) (finds.fit.is ∙ seen_is finds.passed chunk finds.fit.head slabs after.0) in
-    let none = (elsewhere chunk finds.after finds.before (subst (λ (cs : List ChunkId). times chunk cs ≤ 1) finds.stands (once chunk))).0 in record {
+    let none = (elsewhere chunk finds.after finds.before (subst (λ (cs : List ChunkId). times_in chunk cs ≤ 1) finds.stands (once chunk))).0 in record {
       before = finds.before;
       after = finds.after;
       seen = finds.fit.head;

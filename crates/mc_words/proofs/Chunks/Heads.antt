@@ -9,14 +9,14 @@ use Rattle.mc_core.specs.State.{State, has_chunk, head_at, head_place}
 use Rattle.mc_core.proofs.SameSlabs.{looked_keeps}
 use Rattle.mc_words.specs.hand.View.{Setup, View}
 use Rattle.mc_words.specs.rule.Layout.{head_word, page_word, word_count}
-use Rattle.mc_words.specs.rule.Meaning.{AreWords}
+use Rattle.mc_words.specs.rule.Meaning.{WordsAreColumns}
 use Rattle.mc_words.specs.rule.Happens.{LawfulView, MayWrite}
 use Rattle.mc_words.proofs.Rules.Quiet.{Columns, columns}
 use Rattle.mc_words.proofs.Rules.Written.{head_near, head_read, head_written, unwritten}
 
 -- the words are these columns
 abbrev pub AreAll : Setup → List ℕ → List ℕ → Columns → Type 0
-AreAll setup cuts words c = AreWords setup cuts words c.0 c.1 c.2 c.3
+AreAll setup cuts words c = WordsAreColumns setup cuts words c.0 c.1 c.2 c.3
 
 module _ (view : View) (chunk : ChunkId) (near : has_chunk view.setup.table chunk ≡ true) (was : LawfulView view) where
   abbrev s : State

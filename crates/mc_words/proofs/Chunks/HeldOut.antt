@@ -3,7 +3,7 @@ use Rattle.std.proofs.Common.{◌≡◌, ◌||◌, true, List, [], ◌∷◌, So
 use Rattle.std.proofs.lemmas.Bool.{cases_Bool, or_right}
 use Rattle.mc_pages.specs.declared.ids.ChunkId.{ChunkId}
 use Rattle.mc_pages.specs.Accounted.{truth}
-use Rattle.mc_pages.specs.ClassState.{is_chunk, times}
+use Rattle.mc_pages.specs.ClassState.{is_chunk, times_in}
 use Rattle.mc_pages.specs.SlabState.{SlabState, class_of_chunk}
 use Rattle.mc_pages.proofs.Chunks.{times-cons}
 use Rattle.mc_core.specs.declared.holding.Holding.{Holding}
@@ -17,7 +17,7 @@ use Rattle.mc_words.specs.rule.Happens.{LawfulView}
 use Rattle.mc_words.proofs.Pages.Owners.{holdings_here, slabs_here}
 
 -- what is counted stands there
-among_if : (chunks : List ChunkId) (chunk : ChunkId) → times chunk chunks ≡ 1 → is_among chunks chunk ≡ true
+among_if : (chunks : List ChunkId) (chunk : ChunkId) → times_in chunk chunks ≡ 1 → is_among chunks chunk ≡ true
 among_if [] chunk once = absurd (omega arith)
 among_if (c ∷ chunks) chunk once = elim (cases_Bool (is_chunk c chunk)) [
   | inl is ↦ ap (λ b. b || is_among chunks chunk) is

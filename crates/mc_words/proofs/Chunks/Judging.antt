@@ -10,19 +10,19 @@ use Rattle.std.proofs.lemmas.List.Folds.{find-append}
 use Rattle.mc_classes.specs.Classes.{Classes, size_of}
 use Rattle.mc_pages.specs.declared.ids.ChunkId.{ChunkId}
 use Rattle.mc_pages.specs.ClassState.{first_free}
-use Rattle.mc_pages.specs.SlabState.{SlabState, IsClass, class_at, class_of_page, class_of_chunk}
+use Rattle.mc_pages.specs.SlabState.{SlabState, HasClass, class_at, class_of_page, class_of_chunk}
 use Rattle.mc_pages.proofs.Chunks.{is_chunk-same}
 use Rattle.mc_core.specs.declared.head.Head.{Head}
 use Rattle.mc_core.specs.declared.holding.Holding.{Holding}
 use Rattle.mc_core.specs.declared.look.Look.TheVariants.{Saw}
 use Rattle.mc_core.specs.declared.event.Step.TheVariants as core
 use Rattle.mc_core.specs.Head.{decode, tag_of, is_unlinked, is_dead}
-use Rattle.mc_core.specs.Holdings.{is_of, holding_of}
+use Rattle.mc_core.specs.Holdings.{is_of_chunk, holding_of}
 use Rattle.mc_core.specs.State.{is_class, has_chunk, head_at, room_in}
 use Rattle.mc_core.specs.Chunks.{most_issue, most_holdings, next_free}
-use Rattle.mc_core.specs.Past.{Sight, header}
+use Rattle.mc_core.specs.Past.{SeenWord, header}
 use Rattle.mc_core.specs.Seen.{last_head, seen_head}
-use Rattle.mc_core.specs.Columns.{holders}
+use Rattle.mc_core.specs.Columns.{holder_count}
 use Rattle.mc_core.specs.Silent.{is_handed_out}
 use Rattle.mc_core.proofs.Needless.{are_needless}
 use Rattle.mc_core.proofs.Judged.{all_are_judged}
@@ -48,8 +48,8 @@ module _ (view : View) (chunk : ChunkId) (head : Head) (slabs : SlabState) (mine
   held : is_some view.slabs ≡ true
   held = ap is_some mine
 
-  pub seen_is : seen ≡ views.with_event [] (core.Head chunk) (views.looked (Saw chunk head) (views.saw (header chunk head) view))
-  seen_is = ap (λ (b : Bool). views.with_event [] (core.Head chunk) (views.with_looks (if b then view.row.looks ++ Saw chunk head ∷ [] else view.row.looks) (views.saw (header chunk head) view))) held
+  pub seen_is : seen ≡ views.with_event [] (core.Head chunk) (views.view_after_look (Saw chunk head) (views.view_after_sight (header chunk head) view))
+  seen_is = ap (λ (b : Bool). views.with_event [] (core.Head chunk) (views.view_with_looks (if b then view.row.looks ++ Saw chunk head ∷ [] else view.row.looks) (views.view_after_sight (header chunk head) view))) held
 
   pub seen_slabs : seen.slabs ≡ Some slabs
   seen_slabs = ap (λ (v : View). v.slabs) seen_is ∙ mine
@@ -63,10 +63,10 @@ module _ (view : View) (chunk : ChunkId) (head : Head) (slabs : SlabState) (mine
   seen_holds = ap (λ (v : View). v.row.holdings) seen_is
 
 -- a chunk of which nobody has a holding isn't found
-pub none_found : (chunk : ChunkId) (holdings : List Holding) → All (λ holding. is_of chunk holding ≡ false) holdings → holding_of chunk holdings ≡ None
+pub none_found : (chunk : ChunkId) (holdings : List Holding) → All (λ holding. is_of_chunk chunk holding ≡ false) holdings → holding_of chunk holdings ≡ None
 none_found chunk [] none = refl
-none_found chunk (holding ∷ holdings) none = ap (λ (b : Bool). if b then Some holding else holding_of chunk holdings) (All-head (λ (h : Holding). is_of chunk h ≡ false) holding holdings none)
-    ∙ none_found chunk holdings (All-tail (λ (h : Holding). is_of chunk h ≡ false) holding holdings none)
+none_found chunk (holding ∷ holdings) none = ap (λ (b : Bool). if b then Some holding else holding_of chunk holdings) (All-head (λ (h : Holding). is_of_chunk chunk h ≡ false) holding holdings none)
+    ∙ none_found chunk holdings (All-tail (λ (h : Holding). is_of_chunk chunk h ≡ false) holding holdings none)
 
 -- what a header's word tells
 pub issue_left : (word : ℕ) → word / 262144 < 70368744177663 → (decode word).issue < most_issue
@@ -114,7 +114,7 @@ module _ (view now : View) (slabs : SlabState) (mine : view.slabs ≡ Some slabs
     class_here : is_class m.state.table class ≡ true
     class_here = ap (λ table. is_class table class) was.same_table ∙ is
 
-    class_in : IsClass m.state.slabs class
+    class_in : HasClass m.state.slabs class
     class_in =
         let parts = and_parts _ _ class_here in
         let count = class_count m.state.table m.state.slabs was.lawful.paged.of_table in
@@ -138,8 +138,8 @@ module _ (view now : View) (slabs : SlabState) (mine : view.slabs ≡ Some slabs
         let free = (first_placed m was.lawful class chunk class_in next_here).2 in
         let count = was.lawful.counted.counted chunk here in
         let shut = was.lawful.counted.shut chunk here (inl free) in
-        let none : holders chunk m.state.holdings ≡ 0 = omega arith in
-        none_found chunk view.row.holdings (subst (All (λ holding. is_of chunk holding ≡ false)) (holdings_here view was) (none_held chunk m.state.holdings none was.hand [] (holding_rows view was)))
+        let none : holder_count chunk m.state.holdings ≡ 0 = omega arith in
+        none_found chunk view.row.holdings (subst (All (λ holding. is_of_chunk chunk holding ≡ false)) (holdings_here view was) (none_held chunk m.state.holdings none was.hand [] (holding_rows view was)))
 
   pub pops : seen_head view.row.looks chunk ≡ Some head → Happens view [] (core.Pop class) now → now ≡ chunk_popped slabs class chunk head view
   pops last h = popped_chunk view now slabs mine class chunk head h first (on_class h.was) (still h.was last)
@@ -149,7 +149,7 @@ module _ (view now : View) (slabs : SlabState) (mine : view.slabs ≡ Some slabs
       let holding : Holding = fresh_holding chunk (head.issue + 1) (room_in view.setup.table class) in record {
         holding = holding;
         found = ap (λ (v : View). holding_of chunk v.row.holdings) popped
-            ∙ (find-append (is_of chunk) view.row.holdings (holding ∷ [])
+            ∙ (find-append (is_of_chunk chunk) view.row.holdings (holding ∷ [])
             ∙ (ap (λ found. Rattle.std.specs.Option.option_or found (holding_of chunk (holding ∷ []))) (not_held was near) ∙ ap (λ (b : Bool). if b then Some holding else None) (is_chunk-same chunk)));
         fresh = refl;
         room_is = length-replicate (room_in view.setup.table class) None;
@@ -217,14 +217,14 @@ module _ (view seen now : View) (slabs : SlabState) (chunk : ChunkId) (head : He
 pub class_of_table : (table : Classes) (class : ℕ) → is_class table class ≡ true → (1 ≤ class) × (class ≤ length table.sizes)
 class_of_table table class is = let parts = and_parts _ _ is in (leb-true 1 class parts.0, leb-true class (length table.sizes) parts.1)
 
-pub class_of_slabs : (view : View) → LawfulView view → (slabs : SlabState) (class : ℕ) → view.slabs ≡ Some slabs → is_class view.setup.table class ≡ true → IsClass slabs class
+pub class_of_slabs : (view : View) → LawfulView view → (slabs : SlabState) (class : ℕ) → view.slabs ≡ Some slabs → is_class view.setup.table class ≡ true → HasClass slabs class
 class_of_slabs view was slabs class mine is =
     let m = was.moment in
     let in' = class_of_table m.state.table class (ap (λ table. is_class table class) was.same_table ∙ is) in
     let count = class_count m.state.table m.state.slabs was.lawful.paged.of_table in
     let low = in'.0 in
     let high = in'.1 in
-    subst (λ (x : SlabState). IsClass x class) (slabs_here view was slabs mine).1 (low, omega arith)
+    subst (λ (x : SlabState). HasClass x class) (slabs_here view was slabs mine).1 (low, omega arith)
 
 pub room_of : (table : Classes) (class size : ℕ) → is_class table class ≡ true → size ≡ size_of table class → size / 8 ≡ room_in table class
 room_of table class size is size_is = ap (λ (n : ℕ). n / 8) size_is ∙ ap (λ (b : Bool). if b then size_of table class / 8 else 0) (sym is)

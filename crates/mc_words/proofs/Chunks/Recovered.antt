@@ -2,7 +2,7 @@
 use Rattle.std.proofs.Common.{◌≡◌, ℕ, ◌≤◌, true, List, [], Some, ap, subst, ◌∙◌, arith}
 use Rattle.std.specs.Prelude.{Contains}
 use Rattle.mc_pages.specs.declared.ids.ChunkId.{ChunkId}
-use Rattle.mc_pages.specs.ClassState.{times}
+use Rattle.mc_pages.specs.ClassState.{times_in}
 use Rattle.mc_pages.specs.SlabState.{SlabState, class_at, class_of_chunk, class_of_page}
 use Rattle.mc_pages.proofs.Chunks.{times_from_Contains}
 use Rattle.mc_core.specs.State.{is_class}
@@ -20,4 +20,4 @@ out_still view was slabs mine class is again now left each chunk listed out =
     subst (λ (n : ℕ). Contains (class_at left n).order chunk) own out
 
 pub nothing_in : (chunk : ChunkId) → Contains [] chunk → ⊥
-nothing_in chunk there = let some : 1 ≤ times chunk [] = times_from_Contains chunk [] there in omega arith
+nothing_in chunk there = let some : 1 ≤ times_in chunk [] = times_from_Contains chunk [] there in omega arith

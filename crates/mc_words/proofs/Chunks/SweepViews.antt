@@ -5,9 +5,9 @@ use Rattle.std.proofs.lemmas.Bool.{and_parts, cases_Bool, cases_lt}
 use Rattle.mc_classes.specs.Classes.{arena_pages_of}
 use Rattle.mc_pages.specs.declared.ids.ChunkId.{ChunkId}
 use Rattle.mc_pages.specs.Accounted.{truth, is_cut}
-use Rattle.mc_pages.specs.ClassState.{times}
+use Rattle.mc_pages.specs.ClassState.{times_in}
 use Rattle.mc_pages.specs.Ledger.{owner_at}
-use Rattle.mc_pages.specs.SlabState.{SlabState, IsClass, class_at, class_of_chunk, class_of_owner, class_of_page}
+use Rattle.mc_pages.specs.SlabState.{SlabState, HasClass, class_at, class_of_chunk, class_of_owner, class_of_page}
 use Rattle.mc_pages.proofs.Chunks.{times_from_Contains}
 use Rattle.mc_pages.proofs.Cleared.{truth-le_one}
 use Rattle.mc_pages.proofs.HandedOut.{IsClass-handed_out}
@@ -33,23 +33,23 @@ pub record StandsOut (view : View) (slabs : SlabState) (class : ℕ) (chunk : Ch
   pub within : chunk.index < (class_at slabs class).per_page
   pub listed : Contains (class_of_chunk slabs chunk).order chunk
 
-module _ (view : View) (was : LawfulView view) (slabs : SlabState) (mine : view.slabs ≡ Some slabs) (class : ℕ) (here : IsClass slabs class) where
+module _ (view : View) (was : LawfulView view) (slabs : SlabState) (mine : view.slabs ≡ Some slabs) (class : ℕ) (here : HasClass slabs class) where
   abbrev m : Moment
   m = was.moment
 
   same : m.state.slabs ≡ slabs
   same = (slabs_here view was slabs mine).1
 
-  class_there : IsClass m.state.slabs class
-  class_there = subst (λ (x : SlabState). IsClass x class) (sym same) here
+  class_there : HasClass m.state.slabs class
+  class_there = subst (λ (x : SlabState). HasClass x class) (sym same) here
 
   -- no chunk stands twice in it
-  once_in : (chunk : ChunkId) → times chunk (class_at slabs class).order ≤ 1
+  once_in : (chunk : ChunkId) → times_in chunk (class_at slabs class).order ≤ 1
   once_in chunk =
       let tag = (head_at m.state chunk).tag in
       let count = was.lawful.placed.order class chunk class_there in
       let most = truth-le_one (is_cut m.state.slabs class chunk && (not (is_free tag) && not (is_out tag))) in
-      subst (λ (x : SlabState). times chunk (class_at x class).order ≤ 1) same (omega arith)
+      subst (λ (x : SlabState). times_in chunk (class_at x class).order ≤ 1) same (omega arith)
 
   -- and each that does is of the class
   out_of : (chunk : ChunkId) → Contains (class_at slabs class).order chunk → StandsOut view slabs class chunk
@@ -57,7 +57,7 @@ module _ (view : View) (was : LawfulView view) (slabs : SlabState) (mine : view.
       let tag = (head_at m.state chunk).tag in
       let rest = not (is_free tag) && not (is_out tag) in
       let some = times_from_Contains chunk (class_at slabs class).order there in
-      let some' : 1 ≤ times chunk (class_at m.state.slabs class).order = subst (λ (x : SlabState). 1 ≤ times chunk (class_at x class).order) (sym same) some in
+      let some' : 1 ≤ times_in chunk (class_at m.state.slabs class).order = subst (λ (x : SlabState). 1 ≤ times_in chunk (class_at x class).order) (sym same) some in
       let count = was.lawful.placed.order class chunk class_there in
       let cut : is_cut m.state.slabs class chunk ≡ true = elim (cases_Bool (is_cut m.state.slabs class chunk && rest)) [
         | inl both ↦ (and_parts (is_cut m.state.slabs class chunk) rest both).0
@@ -79,7 +79,7 @@ module _ (view : View) (was : LawfulView view) (slabs : SlabState) (mine : view.
         let there : class_of_page m.state.slabs page ≡ class = ap (λ (x : SlabState). class_of_page x page) same ∙ own in
         let below : last.index < (class_at slabs class).per_page = omega (arith, some) in
         let below' : last.index < (class_at m.state.slabs (class_of_page m.state.slabs page)).per_page = subst (λ (n : ℕ). last.index < (class_at m.state.slabs n).per_page) (sym there) (subst (λ (x : SlabState). last.index < (class_at x class).per_page) (sym same) below) in
-        let near = near_in m was.lawful last (subst (λ (n : ℕ). IsClass m.state.slabs n) (sym there) class_there) below' in
+        let near = near_in m was.lawful last (subst (λ (n : ℕ). HasClass m.state.slabs n) (sym there) class_there) below' in
         let near' : has_chunk view.setup.table last ≡ true = ap (λ table. has_chunk table last) (sym was.same_table) ∙ near in
         let index = ltb-true last.index (most_of view.setup.table) (and_parts (nat_lt last.page (arena_pages_of view.setup.table)) (nat_lt last.index (most_of view.setup.table)) near').1 in
         omega (arith, index, some)
@@ -88,10 +88,10 @@ module _ (view : View) (was : LawfulView view) (slabs : SlabState) (mine : view.
 
 -- so it is with a class of the table
 module _ (view : View) (was : LawfulView view) (slabs : SlabState) (mine : view.slabs ≡ Some slabs) (class : ℕ) (is : is_class view.setup.table class ≡ true) where
-  pub class_here : IsClass slabs class
+  pub class_here : HasClass slabs class
   class_here = class_of_slabs view was slabs class mine is
 
-  pub order_once : (chunk : ChunkId) → times chunk (class_at slabs class).order ≤ 1
+  pub order_once : (chunk : ChunkId) → times_in chunk (class_at slabs class).order ≤ 1
   order_once = once_in view was slabs mine class class_here
 
   pub stands_out : (chunk : ChunkId) → Contains (class_at slabs class).order chunk → StandsOut view slabs class chunk
@@ -105,7 +105,7 @@ pub same_class : (view : View) → LawfulView view → (slabs : SlabState) → v
 same_class view was slabs mine chunk other there among =
     let same = (slabs_here view was slabs mine).1 in
     let there' = subst (λ (x : SlabState). Contains (class_of_chunk x chunk).order chunk) (sym same) there in
-    let here = subst (λ (x : SlabState). IsClass x (class_of_page x chunk.page)) same (IsClass-handed_out was.moment.state.slabs chunk was.lawful.paged.of_table.accounted there') in
+    let here = subst (λ (x : SlabState). HasClass x (class_of_page x chunk.page)) same (IsClass-handed_out was.moment.state.slabs chunk was.lawful.paged.of_table.accounted there') in
     (out_of view was slabs mine (class_of_page slabs chunk.page) here other among).own
 
 -- the page that is looked along is the class's
@@ -133,7 +133,7 @@ sees_alone [] view slabs now left (same, is) = same ∙ (λ k. with_seen view (s
 sees_alone (chunk ∷ chunks) view slabs now left (next, between, one, rest) = sees_alone chunks next between now left rest ∙ ap (λ (v : View). with_seen v now) (sees_one chunk view slabs next between one)
 
 -- how far the walk has come then
-module _ (view next : View) (slabs between : SlabState) (mine : view.slabs ≡ Some slabs) (class : ℕ) (chunk : ChunkId) (swept : IsSweptTo slabs view.row.looks class (Some chunk)) (once : (other : ChunkId) → times other (class_at slabs class).order ≤ 1) (is : IsClass slabs class) (own : class_of_page slabs chunk.page ≡ class) where
+module _ (view next : View) (slabs between : SlabState) (mine : view.slabs ≡ Some slabs) (class : ℕ) (chunk : ChunkId) (swept : IsSweptTo slabs view.row.looks class (Some chunk)) (once : (other : ChunkId) → times_in other (class_at slabs class).order ≤ 1) (is : HasClass slabs class) (own : class_of_page slabs chunk.page ≡ class) where
   pub swept_on : SweepsOne chunk view slabs next between → GoesOn slabs view.row.looks class chunk swept between next.row.looks
   swept_on (inl (back, left)) =
       let looks : next.row.looks ≡ (view.row.looks ++ Saw chunk back.head ∷ []) ++ PutBack chunk (with_tag_free back.head) ∷ [] =

@@ -7,8 +7,8 @@ use Rattle.std.proofs.lemmas.List.Sums.{fold-append}
 use Rattle.mc_pages.specs.declared.ids.ChunkId.{ChunkId}
 use Rattle.mc_pages.specs.Accounted.{truth}
 use Rattle.mc_pages.specs.Changes.{after_back, with_class}
-use Rattle.mc_pages.specs.ClassState.{ClassState, behind, is_chunk, put_back, times, without}
-use Rattle.mc_pages.specs.SlabState.{SlabState, IsClass, class_at, class_of_page}
+use Rattle.mc_pages.specs.ClassState.{ClassState, behind, is_chunk, put_back, times_in, without}
+use Rattle.mc_pages.specs.SlabState.{SlabState, HasClass, class_at, class_of_page}
 use Rattle.mc_pages.proofs.Chunks.{is_chunk-same, same_from_is_chunk, times-append, times-cons}
 use Rattle.mc_pages.proofs.OneClass.{class_at-with_class_same}
 use Rattle.mc_pages.proofs.RestOfList.{rest_from}
@@ -44,43 +44,43 @@ is_empty (c ∷ more) at = absurd (cc)
 
 -- a chunk that stands in a list once is nowhere before or behind its place
 module _ (chunk : ChunkId) (more : List ChunkId) where
-  pub elsewhere : (before : List ChunkId) → times chunk (before ++ chunk ∷ more) ≤ 1 → (times chunk before ≡ 0) × (times chunk more ≡ 0)
+  pub elsewhere : (before : List ChunkId) → times_in chunk (before ++ chunk ∷ more) ≤ 1 → (times_in chunk before ≡ 0) × (times_in chunk more ≡ 0)
   elsewhere before once =
       let sum = times-append chunk before (chunk ∷ more) in
       let here = times-cons chunk chunk more in
       let same = ap truth (is_chunk-same chunk) in
       (omega arith, omega arith)
 
-  pub other_first : (c : ChunkId) (before : List ChunkId) → times chunk (c ∷ before) ≡ 0 → (is_chunk c chunk ≡ false) × (times chunk before ≡ 0)
+  pub other_first : (c : ChunkId) (before : List ChunkId) → times_in chunk (c ∷ before) ≡ 0 → (is_chunk c chunk ≡ false) × (times_in chunk before ≡ 0)
   other_first c before none = let sum = times-cons chunk c before in elim (cases_Bool (is_chunk c chunk)) [
     | inl is ↦ absurd (let one = ap truth is in omega arith)
     | inr isnt ↦ (isnt, (let zero_of = ap truth isnt in omega arith))
   ]
 
-  pub behind_is : (before : List ChunkId) → times chunk before ≡ 0 → behind chunk (before ++ chunk ∷ more) ≡ slice_get more 0
+  pub behind_is : (before : List ChunkId) → times_in chunk before ≡ 0 → behind chunk (before ++ chunk ∷ more) ≡ slice_get more 0
   behind_is [] none = ap (λ (b : Bool). if b then slice_get more 0 else behind chunk more) (is_chunk-same chunk)
   behind_is (c ∷ before) none =
       let parts = other_first c before none in
       ap (λ (b : Bool). if b then slice_get (before ++ chunk ∷ more) 0 else behind chunk (before ++ chunk ∷ more)) parts.0 ∙ behind_is before parts.1
 
-  without_is : (before : List ChunkId) → times chunk before ≡ 0 → without chunk (before ++ chunk ∷ more) ≡ before ++ more
+  without_is : (before : List ChunkId) → times_in chunk before ≡ 0 → without chunk (before ++ chunk ∷ more) ≡ before ++ more
   without_is [] none = ap (λ (b : Bool). if b then more else chunk ∷ without chunk more) (is_chunk-same chunk)
   without_is (c ∷ before) none =
       let parts = other_first c before none in
       ap (λ (b : Bool). if b then before ++ chunk ∷ more else c ∷ without chunk (before ++ chunk ∷ more)) parts.0 ∙ ap (λ cs. c ∷ cs) (without_is before parts.1)
 
-  rest_is : (before : List ChunkId) → times chunk before ≡ 0 → rest_from (Some chunk) (before ++ chunk ∷ more) ≡ chunk ∷ more
+  rest_is : (before : List ChunkId) → times_in chunk before ≡ 0 → rest_from (Some chunk) (before ++ chunk ∷ more) ≡ chunk ∷ more
   rest_is [] none = ap (λ (b : Bool). if b then chunk ∷ more else rest_from (Some chunk) more) (is_chunk-same chunk)
   rest_is (c ∷ before) none =
       let parts = other_first c before none in
       ap (λ (b : Bool). if b then c ∷ before ++ chunk ∷ more else rest_from (Some chunk) (before ++ chunk ∷ more)) parts.0 ∙ rest_is before parts.1
 
 -- what is left of a walk, as its measure
-pub left_is : (next : Option ChunkId) (before rest : List ChunkId) → next ≡ slice_get rest 0 → ((chunk : ChunkId) → times chunk (before ++ rest) ≤ 1) → rest_from next (before ++ rest) ≡ rest
+pub left_is : (next : Option ChunkId) (before rest : List ChunkId) → next ≡ slice_get rest 0 → ((chunk : ChunkId) → times_in chunk (before ++ rest) ≤ 1) → rest_from next (before ++ rest) ≡ rest
 left_is None before rest at once = sym (is_empty rest at)
 left_is (Some chunk) before rest at once =
     let (more, is) = begins_with rest chunk at in
-    let once' = subst (λ (r : List ChunkId). times chunk (before ++ r) ≤ 1) is (once chunk) in
+    let once' = subst (λ (r : List ChunkId). times_in chunk (before ++ r) ≤ 1) is (once chunk) in
     subst (λ (r : List ChunkId). rest_from (Some chunk) (before ++ r) ≡ r) (sym is) (rest_is chunk more before (elsewhere chunk more before once').0)
 
 -- all of two lists
@@ -105,7 +105,7 @@ module _ (looks : List Look) (chunk : ChunkId) where
       fold-append (stays_alive chunk) false looks (Saw chunk head ∷ [])
       ∙ (ap (λ (b : Bool). if b then not (is_dead head) else is_found_alive looks chunk) (is_chunk-same chunk) ∙ ap not alive)
 
-  pub others_alive : (head : Head) (chunks : List ChunkId) → times chunk chunks ≡ 0 → list_all (is_found_alive looks) chunks ≡ true → list_all (is_found_alive (looks ++ Saw chunk head ∷ [])) chunks ≡ true
+  pub others_alive : (head : Head) (chunks : List ChunkId) → times_in chunk chunks ≡ 0 → list_all (is_found_alive looks) chunks ≡ true → list_all (is_found_alive (looks ++ Saw chunk head ∷ [])) chunks ≡ true
   others_alive head [] none all = refl
   others_alive head (c ∷ chunks) none all =
       let parts = and_parts (is_found_alive looks c) (list_all (is_found_alive looks) chunks) all in
@@ -127,15 +127,15 @@ abbrev pub GoesOn : (slabs : SlabState) (looks : List Look) (class : ℕ) (chunk
 GoesOn slabs looks class chunk swept left more = (now : IsSweptTo left more class (behind chunk (class_at slabs class).order)) × (swept.rest ≡ chunk ∷ now.rest)
 
 -- the walk is at a chunk; no chunk stands twice in the order
-module _ (slabs : SlabState) (looks : List Look) (class : ℕ) (chunk : ChunkId) (swept : IsSweptTo slabs looks class (Some chunk)) (once : (other : ChunkId) → times other (class_at slabs class).order ≤ 1) where
+module _ (slabs : SlabState) (looks : List Look) (class : ℕ) (chunk : ChunkId) (swept : IsSweptTo slabs looks class (Some chunk)) (once : (other : ChunkId) → times_in other (class_at slabs class).order ≤ 1) where
   abbrev more : List ChunkId
   more = (begins_with swept.rest chunk swept.at).0
 
   split_here : (class_at slabs class).order ≡ swept.before ++ chunk ∷ more
   split_here = swept.split ∙ ap (λ rest. swept.before ++ rest) (begins_with swept.rest chunk swept.at).1
 
-  none_elsewhere : (times chunk swept.before ≡ 0) × (times chunk more ≡ 0)
-  none_elsewhere = elsewhere chunk more swept.before (subst (λ (cs : List ChunkId). times chunk cs ≤ 1) split_here (once chunk))
+  none_elsewhere : (times_in chunk swept.before ≡ 0) × (times_in chunk more ≡ 0)
+  none_elsewhere = elsewhere chunk more swept.before (subst (λ (cs : List ChunkId). times_in chunk cs ≤ 1) split_here (once chunk))
 
   next_is : behind chunk (class_at slabs class).order ≡ slice_get more 0
   next_is = ap (behind chunk) split_here ∙ behind_is chunk more swept.before none_elsewhere.0
@@ -162,7 +162,7 @@ module _ (slabs : SlabState) (looks : List Look) (class : ℕ) (chunk : ChunkId)
   )
 
   -- it was found dead, and put back
-  pub sweep_puts_back : (head back : Head) → IsClass slabs class → class_of_page slabs chunk.page ≡ class
+  pub sweep_puts_back : (head back : Head) → HasClass slabs class → class_of_page slabs chunk.page ≡ class
       → GoesOn slabs looks class chunk swept (after_back slabs chunk) ((looks ++ Saw chunk head ∷ []) ++ PutBack chunk back ∷ [])
   sweep_puts_back head back is own = (
     record {
@@ -187,6 +187,6 @@ pub swept_none_dead : (slabs : SlabState) (looks : List Look) (class : ℕ) (chu
 swept_none_dead slabs looks class chunk swept own = ap (λ (n : ℕ). list_all (is_found_alive looks) (class_at slabs n).order) own ∙ sweep_ends slabs looks class swept
 
 -- the measure: what is left of the order
-pub sweep_left : (slabs : SlabState) (looks : List Look) (class : ℕ) (next : Option ChunkId) (swept : IsSweptTo slabs looks class next) → ((chunk : ChunkId) → times chunk (class_at slabs class).order ≤ 1) → rest_from next (class_at slabs class).order ≡ swept.rest
+pub sweep_left : (slabs : SlabState) (looks : List Look) (class : ℕ) (next : Option ChunkId) (swept : IsSweptTo slabs looks class next) → ((chunk : ChunkId) → times_in chunk (class_at slabs class).order ≤ 1) → rest_from next (class_at slabs class).order ≡ swept.rest
 sweep_left slabs looks class next swept once =
-    ap (rest_from next) swept.split ∙ left_is next swept.before swept.rest swept.at (λ chunk. subst (λ (cs : List ChunkId). times chunk cs ≤ 1) swept.split (once chunk))
+    ap (rest_from next) swept.split ∙ left_is next swept.before swept.rest swept.at (λ chunk. subst (λ (cs : List ChunkId). times_in chunk cs ≤ 1) swept.split (once chunk))

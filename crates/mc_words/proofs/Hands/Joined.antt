@@ -11,17 +11,17 @@ use Rattle.atomic_table.specs.Table.{Joins, Allows, keeps}
 use Rattle.atomic_table.proofs.Lists.{at_set, set_else, set_again, at_map}
 use Rattle.mc_core.specs.declared.event.Step.TheVariants as core
 use Rattle.mc_core.specs.declared.ids.Ids.{Ids}
-use Rattle.mc_core.specs.State.{State, gone, is_held_by, is_hand, number_at, has_slabs, has_stripe, holdings_at, stripe_at}
+use Rattle.mc_core.specs.State.{State, no_ids, is_held_by, is_hand, number_at, has_slabs, has_stripe, holdings_at, stripe_at}
 use Rattle.mc_core.specs.Hands as hands
 use Rattle.mc_core.specs.Frame.{HasSame}
 use Rattle.mc_core.specs.Columns.{Each}
-use Rattle.mc_core.specs.Holdings.{stamp_of}
-use Rattle.mc_core.specs.Knowing.{IsSaid}
+use Rattle.mc_core.specs.Holdings.{stamp_in_words}
+use Rattle.mc_core.specs.Knowing.{WasStored}
 use Rattle.mc_core.specs.Lawful.{IsLawful}
 use Rattle.mc_core.specs.Past.{Moment, knowledge_at, moment_stepped}
 use Rattle.mc_core.proofs.MoreRows.{each_contained}
 use Rattle.mc_core.proofs.SaidOnce.{said_one}
-use Rattle.mc_core.specs.Views.{Row, row_at, held_stripe}
+use Rattle.mc_core.specs.Views.{Row, hand_row, held_stripe}
 use Rattle.mc_core.specs.Laws.{MayStep}
 use Rattle.mc_core.proofs.Framed.{framed_steps}
 use Rattle.mc_core.proofs.Learns.{are_learned}
@@ -30,8 +30,8 @@ use Rattle.mc_core.proofs.Plays.{hand_there}
 use Rattle.mc_words.specs.declared.lock.slot.Slot.{Slot}
 use Rattle.mc_words.specs.declared.lock.slot.Slot.TheVariants.{Empty, OfSlabs, OfStripe}
 use Rattle.mc_core.specs.declared.event.Event.{Event}
-use Rattle.mc_words.specs.hand.View.{OwnEvent, Setup, View, events_of, joined, view_at, new_view, spent_view, both_views, just_made, settled}
-use Rattle.mc_words.specs.rule.Meaning.{Words, Has, IsViewOf, Ruled}
+use Rattle.mc_words.specs.hand.View.{OwnEvent, Setup, View, events_of, joined, view_at, new_view, spent_view, both_views, just_made, settled_view}
+use Rattle.mc_words.specs.rule.Meaning.{WordsOfTable, Has, IsViewOf, IsRuled}
 use Rattle.mc_words.specs.rule.Happens.{LawfulView, event_of}
 use Rattle.mc_words.specs.hand.Idle.{is_unlocked, is_idle}
 use Rattle.mc_words.specs.rule.Told.{Sits}
@@ -71,7 +71,7 @@ has_same s now slabs stripes (suc i) (OfSlabs value) has = absurd has
 has_same s now slabs stripes (suc i) (OfStripe value) has = has ∙ ap (λ all. slice_index_or all i Rattle.mc_stripe.specs.StripeState.new_stripe) (sym stripes)
 
 -- a hand whose view is idle is idle in the moment
-idle_from : (setup : Setup) (events : List OwnEvent) (m : Moment) (hand : ℕ) (v : View) → length m.state.stripe_locks ≡ setup.config.stripes → v ≡ view_at setup v.spare events m hand → is_idle v ≡ true → hands.is_idle m.state hand ≡ true
+idle_from : (setup : Setup) (events : List OwnEvent) (m : Moment) (hand : ℕ) (v : View) → length m.state.stripe_locks ≡ setup.config.stripes → v ≡ view_at setup v.spare events m hand → is_idle v ≡ true → hands.is_hand_idle m.state hand ≡ true
 idle_from setup events m hand v count is idle =
     let parts = and_parts (is_unlocked v) (length v.row.holdings == 0) idle in
     let locks = and_parts (is_none v.slabs) (list_all is_none v.stripes) parts.0 in
@@ -97,7 +97,7 @@ view_same setup spare events m now hand same = λ k. record {
   made_of = None;
 }
 
-module _ (setup : Setup) (t : Words) (r : Ruled setup t) (id other : ℕ) (v w : View) (at : get_elem? t.views id ≡ some v) (at_other : get_elem? t.views other ≡ some w) (apart : other ≢ id) (numbered : is_some v.row.ids.number ≡ true) (numbered_too : is_some w.row.ids.number ≡ true) (of : v.setup ≡ setup) (idle : is_idle v ≡ true) (idle_too : is_idle w ≡ true) where
+module _ (setup : Setup) (t : WordsOfTable) (r : IsRuled setup t) (id other : ℕ) (v w : View) (at : get_elem? t.views id ≡ some v) (at_other : get_elem? t.views other ≡ some w) (apart : other ≢ id) (numbered : is_some v.row.ids.number ≡ true) (numbered_too : is_some w.row.ids.number ≡ true) (of : v.setup ≡ setup) (idle : is_idle v ≡ true) (idle_too : is_idle w ≡ true) where
   abbrev m : Moment
   m = r.moment
 
@@ -127,7 +127,7 @@ module _ (setup : Setup) (t : Words) (r : Ruled setup t) (id other : ℕ) (v w :
   second = hand_there m.state other here_too.0
 
   ids_kept : Rattle.mc_core.specs.State.ids_at after.state id ≡ Rattle.mc_core.specs.State.ids_at m.state id
-  ids_kept = get_or-set_other m.state.ids other id gone gone (λ e. apart (sym e))
+  ids_kept = get_or-set_other m.state.ids other id no_ids no_ids (λ e. apart (sym e))
 
   -- the join is an event of the one hand
   abbrev event : Event
@@ -139,7 +139,7 @@ module _ (setup : Setup) (t : Words) (r : Ruled setup t) (id other : ℕ) (v w :
   -- what is known of the one hand
   pub kept_view : view_at setup v.spare (v.events ++ joined ∷ []) after id ≡ both_views v w
   kept_view =
-      let now : view_at setup v.spare (events_of id r.run ++ joined ∷ []) after id ≡ record (view_at setup v.spare (events_of id r.run) m id) { events = events_of id r.run ++ joined ∷ []; row = record (row_at m id) { knows = Rattle.mc_core.specs.Learns.both_know (row_at m id).knows (row_at m other).knows } } = λ k. record {
+      let now : view_at setup v.spare (events_of id r.run ++ joined ∷ []) after id ≡ record (view_at setup v.spare (events_of id r.run) m id) { events = events_of id r.run ++ joined ∷ []; row = record (hand_row m id) { knows = Rattle.mc_core.specs.Learns.both_know (hand_row m id).knows (hand_row m other).knows } } = λ k. record {
         setup = setup;
         spare = v.spare;
         events = events_of id r.run ++ joined ∷ [];
@@ -156,7 +156,7 @@ module _ (setup : Setup) (t : Words) (r : Ruled setup t) (id other : ℕ) (v w :
       ap (λ (events : List OwnEvent). view_at setup v.spare (events ++ joined ∷ []) after id) made_before ∙ (now ∙ (λ k. both_views (sym here.1 k) (sym here_too.1 k)))
 
   none_left : is_hand after.state other ≡ false
-  none_left = ap (λ (ids : Ids). is_some ids.number) (get_or-set_same m.state.ids other gone gone second)
+  none_left = ap (λ (ids : Ids). is_some ids.number) (get_or-set_same m.state.ids other no_ids no_ids second)
 
   is_kept : IsViewOf setup (r.run ++ event ∷ []) after id (both_views v w)
   is_kept = record {
@@ -180,7 +180,7 @@ module _ (setup : Setup) (t : Words) (r : Ruled setup t) (id other : ℕ) (v w :
       }
 
   -- the rule holds after it
-  pub ruled_joined : Ruled setup (record { words = t.words; homes = t.homes; views = slice_set (slice_set t.views id (both_views v w)) other spent_view })
+  pub ruled_joined : IsRuled setup (record { words = t.words; homes = t.homes; views = slice_set (slice_set t.views id (both_views v w)) other spent_view })
   ruled_joined =
       let means = r.means in
       let long : length (slice_set (slice_set t.views id (both_views v w)) other spent_view) ≡ length t.views = length-set (slice_set t.views id (both_views v w)) other spent_view ∙ length-set t.views id (both_views v w) in
@@ -198,7 +198,7 @@ module _ (setup : Setup) (t : Words) (r : Ruled setup t) (id other : ℕ) (v w :
         reached = leads_stepped setup r.run m id (core.Join id other) r.reached here.0 can;
         means = record {
           same_table = means.same_table;
-          hands = length-set m.state.ids other gone ∙ means.hands;
+          hands = length-set m.state.ids other no_ids ∙ means.hands;
           stripes = means.stripes;
           words = means.words;
           cut = means.cut;
@@ -244,7 +244,7 @@ rows_in (Some rows) default = rows
 
 -- so it may be made, and one that was made is told of it
 module _ (setup : Setup) (id : ℕ) (v w : View) (live : IsSettled v) (of : v.setup ≡ setup) where
-  settled_both : settled (just_made v w) ≡ both_views v w
+  settled_both : settled_view (just_made v w) ≡ both_views v w
   settled_both = ap (λ made. record (both_views v w) { made_of = made }) (sym live.1)
 
   made_both : joining.Joins v w.row w.events (both_views v w) → joining.IsMade (just_made v w)
@@ -255,16 +255,16 @@ module _ (setup : Setup) (id : ℕ) (v w : View) (live : IsSettled v) (of : v.se
 
   pub unites : (other : ℕ) → IsSettled w → is_idle v ≡ true → is_idle w ≡ true → Joins (joining.Rule setup) id v other w (just_made v w) spent_view
   unites other live_too idle idle_too t rule at apart at_other =
-      let at_kept : get_elem? (map settled t.views) id ≡ some v = at_map settled t.views id v at ∙ ap some (settled_same v live.1) in
+      let at_kept : get_elem? (map settled_view t.views) id ≡ some v = at_map settled_view t.views id v at ∙ ap some (settled_same v live.1) in
       let there : get_elem? t.views other ≡ some w = sym (set_else t.views id other (just_made v w) apart) ∙ at_other in
-      let at_spent : get_elem? (map settled t.views) other ≡ some w = at_map settled t.views other w there ∙ ap some (settled_same w live_too.1) in
+      let at_spent : get_elem? (map settled_view t.views) other ≡ some w = at_map settled_view t.views other w there ∙ ap some (settled_same w live_too.1) in
       let ruled = ruled_joined setup (joining.all_settled t) rule.ruled id other v w at_kept at_spent apart live.0 live_too.0 of idle idle_too in
       let happened = joins setup (joining.all_settled t) rule.ruled id other v w at_kept at_spent apart live.0 live_too.0 of idle idle_too in
-      let views : slice_set (slice_set (map settled t.views) id (both_views v w)) other spent_view ≡ map settled (slice_set (slice_set t.views id (just_made v w)) other spent_view) =
-      ap (λ (views : List View). slice_set views other spent_view) (ap (slice_set (map settled t.views) id) (sym settled_both) ∙ sym (map-set settled t.views id (just_made v w)))
-      ∙ sym (map-set settled (slice_set t.views id (just_made v w)) other spent_view) in
+      let views : slice_set (slice_set (map settled_view t.views) id (both_views v w)) other spent_view ≡ map settled_view (slice_set (slice_set t.views id (just_made v w)) other spent_view) =
+      ap (λ (views : List View). slice_set views other spent_view) (ap (slice_set (map settled_view t.views) id) (sym settled_both) ∙ sym (map-set settled_view t.views id (just_made v w)))
+      ∙ sym (map-set settled_view (slice_set t.views id (just_made v w)) other spent_view) in
       record {
-        ruled = subst (λ (views : List View). Ruled setup (record { words = t.words; homes = t.homes; views = views })) views ruled;
+        ruled = subst (λ (views : List View). IsRuled setup (record { words = t.words; homes = t.homes; views = views })) views ruled;
         made = λ hand view at_view. elim (at_set (slice_set t.views id (just_made v w)) other hand spent_view view at_view) [
           | inl last ↦ subst joining.IsMade last.1 (not_made spent_view refl)
           | inr differs ↦ elim (at_set t.views id hand (just_made v w) view differs.1) [
@@ -274,17 +274,17 @@ module _ (setup : Setup) (id : ℕ) (v w : View) (live : IsSettled v) (of : v.se
         ];
       }
 
-pub tells_made : (setup : Setup) (slots id : ℕ) (me : Sits) → is_some me.0.row.ids.number ≡ true → me.0.setup ≡ setup → (place a b : ℕ) → Allows (joining.Rule setup) slots id me place (λ n. n) (joining.TellsMade (table.step slots place a b none) me)
+pub tells_made : (setup : Setup) (slots id : ℕ) (me : Sits) → is_some me.0.row.ids.number ≡ true → me.0.setup ≡ setup → (place a b : ℕ) → Allows (joining.Rule setup) slots id me place (λ n. n) (joining.ShowsMade (table.step slots place a b none) me)
 tells_made setup slots id me numbered of place a b t rule long at fits =
-    let now : View = settled me.0 in
-    let at_settled : get_elem? (map settled t.views) id ≡ some now = at_map settled t.views id me.0 at in
-    let views : map settled t.views ≡ map settled (slice_set t.views id now) = sym (set_again (map settled t.views) id now at_settled) ∙ sym (map-set settled t.views id now) in
+    let now : View = settled_view me.0 in
+    let at_settled : get_elem? (map settled_view t.views) id ≡ some now = at_map settled_view t.views id me.0 at in
+    let views : map settled_view t.views ≡ map settled_view (slice_set t.views id now) = sym (set_again (map settled_view t.views) id now at_settled) ∙ sym (map-set settled_view t.views id now) in
     let words : t.words ≡ slice_set t.words place (slice_index t.words place) = sym (set-get_or t.words place 0) in (
       now,
       keeps,
       tt,
       record {
-        ruled = subst (λ (p : List ℕ × List View). Ruled setup (record { words = p.0; homes = t.homes; views = p.1 })) (λ k. (words k, views k)) rule.ruled;
+        ruled = subst (λ (p : List ℕ × List View). IsRuled setup (record { words = p.0; homes = t.homes; views = p.1 })) (λ k. (words k, views k)) rule.ruled;
         made = λ hand view at_view. elim (at_set t.views id hand now view at_view) [
           | inl same ↦ subst joining.IsMade same.1 (not_made now refl)
           | inr differs ↦ rule.made hand view differs.1
@@ -320,15 +320,15 @@ noted_both me now other number chunks locks noted idle out view =
     (subst (λ (l : Locks). IsNoted me number chunks l) (no_lock me number chunks locks noted idle) noted)
 
 -- what the hand of a lawful moment said and knows agrees
-agrees_at : (m : Moment) → IsLawful m → (hand : ℕ) → joining.Agrees (knowledge_at m.past hand)
+agrees_at : (m : Moment) → IsLawful m → (hand : ℕ) → joining.KnowledgeAgrees (knowledge_at m.past hand)
 agrees_at m l hand = record {
   said = λ a b in_a in_b same. said_one m.past.said b.stamp a.words b.words (l.known.once b.stamp) (hand, a, in_a, same, refl) (hand, b, in_b, refl, refl);
   known = λ a b in_a in_b chunk issue.
       sym (each_contained (λ other. other.chunk ≡ a.chunk → other.issue ≡ a.issue → other.words ≡ a.words) m.past.known hand b
       (each_contained (λ k. Each (λ other. other.chunk ≡ k.chunk → other.issue ≡ k.issue → other.words ≡ k.words) m.past.known) m.past.known hand a l.known.one in_a) in_b (sym chunk) (sym issue));
   both = λ s k in_s in_k stamp.
-      each_contained (λ k. (words : List ℕ) → IsSaid m.past.said (stamp_of k.words) words → words ≡ k.words) m.past.known hand k l.known.agree in_k s.words (hand, s, in_s, stamp, refl);
+      each_contained (λ k. (words : List ℕ) → WasStored m.past.said (stamp_in_words k.words) words → words ≡ k.words) m.past.known hand k l.known.agree in_k s.words (hand, s, in_s, stamp, refl);
 }
 
-pub agrees : (view : View) → LawfulView view → joining.Agrees view.row.knows
-agrees view was = subst (λ (v : View). joining.Agrees v.row.knows) (sym was.is) (agrees_at was.moment was.lawful was.hand)
+pub agrees : (view : View) → LawfulView view → joining.KnowledgeAgrees view.row.knows
+agrees view was = subst (λ (v : View). joining.KnowledgeAgrees v.row.knows) (sym was.is) (agrees_at was.moment was.lawful was.hand)

@@ -5,7 +5,7 @@ use Rattle.mc_stripe.specs.StripeState.{ReadyStripe, new_stripe}
 use Rattle.mc_core.specs.declared.event.Step.{Step}
 use Rattle.mc_core.specs.declared.event.Step.TheVariants as core
 use Rattle.mc_core.specs.State.{State, number_at}
-use Rattle.mc_core.specs.Past.{Moment, Knowledge, Own, Hold, Sight, history_at, new_calls, told, own_after, own_calls_after, knowledge_at, hold_after, seen_after, sights_of, sayings_of, known_of, moment_stepped}
+use Rattle.mc_core.specs.Past.{Moment, Knowledge, Own, Hold, SeenWord, history_at, new_calls, calls_with_new, own_after, own_calls_after, knowledge_at, hold_after, seen_after, seen_words_of, items_stored_by_step, known_of, moment_stepped}
 use Rattle.mc_core.specs.Laws.{MayStep}
 use Rattle.mc_core.specs.Run.{after_step}
 use Rattle.mc_core.proofs.Learns.{are_learned}
@@ -20,13 +20,13 @@ module _ (before now : State) (same : (stripe : ℕ) → history_at now stripe �
   none_new : (stripe : ℕ) → new_calls before now stripe ≡ []
   none_new stripe = ap (λ (history : List Call). drop (length (history_at before stripe)) history) (same stripe) ∙ drop_all (history_at before stripe)
 
-  none_told : (place : ℕ) (rows : List (List Call)) → told before now place rows ≡ rows
+  none_told : (place : ℕ) (rows : List (List Call)) → calls_with_new before now place rows ≡ rows
   none_told place [] = refl
   none_told place (calls ∷ rows) = ap₂ (λ (calls : List Call) (rows : List (List Call)). calls ∷ rows) (ap (λ more. calls ++ more) (none_new place) ∙ append-nil calls) (none_told (place + 1) rows)
 
   own_same : (number : Option ℕ) (own : Own) → own_after before now number own ≡ own
   own_same None own = refl
-  own_same (Some number) own = elim (own.number == number) as (λ (b : Bool). (if b then record own { calls = told before now 0 own.calls } else own) ≡ own) [
+  own_same (Some number) own = elim (own.number == number) as (λ (b : Bool). (if b then record own { calls = calls_with_new before now 0 own.calls } else own) ≡ own) [
     | true ↦ ap (λ calls. record own { calls = calls }) (none_told 0 own.calls)
     | false ↦ refl
   ]
@@ -45,11 +45,11 @@ no_join step alone kept spent e = absurd (let both : true ≡ false = ap is_join
 -- it saw, says and knows more, its hold and what it saw of histories follow the step, and it made no call
 abbrev pub known_after : Moment → ℕ → Step → Knowledge → Knowledge
 known_after m id step knew = record {
-  saw = knew.saw ++ sights_of m.state step;
+  saw = knew.saw ++ seen_words_of m.state step;
   hold = hold_after m.state step knew.hold;
   mine = knew.mine;
   seen = seen_after m.state step knew.seen;
-  said = knew.said ++ sayings_of m.state id step;
+  said = knew.said ++ items_stored_by_step m.state id step;
   known = knew.known ++ known_of m.state id step;
 }
 
@@ -59,10 +59,10 @@ knows_after m id step alone may same =
     ∙ ap (λ (mine : List Own). record (known_after m id step (knowledge_at m.past id)) { mine = mine }) (mine_same m.state (after_step m.state id step) same id (knowledge_at m.past id).mine)
 
 -- of what is said and known, nothing is new
-abbrev pub more_seen : List Sight → Hold → List (List Call) → Knowledge → Knowledge
+abbrev pub more_seen : List SeenWord → Hold → List (List Call) → Knowledge → Knowledge
 more_seen saw hold seen knows = record { saw = saw; hold = hold; mine = knows.mine; seen = seen; said = knows.said ++ []; known = knows.known ++ [] }
 
-pub said_none : (saw : List Sight) (knows : Knowledge) (hold : Hold) (seen : List (List Call)) → more_seen saw hold seen knows ≡ record knows { saw = saw; hold = hold; seen = seen }
+pub said_none : (saw : List SeenWord) (knows : Knowledge) (hold : Hold) (seen : List (List Call)) → more_seen saw hold seen knows ≡ record knows { saw = saw; hold = hold; seen = seen }
 said_none saw knows hold seen = λ k. record { saw = saw; hold = hold; mine = knows.mine; seen = seen; said = append-nil knows.said k; known = append-nil knows.known k }
 
 -- nor was anything found

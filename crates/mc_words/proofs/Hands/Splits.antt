@@ -9,8 +9,8 @@ use mathlib.Core.Option as maybe
 use Rattle.mc_core.specs.Past.{Moment}
 use Rattle.mc_words.specs.declared.arena.Arena.{Arena}
 use Rattle.mc_words.specs.declared.hand.Hand.{Hand}
-use Rattle.mc_words.specs.hand.View.{Setup, View, new_view, settled}
-use Rattle.mc_words.specs.rule.Meaning.{IsViewOf, Ruled}
+use Rattle.mc_words.specs.hand.View.{Setup, View, new_view, settled_view}
+use Rattle.mc_words.specs.rule.Meaning.{IsViewOf, IsRuled}
 use Rattle.mc_words.specs.rule.Happens.{LawfulView}
 use Rattle.mc_words.specs.rule.Joins.{IsMade, Rule, all_settled}
 use Rattle.mc_words.specs.rule.Beginning.{one_made, next_view}
@@ -29,7 +29,7 @@ snoc_at (x ∷ xs) last a zero at = inl at
 snoc_at (x ∷ xs) last a (suc i) at = elim (snoc_at xs last a i at) [ inl old ↦ inl old | inr new ↦ inr ((let e = new.0 in omega arith), new.1) ]
 
 -- the meaning of the table
-ruled_splits : (setup : Setup) (id : ℕ) (v : View) → 1 ≤ v.spare → v.setup ≡ setup → table.Splits (Ruled setup) id v (one_made v) (next_view v)
+ruled_splits : (setup : Setup) (id : ℕ) (v : View) → 1 ≤ v.spare → v.setup ≡ setup → table.Splits (IsRuled setup) id v (one_made v) (next_view v)
 ruled_splits setup id v more of t r at =
     let m : Moment = r.moment in
     let means = r.means in
@@ -87,13 +87,13 @@ ruled_splits setup id v more of t r at =
 -- and its rule
 pub splits : (setup : Setup) (id : ℕ) (v : View) → 1 ≤ v.spare → v.setup ≡ setup → v.made_of ≡ None → table.Splits (Rule setup) id v (one_made v) (next_view v)
 splits setup id v more of plain t rule at =
-    let at_settled : get_elem? (map settled t.views) id ≡ some v = at_map settled t.views id v at ∙ ap some (settled_same v plain) in
-    let left : slice_set (map settled t.views) id (one_made v) ≡ map settled (slice_set t.views id (one_made v)) =
-    ap (slice_set (map settled t.views) id) (sym (settled_same (one_made v) plain)) ∙ sym (map-set settled t.views id (one_made v)) in
-    let views : slice_set (map settled t.views) id (one_made v) ++ next_view v ∷ [] ≡ map settled (slice_set t.views id (one_made v) ++ next_view v ∷ []) =
-    ap (λ (views : List View). views ++ next_view v ∷ []) left ∙ sym (map-append settled (slice_set t.views id (one_made v)) (next_view v ∷ [])) in
+    let at_settled : get_elem? (map settled_view t.views) id ≡ some v = at_map settled_view t.views id v at ∙ ap some (settled_same v plain) in
+    let left : slice_set (map settled_view t.views) id (one_made v) ≡ map settled_view (slice_set t.views id (one_made v)) =
+    ap (slice_set (map settled_view t.views) id) (sym (settled_same (one_made v) plain)) ∙ sym (map-set settled_view t.views id (one_made v)) in
+    let views : slice_set (map settled_view t.views) id (one_made v) ++ next_view v ∷ [] ≡ map settled_view (slice_set t.views id (one_made v) ++ next_view v ∷ []) =
+    ap (λ (views : List View). views ++ next_view v ∷ []) left ∙ sym (map-append settled_view (slice_set t.views id (one_made v)) (next_view v ∷ [])) in
     record {
-      ruled = subst (λ (views : List View). Ruled setup (record { words = t.words; homes = t.homes; views = views })) views (ruled_splits setup id v more of (all_settled t) rule.ruled at_settled);
+      ruled = subst (λ (views : List View). IsRuled setup (record { words = t.words; homes = t.homes; views = views })) views (ruled_splits setup id v more of (all_settled t) rule.ruled at_settled);
       made = λ other u at_u. elim (snoc_at (slice_set t.views id (one_made v)) (next_view v) u other at_u) [
         | inl old ↦ elim (at_set t.views id other (one_made v) u old) [
           | inl same ↦ subst IsMade same.1 (not_made (one_made v) plain)

@@ -7,8 +7,8 @@ use Rattle.mc_core.specs.declared.holding.Holding.{Holding}
 use Rattle.mc_core.specs.declared.holding.Kind.{Kind}
 use Rattle.mc_core.specs.declared.holding.Kind.TheVariants.{Reference, Fresh}
 use Rattle.mc_core.specs.declared.ids.Ids.{Ids}
-use Rattle.mc_core.specs.Chunks.{filled, filled_kind}
-use Rattle.mc_core.specs.Holdings.{change_each, has_fresh, holding_of, is_fresh, is_fresh_kind, is_of, lose}
+use Rattle.mc_core.specs.Chunks.{holding_with_word, filled_kind}
+use Rattle.mc_core.specs.Holdings.{change_each, has_fresh, holding_of, is_fresh, is_fresh_kind, is_of_chunk, without_first}
 use Rattle.mc_words.specs.hand.Tallies.{fresh_count, IsTallied}
 use Rattle.mc_words.specs.rule.Told.{Sits}
 
@@ -26,17 +26,17 @@ fresh_more [] holding = omega arith
 fresh_more (first ∷ holdings) holding = let more = fresh_more holdings holding in omega arith
 
 -- one less
-pub fresh_less : (chunk : ChunkId) (holdings : List Holding) (holding : Holding) → holding_of chunk holdings ≡ Some holding → fresh_count (lose (is_of chunk) holdings) + truth (is_fresh holding) ≡ fresh_count holdings
+pub fresh_less : (chunk : ChunkId) (holdings : List Holding) (holding : Holding) → holding_of chunk holdings ≡ Some holding → fresh_count (without_first (is_of_chunk chunk) holdings) + truth (is_fresh holding) ≡ fresh_count holdings
 fresh_less chunk [] holding found = absurd (cc)
-fresh_less chunk (first ∷ more) holding found = elim (cases_Bool (is_of chunk first)) [
+fresh_less chunk (first ∷ more) holding found = elim (cases_Bool (is_of_chunk chunk first)) [
   | inl is ↦
       let same : Some first ≡ Some holding = ap (λ (b : Bool). if b then Some first else holding_of chunk more) (sym is) ∙ found in
       let first_is : truth (is_fresh first) ≡ truth (is_fresh holding) = ap (λ (o : Option Holding). truth (Rattle.std.specs.Option.option_map_or is_fresh o false)) same in
-      let left = ap (λ (b : Bool). fresh_count (if b then more else first ∷ lose (is_of chunk) more)) is in
+      let left = ap (λ (b : Bool). fresh_count (if b then more else first ∷ without_first (is_of_chunk chunk) more)) is in
       omega arith
   | inr isnt ↦
       let rest = fresh_less chunk more holding (ap (λ (b : Bool). if b then Some first else holding_of chunk more) (sym isnt) ∙ found) in
-      let left = ap (λ (b : Bool). fresh_count (if b then more else first ∷ lose (is_of chunk) more)) isnt in
+      let left = ap (λ (b : Bool). fresh_count (if b then more else first ∷ without_first (is_of_chunk chunk) more)) isnt in
       omega arith
 ]
 
@@ -45,11 +45,11 @@ filled_is (Reference item) place word = refl
 filled_is (Fresh purpose words) place word = refl
 
 -- filling leaves it
-pub fresh_filled : (chunk : ChunkId) (place word : ℕ) (holdings : List Holding) → fresh_count (change_each (is_of chunk) (filled place word) holdings) ≡ fresh_count holdings
+pub fresh_filled : (chunk : ChunkId) (place word : ℕ) (holdings : List Holding) → fresh_count (change_each (is_of_chunk chunk) (holding_with_word place word) holdings) ≡ fresh_count holdings
 fresh_filled chunk place word [] = refl
-fresh_filled chunk place word (first ∷ holdings) = ap₂ (λ (a b : ℕ). a + b) (by (is_of chunk first)) (fresh_filled chunk place word holdings)
+fresh_filled chunk place word (first ∷ holdings) = ap₂ (λ (a b : ℕ). a + b) (by (is_of_chunk chunk first)) (fresh_filled chunk place word holdings)
   where
-    by : (b : Bool) → truth (is_fresh (if b then filled place word first else first)) ≡ truth (is_fresh first)
+    by : (b : Bool) → truth (is_fresh (if b then holding_with_word place word first else first)) ≡ truth (is_fresh first)
     by true = ap truth (filled_is first.kind place word)
     by false = refl
 

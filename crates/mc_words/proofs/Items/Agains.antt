@@ -8,10 +8,10 @@ use Rattle.mc_core.specs.declared.head.Head.{Head}
 use Rattle.mc_core.specs.declared.holding.Holding.{Holding}
 use Rattle.mc_core.specs.declared.event.Step.TheVariants as core
 use Rattle.mc_core.specs.Head.{code, decode, tag_of, is_linked}
-use Rattle.mc_core.specs.State.{State, has_chunk, head_at, holdings_at, room_at, item_at}
-use Rattle.mc_core.specs.Items.{can_count, has_place_unlocked, new_reference, referred}
-use Rattle.mc_core.specs.Codes.{plus, FitsBits}
-use Rattle.mc_core.specs.Past.{Moment, Known, Knowledge, Sight, header, known_by, knowledge_at, moment_stepped}
+use Rattle.mc_core.specs.State.{State, has_chunk, head_at, holdings_at, chunk_room, item_at}
+use Rattle.mc_core.specs.Items.{can_count, has_place_unlocked, new_reference, head_after_refer}
+use Rattle.mc_core.specs.Codes.{word_plus, FitsBits}
+use Rattle.mc_core.specs.Past.{Moment, KnownItem, Knowledge, SeenWord, header, known_by, knowledge_at, moment_stepped}
 use Rattle.mc_core.proofs.Codes.{all_are_sums, are_one_word}
 use Rattle.mc_core.proofs.Entered.{tag_linked}
 use Rattle.mc_core.proofs.SameSlabs.{looked_keeps}
@@ -43,7 +43,7 @@ pub word_there : (word issue : ℕ) → is_there issue (decode word) ≡ (nat_eq
 unfolding decode
 word_there word issue = ap (λ (b : Bool). b && nat_eq (word / 262144) issue) (sym (three_linked (word / 65536 % 4) (omega arith)))
 
-same_last : (xs : List Sight) (chunk : ChunkId) (a b : Head) → xs ++ header chunk a ∷ [] ≡ xs ++ header chunk b ∷ [] → a ≡ b
+same_last : (xs : List SeenWord) (chunk : ChunkId) (a b : Head) → xs ++ header chunk a ∷ [] ≡ xs ++ header chunk b ∷ [] → a ≡ b
 same_last [] chunk a b e = cc
 same_last (x ∷ xs) chunk a b e = let rest : xs ++ header chunk a ∷ [] ≡ xs ++ header chunk b ∷ [] = cc in same_last xs chunk a b rest
 
@@ -82,11 +82,11 @@ may_again view chunk issue head near few there small was fits hit =
     let all = needless view was in
     let fit : FitsBits (decode head) = subst FitsBits is (fits_here view was chunk near) in
     let most : (decode head).count ≤ 16385 = subst (λ (h : Head). h.count ≤ 16385) is (all.most chunk here) in
-    let sum : plus 1 head ≡ head + 1 = omega arith in
-    let more : decode (head + 1) ≡ referred (head_at s chunk) =
-    ap decode (sym sum) ∙ (summed head (omega arith) referred (plus 1) ((all_are_sums (decode head) fit).refer (omega arith)) (record { issue = fit.issue; count = omega arith }) ∙ ap referred (sym is)) in (
+    let sum : word_plus 1 head ≡ head + 1 = omega arith in
+    let more : decode (head + 1) ≡ head_after_refer (head_at s chunk) =
+    ap decode (sym sum) ∙ (summed head (omega arith) head_after_refer (word_plus 1) ((all_are_sums (decode head) fit).refer (omega arith)) (record { issue = fit.issue; count = omega arith }) ∙ ap head_after_refer (sym is)) in (
       and_from _ _ (and_from _ _ (and_from _ _ (and_from _ _ here place) tag) same) (all.room chunk here),
-      header_written view chunk near was (head + 1) (referred (head_at s chunk)) more,
+      header_written view chunk near was (head + 1) (head_after_refer (head_at s chunk)) more,
     )
 
 -- other words are other headers
@@ -128,7 +128,7 @@ module _ (view now : View) (chunk : ChunkId) (issue : ℕ) (h : Happens view [] 
   again_one = new_reference m.state chunk
 
   abbrev pub again_room : ℕ
-  again_room = room_at m.state chunk
+  again_room = chunk_room m.state chunk
 
   abbrev after : Moment
   after = moment_stepped m id (core.Again chunk issue)
@@ -174,7 +174,7 @@ module _ (view now : View) (chunk : ChunkId) (issue : ℕ) (h : Happens view [] 
     pub again_issue : IsIssueOf now chunk issue
     again_issue = is_issue now was again_one again_room refl has knows ∙ ap Some issue_is
 
-    pub again_known : (k : Known) → Contains view.row.knows.known k → k.chunk ≡ chunk → k.issue ≡ issue → held_item now chunk ≡ k.words
+    pub again_known : (k : KnownItem) → Contains view.row.knows.known k → k.chunk ≡ chunk → k.issue ≡ issue → held_item now chunk ≡ k.words
     again_known k among same_chunk same_issue =
         is_item now was again_one again_room refl has knows
         ∙ is_known now was again_one again_room refl has knows k

@@ -2,7 +2,7 @@
 use Rattle.std.proofs.Common.{◌≡◌, ◌≢◌, ℕ, zero, suc, ◌+◌, ◌<◌, ◌==◌, List, [], ◌∷◌, ◌++◌, drop, length, map, Some, refl, ap, ap₂, ◌∙◌, if◌then◌else◌, append-nil, arith}
 use Rattle.mc_stripe.specs.declared.history.Call.{Call}
 use Rattle.mc_core.specs.State.{State, number_at}
-use Rattle.mc_core.specs.Past.{Own, history_at, new_calls, told, own_after, own_calls_after, with_more}
+use Rattle.mc_core.specs.Past.{Own, history_at, new_calls, calls_with_new, own_after, own_calls_after, with_more}
 use Rattle.mc_words.specs.item.Calls.{with_own_call}
 
 drop_first : {A : Type 0} (xs ys : List A) → drop (length xs) (xs ++ ys) ≡ ys
@@ -21,13 +21,13 @@ module _ (before now : State) (stripe : ℕ) (call : Call) (more : history_at no
   none_new i apart = ap (λ (history : List Call). drop (length (history_at before i)) history) (same i apart) ∙ drop_all (history_at before i)
 
   -- behind the stripe nothing comes
-  told_behind : (place : ℕ) (rows : List (List Call)) → stripe < place → told before now place rows ≡ rows
+  told_behind : (place : ℕ) (rows : List (List Call)) → stripe < place → calls_with_new before now place rows ≡ rows
   told_behind place [] past = refl
   told_behind place (calls ∷ rows) past =
       ap₂ (λ (calls : List Call) (rows : List (List Call)). calls ∷ rows) (ap (λ more. calls ++ more) (none_new place (λ same. omega arith)) ∙ append-nil calls) (told_behind (place + 1) rows (omega arith))
 
   -- and at its place the call
-  told_at : (k place : ℕ) (rows : List (List Call)) → stripe ≡ place + k → told before now place rows ≡ with_more rows k (call ∷ [])
+  told_at : (k place : ℕ) (rows : List (List Call)) → stripe ≡ place + k → calls_with_new before now place rows ≡ with_more rows k (call ∷ [])
   told_at k place [] e = refl
   told_at zero place (calls ∷ rows) e =
       let here : place ≡ stripe = omega arith in

@@ -7,15 +7,15 @@ use Rattle.std.proofs.lemmas.List.Sums.{fold-append}
 use Rattle.mc_pages.specs.declared.ids.ChunkId.{ChunkId}
 use Rattle.mc_pages.specs.SlabState.{SlabState, class_of_page}
 use Rattle.mc_pages.proofs.Chunks.{is_chunk-same}
-use Rattle.mc_stripe.specs.StripeState.{ReadyStripe, place_of}
+use Rattle.mc_stripe.specs.StripeState.{ReadyStripe, chunk_and_stamp}
 use Rattle.mc_stripe.specs.Changes.{after_evict, after_lift, used_up}
 use Rattle.mc_core.specs.declared.head.Head.{Head}
 use Rattle.mc_core.specs.declared.head.Tag.{Tag}
 use Rattle.mc_core.specs.declared.head.Tag.TheVariants.{Linked}
 use Rattle.mc_core.specs.declared.look.Look.TheVariants.{Condemned, Read, Saw}
 use Rattle.mc_core.specs.declared.event.Step.TheVariants as core
-use Rattle.mc_core.specs.Codes.{minus}
-use Rattle.mc_core.specs.Evictions.{condemned, has_copy, is_linked_unheld}
+use Rattle.mc_core.specs.Codes.{word_minus}
+use Rattle.mc_core.specs.Evictions.{head_after_condemn, has_copy, is_linked_unheld}
 use Rattle.mc_core.specs.Head.{code, decode, tag_of, is_dead, is_free, is_linked, is_out, is_unlinked}
 use Rattle.mc_core.specs.Looks.{was_linked}
 use Rattle.mc_core.specs.Past.{header}
@@ -68,7 +68,7 @@ word_held word isnt = elim (cases_Bool (is_linked_unheld (decode word))) [
 ]
 
 -- and what it becomes
-pub word_condemned : (word : ℕ) → word < 2 ^ 64 → word % 262144 ≡ 196609 → minus 65537 word ≡ word - 65537
+pub word_condemned : (word : ℕ) → word < 2 ^ 64 → word % 262144 ≡ 196609 → word_minus 65537 word ≡ word - 65537
 word_condemned word fits is = omega arith
 
 -- headers of one issue number that are both linked and unheld are one
@@ -154,7 +154,7 @@ module _ (view : View) (slabs : SlabState) (stripe : ℕ) (value : ReadyStripe) 
 module _ (view read seen : View) (slabs : SlabState) (stripe : ℕ) (value : ReadyStripe) (chunk : ChunkId) (key word : ℕ) (has : HasBoth view slabs stripe value chunk key) (read_is : read ≡ key_seen chunk key view) (seen_so : seen ≡ head_seen chunk (decode word) read) where
   -- as the views after these two
   abbrev plain : View
-  plain = views.with_event [] (core.Head chunk) (views.looked (Saw chunk (decode word)) (views.saw (header chunk (decode word)) (key_seen chunk key view)))
+  plain = views.with_event [] (core.Head chunk) (views.view_after_look (Saw chunk (decode word)) (views.view_after_sight (header chunk (decode word)) (key_seen chunk key view)))
 
   seen_plain : seen ≡ plain
   seen_plain = seen_so ∙ (ap (head_seen chunk (decode word)) read_is ∙ seen_is (key_seen chunk key view) chunk (decode word) slabs has.mine)
@@ -208,7 +208,7 @@ module _ (view read seen : View) (slabs : SlabState) (stripe : ℕ) (value : Rea
         (reason_after slabs view.row.looks once view.row.holdings chunk (λ other was. alive_after_read view.row.looks chunk 0 key other ∙ was) (λ other unfit. unfit_after_read view.row.looks chunk 0 key other ∙ unfit) knows)
 
     -- the key led to the chunk
-    pub led_there : (now : View) (at : HappensAt (head_word seen.setup chunk) word seen [] (core.Condemn chunk) now) → place_of value.state key ≡ Some (chunk, word_at at.0.was.moment.state chunk 1)
+    pub led_there : (now : View) (at : HappensAt (head_word seen.setup chunk) word seen [] (core.Condemn chunk) now) → chunk_and_stamp value.state key ≡ Some (chunk, word_at at.0.was.moment.state chunk 1)
     led_there now at =
         let h = at.0 in
         let is : head_at h.was.moment.state chunk ≡ decode word = head_is seen chunk has_still.near h.was ∙ ap decode at.1 in
@@ -346,7 +346,7 @@ module _ (view read seen : View) (slabs : SlabState) (stripe : ℕ) (value : Rea
 pub condemned_dead : (number stripe : ℕ) (value : ReadyStripe) (key : ℕ) (chunk : ChunkId) (head : Head) (view : View) → option_map is_dead (seen_head (item_condemned number stripe value key chunk head view).row.looks chunk) ≡ Some true
 condemned_dead number stripe value key chunk head view =
     ap (option_map is_dead)
-    (fold-append (last_head chunk) None view.row.looks (Condemned chunk (condemned head) ∷ []) ∙ ap (λ (b : Bool). if b then Some (condemned head) else seen_head view.row.looks chunk) (is_chunk-same chunk))
+    (fold-append (last_head chunk) None view.row.looks (Condemned chunk (head_after_condemn head) ∷ []) ∙ ap (λ (b : Bool). if b then Some (head_after_condemn head) else seen_head view.row.looks chunk) (is_chunk-same chunk))
 
 -- what is left of the stripe, and of pages and lists
 pub left_by_condemn : (view : View) (number stripe : ℕ) (value left : ReadyStripe) (chunk : ChunkId) (now : View) → slice_index_or view.stripes stripe None ≡ Some value → Condemns number stripe chunk value view left now → slice_index_or now.stripes stripe None ≡ Some left
@@ -369,4 +369,4 @@ dead_by_original view stripe value left chunk now done =
     let before = (head_seen chunk done.head (key_seen chunk done.key view)).row.looks in
     ap (λ (v : View). option_map is_dead (seen_head v.row.looks chunk)) done.is
     ∙ ap (option_map is_dead)
-    (fold-append (last_head chunk) None before (Condemned chunk (condemned done.head) ∷ []) ∙ ap (λ (b : Bool). if b then Some (condemned done.head) else seen_head before chunk) (is_chunk-same chunk))
+    (fold-append (last_head chunk) None before (Condemned chunk (head_after_condemn done.head) ∷ []) ∙ ap (λ (b : Bool). if b then Some (head_after_condemn done.head) else seen_head before chunk) (is_chunk-same chunk))

@@ -8,7 +8,7 @@ use Rattle.mc_pages.specs.Accounted.{truth}
 use Rattle.mc_pages.specs.declared.ids.ChunkId.{ChunkId}
 use Rattle.mc_pages.specs.SlabState.{SlabState}
 use Rattle.mc_stripe.specs.declared.history.Call.TheVariants.{Evict}
-use Rattle.mc_stripe.specs.StripeState.{ReadyStripe, new_stripe, place_of}
+use Rattle.mc_stripe.specs.StripeState.{ReadyStripe, new_stripe, chunk_and_stamp}
 use Rattle.mc_stripe.specs.Changes.{after_evict, after_lift, used_up}
 use Rattle.mc_core.specs.declared.head.Head.{Head}
 use Rattle.mc_core.specs.declared.head.Tag.TheVariants.{Linked}
@@ -16,10 +16,10 @@ use Rattle.mc_core.specs.declared.holding.Holding.{Holding}
 use Rattle.mc_core.specs.declared.look.Look.{Look}
 use Rattle.mc_core.specs.declared.look.Look.TheVariants.{Condemned}
 use Rattle.mc_core.specs.declared.event.Step.TheVariants as core
-use Rattle.mc_core.specs.Codes.{minus, FitsBits}
-use Rattle.mc_core.specs.Evictions.{after_condemn, as_rescue, can_lose_entry, condemned, has_copy, has_reason, is_linked_unheld, key_at, stripe_condemned}
+use Rattle.mc_core.specs.Codes.{word_minus, FitsBits}
+use Rattle.mc_core.specs.Evictions.{after_condemn, as_rescue, can_lose_entry, head_after_condemn, has_copy, has_reason, is_linked_unheld, key_at, stripe_condemned}
 use Rattle.mc_core.specs.Head.{decode}
-use Rattle.mc_core.specs.Holdings.{change_each, is_copy_kind, is_copy_of, is_fresh, is_fresh_kind, key_of, length_of, stamp_of}
+use Rattle.mc_core.specs.Holdings.{change_each, is_copy_kind, is_copy_of, is_fresh, is_fresh_kind, key_of, length_of_item, stamp_in_words}
 use Rattle.mc_core.specs.declared.holding.Kind.{Kind}
 use Rattle.mc_core.specs.declared.holding.Kind.TheVariants.{Fresh, Reference}
 use Rattle.mc_core.specs.Indexed.{IsEntry}
@@ -31,7 +31,7 @@ use Rattle.mc_words.proofs.Hands.Knows.{mine_alike}
 use Rattle.mc_core.specs.Past.{Moment, Knowledge, Own, history_at, knowledge_at, moment_stepped, own_calls_after}
 use Rattle.mc_core.specs.Seen.{last_read}
 use Rattle.mc_core.specs.Silent.{writer_of}
-use Rattle.mc_core.specs.State.{State, has_chunk, has_stripe, head_at, holdings_at, item_at, looks_at, number_at, room_at, stripe_at, stripe_of, word_at}
+use Rattle.mc_core.specs.State.{State, has_chunk, has_stripe, head_at, holdings_at, item_at, looks_at, number_at, chunk_room, stripe_at, stripe_of, word_at}
 use Rattle.mc_core.proofs.Codes.{all_are_sums}
 use Rattle.mc_core.proofs.Entered.{tag_linked}
 use Rattle.mc_core.proofs.Learns.{are_learned}
@@ -86,12 +86,12 @@ module _ (view : View) (slabs : SlabState) (stripe : ℕ) (value : ReadyStripe) 
     value_is = ap (stripe_at s) stripe_is ∙ (stripe_here view stripe value has.held was).1
 
     -- a linked chunk is where its key leads
-    pub leads_there : (head_at s chunk).tag ≡ Linked → place_of value.state key ≡ Some (chunk, word_at s chunk 1)
-    leads_there tag = (λ k. place_of (sym value_is k).state (sym key_is k)) ∙ was.lawful.indexed.linked chunk near_there tag
+    pub leads_there : (head_at s chunk).tag ≡ Linked → chunk_and_stamp value.state key ≡ Some (chunk, word_at s chunk 1)
+    leads_there tag = (λ k. chunk_and_stamp (sym value_is k).state (sym key_is k)) ∙ was.lawful.indexed.linked chunk near_there tag
 
   -- its item is taken away
   pub may_take_away : (rescues : Bool) → (not rescues || is_none value.state.aside) ≡ true → value.ready ≡ true → has_copy view.row.holdings chunk ≡ rescues → knows_reason slabs view.row.looks view.row.holdings chunk ≡ true → (word : ℕ) → is_linked_unheld (decode word) ≡ true
-      → MayExchange view (core.Condemn chunk) (head_word view.setup chunk) word (minus 65537 word)
+      → MayExchange view (core.Condemn chunk) (head_word view.setup chunk) word (word_minus 65537 word)
   may_take_away rescues free ready none reason word unheld was fits hit =
       let m : Moment = was.moment in
       let held = slabs_here view was slabs has.mine in
@@ -100,23 +100,23 @@ module _ (view : View) (slabs : SlabState) (stripe : ℕ) (value : ReadyStripe) 
       let unheld' : is_linked_unheld (head_at m.state chunk) ≡ true = ap is_linked_unheld is ∙ unheld in
       let tag : (head_at m.state chunk).tag ≡ Linked = tag_linked (head_at m.state chunk).tag (and_parts _ _ unheld').0 in
       let small : FitsBits (decode word) = subst FitsBits is (fits_here view was chunk has.near) in
-      let less : decode (minus 65537 word) ≡ condemned (head_at m.state chunk) =
-      summed word fits' condemned (minus 65537) ((all_are_sums (decode word) small).condemn unheld) (record { issue = small.issue; count = omega arith }) ∙ ap condemned (sym is) in
+      let less : decode (word_minus 65537 word) ≡ head_after_condemn (head_at m.state chunk) =
+      summed word fits' head_after_condemn (word_minus 65537) ((all_are_sums (decode word) small).condemn unheld) (record { issue = small.issue; count = omega arith }) ∙ ap head_after_condemn (sym is) in
       let stripe_held : has_stripe m.state was.hand (stripe_of m.state (key_at m.state chunk)) ≡ true = ap (has_stripe m.state was.hand) (stripe_is was) ∙ (stripe_here view stripe value has.held was).0 in
       let loses : can_lose_entry (stripe_at m.state (stripe_of m.state (key_at m.state chunk))) (key_at m.state chunk) (has_copy (holdings_at m.state was.hand) chunk) ≡ true =
       (λ k. can_lose_entry (value_is was k) (key_is was k) (has_copy (holdings_here view was k) chunk)) ∙ (ap (can_lose_entry value key) none ∙ and_from _ _ (and_from _ _ ready (ap is_some (leads_there was tag))) free) in
       let why : has_reason m.state.table m.state.heads m.state.slabs (looks_at m.state was.hand) (holdings_at m.state was.hand) chunk ≡ true =
       reason_here m was.hand (judged view was slabs has.mine) chunk ((λ k. knows_reason (held.1 k) (looks_here view was k) (holdings_here view was k) chunk) ∙ reason) in (
         and_from _ _ (and_from _ _ (and_from _ _ (and_from _ _ (and_from _ _ held.0 (near_there was)) unheld') stripe_held) loses) why,
-        header_written view chunk has.near was (minus 65537 word) (condemned (head_at m.state chunk)) less,
+        header_written view chunk has.near was (word_minus 65537 word) (head_after_condemn (head_at m.state chunk)) less,
       )
 
   pub may_condemn : value.ready ≡ true → has_copy view.row.holdings chunk ≡ false → knows_reason slabs view.row.looks view.row.holdings chunk ≡ true → (word : ℕ) → is_linked_unheld (decode word) ≡ true
-      → MayExchange view (core.Condemn chunk) (head_word view.setup chunk) word (minus 65537 word)
+      → MayExchange view (core.Condemn chunk) (head_word view.setup chunk) word (word_minus 65537 word)
   may_condemn = may_take_away false refl
 
   pub may_condemn_original : value.state.aside ≡ None → value.ready ≡ true → has_copy view.row.holdings chunk ≡ true → knows_reason slabs view.row.looks view.row.holdings chunk ≡ true → (word : ℕ) → is_linked_unheld (decode word) ≡ true
-      → MayExchange view (core.Condemn chunk) (head_word view.setup chunk) word (minus 65537 word)
+      → MayExchange view (core.Condemn chunk) (head_word view.setup chunk) word (word_minus 65537 word)
   may_condemn_original empty = may_take_away true (ap is_none empty)
 
   -- what the hand knows then
@@ -204,9 +204,9 @@ module _ (view : View) (slabs : SlabState) (stripe : ℕ) (value : ReadyStripe) 
     condemned_view =
         h.is
         ∙ view_from view h.was _ after refl view.row.holdings holdings_left
-        (view.row.looks ++ Condemned chunk (condemned head) ∷ [])
-        (get_or-set_same m.state.looks id (looks_at m.state id ++ Condemned chunk (condemned (head_at m.state chunk)) ∷ []) [] (rows view now h.was)
-        ∙ ap₂ (λ (looks : List Look) (head : Head). looks ++ Condemned chunk (condemned head) ∷ []) (looks_were view now h.was) is)
+        (view.row.looks ++ Condemned chunk (head_after_condemn head) ∷ [])
+        (get_or-set_same m.state.looks id (looks_at m.state id ++ Condemned chunk (head_after_condemn (head_at m.state chunk)) ∷ []) [] (rows view now h.was)
+        ∙ ap₂ (λ (looks : List Look) (head : Head). looks ++ Condemned chunk (head_after_condemn head) ∷ []) (looks_were view now h.was) is)
         told.row.knows knows_left view.slabs (slabs_were view view h.was) (slice_set view.stripes stripe (Some left)) stripes_left
 
   -- what the item is
@@ -218,15 +218,15 @@ module _ (view : View) (slabs : SlabState) (stripe : ℕ) (value : ReadyStripe) 
     entry = entry_of was.moment was.lawful (key_at was.moment.state chunk) (chunk, word_at was.moment.state chunk 1) (was.lawful.indexed.linked chunk (near_there was) tag)
 
     item_long : length item ≡ 3 + word_at was.moment.state chunk 2
-    item_long = let fits = entry.fits in length-map-range_with_len (word_at was.moment.state chunk) 0 (min (3 + word_at was.moment.state chunk 2) (room_at was.moment.state chunk)) ∙ omega arith
+    item_long = let fits = entry.fits in length-map-range_with_len (word_at was.moment.state chunk) 0 (min (3 + word_at was.moment.state chunk 2) (chunk_room was.moment.state chunk)) ∙ omega arith
 
-    pub item_whole : length item ≡ length_of item
+    pub item_whole : length item ≡ length_of_item item
     item_whole = item_long ∙ ap (λ (n : ℕ). 3 + n) (sym (item_word was.moment.state chunk 2 (omega arith) entry.fits))
 
     pub item_key : key_of item ≡ key
     item_key = item_word was.moment.state chunk 0 (omega arith) entry.fits ∙ key_is was
 
-    pub item_stamp : stamp_of item ≡ word_at was.moment.state chunk 1
+    pub item_stamp : stamp_in_words item ≡ word_at was.moment.state chunk 1
     item_stamp = item_word was.moment.state chunk 1 (omega arith) entry.fits
 
     -- what was read of it is so still
@@ -236,7 +236,7 @@ module _ (view : View) (slabs : SlabState) (stripe : ℕ) (value : ReadyStripe) 
         let still = (was.lawful.seen was.hand held.0).read_words chunk place word (near_there was) (ap (λ (looks : List Look). fold (last_read chunk place) None looks) (looks_here view was) ∙ read) in
         let long = item_long in
         let fits = entry.fits in
-        get_or-map-range_with_len (word_at was.moment.state chunk) 0 (min (3 + word_at was.moment.state chunk 2) (room_at was.moment.state chunk)) place place 0 (omega arith) (zero-add place) ∙ still.same
+        get_or-map-range_with_len (word_at was.moment.state chunk) 0 (min (3 + word_at was.moment.state chunk 2) (chunk_room was.moment.state chunk)) place place 0 (omega arith) (zero-add place) ∙ still.same
 
   -- what the hand knows where it has a copy
   module _ (copies : has_copy view.row.holdings chunk ≡ true) (now : View) (head : Head) (h : Happens view [] (core.Condemn chunk) now) (is : head_at h.was.moment.state chunk ≡ head) where
@@ -311,9 +311,9 @@ module _ (view : View) (slabs : SlabState) (stripe : ℕ) (value : ReadyStripe) 
     original_view =
         h.is
         ∙ view_from view h.was _ then_moment refl (change_each (is_copy_of chunk) bound view.row.holdings) holdings_bound
-        (view.row.looks ++ Condemned chunk (condemned head) ∷ [])
-        (get_or-set_same mc.state.looks hand (looks_at mc.state hand ++ Condemned chunk (condemned (head_at mc.state chunk)) ∷ []) [] (rows view now h.was)
-        ∙ ap₂ (λ (looks : List Look) (head : Head). looks ++ Condemned chunk (condemned head) ∷ []) (looks_were view now h.was) is)
+        (view.row.looks ++ Condemned chunk (head_after_condemn head) ∷ [])
+        (get_or-set_same mc.state.looks hand (looks_at mc.state hand ++ Condemned chunk (head_after_condemn (head_at mc.state chunk)) ∷ []) [] (rows view now h.was)
+        ∙ ap₂ (λ (looks : List Look) (head : Head). looks ++ Condemned chunk (head_after_condemn head) ∷ []) (looks_were view now h.was) is)
         view.row.knows knows_lifted view.slabs (slabs_were view view h.was) (slice_set view.stripes stripe (Some lifted)) stripes_lifted
 
 -- a copy that is bound is fresh still

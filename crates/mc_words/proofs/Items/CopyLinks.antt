@@ -5,20 +5,20 @@ use Rattle.std.proofs.lemmas.List.Elements.{Contains-push}
 use Rattle.std.proofs.lemmas.Bool.{and_from, and_parts}
 use Rattle.mc_pages.specs.declared.ids.ChunkId.{ChunkId}
 use Rattle.mc_stripe.specs.declared.history.Call.TheVariants.{Rescue}
-use Rattle.mc_stripe.specs.StripeState.{ReadyStripe, StripeState, key_aside, place_of, new_stripe, can_store}
+use Rattle.mc_stripe.specs.StripeState.{ReadyStripe, StripeState, key_aside, chunk_and_stamp, new_stripe, can_store}
 use Rattle.mc_stripe.specs.Changes.{after_rescue, used_up}
 use Rattle.mc_core.specs.declared.head.Head.{Head}
 use Rattle.mc_core.specs.declared.holding.Holding.{Holding}
 use Rattle.mc_core.specs.declared.ids.Ids.{Ids}
 use Rattle.mc_core.specs.declared.event.Step.TheVariants as core
 use Rattle.mc_core.specs.Head.{decode, is_unlinked}
-use Rattle.mc_core.specs.Holdings.{Words, fits, holding_of, is_of, item_in, key_in, lose, numbers, word_in}
-use Rattle.mc_core.specs.State.{State, is_held_by, has_stripe, head_at, head_place, holdings_at, ids_at, looks_at, number_at, room_at, stripe_at, stripe_of, without_holding}
+use Rattle.mc_core.specs.Holdings.{Words, has_whole_item, holding_of, is_of_chunk, words_of_item, known_key, without_first, numbers_of_known, word_in}
+use Rattle.mc_core.specs.State.{State, is_held_by, has_stripe, head_at, head_place, holdings_at, ids_at, looks_at, number_at, chunk_room, stripe_at, stripe_of, without_holding}
 use Rattle.mc_core.specs.Silent.{writer_of}
 use Rattle.mc_core.specs.Items as items
-use Rattle.mc_core.specs.Items.{after_link_of, are_same, can_link, can_link_holding, is_entry_aside, is_none_else_aside, linked}
-use Rattle.mc_core.specs.Codes.{plus, FitsBits}
-use Rattle.mc_core.specs.Past.{Moment, Knowledge, Own, history_at, knowledge_at, known_by, known_of_holding, moment_stepped, own_calls_after, said_by, Saying}
+use Rattle.mc_core.specs.Items.{after_link_of, are_same, can_link, can_link_holding, is_entry_aside, is_none_else_aside, head_after_link}
+use Rattle.mc_core.specs.Codes.{word_plus, FitsBits}
+use Rattle.mc_core.specs.Past.{Moment, Knowledge, Own, history_at, knowledge_at, known_by, known_of_holding, moment_stepped, own_calls_after, item_stored_by_link, StoredItem}
 use Rattle.mc_core.specs.Views.{held_slabs}
 use Rattle.mc_core.proofs.Codes.{all_are_sums}
 use Rattle.mc_core.proofs.Learns.{are_learned}
@@ -45,7 +45,7 @@ use Rattle.mc_pages.specs.ClassState.{is_chunk}
 
 -- a copy is linked
 pub may_link_copy : (view : View) (stripe : ℕ) (value : ReadyStripe) (key stamp number : ℕ) (chunk : ChunkId) (issue : ℕ) (words : Words) → MayStore view stripe value key → IsCopyFilled view value.state chunk issue words key stamp
-    → MayWrite view (core.Link chunk) (head_word view.setup chunk) (plus 65537)
+    → MayWrite view (core.Link chunk) (head_word view.setup chunk) (word_plus 65537)
 may_link_copy view stripe value key stamp number chunk issue words may item was fits =
     let m = was.moment in
     let s : State = m.state in
@@ -58,22 +58,22 @@ may_link_copy view stripe value key stamp number chunk issue words may item was 
     let small : FitsBits (decode word) = subst FitsBits is (fits_here view was chunk near) in
     let most : (decode word).count ≤ 16385 = subst (λ (h : Head). h.count ≤ 16385) is (all.most chunk here) in
     let fresh = (all.fresh was.hand chunk (copied_item item.old chunk issue item.item words) found refl).1 in
-    let more : decode (plus 65537 word) ≡ linked (head_at s chunk) =
-    summed word fits linked (plus 65537) ((all_are_sums (decode word) small).link (sym (ap (λ (h : Head). h.tag) is) ∙ fresh) (omega arith)) (record { issue = small.issue; count = omega arith }) ∙ ap linked (sym is) in
+    let more : decode (word_plus 65537 word) ≡ head_after_link (head_at s chunk) =
+    summed word fits head_after_link (word_plus 65537) ((all_are_sums (decode word) small).link (sym (ap (λ (h : Head). h.tag) is) ∙ fresh) (omega arith)) (record { issue = small.issue; count = omega arith }) ∙ ap head_after_link (sym is) in
     let at = stripe_is view stripe value key may was in
     let same = value_is view stripe value key may was in
     let has : has_stripe s was.hand (stripe_of s key) ≡ true = ap (has_stripe s was.hand) at ∙ (stripe_here view stripe value may.mine was).0 in
     let can_key : items.can_link_key s was.hand key ≡ true =
-    and_from _ _ (and_from _ _ has (ap can_store same ∙ may.room)) (ap (λ (v : ReadyStripe). is_none (place_of v.state key)) same ∙ ap is_none may.new) in
-    let suits : are_same (item_in words) item.item && is_entry_aside (stripe_at s (stripe_of s key)).state key item.old stamp ≡ true =
+    and_from _ _ (and_from _ _ has (ap can_store same ∙ may.room)) (ap (λ (v : ReadyStripe). is_none (chunk_and_stamp v.state key)) same ∙ ap is_none may.new) in
+    let suits : are_same (words_of_item words) item.item && is_entry_aside (stripe_at s (stripe_of s key)).state key item.old stamp ≡ true =
     and_from _ _ item.same (ap (λ (v : ReadyStripe). is_entry_aside v.state key item.old stamp) same ∙ item.aside) in
-    let tells : items.can_tell_link s was.hand (copied_item item.old chunk issue item.item words) ≡ true =
-    (λ k. items.can_link_key s was.hand (item.same_key k) && (are_same (item_in words) item.item && is_entry_aside (stripe_at s (stripe_of s (item.same_key k))).state (item.same_key k) item.old (item.same_stamp k))) ∙ and_from _ _ can_key suits in
+    let tells : items.can_record_link s was.hand (copied_item item.old chunk issue item.item words) ≡ true =
+    (λ k. items.can_link_key s was.hand (item.same_key k) && (are_same (words_of_item words) item.item && is_entry_aside (stripe_at s (stripe_of s (item.same_key k))).state (item.same_key k) item.old (item.same_stamp k))) ∙ and_from _ _ can_key suits in
     let can : can_link s was.hand chunk ≡ true = ap (can_link_holding s was.hand chunk) found ∙ and_from _ _ (and_from _ _ (and_from _ _ item.complete tells) (ap is_unlinked fresh)) (all.room chunk here) in
-    let after : columns (items.after_link s was.hand chunk) ≡ (s.slabs_lock, s.stripe_locks, slice_set s.heads (head_place s.table chunk) (linked (head_at s chunk)), s.words) =
-    ap (λ (o : Option Holding). columns (after_link_of (without_holding s was.hand (is_of chunk)) was.hand chunk o)) found in (
+    let after : columns (items.state_after_link s was.hand chunk) ≡ (s.slabs_lock, s.stripe_locks, slice_set s.heads (head_place s.table chunk) (head_after_link (head_at s chunk)), s.words) =
+    ap (λ (o : Option Holding). columns (after_link_of (without_holding s was.hand (is_of_chunk chunk)) was.hand chunk o)) found in (
       can,
-      subst (AreAll view.setup was.cuts (slice_set was.words (head_word view.setup chunk) (plus 65537 word))) (sym after) (header_written view chunk near was (plus 65537 word) (linked (head_at s chunk)) more),
+      subst (AreAll view.setup was.cuts (slice_set was.words (head_word view.setup chunk) (word_plus 65537 word))) (sym after) (header_written view chunk near was (word_plus 65537 word) (head_after_link (head_at s chunk)) more),
     )
 
 -- what the hand has and knows after it linked the item
@@ -86,13 +86,13 @@ module _ (view : View) (stripe : ℕ) (value : ReadyStripe) (key stamp number : 
 
   -- the room of the chunk
   abbrev pub linked_room : ℕ
-  linked_room = room_at m.state chunk
+  linked_room = chunk_room m.state chunk
 
   abbrev stored : ReadyStripe
   stored = used_up (after_rescue value.state number key chunk)
 
   abbrev next : State
-  next = items.after_link m.state id chunk
+  next = items.state_after_link m.state id chunk
 
   found : holding_of chunk (holdings_at m.state id) ≡ Some (copied_item item.old chunk issue item.item words)
   found = ap (holding_of chunk) (holdings_here view h.was) ∙ item.found
@@ -105,16 +105,16 @@ module _ (view : View) (stripe : ℕ) (value : ReadyStripe) (key stamp number : 
 
   -- the state, with all that is known put in
   abbrev lost : State
-  lost = without_holding m.state id (is_of chunk)
+  lost = without_holding m.state id (is_of_chunk chunk)
 
   next_is_of : next ≡ after_link_of lost id chunk (Some (copied_item item.old chunk issue item.item words))
   next_is_of = ap (λ (o : Option Holding). after_link_of lost id chunk o) found
 
-  key_at : stripe_of m.state (key_in words) ≡ stripe
+  key_at : stripe_of m.state (known_key words) ≡ stripe
   key_at = ap (stripe_of m.state) item.same_key ∙ stripe_is view stripe value key may h.was
 
   abbrev told_value : ReadyStripe
-  told_value = used_up (after_rescue (stripe_at m.state (stripe_of m.state (key_in words))).state (writer_of m.state id) (key_in words) chunk)
+  told_value = used_up (after_rescue (stripe_at m.state (stripe_of m.state (known_key words))).state (writer_of m.state id) (known_key words) chunk)
 
   told_is : told_value ≡ stored
   told_is = λ k. used_up (after_rescue ((ap (stripe_at m.state) key_at ∙ (stripe_here view stripe value may.mine h.was).1) k).state (writer k) (item.same_key k) chunk)
@@ -168,8 +168,8 @@ module _ (view : View) (stripe : ℕ) (value : ReadyStripe) (key stamp number : 
   abbrev told : View
   told = copy_linked number stripe value key chunk issue words linked_room view
 
-  said_is : said_by (holding_of chunk (holdings_at m.state id)) ≡ []
-  said_is = ap said_by found
+  said_is : item_stored_by_link (holding_of chunk (holdings_at m.state id)) ≡ []
+  said_is = ap item_stored_by_link found
 
   knows_linked : knowledge_at after.past id ≡ told.row.knows
   knows_linked =
@@ -179,17 +179,17 @@ module _ (view : View) (stripe : ℕ) (value : ReadyStripe) (key stamp number : 
         hold = knows.hold;
         mine = mine_stored knows.mine k;
         seen = knows.seen;
-        said = (ap (λ (more : List Saying). knows.said ++ more) said_is ∙ append-nil knows.said) k;
+        said = (ap (λ (more : List StoredItem). knows.said ++ more) said_is ∙ append-nil knows.said) k;
         known = knows.known ++ known_of_holding linked_room (found k);
       })
 
   holdings_linked : holdings_at next id ≡ told.row.holdings
   holdings_linked =
-      let lost_row = get_or-set_same m.state.holdings id (lose (is_of chunk) (holdings_at m.state id)) [] (holding_rows view h.was) in
-      let near : id < length lost.holdings = let near = holding_rows view h.was in let long = length-set m.state.holdings id (lose (is_of chunk) (holdings_at m.state id)) in omega arith in
+      let lost_row = get_or-set_same m.state.holdings id (without_first (is_of_chunk chunk) (holdings_at m.state id)) [] (holding_rows view h.was) in
+      let near : id < length lost.holdings = let near = holding_rows view h.was in let long = length-set m.state.holdings id (without_first (is_of_chunk chunk) (holdings_at m.state id)) in omega arith in
       ap (λ (s : State). holdings_at s id) next_is_of
-      ∙ (get_or-set_same lost.holdings id (holdings_at lost id ++ reference_to chunk issue (numbers (item_in words)) ∷ []) [] near
-      ∙ ap (λ (l : List Holding). l ++ reference_to chunk issue (numbers (item_in words)) ∷ []) (lost_row ∙ ap (lose (is_of chunk)) (holdings_were view view h.was)))
+      ∙ (get_or-set_same lost.holdings id (holdings_at lost id ++ reference_to chunk issue (numbers_of_known (words_of_item words)) ∷ []) [] near
+      ∙ ap (λ (l : List Holding). l ++ reference_to chunk issue (numbers_of_known (words_of_item words)) ∷ []) (lost_row ∙ ap (without_first (is_of_chunk chunk)) (holdings_were view view h.was)))
 
   -- all that the hand has then
   pub linked_view : now ≡ told
@@ -214,15 +214,15 @@ module _ (view : View) (stripe : ℕ) (value : ReadyStripe) (key stamp number : 
       let long = fits_length words (and_parts _ _ item.complete).0 in
       room_is view chunk (copied_item item.old chunk issue item.item words) 0 item.found refl (omega arith) h.was
     where
-      fits_length : (words : Words) → fits words ≡ true → 3 ≤ length words
+      fits_length : (words : Words) → has_whole_item words ≡ true → 3 ≤ length words
       fits_length words fit = let at = leb-true (3 + word_in words 2) (length words) fit in omega arith
 
   module _ (lawful : LawfulView now) where
     abbrev one : Holding
-    one = reference_to chunk issue (numbers (item_in words))
+    one = reference_to chunk issue (numbers_of_known (words_of_item words))
 
     has : Contains now.row.holdings one
-    has = subst (λ (v : View). Contains v.row.holdings one) (sym linked_view) (Contains-push (lose (is_of chunk) view.row.holdings) one)
+    has = subst (λ (v : View). Contains v.row.holdings one) (sym linked_view) (Contains-push (without_first (is_of_chunk chunk) view.row.holdings) one)
 
     knows : Contains now.row.knows.known (known_by linked_room one)
     knows = subst (λ (v : View). Contains v.row.knows.known (known_by linked_room one)) (sym linked_view) (Contains-push view.row.knows.known (known_by linked_room one))
@@ -235,7 +235,7 @@ module _ (view : View) (stripe : ℕ) (value : ReadyStripe) (key stamp number : 
     linked_issue = is_issue now lawful one linked_room refl has knows
 
     -- which has the words that were filled
-    pub linked_item : held_item now chunk ≡ numbers (item_in words)
+    pub linked_item : held_item now chunk ≡ numbers_of_known (words_of_item words)
     linked_item = is_item now lawful one linked_room refl has knows
 
   -- the issue number that the header had

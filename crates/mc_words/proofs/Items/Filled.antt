@@ -7,33 +7,33 @@ use Rattle.mc_pages.specs.declared.ids.ChunkId.{ChunkId}
 use Rattle.mc_core.specs.declared.holding.Holding.{Holding}
 use Rattle.mc_core.specs.declared.holding.Kind.{Kind}
 use Rattle.mc_core.specs.declared.holding.Kind.TheVariants.{Fresh, Reference}
-use Rattle.mc_core.specs.Holdings.{holding_of, is_of, change_each, is_fresh_kind, words_of_kind}
-use Rattle.mc_core.specs.Chunks.{filled, filled_kind}
+use Rattle.mc_core.specs.Holdings.{holding_of, is_of_chunk, change_each, is_fresh_kind, words_of_kind}
+use Rattle.mc_core.specs.Chunks.{holding_with_word, filled_kind}
 use Rattle.mc_words.specs.hand.View.{View}
 use Rattle.mc_words.specs.hand.Views.{word_filled}
 use Rattle.mc_words.specs.item.Fresh.{IsFreshOf}
 
 module _ (chunk : ChunkId) (place word : ℕ) where
-  pub fill_holds : (holdings : List Holding) → length (change_each (is_of chunk) (filled place word) holdings) ≡ length holdings
-  fill_holds holdings = length-map holdings (λ holding. if is_of chunk holding then filled place word holding else holding)
+  pub fill_holds : (holdings : List Holding) → length (change_each (is_of_chunk chunk) (holding_with_word place word) holdings) ≡ length holdings
+  fill_holds holdings = length-map holdings (λ holding. if is_of_chunk chunk holding then holding_with_word place word holding else holding)
 
   -- what is found of the chunk is filled
-  found_filled : (holdings : List Holding) (holding : Holding) → holding_of chunk holdings ≡ Some holding → holding_of chunk (change_each (is_of chunk) (filled place word) holdings) ≡ Some (filled place word holding)
+  found_filled : (holdings : List Holding) (holding : Holding) → holding_of chunk holdings ≡ Some holding → holding_of chunk (change_each (is_of_chunk chunk) (holding_with_word place word) holdings) ≡ Some (holding_with_word place word holding)
   found_filled [] holding found = absurd (none-some holding found)
-  found_filled (first ∷ holdings) holding found = by (is_of chunk first) refl found (found_filled holdings holding)
+  found_filled (first ∷ holdings) holding found = by (is_of_chunk chunk first) refl found (found_filled holdings holding)
     where
       more : Option Holding
-      more = holding_of chunk (change_each (is_of chunk) (filled place word) holdings)
+      more = holding_of chunk (change_each (is_of_chunk chunk) (holding_with_word place word) holdings)
 
       turned : Bool → Holding
-      turned test = if test then filled place word first else first
+      turned test = if test then holding_with_word place word first else first
 
-      by : (test : Bool) → is_of chunk first ≡ test → cond test (Some first) (holding_of chunk holdings) ≡ Some holding → (holding_of chunk holdings ≡ Some holding → more ≡ Some (filled place word holding)) → cond (is_of chunk (turned (is_of chunk first))) (Some (turned (is_of chunk first))) more ≡ Some (filled place word holding)
+      by : (test : Bool) → is_of_chunk chunk first ≡ test → cond test (Some first) (holding_of chunk holdings) ≡ Some holding → (holding_of chunk holdings ≡ Some holding → more ≡ Some (holding_with_word place word holding)) → cond (is_of_chunk chunk (turned (is_of_chunk chunk first))) (Some (turned (is_of_chunk chunk first))) more ≡ Some (holding_with_word place word holding)
       by true is found later =
-          ap (λ (test : Bool). cond (is_of chunk (turned test)) (Some (turned test)) more) is
-          ∙ (ap (λ (test : Bool). cond test (Some (filled place word first)) more) is ∙ ap (option_map (filled place word)) found)
+          ap (λ (test : Bool). cond (is_of_chunk chunk (turned test)) (Some (turned test)) more) is
+          ∙ (ap (λ (test : Bool). cond test (Some (holding_with_word place word first)) more) is ∙ ap (option_map (holding_with_word place word)) found)
       by false is found later =
-          ap (λ (test : Bool). cond (is_of chunk (turned test)) (Some (turned test)) more) is
+          ap (λ (test : Bool). cond (is_of_chunk chunk (turned test)) (Some (turned test)) more) is
           ∙ (ap (λ (test : Bool). cond test (Some first) more) is ∙ later found)
 
   kind_fresh : (kind : Kind) → is_fresh_kind kind ≡ true → is_fresh_kind (filled_kind place word kind) ≡ true
@@ -46,7 +46,7 @@ module _ (chunk : ChunkId) (place word : ℕ) where
 
   pub still_fresh : (view : View) (room : ℕ) → IsFreshOf view chunk room → IsFreshOf (word_filled chunk place word view) chunk room
   still_fresh view room fresh = record {
-    holding = filled place word fresh.holding;
+    holding = holding_with_word place word fresh.holding;
     found = found_filled view.row.holdings fresh.holding fresh.found;
     fresh = kind_fresh fresh.holding.kind fresh.fresh;
     room_is = kind_room fresh.holding.kind ∙ fresh.room_is;

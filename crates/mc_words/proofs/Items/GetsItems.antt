@@ -8,7 +8,7 @@ use Rattle.mc_core.specs.declared.head.Head.{Head}
 use Rattle.mc_core.specs.declared.holding.Holding.{Holding}
 use Rattle.mc_core.specs.declared.event.Step.TheVariants as core
 use Rattle.mc_core.specs.Head.{decode}
-use Rattle.mc_core.specs.State.{State, item_at, room_at, word_at}
+use Rattle.mc_core.specs.State.{State, item_at, chunk_room, word_at}
 use Rattle.mc_core.specs.Past.{Moment, known_by}
 use Rattle.mc_core.proofs.Entered.{entry_of}
 use Rattle.mc_words.specs.hand.View.{View}
@@ -23,8 +23,8 @@ use Rattle.mc_words.proofs.Items.References.{is_ref, is_issue, is_item, is_whole
 use Rattle.mc_words.proofs.Items.Refers.{LeadsTo, leads_here, entry_near, new_one, new_room, referred_view}
 
 -- the first words of an item are those of its chunk
-pub item_word : (s : State) (chunk : ChunkId) (place : ℕ) → place < 3 → 3 + word_at s chunk 2 ≤ room_at s chunk → slice_index (item_at s chunk) place ≡ word_at s chunk place
-item_word s chunk place near fits = get_or-map-range_with_len (word_at s chunk) 0 (min (3 + word_at s chunk 2) (room_at s chunk)) place place 0 (omega arith) (zero-add place)
+pub item_word : (s : State) (chunk : ChunkId) (place : ℕ) → place < 3 → 3 + word_at s chunk 2 ≤ chunk_room s chunk → slice_index (item_at s chunk) place ≡ word_at s chunk place
+item_word s chunk place near fits = get_or-map-range_with_len (word_at s chunk) 0 (min (3 + word_at s chunk 2) (chunk_room s chunk)) place place 0 (omega arith) (zero-add place)
 
 -- the issue number of a header's word
 pub word_issue : (word : ℕ) → (decode word).issue ≡ word / 262144

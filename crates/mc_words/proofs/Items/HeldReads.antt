@@ -17,9 +17,9 @@ use Rattle.mc_core.specs.Seen.{last_read, linked_issue}
 use Rattle.mc_core.specs.State.{State, has_chunk, head_at, is_class, looks_at, page_words, room_in, word_at}
 use Rattle.mc_core.proofs.Base.{IsPlaced, chunk_within, placed_at, word_within}
 use Rattle.mc_core.proofs.MoreRows.{each_contained}
-use Rattle.mc_core.specs.Knowing.{IsSaid}
-use Rattle.mc_core.specs.Past.{Known}
-use Rattle.mc_core.specs.Holdings.{stamp_of}
+use Rattle.mc_core.specs.Knowing.{WasStored}
+use Rattle.mc_core.specs.Past.{KnownItem}
+use Rattle.mc_core.specs.Holdings.{stamp_in_words}
 use Rattle.mc_words.specs.item.Items.{IsWordOfItem}
 use Rattle.mc_core.proofs.Numbers.{known_at, known_long, whole_known}
 use Rattle.mc_core.proofs.SeenAdds.{was_linked_is}
@@ -144,7 +144,7 @@ module _ (view : View) (slabs : SlabState) (mine : view.slabs ≡ Some slabs) (c
             item = k;
             known = has;
             there = same.0;
-            said = each_contained (λ (known : Known). IsSaid was.moment.past.said (stamp_of known.words) known.words) was.moment.past.known hand k was.lawful.known.said_by_some has;
+            said = each_contained (λ (known : KnownItem). WasStored was.moment.past.said (stamp_in_words known.words) known.words) was.moment.past.known hand k was.lawful.known.said_by_some has;
             is_word = λ within. sym (known_at k.words place)
                 ∙ (sym (here.known_words place (word_in (all_known k.words) place) (whole_word (all_known k.words) place whole (omega arith))) ∙ (sym (held_word was) ∙ at.1));
           },

@@ -6,20 +6,20 @@ use Rattle.std.proofs.lemmas.Bool.{and_from, and_parts, cases_Bool}
 use Rattle.std.proofs.lemmas.Nat.{div-mul-add, mod-mul-add}
 use Rattle.mc_pages.specs.declared.ids.ChunkId.{ChunkId}
 use Rattle.mc_stripe.specs.declared.history.Call.TheVariants.{Set}
-use Rattle.mc_stripe.specs.StripeState.{ReadyStripe, StripeState, key_aside, place_of, new_stripe, can_store}
+use Rattle.mc_stripe.specs.StripeState.{ReadyStripe, StripeState, key_aside, chunk_and_stamp, new_stripe, can_store}
 use Rattle.mc_stripe.specs.Changes.{after_link, used_up}
 use Rattle.mc_core.specs.declared.head.Head.{Head}
 use Rattle.mc_core.specs.declared.holding.Holding.{Holding}
 use Rattle.mc_core.specs.declared.ids.Ids.{Ids}
 use Rattle.mc_core.specs.declared.event.Step.TheVariants as core
 use Rattle.mc_core.specs.Head.{decode, is_unlinked}
-use Rattle.mc_core.specs.Holdings.{Words, fits, holding_of, is_of, item_in, key_in, lose, numbers, stamp_in, word_in}
-use Rattle.mc_core.specs.State.{State, gone, is_held_by, has_stripe, head_at, head_place, holdings_at, ids_at, looks_at, number_at, room_at, stripe_at, stripe_of, without_holding}
+use Rattle.mc_core.specs.Holdings.{Words, has_whole_item, holding_of, is_of_chunk, words_of_item, known_key, without_first, numbers_of_known, stamp_in, word_in}
+use Rattle.mc_core.specs.State.{State, no_ids, is_held_by, has_stripe, head_at, head_place, holdings_at, ids_at, looks_at, number_at, chunk_room, stripe_at, stripe_of, without_holding}
 use Rattle.mc_core.specs.Silent.{writer_of}
 use Rattle.mc_core.specs.Items as items
-use Rattle.mc_core.specs.Items.{after_link_of, can_link, can_link_holding, is_next_stamp, is_none_else_aside, linked, most_stamps, stamped}
-use Rattle.mc_core.specs.Codes.{plus, FitsBits}
-use Rattle.mc_core.specs.Past.{Moment, Knowledge, Own, history_at, knowledge_at, known_by, known_of_holding, moment_stepped, own_calls_after, said_by}
+use Rattle.mc_core.specs.Items.{after_link_of, can_link, can_link_holding, is_next_stamp, is_none_else_aside, head_after_link, most_stamps, ids_after_stamp}
+use Rattle.mc_core.specs.Codes.{word_plus, FitsBits}
+use Rattle.mc_core.specs.Past.{Moment, Knowledge, Own, history_at, knowledge_at, known_by, known_of_holding, moment_stepped, own_calls_after, item_stored_by_link}
 use Rattle.mc_core.specs.Views.{held_slabs}
 use Rattle.mc_core.proofs.Codes.{all_are_sums}
 use Rattle.mc_core.proofs.Learns.{are_learned}
@@ -70,7 +70,7 @@ pub record MayStore (view : View) (stripe : ℕ) (value : ReadyStripe) (key : �
   pub mine : slice_index_or view.stripes stripe None ≡ Some value
   pub of_key : key % view.setup.config.stripes ≡ stripe
   pub room : can_store value ≡ true
-  pub new : place_of value.state key ≡ None
+  pub new : chunk_and_stamp value.state key ≡ None
   pub alone : is_none_else_aside value.state key ≡ true
 
 module _ (view : View) (stripe : ℕ) (value : ReadyStripe) (key : ℕ) (may : MayStore view stripe value key) (was : LawfulView view) where
@@ -85,7 +85,7 @@ module _ (view : View) (stripe : ℕ) (value : ReadyStripe) (key : ℕ) (may : M
 
 -- an item is linked
 pub may_link : (view : View) (stripe : ℕ) (value : ReadyStripe) (key stamp number : ℕ) (chunk : ChunkId) (issue : ℕ) (words : Words) → MayStore view stripe value key → IsItemFilled view chunk issue words key stamp → view.row.ids.number ≡ Some number → next_stamp view.row.ids ≡ Some stamp
-    → MayWrite view (core.Link chunk) (head_word view.setup chunk) (plus 65537)
+    → MayWrite view (core.Link chunk) (head_word view.setup chunk) (word_plus 65537)
 may_link view stripe value key stamp number chunk issue words may item numbered next was fits =
     let m = was.moment in
     let s : State = m.state in
@@ -98,23 +98,23 @@ may_link view stripe value key stamp number chunk issue words may item numbered 
     let small : FitsBits (decode word) = subst FitsBits is (fits_here view was chunk near) in
     let most : (decode word).count ≤ 16385 = subst (λ (h : Head). h.count ≤ 16385) is (all.most chunk here) in
     let fresh = (all.fresh was.hand chunk (own_item chunk issue words) found refl).1 in
-    let more : decode (plus 65537 word) ≡ linked (head_at s chunk) =
-    summed word fits linked (plus 65537) ((all_are_sums (decode word) small).link (sym (ap (λ (h : Head). h.tag) is) ∙ fresh) (omega arith)) (record { issue = small.issue; count = omega arith }) ∙ ap linked (sym is) in
+    let more : decode (word_plus 65537 word) ≡ head_after_link (head_at s chunk) =
+    summed word fits head_after_link (word_plus 65537) ((all_are_sums (decode word) small).link (sym (ap (λ (h : Head). h.tag) is) ∙ fresh) (omega arith)) (record { issue = small.issue; count = omega arith }) ∙ ap head_after_link (sym is) in
     let at = stripe_is view stripe value key may was in
     let same = value_is view stripe value key may was in
     let has : has_stripe s was.hand (stripe_of s key) ≡ true = ap (has_stripe s was.hand) at ∙ (stripe_here view stripe value may.mine was).0 in
     let can_key : items.can_link_key s was.hand key ≡ true =
-    and_from _ _ (and_from _ _ has (ap can_store same ∙ may.room)) (ap (λ (v : ReadyStripe). is_none (place_of v.state key)) same ∙ ap is_none may.new) in
+    and_from _ _ (and_from _ _ has (ap can_store same ∙ may.room)) (ap (λ (v : ReadyStripe). is_none (chunk_and_stamp v.state key)) same ∙ ap is_none may.new) in
     let ids : ids_at s was.hand ≡ view.row.ids = ap (λ (v : View). v.row.ids) (sym was.is) in
     let suits : is_next_stamp (ids_at s was.hand) stamp && is_none_else_aside (stripe_at s (stripe_of s key)).state key ≡ true =
     and_from _ _ (ap (λ i. is_next_stamp i stamp) ids ∙ next_is view.row.ids number stamp numbered next) (ap (λ (v : ReadyStripe). is_none_else_aside v.state key) same ∙ may.alone) in
-    let tells : items.can_tell_link s was.hand (own_item chunk issue words) ≡ true =
+    let tells : items.can_record_link s was.hand (own_item chunk issue words) ≡ true =
     (λ k. items.can_link_key s was.hand (item.same_key k) && (is_next_stamp (ids_at s was.hand) (item.same_stamp k) && is_none_else_aside (stripe_at s (stripe_of s (item.same_key k))).state (item.same_key k))) ∙ and_from _ _ can_key suits in
     let can : can_link s was.hand chunk ≡ true = ap (can_link_holding s was.hand chunk) found ∙ and_from _ _ (and_from _ _ (and_from _ _ item.complete tells) (ap is_unlinked fresh)) (all.room chunk here) in
-    let after : columns (items.after_link s was.hand chunk) ≡ (s.slabs_lock, s.stripe_locks, slice_set s.heads (head_place s.table chunk) (linked (head_at s chunk)), s.words) =
-    ap (λ (o : Option Holding). columns (after_link_of (without_holding s was.hand (is_of chunk)) was.hand chunk o)) found in (
+    let after : columns (items.state_after_link s was.hand chunk) ≡ (s.slabs_lock, s.stripe_locks, slice_set s.heads (head_place s.table chunk) (head_after_link (head_at s chunk)), s.words) =
+    ap (λ (o : Option Holding). columns (after_link_of (without_holding s was.hand (is_of_chunk chunk)) was.hand chunk o)) found in (
       can,
-      subst (AreAll view.setup was.cuts (slice_set was.words (head_word view.setup chunk) (plus 65537 word))) (sym after) (header_written view chunk near was (plus 65537 word) (linked (head_at s chunk)) more),
+      subst (AreAll view.setup was.cuts (slice_set was.words (head_word view.setup chunk) (word_plus 65537 word))) (sym after) (header_written view chunk near was (word_plus 65537 word) (head_after_link (head_at s chunk)) more),
     )
 
 -- what the hand has and knows after it linked the item
@@ -127,13 +127,13 @@ module _ (view : View) (stripe : ℕ) (value : ReadyStripe) (key stamp number : 
 
   -- the room of the chunk
   abbrev pub linked_room : ℕ
-  linked_room = room_at m.state chunk
+  linked_room = chunk_room m.state chunk
 
   abbrev stored : ReadyStripe
   stored = used_up (after_link value.state number key chunk stamp)
 
   abbrev next : State
-  next = items.after_link m.state id chunk
+  next = items.state_after_link m.state id chunk
 
   found : holding_of chunk (holdings_at m.state id) ≡ Some (own_item chunk issue words)
   found = ap (holding_of chunk) (holdings_here view h.was) ∙ item.found
@@ -146,16 +146,16 @@ module _ (view : View) (stripe : ℕ) (value : ReadyStripe) (key stamp number : 
 
   -- the state, with all that is known put in
   abbrev lost : State
-  lost = without_holding m.state id (is_of chunk)
+  lost = without_holding m.state id (is_of_chunk chunk)
 
   next_is_of : next ≡ after_link_of lost id chunk (Some (own_item chunk issue words))
   next_is_of = ap (λ (o : Option Holding). after_link_of lost id chunk o) found
 
-  key_at : stripe_of m.state (key_in words) ≡ stripe
+  key_at : stripe_of m.state (known_key words) ≡ stripe
   key_at = ap (stripe_of m.state) item.same_key ∙ stripe_is view stripe value key may h.was
 
   abbrev told_value : ReadyStripe
-  told_value = used_up (after_link (stripe_at m.state (stripe_of m.state (key_in words))).state (writer_of m.state id) (key_in words) chunk (stamp_in words))
+  told_value = used_up (after_link (stripe_at m.state (stripe_of m.state (known_key words))).state (writer_of m.state id) (known_key words) chunk (stamp_in words))
 
   told_is : told_value ≡ stored
   told_is = λ k. used_up (after_link ((ap (stripe_at m.state) key_at ∙ (stripe_here view stripe value may.mine h.was).1) k).state (writer k) (item.same_key k) chunk (item.same_stamp k))
@@ -175,8 +175,8 @@ module _ (view : View) (stripe : ℕ) (value : ReadyStripe) (key stamp number : 
   ids_were : ids_at m.state id ≡ view.row.ids
   ids_were = ap (λ (v : View). v.row.ids) (sym h.was.is)
 
-  ids_linked : ids_at next id ≡ stamped view.row.ids
-  ids_linked = ap (λ (s : State). ids_at s id) next_is_of ∙ (get_or-set_same m.state.ids id (stamped (ids_at m.state id)) gone (rows_there view h.was) ∙ ap stamped ids_were)
+  ids_linked : ids_at next id ≡ ids_after_stamp view.row.ids
+  ids_linked = ap (λ (s : State). ids_at s id) next_is_of ∙ (get_or-set_same m.state.ids id (ids_after_stamp (ids_at m.state id)) no_ids (rows_there view h.was) ∙ ap ids_after_stamp ids_were)
 
   number_stays : number_at next id ≡ number_at m.state id
   number_stays = ap (λ (i : Ids). i.number) ids_linked ∙ ap (λ (i : Ids). i.number) (sym ids_were)
@@ -209,8 +209,8 @@ module _ (view : View) (stripe : ℕ) (value : ReadyStripe) (key stamp number : 
   abbrev told : View
   told = item_linked number stripe value key stamp chunk issue words linked_room view
 
-  said_is : (said_by (holding_of chunk (holdings_at m.state id))) ≡ record { stamp = stamp; words = numbers (item_in words) } ∷ []
-  said_is = ap said_by found ∙ ap (λ n. record { stamp = n; words = numbers (item_in words) } ∷ []) item.same_stamp
+  said_is : (item_stored_by_link (holding_of chunk (holdings_at m.state id))) ≡ record { stamp = stamp; words = numbers_of_known (words_of_item words) } ∷ []
+  said_is = ap item_stored_by_link found ∙ ap (λ n. record { stamp = n; words = numbers_of_known (words_of_item words) } ∷ []) item.same_stamp
 
   knows_linked : knowledge_at after.past id ≡ told.row.knows
   knows_linked =
@@ -226,11 +226,11 @@ module _ (view : View) (stripe : ℕ) (value : ReadyStripe) (key stamp number : 
 
   holdings_linked : holdings_at next id ≡ told.row.holdings
   holdings_linked =
-      let lost_row = get_or-set_same m.state.holdings id (lose (is_of chunk) (holdings_at m.state id)) [] (holding_rows view h.was) in
-      let near : id < length lost.holdings = let near = holding_rows view h.was in let long = length-set m.state.holdings id (lose (is_of chunk) (holdings_at m.state id)) in omega arith in
+      let lost_row = get_or-set_same m.state.holdings id (without_first (is_of_chunk chunk) (holdings_at m.state id)) [] (holding_rows view h.was) in
+      let near : id < length lost.holdings = let near = holding_rows view h.was in let long = length-set m.state.holdings id (without_first (is_of_chunk chunk) (holdings_at m.state id)) in omega arith in
       ap (λ (s : State). holdings_at s id) next_is_of
-      ∙ (get_or-set_same lost.holdings id (holdings_at lost id ++ reference_to chunk issue (numbers (item_in words)) ∷ []) [] near
-      ∙ ap (λ (l : List Holding). l ++ reference_to chunk issue (numbers (item_in words)) ∷ []) (lost_row ∙ ap (lose (is_of chunk)) (holdings_were view view h.was)))
+      ∙ (get_or-set_same lost.holdings id (holdings_at lost id ++ reference_to chunk issue (numbers_of_known (words_of_item words)) ∷ []) [] near
+      ∙ ap (λ (l : List Holding). l ++ reference_to chunk issue (numbers_of_known (words_of_item words)) ∷ []) (lost_row ∙ ap (without_first (is_of_chunk chunk)) (holdings_were view view h.was)))
 
   -- all that the hand has then
   pub linked_view : now ≡ told
@@ -255,15 +255,15 @@ module _ (view : View) (stripe : ℕ) (value : ReadyStripe) (key stamp number : 
       let long = fits_length words (and_parts _ _ item.complete).0 in
       room_is view chunk (own_item chunk issue words) 0 item.found refl (omega arith) h.was
     where
-      fits_length : (words : Words) → fits words ≡ true → 3 ≤ length words
+      fits_length : (words : Words) → has_whole_item words ≡ true → 3 ≤ length words
       fits_length words fit = let at = leb-true (3 + word_in words 2) (length words) fit in omega arith
 
   module _ (lawful : LawfulView now) where
     abbrev one : Holding
-    one = reference_to chunk issue (numbers (item_in words))
+    one = reference_to chunk issue (numbers_of_known (words_of_item words))
 
     has : Contains now.row.holdings one
-    has = subst (λ (v : View). Contains v.row.holdings one) (sym linked_view) (Contains-push (lose (is_of chunk) view.row.holdings) one)
+    has = subst (λ (v : View). Contains v.row.holdings one) (sym linked_view) (Contains-push (without_first (is_of_chunk chunk) view.row.holdings) one)
 
     knows : Contains now.row.knows.known (known_by linked_room one)
     knows = subst (λ (v : View). Contains v.row.knows.known (known_by linked_room one)) (sym linked_view) (Contains-push view.row.knows.known (known_by linked_room one))
@@ -276,7 +276,7 @@ module _ (view : View) (stripe : ℕ) (value : ReadyStripe) (key stamp number : 
     linked_issue = is_issue now lawful one linked_room refl has knows
 
     -- which has the words that were filled
-    pub linked_item : held_item now chunk ≡ numbers (item_in words)
+    pub linked_item : held_item now chunk ≡ numbers_of_known (words_of_item words)
     linked_item = is_item now lawful one linked_room refl has knows
 
   -- the issue number that the header had

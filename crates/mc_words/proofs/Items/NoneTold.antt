@@ -3,7 +3,7 @@ use Rattle.std.proofs.Common.{◌≡◌, ◌≢◌, ℕ, suc, ◌+◌, ◌%◌, 
 use Rattle.std.proofs.lemmas.Bool.{and_from, and_parts}
 use Rattle.mc_stripe.specs.declared.history.Call.{Call}
 use Rattle.mc_stripe.specs.declared.history.Call.TheVariants.{Get, Delete}
-use Rattle.mc_stripe.specs.StripeState.{ReadyStripe, place_of, new_stripe, stamp_of}
+use Rattle.mc_stripe.specs.StripeState.{ReadyStripe, chunk_and_stamp, new_stripe, stamp_of_key}
 use Rattle.mc_stripe.specs.Changes.{after_got, after_unlink, used_up}
 use Rattle.mc_core.specs.declared.event.Change.{Change}
 use Rattle.mc_core.specs.declared.event.Change.TheVariants.{GotNone, DeletedNone}
@@ -18,11 +18,11 @@ use Rattle.mc_core.proofs.Learns.{are_learned}
 use Rattle.mc_core.proofs.SameSlabs.{looked_keeps}
 use Rattle.mc_core.proofs.SeenHolder.{held_is}
 use Rattle.mc_words.specs.hand.View.{View, held_stripes, view_at, events_of, own_event}
-use Rattle.mc_words.specs.rule.Layout.{lock_word}
+use Rattle.mc_words.specs.rule.Layout.{lock_address}
 use Rattle.mc_words.specs.rule.Meaning.{AreCut}
-use Rattle.mc_words.specs.rule.Happens.{LawfulView, Happens, MayTell}
-use Rattle.mc_words.specs.item.Calls.{called, key_missed, key_not_deleted, with_own_call}
-use Rattle.mc_words.specs.hand.Views.{stripe_told}
+use Rattle.mc_words.specs.rule.Happens.{LawfulView, Happens, AllowsStep}
+use Rattle.mc_words.specs.item.Calls.{view_after_call, key_missed, key_not_deleted, with_own_call}
+use Rattle.mc_words.specs.hand.Views.{stripe_lock_seen}
 use Rattle.mc_words.proofs.Items.Calls.{mine_called}
 use Rattle.mc_words.proofs.Chunks.Heads.{AreAll}
 use Rattle.mc_words.proofs.Locks.LockViews.{stripes_set, stripes_were, slabs_were, holdings_were, looks_were, knew, lock_count, missed_from}
@@ -44,7 +44,7 @@ pub record WritesCall (view : View) (number stripe : ℕ) (value : ReadyStripe) 
 
 module _ (view : View) (number stripe : ℕ) (value : ReadyStripe) (change : Change) (next : ReadyStripe) (call : Call) (w : WritesCall view number stripe value change next call) where
   -- it is told by a look at the word of the stripe's lock
-  pub may_write : MayTell view change (core.MissStripe stripe) (lock_word (suc stripe)) (λ found. found)
+  pub may_write : AllowsStep view change (core.MissStripe stripe) (lock_address (suc stripe)) (λ found. found)
   may_write = record {
     allowed = w.allowed;
     step_allowed = λ was.
@@ -56,16 +56,16 @@ module _ (view : View) (number stripe : ℕ) (value : ReadyStripe) (change : Cha
         let s : State = was.moment.state in
         let changed : State = after_change s was.hand change in (
           was.cuts,
-          subst (AreAll view.setup was.cuts (slice_set was.words (lock_word (suc stripe)) (slice_index was.words (lock_word (suc stripe)))))
+          subst (AreAll view.setup was.cuts (slice_set was.words (lock_address (suc stripe)) (slice_index was.words (lock_address (suc stripe)))))
               (sym (looked_keeps columns changed was.hand _ refl ∙ ap columns (w.changes was)))
-              (unwritten view.setup was.cuts was.words s.slabs_lock s.stripe_locks s.heads s.words was.are (lock_word (suc stripe))),
+              (unwritten view.setup was.cuts was.words s.slabs_lock s.stripe_locks s.heads s.words was.are (lock_address (suc stripe))),
           subst (AreCut was.cuts) (sym (looked_keeps (λ (s : State). s.slabs) changed was.hand _ refl ∙ ap (λ (s : State). s.slabs) (w.changes was))) was.cut,
         );
   }
 
   -- the view between the change and the look
   abbrev pub made : View
-  made = record (called number stripe call view) { stripes = slice_set view.stripes stripe (Some next) }
+  made = record (view_after_call number stripe call view) { stripes = slice_set view.stripes stripe (Some next) }
 
   module _ (was : LawfulView view) where
     abbrev s : State
@@ -136,7 +136,7 @@ module _ (view : View) (number stripe : ℕ) (value : ReadyStripe) (change : Cha
     lawful_changed = lawful_changes was.moment id change may
 
   -- the call was written, which was told by a look at the word of the stripe's lock
-  pub call_written : (now : View) → Happens view (change ∷ []) (core.MissStripe stripe) now → now ≡ stripe_told (change ∷ []) stripe (number + 1) made
+  pub call_written : (now : View) → Happens view (change ∷ []) (core.MissStripe stripe) now → now ≡ stripe_lock_seen (change ∷ []) stripe (number + 1) made
   call_written now h =
       let was = h.was in
       let held = stripe_here view stripe value w.mine was in
@@ -155,7 +155,7 @@ pub record LeadsNowhere (view : View) (number stripe : ℕ) (value : ReadyStripe
   pub of_key : key % view.setup.config.stripes ≡ stripe
   pub ready : value.ready ≡ true
   pub inside : is_aside value.state key ≡ false
-  pub none : place_of value.state key ≡ None
+  pub none : chunk_and_stamp value.state key ≡ None
 
 module _ (view : View) (number stripe : ℕ) (value : ReadyStripe) (key : ℕ) (no_place : LeadsNowhere view number stripe value key) where
   module _ (was : LawfulView view) where
@@ -173,10 +173,10 @@ module _ (view : View) (number stripe : ℕ) (value : ReadyStripe) (key : ℕ) (
         let held = ap (has_stripe was.moment.state was.hand) stripe_is ∙ (stripe_here view stripe value no_place.mine was).0 in
         and_from _ _ held
         (and_from _ _ (and_from _ _ (ap (λ (v : ReadyStripe). v.ready) value_is ∙ no_place.ready) (ap (λ (v : ReadyStripe). not (is_aside v.state key)) value_is ∙ ap not no_place.inside))
-        (ap (λ (v : ReadyStripe). is_none (place_of v.state key)) value_is ∙ ap is_none no_place.none))
+        (ap (λ (v : ReadyStripe). is_none (chunk_and_stamp v.state key)) value_is ∙ ap is_none no_place.none))
 
   -- it was looked up
-  got_writes : WritesCall view number stripe value (GotNone key) (used_up (after_got value.state number key)) (Get number key (stamp_of value.state key))
+  got_writes : WritesCall view number stripe value (GotNone key) (used_up (after_got value.state number key)) (Get number key (stamp_of_key value.state key))
   got_writes = record {
     mine = no_place.mine;
     numbered = no_place.numbered;
@@ -195,9 +195,9 @@ module _ (view : View) (number stripe : ℕ) (value : ReadyStripe) (key : ℕ) (
     more = ap (λ there. value.state.history ++ Delete number key (is_some there) ∷ []) no_place.none;
   }
 
-  pub may_tell_none : (deletes : Bool) → MayTell view (call_of deletes key) (core.MissStripe stripe) (lock_word (suc stripe)) (λ found. found)
+  pub may_tell_none : (deletes : Bool) → AllowsStep view (call_of deletes key) (core.MissStripe stripe) (lock_address (suc stripe)) (λ found. found)
   may_tell_none true = may_write view number stripe value (DeletedNone key) (used_up (after_unlink value.state number key)) (Delete number key false) deleted_writes
-  may_tell_none false = may_write view number stripe value (GotNone key) (used_up (after_got value.state number key)) (Get number key (stamp_of value.state key)) got_writes
+  may_tell_none false = may_write view number stripe value (GotNone key) (used_up (after_got value.state number key)) (Get number key (stamp_of_key value.state key)) got_writes
 
   -- what the hand knows then
   abbrev pub told_view : Bool → View
@@ -205,7 +205,7 @@ module _ (view : View) (number stripe : ℕ) (value : ReadyStripe) (key : ℕ) (
 
   pub none_told : (deletes : Bool) (now : View) → Happens view (call_of deletes key ∷ []) (core.MissStripe stripe) now → now ≡ told_view deletes
   none_told true now h = call_written view number stripe value (DeletedNone key) (used_up (after_unlink value.state number key)) (Delete number key false) deleted_writes now h
-  none_told false now h = call_written view number stripe value (GotNone key) (used_up (after_got value.state number key)) (Get number key (stamp_of value.state key)) got_writes now h
+  none_told false now h = call_written view number stripe value (GotNone key) (used_up (after_got value.state number key)) (Get number key (stamp_of_key value.state key)) got_writes now h
 
   -- who it is and what it holds stays
   pub told_keeps : (deletes : Bool) → ((told_view deletes).row.ids ≡ view.row.ids) × ((told_view deletes).row.holdings ≡ view.row.holdings)

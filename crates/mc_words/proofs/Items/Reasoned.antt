@@ -18,7 +18,7 @@ use Rattle.mc_core.specs.Chunks.{most_issue}
 use Rattle.mc_core.specs.Evictions.{has_copy, has_reason, lacks_room, must_leave, none_dead}
 use Rattle.mc_core.specs.Head.{is_dead}
 use Rattle.mc_core.specs.Judged.{IsJudged, is_seen_unfit, sees_no_target}
-use Rattle.mc_core.specs.Reasons.{sees, takes}
+use Rattle.mc_core.specs.Reasons.{is_look_at, is_taking_look}
 use Rattle.mc_core.specs.Looks.{stays_alive, is_found_alive}
 use Rattle.mc_core.specs.Past.{Moment}
 use Rattle.mc_core.specs.Seen.{last_head, seen_head}
@@ -68,10 +68,10 @@ module _ (looks : List Look) (chunk : ChunkId) where
         on_page other same = ap (λ (c : ChunkId). c.page == chunk.page) (sym (same_from_is_chunk chunk other same)) ∙ eq-eqb chunk.page chunk.page refl
 
 -- what hands out, condemns and clears nothing, and isn't a look at the chunk, says nothing of it
-pub alive_after_other : (looks : List Look) (look : Look) (other : ChunkId) → takes look ≡ false → sees other look ≡ false → is_found_alive (looks ++ look ∷ []) other ≡ is_found_alive looks other
+pub alive_after_other : (looks : List Look) (look : Look) (other : ChunkId) → is_taking_look look ≡ false → is_look_at other look ≡ false → is_found_alive (looks ++ look ∷ []) other ≡ is_found_alive looks other
 alive_after_other looks look other quiet elsewhere = fold-append (stays_alive other) false looks (look ∷ []) ∙ stays look (is_found_alive looks other) quiet elsewhere
   where
-    stays : (look : Look) (before : Bool) → takes look ≡ false → sees other look ≡ false → stays_alive other before look ≡ before
+    stays : (look : Look) (before : Bool) → is_taking_look look ≡ false → is_look_at other look ≡ false → stays_alive other before look ≡ before
     stays (Saw seen head) before quiet elsewhere = ap (λ (b : Bool). if b then not (is_dead head) else before) elsewhere
     stays (SawStripe stripe word) before quiet elsewhere = refl
     stays (Read seen place word) before quiet elsewhere = refl

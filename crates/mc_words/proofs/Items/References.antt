@@ -7,10 +7,10 @@ use Rattle.mc_pages.specs.declared.ids.ChunkId.{ChunkId}
 use Rattle.mc_pages.specs.SlabState.{class_of_page}
 use Rattle.mc_pages.proofs.Chunks.{same_from_is_chunk, is_chunk-same}
 use Rattle.mc_core.specs.declared.holding.Holding.{Holding}
-use Rattle.mc_core.specs.Holdings.{is_of, is_fresh, holding_of, item_of, length_of}
+use Rattle.mc_core.specs.Holdings.{is_of_chunk, is_fresh, holding_of, item_of, length_of_item}
 use Rattle.mc_core.specs.State.{room_in, holdings_at}
 use Rattle.mc_core.specs.Columns.{Each, head_in}
-use Rattle.mc_core.specs.Past.{Moment, Known, known_by}
+use Rattle.mc_core.specs.Past.{Moment, KnownItem, known_by}
 use Rattle.mc_core.proofs.Base.{IsOut, held_out}
 use Rattle.mc_core.proofs.Holders.{found_passes, found_all, found_each}
 use Rattle.mc_core.proofs.KnownQuiet.{IsStill}
@@ -36,7 +36,7 @@ module _ (view : View) (was : LawfulView view) (x : Holding) (room : ℕ) (old :
   m = was.moment
 
   known_here : Contains (row_of m.past.known was.hand) (known_by room x)
-  known_here = subst (λ (l : List Known). Contains l (known_by room x)) (ap (λ (v : View). v.row.knows.known) was.is) knows
+  known_here = subst (λ (l : List KnownItem). Contains l (known_by room x)) (ap (λ (v : View). v.row.knows.known) was.is) knows
 
   still : IsStill m was.lawful (known_by room x)
   still = each_contained (IsStill m was.lawful) m.past.known was.hand (known_by room x) was.lawful.known.still known_here
@@ -45,7 +45,7 @@ module _ (view : View) (was : LawfulView view) (x : Holding) (room : ℕ) (old :
   out = All-contains (IsOut m was.lawful) (holdings_at m.state was.hand) x (held_out m was.lawful was.hand) (subst (λ (l : List Holding). Contains l x) (sym (holdings_here view was)) has)
 
   first : (y : Holding) × (holding_of x.chunk view.row.holdings ≡ Some y)
-  first = found_some (is_of x.chunk) view.row.holdings x (is_chunk-same x.chunk) has
+  first = found_some (is_of_chunk x.chunk) view.row.holdings x (is_chunk-same x.chunk) has
 
   abbrev y : Holding
   y = first.0
@@ -54,27 +54,27 @@ module _ (view : View) (was : LawfulView view) (x : Holding) (room : ℕ) (old :
   found_here = ap (holding_of x.chunk) (holdings_here view was) ∙ first.1
 
   same_chunk : y.chunk ≡ x.chunk
-  same_chunk = same_from_is_chunk y.chunk x.chunk (found_passes (is_of x.chunk) (holdings_at m.state was.hand) y found_here)
+  same_chunk = same_from_is_chunk y.chunk x.chunk (found_passes (is_of_chunk x.chunk) (holdings_at m.state was.hand) y found_here)
 
   first_out : IsOut m was.lawful y
-  first_out = found_all (IsOut m was.lawful) (is_of x.chunk) (holdings_at m.state was.hand) y found_here (held_out m was.lawful was.hand)
+  first_out = found_all (IsOut m was.lawful) (is_of_chunk x.chunk) (holdings_at m.state was.hand) y found_here (held_out m was.lawful was.hand)
 
   same_issue : y.issue ≡ x.issue
   same_issue = sym first_out.1.1 ∙ (ap (λ (c : ChunkId). (head_in m.state.table m.state.heads c).issue) same_chunk ∙ out.1.1)
 
   first_old : is_fresh y ≡ false
   first_old = elim (cases_Bool (is_fresh y)) [
-    | inl fresh ↦ absurd (found_each (λ h. is_fresh h ≡ true → h.chunk ≡ x.chunk → h.issue ≡ x.issue → ⊥) m.state.holdings was.hand (is_of x.chunk) y found_here still.apart fresh same_chunk same_issue)
+    | inl fresh ↦ absurd (found_each (λ h. is_fresh h ≡ true → h.chunk ≡ x.chunk → h.issue ≡ x.issue → ⊥) m.state.holdings was.hand (is_of_chunk x.chunk) y found_here still.apart fresh same_chunk same_issue)
     | inr isnt ↦ isnt
   ]
 
   first_known : (r : ℕ) × Contains (row_of m.past.known was.hand) (known_by r y)
-  first_known = found_all (λ h. is_fresh h ≡ false → (r : ℕ) × Contains (row_of m.past.known was.hand) (known_by r h)) (is_of x.chunk) (holdings_at m.state was.hand) y found_here (was.lawful.known.own was.hand) first_old
+  first_known = found_all (λ h. is_fresh h ≡ false → (r : ℕ) × Contains (row_of m.past.known was.hand) (known_by r h)) (is_of_chunk x.chunk) (holdings_at m.state was.hand) y found_here (was.lawful.known.own was.hand) first_old
 
   same_words : item_of y ≡ item_of x
   same_words =
-      each_contained (λ (other : Known). other.chunk ≡ x.chunk → other.issue ≡ x.issue → other.words ≡ item_of x) m.past.known was.hand (known_by first_known.0 y)
-      (each_contained (λ (k : Known). Each (λ (other : Known). other.chunk ≡ k.chunk → other.issue ≡ k.issue → other.words ≡ k.words) m.past.known) m.past.known was.hand (known_by room x) was.lawful.known.one known_here)
+      each_contained (λ (other : KnownItem). other.chunk ≡ x.chunk → other.issue ≡ x.issue → other.words ≡ item_of x) m.past.known was.hand (known_by first_known.0 y)
+      (each_contained (λ (k : KnownItem). Each (λ (other : KnownItem). other.chunk ≡ k.chunk → other.issue ≡ k.issue → other.words ≡ k.words) m.past.known) m.past.known was.hand (known_by room x) was.lawful.known.one known_here)
       first_known.1 same_chunk same_issue
 
   same_room : first_known.0 ≡ room
@@ -88,7 +88,7 @@ module _ (view : View) (was : LawfulView view) (x : Holding) (room : ℕ) (old :
     holding = y;
     found = first.1;
     linked = first_old;
-    knows = subst (λ (r : ℕ). Contains view.row.knows.known (known_by r y)) same_room (subst (λ (l : List Known). Contains l (known_by first_known.0 y)) (sym (ap (λ (v : View). v.row.knows.known) was.is)) first_known.1);
+    knows = subst (λ (r : ℕ). Contains view.row.knows.known (known_by r y)) same_room (subst (λ (l : List KnownItem). Contains l (known_by first_known.0 y)) (sym (ap (λ (v : View). v.row.knows.known) was.is)) first_known.1);
   }
 
   -- of this issue
@@ -100,15 +100,15 @@ module _ (view : View) (was : LawfulView view) (x : Holding) (room : ℕ) (old :
   is_item = item_found view x.chunk y first.1 ∙ same_words
 
   -- which is whole
-  pub is_whole : length (item_of x) ≡ length_of (item_of x)
+  pub is_whole : length (item_of x) ≡ length_of_item (item_of x)
   is_whole = still.whole
 
   -- and is what the hand knows of the chunk with this issue
-  pub is_known : (k : Known) → Contains view.row.knows.known k → k.chunk ≡ x.chunk → k.issue ≡ x.issue → item_of x ≡ k.words
+  pub is_known : (k : KnownItem) → Contains view.row.knows.known k → k.chunk ≡ x.chunk → k.issue ≡ x.issue → item_of x ≡ k.words
   is_known k among chunk issue =
-      each_contained (λ (other : Known). other.chunk ≡ k.chunk → other.issue ≡ k.issue → other.words ≡ k.words) m.past.known was.hand (known_by room x)
-      (each_contained (λ (k : Known). Each (λ (other : Known). other.chunk ≡ k.chunk → other.issue ≡ k.issue → other.words ≡ k.words) m.past.known) m.past.known was.hand k was.lawful.known.one
-      (subst (λ (l : List Known). Contains l k) (ap (λ (v : View). v.row.knows.known) was.is) among))
+      each_contained (λ (other : KnownItem). other.chunk ≡ k.chunk → other.issue ≡ k.issue → other.words ≡ k.words) m.past.known was.hand (known_by room x)
+      (each_contained (λ (k : KnownItem). Each (λ (other : KnownItem). other.chunk ≡ k.chunk → other.issue ≡ k.issue → other.words ≡ k.words) m.past.known) m.past.known was.hand k was.lawful.known.one
+      (subst (λ (l : List KnownItem). Contains l k) (ap (λ (v : View). v.row.knows.known) was.is) among))
       known_here (sym chunk) (sym issue)
 
 -- a reference has one room
@@ -116,10 +116,10 @@ pub one_room : (view : View) → LawfulView view → (chunk : ChunkId) (a b : �
 one_room view was chunk a b first second = sym (room_is view chunk a first was) ∙ room_is view chunk b second was
 
 -- the item of a reference is whole: it has as many words as it says
-pub ref_whole : (view : View) → LawfulView view → (chunk : ChunkId) (room : ℕ) → IsRefOf view chunk room → length (held_item view chunk) ≡ length_of (held_item view chunk)
+pub ref_whole : (view : View) → LawfulView view → (chunk : ChunkId) (room : ℕ) → IsRefOf view chunk room → length (held_item view chunk) ≡ length_of_item (held_item view chunk)
 ref_whole view was chunk room ref =
     let m : Moment = was.moment in
-    let k : Known = known_by room ref.holding in
-    let known : Contains (row_of m.past.known was.hand) k = subst (λ (l : List Known). Contains l k) (ap (λ (v : View). v.row.knows.known) was.is) ref.knows in
+    let k : KnownItem = known_by room ref.holding in
+    let known : Contains (row_of m.past.known was.hand) k = subst (λ (l : List KnownItem). Contains l k) (ap (λ (v : View). v.row.knows.known) was.is) ref.knows in
     let still = each_contained (IsStill m was.lawful) m.past.known was.hand k was.lawful.known.still known in
-    subst (λ (item : List ℕ). length item ≡ length_of item) (sym (item_found view chunk ref.holding ref.found)) still.whole
+    subst (λ (item : List ℕ). length item ≡ length_of_item item) (sym (item_found view chunk ref.holding ref.found)) still.whole

@@ -3,17 +3,17 @@ use Rattle.std.proofs.Common.{◌≡◌, ◌≢◌, ℕ, ◌%◌, ◌<◌, ◌�
 use Rattle.std.proofs.lemmas.Bool.{and_from}
 use Rattle.mc_pages.specs.declared.ids.ChunkId.{ChunkId}
 use Rattle.mc_stripe.specs.declared.history.Call.TheVariants.{Get}
-use Rattle.mc_stripe.specs.StripeState.{ReadyStripe, place_of, new_stripe, stamp_of}
+use Rattle.mc_stripe.specs.StripeState.{ReadyStripe, chunk_and_stamp, new_stripe, stamp_of_key}
 use Rattle.mc_stripe.specs.Changes.{after_got, used_up}
 use Rattle.mc_core.specs.declared.head.Head.{Head}
 use Rattle.mc_core.specs.declared.holding.Holding.{Holding}
 use Rattle.mc_core.specs.declared.event.Step.TheVariants as core
 use Rattle.mc_core.specs.Head.{decode, is_linked}
-use Rattle.mc_core.specs.State.{State, has_chunk, has_stripe, head_at, head_place, holdings_at, ids_at, looks_at, number_at, room_at, stripe_at, stripe_of}
+use Rattle.mc_core.specs.State.{State, has_chunk, has_stripe, head_at, head_place, holdings_at, ids_at, looks_at, number_at, chunk_room, stripe_at, stripe_of}
 use Rattle.mc_core.specs.Silent.{is_aside, writer_of}
 use Rattle.mc_core.specs.Chunks.{has_place, most_holdings}
-use Rattle.mc_core.specs.Items.{after_refer, can_refer_to, can_look_up, chunk_of, new_reference, referred, referred_to, with_got}
-use Rattle.mc_core.specs.Codes.{plus, FitsBits}
+use Rattle.mc_core.specs.Items.{after_refer, can_refer_to, can_look_up, chunk_of_key, new_reference, head_after_refer, referred_to, with_got}
+use Rattle.mc_core.specs.Codes.{word_plus, FitsBits}
 use Rattle.mc_core.specs.Past.{Moment, Knowledge, Own, history_at, knowledge_at, known_of_place, moment_stepped, own_calls_after}
 use Rattle.mc_core.specs.Views.{held_slabs}
 use Rattle.mc_core.proofs.Codes.{all_are_sums}
@@ -35,7 +35,7 @@ use Rattle.mc_words.specs.hand.Views.{with_event}
 pub record LeadsTo (view : View) (stripe : ℕ) (value : ReadyStripe) (key : ℕ) (chunk : ChunkId) (stamp : ℕ) : Type 0 where
   pub mine : slice_index_or view.stripes stripe None ≡ Some value
   pub of_key : key % view.setup.config.stripes ≡ stripe
-  pub leads : place_of value.state key ≡ Some (chunk, stamp)
+  pub leads : chunk_and_stamp value.state key ≡ Some (chunk, stamp)
 
 module _ (view : View) (stripe : ℕ) (value : ReadyStripe) (key : ℕ) (chunk : ChunkId) (stamp : ℕ) (to : LeadsTo view stripe value key chunk stamp) (was : LawfulView view) where
   abbrev s : State
@@ -47,15 +47,15 @@ module _ (view : View) (stripe : ℕ) (value : ReadyStripe) (key : ℕ) (chunk :
   pub value_is : stripe_at s (stripe_of s key) ≡ value
   value_is = ap (stripe_at s) stripe_is ∙ (stripe_here view stripe value to.mine was).1
 
-  pub leads_here : chunk_of s key ≡ Some (chunk, stamp)
-  leads_here = ap (λ (v : ReadyStripe). place_of v.state key) value_is ∙ to.leads
+  pub leads_here : chunk_of_key s key ≡ Some (chunk, stamp)
+  leads_here = ap (λ (v : ReadyStripe). chunk_and_stamp v.state key) value_is ∙ to.leads
 
   pub entry_near : has_chunk view.setup.table chunk ≡ true
   entry_near = ap (λ table. has_chunk table chunk) (sym was.same_table) ∙ ((needless view was).entry key (chunk, stamp) leads_here).0
 
 -- a reference is taken
 pub may_refer : (view : View) (stripe : ℕ) (value : ReadyStripe) (key : ℕ) (chunk : ChunkId) (stamp : ℕ) → LeadsTo view stripe value key chunk stamp → value.ready ≡ true → is_aside value.state key ≡ false → length view.row.holdings < most_holdings
-    → MayWrite view (core.Refer key) (head_word view.setup chunk) (plus 1)
+    → MayWrite view (core.Refer key) (head_word view.setup chunk) (word_plus 1)
 may_refer view stripe value key chunk stamp to ready inside few was fits =
     let m = was.moment in
     let s : State = m.state in
@@ -69,17 +69,17 @@ may_refer view stripe value key chunk stamp to ready inside few was fits =
     let is : head_at s chunk ≡ decode word = head_is view chunk near was in
     let small : FitsBits (decode word) = subst FitsBits is (fits_here view was chunk near) in
     let most : (decode word).count ≤ 16385 = subst (λ (h : Head). h.count ≤ 16385) is (all.most chunk here) in
-    let more : decode (plus 1 word) ≡ referred (head_at s chunk) =
-    summed word fits referred (plus 1) ((all_are_sums (decode word) small).refer (omega arith)) (record { issue = small.issue; count = omega arith }) ∙ ap referred (sym is) in
+    let more : decode (word_plus 1 word) ≡ head_after_refer (head_at s chunk) =
+    summed word fits head_after_refer (word_plus 1) ((all_are_sums (decode word) small).refer (omega arith)) (record { issue = small.issue; count = omega arith }) ∙ ap head_after_refer (sym is) in
     let place : has_place s was.hand ≡ true = lt-ltb (length (holdings_at s was.hand)) most_holdings (let e = ap length (holdings_here view was) in omega arith) in
     let has : has_stripe s was.hand (stripe_of s key) ≡ true = ap (has_stripe s was.hand) (stripe_is view stripe value key chunk stamp to was) ∙ (stripe_here view stripe value to.mine was).0 in
     let look : can_look_up s was.hand key ≡ true =
     and_from _ _ (and_from _ _ has (ap (λ (v : ReadyStripe). v.ready) same ∙ ready)) (ap (λ (v : ReadyStripe). not (is_aside v.state key)) same ∙ ap not inside) in
-    let can : can_refer_to s (chunk_of s key) ≡ true = ap (can_refer_to s) leads ∙ and_from _ _ (ap is_linked linked) (all.room chunk here) in
-    let after : columns (after_refer s was.hand key) ≡ (s.slabs_lock, s.stripe_locks, slice_set s.heads (head_place s.table chunk) (referred (head_at s chunk)), s.words) =
+    let can : can_refer_to s (chunk_of_key s key) ≡ true = ap (can_refer_to s) leads ∙ and_from _ _ (ap is_linked linked) (all.room chunk here) in
+    let after : columns (after_refer s was.hand key) ≡ (s.slabs_lock, s.stripe_locks, slice_set s.heads (head_place s.table chunk) (head_after_refer (head_at s chunk)), s.words) =
     ap (λ (o : Option (ChunkId × ℕ)). columns (referred_to (with_got s was.hand key) was.hand o)) leads in (
       and_from _ _ (and_from _ _ look place) can,
-      subst (AreAll view.setup was.cuts (slice_set was.words (head_word view.setup chunk) (plus 1 word))) (sym after) (header_written view chunk near was (plus 1 word) (referred (head_at s chunk)) more),
+      subst (AreAll view.setup was.cuts (slice_set was.words (head_word view.setup chunk) (word_plus 1 word))) (sym after) (header_written view chunk near was (word_plus 1 word) (head_after_refer (head_at s chunk)) more),
     )
 
 -- what the hand has of the key's stripe, and what it knows, after it looked the key up and got a reference
@@ -98,12 +98,12 @@ module _ (view : View) (stripe : ℕ) (value : ReadyStripe) (key : ℕ) (chunk :
   new_one = new_reference m.state chunk
 
   abbrev pub new_room : ℕ
-  new_room = room_at m.state chunk
+  new_room = chunk_room m.state chunk
 
   abbrev next : State
   next = after_refer m.state id key
 
-  leads : chunk_of m.state key ≡ Some (chunk, stamp)
+  leads : chunk_of_key m.state key ≡ Some (chunk, stamp)
   leads = leads_here view stripe value key chunk stamp to h.was
 
   next_is : next ≡ referred_to (with_got m.state id key) id (Some (chunk, stamp))
@@ -139,13 +139,13 @@ module _ (view : View) (stripe : ℕ) (value : ReadyStripe) (key : ℕ) (chunk :
       ∙ ap (λ (all : List (Option ReadyStripe)). slice_set all stripe (Some got)) (stripes_were view view h.was)
 
   -- the call came into the stripe's history
-  history_got : history_at next stripe ≡ history_at m.state stripe ++ Get number key (stamp_of value.state key) ∷ []
+  history_got : history_at next stripe ≡ history_at m.state stripe ++ Get number key (stamp_of_key value.state key) ∷ []
   history_got =
       ap (λ (v : ReadyStripe). v.state.history) got_here
-      ∙ ap (λ (v : ReadyStripe). v.state.history ++ Get number key (stamp_of value.state key) ∷ []) (sym (stripe_here view stripe value to.mine h.was).1)
+      ∙ ap (λ (v : ReadyStripe). v.state.history ++ Get number key (stamp_of_key value.state key) ∷ []) (sym (stripe_here view stripe value to.mine h.was).1)
 
-  mine_got : (mine : List Own) → own_calls_after m.state next id mine ≡ Rattle.std.specs.Prelude.map (with_own_call number stripe (Get number key (stamp_of value.state key))) mine
-  mine_got mine = mine_called m.state next stripe (Get number key (stamp_of value.state key)) history_got (λ i apart. ap (λ (v : ReadyStripe). v.state.history) (got_other i apart)) id number number_is mine
+  mine_got : (mine : List Own) → own_calls_after m.state next id mine ≡ Rattle.std.specs.Prelude.map (with_own_call number stripe (Get number key (stamp_of_key value.state key))) mine
+  mine_got mine = mine_called m.state next stripe (Get number key (stamp_of_key value.state key)) history_got (λ i apart. ap (λ (v : ReadyStripe). v.state.history) (got_other i apart)) id number number_is mine
 
   abbrev after : Moment
   after = moment_stepped m id (core.Refer key)

@@ -5,10 +5,10 @@ use Rattle.mc_core.specs.declared.head.Head.{Head}
 use Rattle.mc_core.specs.declared.holding.Holding.{Holding}
 use Rattle.mc_core.specs.declared.event.Step.TheVariants as core
 use Rattle.mc_core.specs.Head.{decode}
-use Rattle.mc_core.specs.Holdings.{is_of, is_fresh, holding_of, lose}
+use Rattle.mc_core.specs.Holdings.{is_of_chunk, is_fresh, holding_of, without_first}
 use Rattle.mc_core.specs.State.{has_chunk, head_at, holdings_at}
-use Rattle.mc_core.specs.Chunks.{let_go, holds_as}
-use Rattle.mc_core.specs.Codes.{minus, FitsBits}
+use Rattle.mc_core.specs.Chunks.{head_after_release, holds_as}
+use Rattle.mc_core.specs.Codes.{word_minus, FitsBits}
 use Rattle.mc_core.specs.Past.{Moment, moment_stepped}
 use Rattle.mc_core.proofs.Codes.{all_are_sums}
 use Rattle.mc_core.proofs.SeenQuiet.{held_near, held_count}
@@ -27,7 +27,7 @@ held_is_near view was chunk holding found =
     ap (λ table. has_chunk table chunk) (sym was.same_table) ∙ held_near was.moment was.lawful was.hand chunk holding (ap (holding_of chunk) (holdings_here view was) ∙ found)
 
 -- a reference is given up
-pub may_release : (view : View) (chunk : ChunkId) (holding : Holding) → has_chunk view.setup.table chunk ≡ true → holding_of chunk view.row.holdings ≡ Some holding → is_fresh holding ≡ false → MayWrite view (core.Release chunk) (head_word view.setup chunk) (minus 1)
+pub may_release : (view : View) (chunk : ChunkId) (holding : Holding) → has_chunk view.setup.table chunk ≡ true → holding_of chunk view.row.holdings ≡ Some holding → is_fresh holding ≡ false → MayWrite view (core.Release chunk) (head_word view.setup chunk) (word_minus 1)
 may_release view chunk holding near found linked was fits =
     let m = was.moment in
     let word = slice_index was.words (head_word view.setup chunk) in
@@ -35,10 +35,10 @@ may_release view chunk holding near found linked was fits =
     let is : head_at m.state chunk ≡ decode word = head_is view chunk near was in
     let count : 1 ≤ (decode word).count = subst (λ (h : Head). 1 ≤ h.count) is (held_count m was.lawful was.hand chunk holding here) in
     let small : FitsBits (decode word) = subst FitsBits is (fits_here view was chunk near) in
-    let gone : decode (minus 1 word) ≡ let_go (head_at m.state chunk) =
-    summed word fits let_go (minus 1) ((all_are_sums (decode word) small).release count) (record { issue = small.issue; count = let c = small.count in omega arith }) ∙ ap let_go (sym is) in (
+    let gone : decode (word_minus 1 word) ≡ head_after_release (head_at m.state chunk) =
+    summed word fits head_after_release (word_minus 1) ((all_are_sums (decode word) small).release count) (record { issue = small.issue; count = let c = small.count in omega arith }) ∙ ap head_after_release (sym is) in (
       ap (holds_as false) here ∙ ap (λ b. b && false || not b && not false) linked,
-      header_written view chunk near was (minus 1 word) (let_go (head_at m.state chunk)) gone,
+      header_written view chunk near was (word_minus 1 word) (head_after_release (head_at m.state chunk)) gone,
     )
 
 -- the hand has it no more
@@ -47,5 +47,5 @@ released_chunk view now chunk h =
     let m : Moment = h.was.moment in
     let id : ℕ = h.was.hand in
     let after : Moment = moment_stepped m id (core.Release chunk) in
-    h.is ∙ view_from view h.was _ after refl (lose (is_of chunk) view.row.holdings) (get_or-set_same m.state.holdings id (lose (is_of chunk) (holdings_at m.state id)) [] (holding_rows view h.was) ∙ ap (lose (is_of chunk)) (holdings_were view now h.was)) view.row.looks (looks_were view now h.was)
+    h.is ∙ view_from view h.was _ after refl (without_first (is_of_chunk chunk) view.row.holdings) (get_or-set_same m.state.holdings id (without_first (is_of_chunk chunk) (holdings_at m.state id)) [] (holding_rows view h.was) ∙ ap (without_first (is_of_chunk chunk)) (holdings_were view now h.was)) view.row.looks (looks_were view now h.was)
     view.row.knows (learned_none view now (core.Release chunk) h refl refl (λ knows. refl)) view.slabs (slabs_were view now h.was) view.stripes (stripes_were view now h.was)

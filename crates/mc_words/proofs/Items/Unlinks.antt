@@ -12,9 +12,9 @@ use Rattle.mc_core.specs.Head.{decode, is_linked}
 use Rattle.mc_core.specs.Holdings.{has_fresh}
 use Rattle.mc_core.specs.State.{State, has_stripe, head_at, head_place, holdings_at, ids_at, looks_at, number_at, stripe_at, stripe_of, with_stripe}
 use Rattle.mc_core.specs.Silent.{is_aside, writer_of}
-use Rattle.mc_core.specs.Columns.{holders, link_of}
-use Rattle.mc_core.specs.Items.{after_unlink, can_lift, can_look_up, chunk_of, is_linked_at, stripe_unlinked, unlinked, with_unlinked}
-use Rattle.mc_core.specs.Codes.{minus, FitsBits}
+use Rattle.mc_core.specs.Columns.{holder_count, link_count}
+use Rattle.mc_core.specs.Items.{state_after_unlink, can_lift, can_look_up, chunk_of_key, is_linked_at, stripe_unlinked, head_after_unlink, with_unlinked}
+use Rattle.mc_core.specs.Codes.{word_minus, FitsBits}
 use Rattle.mc_core.specs.Past.{Moment, Knowledge, Own, history_at, knowledge_at, moment_stepped, own_calls_after}
 use Rattle.mc_core.specs.Views.{held_slabs}
 use Rattle.mc_core.proofs.Codes.{all_are_sums}
@@ -39,12 +39,12 @@ lifts_if true none free = free refl
 lifts_if false none free = refl
 
 -- the link of a linked chunk counts
-link_counts : (tag : Tag) (count held : ℕ) → tag ≡ Linked → count ≡ link_of tag + held → 1 ≤ count
-link_counts tag count held linked counted = let link : link_of tag ≡ 1 = ap link_of linked in omega arith
+link_counts : (tag : Tag) (count held : ℕ) → tag ≡ Linked → count ≡ link_count tag + held → 1 ≤ count
+link_counts tag count held linked counted = let link : link_count tag ≡ 1 = ap link_count linked in omega arith
 
 -- the link is taken away
 pub may_unlink : (view : View) (stripe : ℕ) (value : ReadyStripe) (key : ℕ) (chunk : ChunkId) (stamp : ℕ) → LeadsTo view stripe value key chunk stamp → value.ready ≡ true → is_aside value.state key ≡ false → (has_fresh view.row.holdings ≡ true → value.state.aside ≡ None)
-    → MayWrite view (core.Unlink key) (head_word view.setup chunk) (minus 65537)
+    → MayWrite view (core.Unlink key) (head_word view.setup chunk) (word_minus 65537)
 may_unlink view stripe value key chunk stamp to ready inside free was fits =
     let m = was.moment in
     let s : State = m.state in
@@ -56,20 +56,20 @@ may_unlink view stripe value key chunk stamp to ready inside free was fits =
     let linked : (head_at s chunk).tag ≡ Linked = ((needless view was).entry key (chunk, stamp) leads).1 in
     let is : head_at s chunk ≡ decode word = head_is view chunk near was in
     let small : FitsBits (decode word) = subst FitsBits is (fits_here view was chunk near) in
-    let count : 1 ≤ (decode word).count = subst (λ (h : Head). 1 ≤ h.count) is (link_counts (head_at s chunk).tag (head_at s chunk).count (holders chunk s.holdings) linked (was.lawful.counted.counted chunk here)) in
-    let less : decode (minus 65537 word) ≡ unlinked (head_at s chunk) =
-    summed word fits unlinked (minus 65537) ((all_are_sums (decode word) small).unlink (sym (ap (λ (h : Head). h.tag) is) ∙ linked) count) (record { issue = small.issue; count = let c = small.count in omega arith }) ∙ ap unlinked (sym is) in
+    let count : 1 ≤ (decode word).count = subst (λ (h : Head). 1 ≤ h.count) is (link_counts (head_at s chunk).tag (head_at s chunk).count (holder_count chunk s.holdings) linked (was.lawful.counted.counted chunk here)) in
+    let less : decode (word_minus 65537 word) ≡ head_after_unlink (head_at s chunk) =
+    summed word fits head_after_unlink (word_minus 65537) ((all_are_sums (decode word) small).unlink (sym (ap (λ (h : Head). h.tag) is) ∙ linked) count) (record { issue = small.issue; count = let c = small.count in omega arith }) ∙ ap head_after_unlink (sym is) in
     let has : has_stripe s was.hand (stripe_of s key) ≡ true = ap (has_stripe s was.hand) (stripe_is view stripe value key chunk stamp to was) ∙ (stripe_here view stripe value to.mine was).0 in
     let look : can_look_up s was.hand key ≡ true =
     and_from _ _ (and_from _ _ has (ap (λ (v : ReadyStripe). v.ready) same ∙ ready)) (ap (λ (v : ReadyStripe). not (is_aside v.state key)) same ∙ ap not inside) in
     let lift : can_lift s was.hand key ≡ true =
     lifts_if (has_fresh (holdings_at s was.hand)) (is_none (stripe_at s (stripe_of s key)).state.aside)
     (λ fresh. ap (λ (v : ReadyStripe). is_none v.state.aside) same ∙ ap is_none (free (ap has_fresh (sym (holdings_here view was)) ∙ fresh))) in
-    let there : is_linked_at s (chunk_of s key) ≡ true = ap (is_linked_at s) leads ∙ ap is_linked linked in
-    let after : columns (after_unlink s was.hand key) ≡ (s.slabs_lock, s.stripe_locks, slice_set s.heads (head_place s.table chunk) (unlinked (head_at s chunk)), s.words) =
+    let there : is_linked_at s (chunk_of_key s key) ≡ true = ap (is_linked_at s) leads ∙ ap is_linked linked in
+    let after : columns (state_after_unlink s was.hand key) ≡ (s.slabs_lock, s.stripe_locks, slice_set s.heads (head_place s.table chunk) (head_after_unlink (head_at s chunk)), s.words) =
     ap (λ (o : Option (ChunkId × ℕ)). columns (with_unlinked (with_stripe s (stripe_of s key) (stripe_unlinked (stripe_at s (stripe_of s key)) (has_fresh (holdings_at s was.hand)) (writer_of s was.hand) key)) o)) leads in (
       and_from _ _ (and_from _ _ look lift) there,
-      subst (AreAll view.setup was.cuts (slice_set was.words (head_word view.setup chunk) (minus 65537 word))) (sym after) (header_written view chunk near was (minus 65537 word) (unlinked (head_at s chunk)) less),
+      subst (AreAll view.setup was.cuts (slice_set was.words (head_word view.setup chunk) (word_minus 65537 word))) (sym after) (header_written view chunk near was (word_minus 65537 word) (head_after_unlink (head_at s chunk)) less),
     )
 
 module _ (view : View) (stripe : ℕ) (value : ReadyStripe) (key : ℕ) (chunk : ChunkId) (stamp : ℕ) (to : LeadsTo view stripe value key chunk stamp) (number : ℕ) (numbered : view.row.ids.number ≡ Some number) (now : View) (h : Happens view [] (core.Unlink key) now) where
@@ -80,7 +80,7 @@ module _ (view : View) (stripe : ℕ) (value : ReadyStripe) (key : ℕ) (chunk :
   id = h.was.hand
 
   abbrev next : State
-  next = after_unlink m.state id key
+  next = state_after_unlink m.state id key
 
   number_is : number_at m.state id ≡ Some number
   number_is = ap (λ (v : View). v.row.ids.number) (sym h.was.is) ∙ numbered

@@ -12,11 +12,11 @@ use Rattle.mc_core.specs.declared.holding.Holding.{Holding}
 use Rattle.mc_core.specs.declared.holding.Kind.{Kind}
 use Rattle.mc_core.specs.declared.holding.Kind.TheVariants.{Reference, Fresh}
 use Rattle.mc_core.specs.declared.event.Step.TheVariants as core
-use Rattle.mc_core.specs.Holdings.{is_of, is_fresh_kind, holding_of, words_of, words_of_kind, item_of, item_of_kind}
+use Rattle.mc_core.specs.Holdings.{is_of_chunk, is_fresh_kind, holding_of, holding_words, words_of_kind, item_of, item_of_kind}
 use Rattle.mc_core.specs.State.{State, head_at, holdings_at, room_in, page_words}
 use Rattle.mc_core.specs.Items.{can_read_in}
 use Rattle.mc_core.specs.Columns.{Shows, IsHandedOut, place_in, head_in}
-use Rattle.mc_core.specs.Past.{Moment, Known, known_by, moment_stepped}
+use Rattle.mc_core.specs.Past.{Moment, KnownItem, known_by, moment_stepped}
 use Rattle.mc_core.proofs.Base.{IsPlaced, placed_at, word_within}
 use Rattle.mc_core.proofs.Holders.{found_passes, found_each}
 use Rattle.mc_core.proofs.KnownQuiet.{IsStill}
@@ -57,7 +57,7 @@ module _ (view : View) (chunk : ChunkId) (room : ℕ) (ref : IsRefOf view chunk 
   found_here = ap (holding_of chunk) (holdings_here view was) ∙ ref.found
 
   same_chunk : holding.chunk ≡ chunk
-  same_chunk = same_from_is_chunk holding.chunk chunk (found_passes (is_of chunk) (holdings_at m.state was.hand) holding found_here)
+  same_chunk = same_from_is_chunk holding.chunk chunk (found_passes (is_of_chunk chunk) (holdings_at m.state was.hand) holding found_here)
 
   out : IsHandedOut (head_at m.state chunk) holding.issue
   out = held_handed_out m was.lawful was.hand chunk holding found_here
@@ -65,15 +65,15 @@ module _ (view : View) (chunk : ChunkId) (room : ℕ) (ref : IsRefOf view chunk 
   pub placed : IsPlaced m.state.slabs chunk
   placed = (placed_at m was.lawful chunk holding.issue (held_near m was.lawful was.hand chunk holding found_here) out).0
 
-  shows : Shows m.state.table m.state.slabs m.state.words chunk (words_of holding)
-  shows = subst (λ (c : ChunkId). Shows m.state.table m.state.slabs m.state.words c (words_of holding)) same_chunk
-      (found_each (λ h. Shows m.state.table m.state.slabs m.state.words h.chunk (words_of h)) m.state.holdings was.hand (is_of chunk) holding found_here was.lawful.held.shows)
+  shows : Shows m.state.table m.state.slabs m.state.words chunk (holding_words holding)
+  shows = subst (λ (c : ChunkId). Shows m.state.table m.state.slabs m.state.words c (holding_words holding)) same_chunk
+      (found_each (λ h. Shows m.state.table m.state.slabs m.state.words h.chunk (holding_words h)) m.state.holdings was.hand (is_of_chunk chunk) holding found_here was.lawful.held.shows)
 
   -- how many words the chunk has
   pub room_is : room_in m.state.table (class_of_page m.state.slabs chunk.page) ≡ room
   room_is =
-      let k : Known = known_by room holding in
-      let known : Contains (slice_index_or m.past.known was.hand []) k = subst (λ (l : List Known). Contains l k) (ap (λ (v : View). v.row.knows.known) was.is) ref.knows in
+      let k : KnownItem = known_by room holding in
+      let known : Contains (slice_index_or m.past.known was.hand []) k = subst (λ (l : List KnownItem). Contains l k) (ap (λ (v : View). v.row.knows.known) was.is) ref.knows in
       let still = each_contained (IsStill m was.lawful) m.past.known was.hand k was.lawful.known.still known in
       let out' : IsHandedOut (head_in m.state.table m.state.heads holding.chunk) holding.issue = subst (λ (c : ChunkId). IsHandedOut (head_in m.state.table m.state.heads c) holding.issue) (sym same_chunk) out in
       ap (λ (c : ChunkId). room_in m.state.table (class_of_page m.state.slabs c.page)) (sym same_chunk) ∙ still.room out'

@@ -6,7 +6,7 @@ use Rattle.std.proofs.lemmas.Option.{slice_get-get_or}
 use Rattle.std.proofs.lemmas.List.Elements.{All-weaker}
 use Rattle.std.proofs.lemmas.List.FromFn.{get_or-map-range_with_len}
 use Rattle.mc_classes.specs.Classes.{Classes}
-use Rattle.mc_pages.specs.ClassState.{times}
+use Rattle.mc_pages.specs.ClassState.{times_in}
 use Rattle.mc_pages.specs.SlabState.{SlabState, class_of_chunk}
 use Rattle.mc_stripe.specs.StripeState.{ReadyStripe, new_stripe}
 use Rattle.mc_stripe.specs.Legal.{IsLegal}
@@ -30,7 +30,7 @@ use Rattle.mc_words.proofs.Locks.TakeAndGive.{held_from}
 
 -- a chunk that stands once in the order of its class
 abbrev StandsOnce : SlabState → Holding → Type 0
-StandsOnce slabs holding = times holding.chunk (class_of_chunk slabs holding.chunk).order ≡ 1
+StandsOnce slabs holding = times_in holding.chunk (class_of_chunk slabs holding.chunk).order ≡ 1
 
 -- pages and lists that are taken are as the law has them
 pub lent_slabs : (view now : View) (slabs : SlabState) → Happens view [] core.TakeSlabs now → now.slabs ≡ Some slabs → IsLent now slabs

@@ -15,17 +15,17 @@ use Rattle.mc_core.specs.declared.holding.Holding.{Holding}
 use Rattle.mc_core.specs.Head.{decode, never_cut}
 use Rattle.mc_core.specs.State.{State, is_held_by, has_slabs, has_stripe, has_chunk, head_at, head_place, stripe_at, number_at, ids_at, holdings_at, with_look, looks_at}
 use Rattle.mc_core.specs.Locks as core_locks
-use Rattle.mc_core.specs.Locks.{looked}
-use Rattle.mc_core.specs.Past.{Moment, Knowledge, Sight, begin_hold, end_hold, slabs_word, stripe_word, header, history_at, knowledge_at, moment_stepped}
+use Rattle.mc_core.specs.Locks.{state_after_look}
+use Rattle.mc_core.specs.Past.{Moment, Knowledge, SeenWord, begin_hold, end_hold, slabs_word, stripe_word, header, history_at, knowledge_at, moment_stepped}
 use Rattle.mc_core.specs.Views.{held_slabs, held_stripe}
 use Rattle.mc_core.specs.Laws.{MayStep}
 use Rattle.mc_core.proofs.Framed.{free_lock}
 use Rattle.mc_core.proofs.Plays.{hand_there}
 use Rattle.mc_core.proofs.SameSlabs.{looked_keeps}
 use Rattle.mc_words.specs.hand.View.{Setup, View, view_at, held_stripes, OwnEvent, own_event, events_of}
-use Rattle.mc_words.specs.rule.Layout.{head_word, lock_word}
+use Rattle.mc_words.specs.rule.Layout.{head_word, lock_address}
 use Rattle.mc_words.specs.rule.Happens.{LawfulView, Happens, HappensAt}
-use Rattle.mc_words.specs.hand.Views.{slabs_taken, slabs_given, stripe_taken, stripe_given, slabs_missed, stripe_missed, head_seen, with_looks, looked_if_held}
+use Rattle.mc_words.specs.hand.Views.{slabs_taken, slabs_given, stripe_taken, stripe_given, slabs_missed, stripe_missed, head_seen, view_with_looks, looked_if_held}
 use Rattle.mc_words.specs.hand.Views as views
 use Rattle.mc_words.proofs.Hands.Knows.{knows_after, said_none}
 use Rattle.mc_words.proofs.Rules.Written.{slabs_lock_read, lock_read, head_read, head_near}
@@ -121,7 +121,7 @@ module _ (view now : View) where
       h.is ∙ view_from view h.was _ after refl view.row.holdings (holdings_were h.was) view.row.looks (looks_were h.was) (slabs_given slabs view).row.knows knows None none view.stripes (stripes_were h.was)
 
   -- its word was seen
-  pub missed_slabs : (word : ℕ) → HappensAt (lock_word 0) word view [] core.MissSlabs now → now ≡ slabs_missed word view
+  pub missed_slabs : (word : ℕ) → HappensAt (lock_address 0) word view [] core.MissSlabs now → now ≡ slabs_missed word view
   missed_slabs word at =
       let h = at.0 in
       let m : Moment = h.was.moment in
@@ -174,7 +174,7 @@ module _ (view now : View) where
         h.is ∙ view_from view h.was _ after refl view.row.holdings (holdings_were h.was) view.row.looks (looks_were h.was) (stripe_given stripe value view).row.knows knows view.slabs (slabs_were h.was) (slice_set view.stripes stripe None) stripes
 
 -- what a look leaves: it counts under the slabs lock alone
-looks_after : (m : Moment) (id : ℕ) (look : Look) → id < length m.state.looks → looks_at (looked m.state id look) id ≡ (if has_slabs m.state id then looks_at m.state id ++ look ∷ [] else looks_at m.state id)
+looks_after : (m : Moment) (id : ℕ) (look : Look) → id < length m.state.looks → looks_at (state_after_look m.state id look) id ≡ (if has_slabs m.state id then looks_at m.state id ++ look ∷ [] else looks_at m.state id)
 looks_after m id look within = elim (has_slabs m.state id) as (λ (b : Bool). looks_at (if b then with_look m.state id look else m.state) id ≡ (if b then looks_at m.state id ++ look ∷ [] else looks_at m.state id)) [
   | true ↦ get_or-set_same m.state.looks id (looks_at m.state id ++ look ∷ []) [] within
   | false ↦ refl
@@ -185,13 +185,13 @@ pub look_holds : (look : Look) (view : View) → (looked_if_held look view).row.
 look_holds look view = refl
 
 -- what a moment that looked has of the hand
-looked_from : (view : View) (m : Moment) (id : ℕ) (events now_made : List OwnEvent) → view ≡ view_at view.setup view.spare events m id → id < length m.state.looks → (after : Moment) (look : Look) (sight : Sight) → after.state ≡ looked m.state id look
-    → knowledge_at after.past id ≡ record view.row.knows { saw = view.row.knows.saw ++ sight ∷ [] } → view_at view.setup view.spare now_made after id ≡ record (looked_if_held look (views.saw sight view)) { events = now_made }
+looked_from : (view : View) (m : Moment) (id : ℕ) (events now_made : List OwnEvent) → view ≡ view_at view.setup view.spare events m id → id < length m.state.looks → (after : Moment) (look : Look) (sight : SeenWord) → after.state ≡ state_after_look m.state id look
+    → knowledge_at after.past id ≡ record view.row.knows { saw = view.row.knows.saw ++ sight ∷ [] } → view_at view.setup view.spare now_made after id ≡ record (looked_if_held look (views.view_after_sight sight view)) { events = now_made }
 looked_from view m id events now_made is near after look sight state_is knows =
     let kept : (T : Type 0) (part : State → T) → part (with_look m.state id look) ≡ part m.state → part after.state ≡ part m.state = λ T part same. ap part state_is ∙ looked_keeps part m.state id look same in
     let looks : List Look = if has_slabs m.state id then looks_at m.state id ++ look ∷ [] else looks_at m.state id in
-    let seen : View = record (views.saw sight view) { events = now_made } in
-    let parts : view_at view.setup view.spare now_made after id ≡ with_looks looks seen = λ k. record {
+    let seen : View = record (views.view_after_sight sight view) { events = now_made } in
+    let parts : view_at view.setup view.spare now_made after id ≡ view_with_looks looks seen = λ k. record {
       setup = view.setup;
       spare = view.spare;
       events = now_made;
@@ -206,27 +206,27 @@ looked_from view m id events now_made is near after look sight state_is knows =
       made_of = ap (λ (v : View). v.made_of) (sym is) k;
     } in
     parts
-    ∙ (ap (λ (old : List Look). with_looks (if has_slabs m.state id then old ++ look ∷ [] else old) seen) (ap (λ (v : View). v.row.looks) (sym is))
-    ∙ ap (λ (b : Bool). with_looks (if b then view.row.looks ++ look ∷ [] else view.row.looks) seen) (sym (has_if (has_slabs m.state id) m.state.slabs) ∙ ap is_some (ap (λ (v : View). v.slabs) (sym is))))
+    ∙ (ap (λ (old : List Look). view_with_looks (if has_slabs m.state id then old ++ look ∷ [] else old) seen) (ap (λ (v : View). v.row.looks) (sym is))
+    ∙ ap (λ (b : Bool). view_with_looks (if b then view.row.looks ++ look ∷ [] else view.row.looks) seen) (sym (has_if (has_slabs m.state id) m.state.slabs) ∙ ap is_some (ap (λ (v : View). v.slabs) (sym is))))
 
 -- a view after a step that looks
-view_looked : (view now : View) (step : Step) (h : Happens view [] step now) (look : Look) (sight : Sight) → (moment_stepped h.was.moment h.was.hand step).state ≡ looked h.was.moment.state h.was.hand look
-    → knowledge_at (moment_stepped h.was.moment h.was.hand step).past h.was.hand ≡ record view.row.knows { saw = view.row.knows.saw ++ sight ∷ [] } → now ≡ record (looked_if_held look (views.saw sight view)) { events = view.events ++ own_event [] step ∷ [] }
+view_looked : (view now : View) (step : Step) (h : Happens view [] step now) (look : Look) (sight : SeenWord) → (moment_stepped h.was.moment h.was.hand step).state ≡ state_after_look h.was.moment.state h.was.hand look
+    → knowledge_at (moment_stepped h.was.moment h.was.hand step).past h.was.hand ≡ record view.row.knows { saw = view.row.knows.saw ++ sight ∷ [] } → now ≡ record (looked_if_held look (views.view_after_sight sight view)) { events = view.events ++ own_event [] step ∷ [] }
 view_looked view now step h look sight state_is knows =
     h.is ∙ looked_from view h.was.moment h.was.hand (events_of h.was.hand h.was.run) (view.events ++ own_event [] step ∷ []) h.was.is (rows view now h.was) (moment_stepped h.was.moment h.was.hand step) look sight state_is knows
 
 -- the word of a stripe's lock was seen, in a moment that has this of the hand
 pub missed_from : (view : View) (m : Moment) (id : ℕ) (events now_made : List OwnEvent) → view ≡ view_at view.setup view.spare events m id → (stripe word : ℕ) → MayStep m id (core.MissStripe stripe) → slice_index m.state.stripe_locks stripe ≡ word
-    → view_at view.setup view.spare now_made (moment_stepped m id (core.MissStripe stripe)) id ≡ record (looked_if_held (SawStripe stripe word) (views.saw (stripe_word stripe word) view)) { events = now_made }
+    → view_at view.setup view.spare now_made (moment_stepped m id (core.MissStripe stripe)) id ≡ record (looked_if_held (SawStripe stripe word) (views.view_after_sight (stripe_word stripe word) view)) { events = now_made }
 missed_from view m id events now_made is stripe word may lock =
     let near : id < length m.state.looks = let near = hand_there m.state id may.there in let count = may.lawful.hands.look_rows in omega arith in
     let knows = knows_after m id (core.MissStripe stripe) refl may (looked_keeps (λ s. s.stripes) m.state id _ refl)
     ∙ (said_none ((knowledge_at m.past id).saw ++ stripe_word stripe (slice_index m.state.stripe_locks stripe) ∷ []) (knowledge_at m.past id) (knowledge_at m.past id).hold (knowledge_at m.past id).seen
     ∙ (λ k. let knows = ap (λ (v : View). v.row.knows) (sym is) k in record knows { saw = knows.saw ++ stripe_word stripe (lock k) ∷ [] })) in
-    looked_from view m id events now_made is near (moment_stepped m id (core.MissStripe stripe)) (SawStripe stripe word) (stripe_word stripe word) (ap (λ n. looked m.state id (SawStripe stripe n)) lock) knows
+    looked_from view m id events now_made is near (moment_stepped m id (core.MissStripe stripe)) (SawStripe stripe word) (stripe_word stripe word) (ap (λ n. state_after_look m.state id (SawStripe stripe n)) lock) knows
 
 -- the word of a stripe's lock was seen
-pub missed_stripe : (view now : View) (stripe word : ℕ) → stripe < view.setup.config.stripes → HappensAt (lock_word (suc stripe)) word view [] (core.MissStripe stripe) now → now ≡ stripe_missed stripe word view
+pub missed_stripe : (view now : View) (stripe word : ℕ) → stripe < view.setup.config.stripes → HappensAt (lock_address (suc stripe)) word view [] (core.MissStripe stripe) now → now ≡ stripe_missed stripe word view
 missed_stripe view now stripe word near at =
     let h = at.0 in
     let m : Moment = h.was.moment in
@@ -245,4 +245,4 @@ seen_head view now chunk word near at =
     let knows = knows_after m id (core.Head chunk) refl (may_step h) (looked_keeps (λ s. s.stripes) m.state id _ refl)
     ∙ (said_none ((knowledge_at m.past id).saw ++ header chunk (head_at m.state chunk) ∷ []) (knowledge_at m.past id) (knowledge_at m.past id).hold (knowledge_at m.past id).seen
     ∙ (λ k. let knows = knew view now h.was k in record knows { saw = knows.saw ++ header chunk (is k) ∷ [] })) in
-    view_looked view now (core.Head chunk) h (Saw chunk (decode word)) (header chunk (decode word)) (ap (λ head. looked m.state id (Saw chunk head)) is) knows
+    view_looked view now (core.Head chunk) h (Saw chunk (decode word)) (header chunk (decode word)) (ap (λ head. state_after_look m.state id (Saw chunk head)) is) knows

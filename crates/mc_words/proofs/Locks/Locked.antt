@@ -11,25 +11,25 @@ use Rattle.mc_words.specs.declared.lock.locks.Locks.TheVariants.{Neither, Slabs,
 use Rattle.mc_words.specs.hand.View.{Setup, View}
 use Rattle.mc_words.specs.rule.Told.{Sits}
 use Rattle.mc_words.specs.rule.Happens.{IsSameHand}
-use Rattle.mc_words.specs.lock.Out.{slots_out, slots_in, has_slabs_in, has_stripe_in, is_within, HasLocks, IsNoted, with_last, with_slabs, without_slabs, with_stripe, without_stripe, has_no_stripe}
+use Rattle.mc_words.specs.lock.Out.{slots_out, slots_in, has_slabs_in, has_stripe_in, is_within, HasLocks, IsNoted, with_last, locks_with_slabs, without_slabs, locks_with_stripe, without_stripe, locks_have_no_stripe}
 use Rattle.mc_words.specs.lock.Slots.{slot_at}
 use Rattle.mc_words.specs.lock.Tries.{Gains, Loses, IsOneHand}
 
-slots_with : (locks : Locks) → has_slabs_in locks ≡ false → zero ∷ slots_in locks ≡ slots_in (with_slabs locks)
+slots_with : (locks : Locks) → has_slabs_in locks ≡ false → zero ∷ slots_in locks ≡ slots_in (locks_with_slabs locks)
 slots_with Neither none = refl
 slots_with Slabs none = absurd (cc)
 slots_with (Stripe stripe) none = refl
 slots_with (SlabsLast stripe) none = absurd (cc)
 slots_with (StripeLast stripe) none = absurd (cc)
 
-has_with : (locks : Locks) → true ≡ has_slabs_in (with_slabs locks)
+has_with : (locks : Locks) → true ≡ has_slabs_in (locks_with_slabs locks)
 has_with Neither = refl
 has_with Slabs = refl
 has_with (Stripe stripe) = refl
 has_with (SlabsLast stripe) = refl
 has_with (StripeLast stripe) = refl
 
-stripes_with : (locks : Locks) (stripes : List ℕ) → map (has_stripe_in locks) stripes ≡ map (has_stripe_in (with_slabs locks)) stripes
+stripes_with : (locks : Locks) (stripes : List ℕ) → map (has_stripe_in locks) stripes ≡ map (has_stripe_in (locks_with_slabs locks)) stripes
 stripes_with Neither stripes = refl
 stripes_with Slabs stripes = refl
 stripes_with (Stripe stripe) stripes = refl
@@ -37,7 +37,7 @@ stripes_with (SlabsLast stripe) stripes = refl
 stripes_with (StripeLast stripe) stripes = refl
 
 -- whose stripe is the same, is within as many
-within_with : (stripes : ℕ) (locks : Locks) → is_within stripes locks ≡ is_within stripes (with_slabs locks)
+within_with : (stripes : ℕ) (locks : Locks) → is_within stripes locks ≡ is_within stripes (locks_with_slabs locks)
 within_with stripes Neither = refl
 within_with stripes Slabs = refl
 within_with stripes (Stripe stripe) = refl
@@ -52,7 +52,7 @@ within_without stripes (SlabsLast stripe) within = within
 within_without stripes (StripeLast stripe) within = within
 
 -- and a stripe that comes, or goes
-within_stripe : (stripes stripe : ℕ) (locks : Locks) → nat_lt stripe stripes ≡ true → is_within stripes locks ≡ true → is_within stripes (with_stripe stripe locks) ≡ true
+within_stripe : (stripes stripe : ℕ) (locks : Locks) → nat_lt stripe stripes ≡ true → is_within stripes locks ≡ true → is_within stripes (locks_with_stripe stripe locks) ≡ true
 within_stripe stripes stripe Neither near within = near
 within_stripe stripes stripe Slabs near within = near
 within_stripe stripes stripe (Stripe other) near within = within
@@ -66,8 +66,8 @@ within_no_stripe stripes (Stripe stripe) = refl
 within_no_stripe stripes (SlabsLast stripe) = refl
 within_no_stripe stripes (StripeLast stripe) = refl
 
-none_with : (locks : Locks) → has_no_stripe locks ≡ true → (stripe : ℕ) (stripes : List ℕ) → (map (has_stripe_in locks) stripes ≡ map (λ other. false) stripes) × (has_slabs_in (with_stripe stripe locks) ≡ has_slabs_in locks)
-    × (map (has_stripe_in (with_stripe stripe locks)) stripes ≡ map (λ other. stripe == other) stripes) × (slots_in (with_stripe stripe locks) ≡ slot_at (suc stripe) ∷ slots_in locks)
+none_with : (locks : Locks) → locks_have_no_stripe locks ≡ true → (stripe : ℕ) (stripes : List ℕ) → (map (has_stripe_in locks) stripes ≡ map (λ other. false) stripes) × (has_slabs_in (locks_with_stripe stripe locks) ≡ has_slabs_in locks)
+    × (map (has_stripe_in (locks_with_stripe stripe locks)) stripes ≡ map (λ other. stripe == other) stripes) × (slots_in (locks_with_stripe stripe locks) ≡ slot_at (suc stripe) ∷ slots_in locks)
 none_with Neither none stripe stripes = (refl, refl, refl, refl)
 none_with Slabs none stripe stripes = (refl, refl, refl, refl)
 none_with (Stripe other) none stripe stripes = absurd (cc)
@@ -84,24 +84,24 @@ module _ (view now : View) (locks : Locks) (had : HasLocks view locks) (same : I
   within_same kept = ap (λ (s : Setup). is_within s.config.stripes kept) (sym same.0)
 
   -- of a hand with the lock of the slabs
-  pub gained_slabs : Gains SlabsLock view now → HasLocks now (with_slabs locks) × (zero ∷ slots_in locks ≡ slots_in (with_slabs locks))
+  pub gained_slabs : Gains SlabsLock view now → HasLocks now (locks_with_slabs locks) × (zero ∷ slots_in locks ≡ slots_in (locks_with_slabs locks))
   gained_slabs gains = (
     (
       gains.1 ∙ has_with locks,
-      gains.2 ∙ (had.1 ∙ (stripes_with locks (range_with_len 0 view.setup.config.stripes) ∙ ap (map (has_stripe_in (with_slabs locks))) range_same)),
-      sym (within_with view.setup.config.stripes locks ∙ within_same (with_slabs locks)) ∙ had.2,
+      gains.2 ∙ (had.1 ∙ (stripes_with locks (range_with_len 0 view.setup.config.stripes) ∙ ap (map (has_stripe_in (locks_with_slabs locks))) range_same)),
+      sym (within_with view.setup.config.stripes locks ∙ within_same (locks_with_slabs locks)) ∙ had.2,
     ),
     slots_with locks (sym had.0 ∙ gains.0),
   )
 
   -- and with that of a stripe
-  pub gained_stripe : (stripe : ℕ) → has_no_stripe locks ≡ true → nat_lt stripe view.setup.config.stripes ≡ true → Gains (StripeLock stripe) view now → HasLocks now (with_stripe stripe locks) × (slot_at (suc stripe) ∷ slots_in locks ≡ slots_in (with_stripe stripe locks))
+  pub gained_stripe : (stripe : ℕ) → locks_have_no_stripe locks ≡ true → nat_lt stripe view.setup.config.stripes ≡ true → Gains (StripeLock stripe) view now → HasLocks now (locks_with_stripe stripe locks) × (slot_at (suc stripe) ∷ slots_in locks ≡ slots_in (locks_with_stripe stripe locks))
   gained_stripe stripe none near gains =
       let (old, slabs, new, slots) = none_with locks none stripe (range_with_len 0 view.setup.config.stripes) in (
         (
           gains.0 ∙ (had.0 ∙ sym slabs),
-          gains.1 (had.1 ∙ old) ∙ (ap (map (λ other. stripe == other)) (sym range_same) ∙ (sym new ∙ ap (map (has_stripe_in (with_stripe stripe locks))) range_same)),
-          sym (within_same (with_stripe stripe locks)) ∙ within_stripe view.setup.config.stripes stripe locks near had.2,
+          gains.1 (had.1 ∙ old) ∙ (ap (map (λ other. stripe == other)) (sym range_same) ∙ (sym new ∙ ap (map (has_stripe_in (locks_with_stripe stripe locks))) range_same)),
+          sym (within_same (locks_with_stripe stripe locks)) ∙ within_stripe view.setup.config.stripes stripe locks near had.2,
         ),
         sym slots,
       )
@@ -121,7 +121,7 @@ noted_same me now number chunks chunks' locks (is, few, count, slots, had) out s
 )
 
 -- after the lock of the slabs was taken
-pub noted_slabs : (me now : Sits) (number chunks : ℕ) (locks : Locks) → IsNoted me number chunks locks → IsOneHand me.0 now.0 → Gains SlabsLock me.0 now.0 → slots_out now.1 ≡ zero ∷ slots_out me.1 → now.0.row.holdings ≡ me.0.row.holdings → IsNoted now number chunks (with_slabs locks)
+pub noted_slabs : (me now : Sits) (number chunks : ℕ) (locks : Locks) → IsNoted me number chunks locks → IsOneHand me.0 now.0 → Gains SlabsLock me.0 now.0 → slots_out now.1 ≡ zero ∷ slots_out me.1 → now.0.row.holdings ≡ me.0.row.holdings → IsNoted now number chunks (locks_with_slabs locks)
 noted_slabs me now number chunks locks (is, few, count, slots, had) same gains out holdings =
     let (locked, front) = gained_slabs me.0 now.0 locks had same gains in (
       same.2 ∙ is,
@@ -132,8 +132,8 @@ noted_slabs me now number chunks locks (is, few, count, slots, had) same gains o
     )
 
 -- after a stripe's was
-pub noted_stripe : (me now : Sits) (number chunks stripe : ℕ) (locks : Locks) → has_no_stripe locks ≡ true → nat_lt stripe me.0.setup.config.stripes ≡ true → IsNoted me number chunks locks → IsOneHand me.0 now.0 → Gains (StripeLock stripe) me.0 now.0 → slots_out now.1 ≡ slot_at (suc stripe) ∷ slots_out me.1 → now.0.row.holdings ≡ me.0.row.holdings
-    → IsNoted now number chunks (with_stripe stripe locks)
+pub noted_stripe : (me now : Sits) (number chunks stripe : ℕ) (locks : Locks) → locks_have_no_stripe locks ≡ true → nat_lt stripe me.0.setup.config.stripes ≡ true → IsNoted me number chunks locks → IsOneHand me.0 now.0 → Gains (StripeLock stripe) me.0 now.0 → slots_out now.1 ≡ slot_at (suc stripe) ∷ slots_out me.1 → now.0.row.holdings ≡ me.0.row.holdings
+    → IsNoted now number chunks (locks_with_stripe stripe locks)
 noted_stripe me now number chunks stripe locks none near (is, few, count, slots, had) same gains out holdings =
     let (locked, front) = gained_stripe me.0 now.0 locks had same stripe none near gains in (
       same.2 ∙ is,

@@ -17,9 +17,9 @@ use Rattle.mc_core.proofs.Learns.{are_learned}
 use Rattle.mc_core.proofs.SameSlabs.{looked_keeps}
 use Rattle.mc_core.proofs.SeenHolder.{held_is}
 use Rattle.mc_words.specs.hand.View.{View, held_stripes, view_at, events_of, own_event}
-use Rattle.mc_words.specs.rule.Layout.{lock_word}
+use Rattle.mc_words.specs.rule.Layout.{lock_address}
 use Rattle.mc_words.specs.rule.Meaning.{AreCut}
-use Rattle.mc_words.specs.rule.Happens.{LawfulView, Happens, MayTell}
+use Rattle.mc_words.specs.rule.Happens.{LawfulView, Happens, AllowsStep}
 use Rattle.mc_words.specs.lock.Lent.{lent_stripe}
 use Rattle.mc_words.specs.hand.Views.{stripe_changed}
 use Rattle.mc_words.proofs.Chunks.Heads.{AreAll}
@@ -75,7 +75,7 @@ module _ (view : View) (stripe : ℕ) (value : ReadyStripe) (mine : slice_index_
     may_so : (was : LawfulView view) → (has_stripe was.moment.state was.hand stripe && can_change_stripe how (stripe_at was.moment.state stripe).state) ≡ true
     may_so was = and_from _ _ (stripe_here was).0 (ap (λ (v : ReadyStripe). can_change_stripe how v.state) (stripe_here was).1 ∙ can)
 
-    pub may_change : MayTell view (OfStripe stripe how) (core.MissStripe stripe) (lock_word (suc stripe)) (λ found. found)
+    pub may_change : AllowsStep view (OfStripe stripe how) (core.MissStripe stripe) (lock_address (suc stripe)) (λ found. found)
     may_change = record {
       allowed = may_so;
       step_allowed = λ was. let near = stripe_near was in let count = lock_count view view was in lt-ltb stripe (length was.moment.state.stripe_locks) (omega arith);
@@ -83,8 +83,8 @@ module _ (view : View) (stripe : ℕ) (value : ReadyStripe) (mine : slice_index_
           let s : State = was.moment.state in
           let changed : State = after_change s was.hand (OfStripe stripe how) in (
             was.cuts,
-            subst (AreAll view.setup was.cuts (slice_set was.words (lock_word (suc stripe)) (slice_index was.words (lock_word (suc stripe))))) (sym (looked_keeps columns changed was.hand _ refl))
-                (unwritten view.setup was.cuts was.words s.slabs_lock s.stripe_locks s.heads s.words was.are (lock_word (suc stripe))),
+            subst (AreAll view.setup was.cuts (slice_set was.words (lock_address (suc stripe)) (slice_index was.words (lock_address (suc stripe))))) (sym (looked_keeps columns changed was.hand _ refl))
+                (unwritten view.setup was.cuts was.words s.slabs_lock s.stripe_locks s.heads s.words was.are (lock_address (suc stripe))),
             subst (AreCut was.cuts) (sym (looked_keeps (λ (s : State). s.slabs) changed was.hand _ refl)) was.cut,
           );
     }

@@ -28,12 +28,12 @@ use Rattle.mc_words.specs.declared.lock.slot.Slot.TheVariants.{Empty, OfSlabs, O
 use Rattle.mc_words.specs.declared.lock.locks.Lock.{Lock}
 use Rattle.mc_words.specs.declared.lock.locks.Lock.TheVariants.{SlabsLock, StripeLock}
 use Rattle.mc_words.specs.hand.View.{OwnEvent, Setup, View, events_of, own_event, view_at}
-use Rattle.mc_words.specs.rule.Layout.{lock_word, slabs_word}
-use Rattle.mc_words.specs.rule.Meaning.{Words, AreWords, WordsOf, AreCut, Has, Ruled}
-use Rattle.mc_words.specs.rule.Happens.{LawfulView, Happens, event_of, is_quiet}
+use Rattle.mc_words.specs.rule.Layout.{lock_address, slabs_word}
+use Rattle.mc_words.specs.rule.Meaning.{WordsOfTable, WordsAreColumns, WordsOf, AreCut, Has, IsRuled}
+use Rattle.mc_words.specs.rule.Happens.{LawfulView, Happens, event_of, keeps_locks_and_hands}
 use Rattle.mc_words.specs.rule.Told.{Sits}
-use Rattle.mc_words.specs.lock.Slots.{number_of, slot_at, slot_of}
-use Rattle.mc_words.specs.lock.Tries.{take_of, miss_of, give_of, IsLockOf, HasValue, can_give, HasStripes, Gains, Loses, IsOneHand, TakesValue, Takes, GivesValue}
+use Rattle.mc_words.specs.lock.Slots.{lock_number, slot_at, slot_of}
+use Rattle.mc_words.specs.lock.Tries.{take_of, miss_of, give_of, IsLockOf, HasValue, may_be_given_back, HasStripes, Gains, Loses, IsOneHand, TakesValue, Takes, GivesValue}
 use Rattle.mc_words.specs.rule.Joins.{Rule}
 use Rattle.mc_words.proofs.Rules.Settled.{IsSettled, lifts}
 use Rattle.mc_words.proofs.Rules.NextMoments.{is_view_now, others_made, own_made, ruled_next}
@@ -72,7 +72,7 @@ give_alone : (lock : Lock) → is_join (give_of lock) ≡ false
 give_alone SlabsLock = refl
 give_alone (StripeLock stripe) = refl
 
-miss_quiet : (lock : Lock) → is_quiet (miss_of lock) ≡ true
+miss_quiet : (lock : Lock) → keeps_locks_and_hands (miss_of lock) ≡ true
 miss_quiet SlabsLock = refl
 miss_quiet (StripeLock stripe) = refl
 
@@ -98,39 +98,39 @@ word_of s SlabsLock = s.slabs_lock
 word_of s (StripeLock stripe) = slice_index s.stripe_locks stripe
 
 module _ (setup : Setup) (cuts words : List ℕ) (s : State) (are : WordsOf setup cuts words s) where
-  word_read : (lock : Lock) → IsLockOf setup lock → slice_index words (lock_word (number_of lock)) ≡ word_of s lock
+  word_read : (lock : Lock) → IsLockOf setup lock → slice_index words (lock_address (lock_number lock)) ≡ word_of s lock
   word_read SlabsLock near = slabs_lock_read setup cuts words s.slabs_lock s.stripe_locks s.heads s.words are
   word_read (StripeLock stripe) near = lock_read setup cuts words s.slabs_lock s.stripe_locks s.heads s.words are stripe (omega arith)
 
-  take_words : (id word : ℕ) (lock : Lock) → IsLockOf setup lock → core_locks.lock_word s id ≡ word → WordsOf setup cuts (slice_set words (lock_word (number_of lock)) word) (after_step s id (take_of lock))
+  take_words : (id word : ℕ) (lock : Lock) → IsLockOf setup lock → core_locks.lock_word s id ≡ word → WordsOf setup cuts (slice_set words (lock_address (lock_number lock)) word) (after_step s id (take_of lock))
   take_words id word SlabsLock near is =
       subst (λ (n : ℕ). WordsOf setup cuts (slice_set words slabs_word n) (after_step s id (take_of SlabsLock))) is (slabs_lock_written setup cuts words s.slabs_lock s.stripe_locks s.heads s.words are (core_locks.lock_word s id))
   take_words id word (StripeLock stripe) near is =
-      subst (λ (n : ℕ). WordsOf setup cuts (slice_set words (lock_word (suc stripe)) n) (after_step s id (take_of (StripeLock stripe)))) is
+      subst (λ (n : ℕ). WordsOf setup cuts (slice_set words (lock_address (suc stripe)) n) (after_step s id (take_of (StripeLock stripe)))) is
       (lock_written setup cuts words s.slabs_lock s.stripe_locks s.heads s.words are stripe (core_locks.lock_word s id) (omega arith))
 
-  give_words : (id : ℕ) (lock : Lock) → IsLockOf setup lock → WordsOf setup cuts (slice_set words (lock_word (number_of lock)) 0) (after_step s id (give_of lock))
+  give_words : (id : ℕ) (lock : Lock) → IsLockOf setup lock → WordsOf setup cuts (slice_set words (lock_address (lock_number lock)) 0) (after_step s id (give_of lock))
   give_words id SlabsLock near = slabs_lock_written setup cuts words s.slabs_lock s.stripe_locks s.heads s.words are 0
   give_words id (StripeLock stripe) near = lock_written setup cuts words s.slabs_lock s.stripe_locks s.heads s.words are stripe 0 (omega arith)
 
-  miss_words : (id : ℕ) (lock : Lock) → WordsOf setup cuts (slice_set words (lock_word (number_of lock)) (slice_index words (lock_word (number_of lock)))) (after_step s id (miss_of lock))
+  miss_words : (id : ℕ) (lock : Lock) → WordsOf setup cuts (slice_set words (lock_address (lock_number lock)) (slice_index words (lock_address (lock_number lock)))) (after_step s id (miss_of lock))
   miss_words id SlabsLock = unwritten setup cuts words s.slabs_lock s.stripe_locks s.heads s.words are slabs_word
   miss_words id (StripeLock stripe) =
-      subst (λ (c : Columns). AreWords setup cuts (slice_set words (lock_word (suc stripe)) (slice_index words (lock_word (suc stripe)))) c.0 c.1 c.2 c.3) (sym (looked_keeps columns s id _ refl))
-      (unwritten setup cuts words s.slabs_lock s.stripe_locks s.heads s.words are (lock_word (suc stripe)))
+      subst (λ (c : Columns). WordsAreColumns setup cuts (slice_set words (lock_address (suc stripe)) (slice_index words (lock_address (suc stripe)))) c.0 c.1 c.2 c.3) (sym (looked_keeps columns s id _ refl))
+      (unwritten setup cuts words s.slabs_lock s.stripe_locks s.heads s.words are (lock_address (suc stripe)))
 
 module _ (setup : Setup) (slots id : ℕ) (me : Sits) (live : IsSettled me.0) (of : me.0.setup ≡ setup) (lock : Lock) (near : IsLockOf setup lock) where
   -- the lock's number, slot and word
   abbrev which : ℕ
-  which = number_of lock
+  which = lock_number lock
 
   abbrev home_at : ℕ
   home_at = slot_of lock
 
   abbrev place : ℕ
-  place = lock_word which
+  place = lock_address which
 
-  module _ (t : Words) (r : Ruled setup t) (at : get_elem? t.views id ≡ some me.0) where
+  module _ (t : WordsOfTable) (r : IsRuled setup t) (at : get_elem? t.views id ≡ some me.0) where
     abbrev m : Moment
     m = r.moment
 
@@ -158,9 +158,9 @@ module _ (setup : Setup) (slots id : ℕ) (me : Sits) (live : IsSettled me.0) (o
 
     -- all other locks' values are as they were
     home_elsewhere : (now : State) (homes : List (maybe.Option Slot)) (word : ℕ) → now.slabs ≡ m.state.slabs → now.stripes ≡ m.state.stripes → ((k : ℕ) → k ≢ home_at → get_elem? homes k ≡ get_elem? t.homes k)
-        → (k : ℕ) → k ≤ setup.config.stripes → k ≢ which → slice_index (slice_set t.words place word) (lock_word k) ≡ 0 → (slot : Slot) × (get_elem? homes (slot_at k) ≡ some (some slot)) × Has now k slot
+        → (k : ℕ) → k ≤ setup.config.stripes → k ≢ which → slice_index (slice_set t.words place word) (lock_address k) ≡ 0 → (slot : Slot) × (get_elem? homes (slot_at k) ≡ some (some slot)) × Has now k slot
     home_elsewhere now homes word slabs stripes same k within apart free =
-        let (slot, home, has) = r.means.homes k within (sym (get_or-set_other t.words place (lock_word k) word 0 (λ e. apart (omega arith))) ∙ free) in
+        let (slot, home, has) = r.means.homes k within (sym (get_or-set_other t.words place (lock_address k) word 0 (λ e. apart (omega arith))) ∙ free) in
         (slot, same (slot_at k) (λ e. apart (omega arith)) ∙ home, has_same m.state now slabs stripes k slot has)
 
     -- what the hand knows of a next moment is of a lawful one
@@ -227,7 +227,7 @@ module _ (setup : Setup) (slots id : ℕ) (me : Sits) (live : IsSettled me.0) (o
       has_it : is_held_by (number + 1) (number_at m.state id) ≡ true
       has_it = ap (is_held_by (number + 1)) number_is ∙ eq-eqb (number + 1) (number + 1) refl
 
-      has_value : (l : Lock) (slot : Slot) → IsLockOf setup l → Has m.state (number_of l) slot → HasValue (view_at setup me.0.spare (made_with (take_of l)) (moment_stepped m id (take_of l)) id) l slot
+      has_value : (l : Lock) (slot : Slot) → IsLockOf setup l → Has m.state (lock_number l) slot → HasValue (view_at setup me.0.spare (made_with (take_of l)) (moment_stepped m id (take_of l)) id) l slot
       has_value SlabsLock Empty within has = absurd has
       has_value SlabsLock (OfSlabs value) within has = ap (λ w. if is_held_by w (number_at m.state id) then Some m.state.slabs else None) word_is ∙ (ap (λ b. if b then Some m.state.slabs else None) has_it ∙ ap Some (sym has))
       has_value SlabsLock (OfStripe value) within has = absurd has
@@ -284,15 +284,15 @@ module _ (setup : Setup) (slots id : ℕ) (me : Sits) (live : IsSettled me.0) (o
             }),
           )
         where
-          by_place : (k : ℕ) → k ≤ setup.config.stripes → slice_index (slice_set t.words place (number + 1)) (lock_word k) ≡ 0 → (slot : Slot) × (get_elem? (slice_set t.homes home_at none) (slot_at k) ≡ some (some slot)) × Has taken.state k slot
+          by_place : (k : ℕ) → k ≤ setup.config.stripes → slice_index (slice_set t.words place (number + 1)) (lock_address k) ≡ 0 → (slot : Slot) × (get_elem? (slice_set t.homes home_at none) (slot_at k) ≡ some (some slot)) × Has taken.state k slot
           by_place k within zero_is = elim (cases_eq k which) [
             | inl same ↦
                 let inside = place_within in
-                absurd (let z : number + 1 ≡ 0 = sym (get_or-set_same t.words place (number + 1) 0 inside) ∙ (ap (λ j. slice_index (slice_set t.words place (number + 1)) (lock_word j)) (sym same) ∙ zero_is) in omega arith)
+                absurd (let z : number + 1 ≡ 0 = sym (get_or-set_same t.words place (number + 1) 0 inside) ∙ (ap (λ j. slice_index (slice_set t.words place (number + 1)) (lock_address j)) (sym same) ∙ zero_is) in omega arith)
             | inr differs ↦ home_elsewhere taken.state (slice_set t.homes home_at none) (number + 1) (take_slabs m.state id lock) (take_stripes m.state id lock) (λ j apart. set_else t.homes home_at j none apart) k within differs zero_is
           ]
 
-    module _ (slot : Slot) (value : HasValue me.0 lock slot) (whole : can_give slot ≡ true) where
+    module _ (slot : Slot) (value : HasValue me.0 lock slot) (whole : may_be_given_back slot ≡ true) where
       abbrev given : Moment
       given = moment_stepped m id (give_of lock)
 
@@ -300,10 +300,10 @@ module _ (setup : Setup) (slots id : ℕ) (me : Sits) (live : IsSettled me.0) (o
       own_value = subst (λ (v : View). HasValue v lock slot) own value
 
       -- the lock is the hand's, and its value is the state's
-      is_held : (l : Lock) → IsLockOf setup l → HasValue (view_at setup me.0.spare (events_of id r.run) m id) l slot → (is_held_by (word_of m.state l) (number_at m.state id) ≡ true) × Has m.state (number_of l) slot
+      is_held : (l : Lock) → IsLockOf setup l → HasValue (view_at setup me.0.spare (events_of id r.run) m id) l slot → (is_held_by (word_of m.state l) (number_at m.state id) ≡ true) × Has m.state (lock_number l) slot
       is_held l within has = by_slot l slot within has
         where
-          by_slot : (l : Lock) (slot : Slot) → IsLockOf setup l → HasValue (view_at setup me.0.spare (events_of id r.run) m id) l slot → (is_held_by (word_of m.state l) (number_at m.state id) ≡ true) × Has m.state (number_of l) slot
+          by_slot : (l : Lock) (slot : Slot) → IsLockOf setup l → HasValue (view_at setup me.0.spare (events_of id r.run) m id) l slot → (is_held_by (word_of m.state l) (number_at m.state id) ≡ true) × Has m.state (lock_number l) slot
           by_slot SlabsLock Empty within has = absurd has
           by_slot SlabsLock (OfSlabs value) within has = let both = held_from (has_slabs m.state id) m.state.slabs value has in (both.0, sym both.1)
           by_slot SlabsLock (OfStripe value) within has = absurd has
@@ -314,7 +314,7 @@ module _ (setup : Setup) (slots id : ℕ) (me : Sits) (live : IsSettled me.0) (o
               (sym (get_or-map-range_with_len (held_stripe m.state id) 0 setup.config.stripes stripe stripe None (omega arith) (zero-add stripe)) ∙ has) in
               (both.0, sym both.1)
 
-      allowed_give : (l : Lock) (y : Slot) → Has m.state (number_of l) y → is_held_by (word_of m.state l) (number_at m.state id) ≡ true → can_give y ≡ true → allows_step m.state id (give_of l) ≡ true
+      allowed_give : (l : Lock) (y : Slot) → Has m.state (lock_number l) y → is_held_by (word_of m.state l) (number_at m.state id) ≡ true → may_be_given_back y ≡ true → allows_step m.state id (give_of l) ≡ true
       allowed_give SlabsLock Empty has held can = absurd has
       allowed_give SlabsLock (OfSlabs y) has held can = and_from _ _ held (ap Rattle.mc_core.specs.Silent.none_half_cut (sym has) ∙ can)
       allowed_give SlabsLock (OfStripe y) has held can = absurd has
@@ -359,13 +359,13 @@ module _ (setup : Setup) (slots id : ℕ) (me : Sits) (live : IsSettled me.0) (o
       give_goes out =
           let w : View = view_at setup me.0.spare (made_with (give_of lock)) given id in
           let back : table.put_back t.homes me.1 ≡ slice_set t.homes home_at (some slot) = ap (table.put_back t.homes) out in
-          let rule : Ruled setup (record { words = slice_set t.words place 0; homes = slice_set t.homes home_at (some slot); views = slice_set t.views id w }) =
+          let rule : IsRuled setup (record { words = slice_set t.words place 0; homes = slice_set t.homes home_at (some slot); views = slice_set t.views id w }) =
           ruled_next setup t r id me.0 at r.cuts given (r.run ++ event_of id [] (give_of lock) ∷ []) (slice_set t.words place 0) (slice_set t.homes home_at (some slot)) w give_next (leads_stepped setup r.run m id (give_of lock) r.reached there can_give_it.allowed) (others_made setup t r id me.0 at (event_of id [] (give_of lock)) refl) written_back (subst (AreCut r.cuts) (sym (give_slabs m.state id lock)) r.means.cut) (λ k. by_place k)
           (length-set t.homes home_at (some slot)) (is_view_now setup t r id me.0 at given (r.run ++ event_of id [] (give_of lock) ∷ []) (made_with (give_of lock)) (own_made setup t r id me.0 at (event_of id [] (give_of lock)) refl made_before) give_next there) refl in (
             w,
             gives,
             tt,
-            subst (λ (homes : List (maybe.Option Slot)). Ruled setup (record { words = slice_set t.words place 0; homes = homes; views = slice_set t.views id w })) (sym back) rule,
+            subst (λ (homes : List (maybe.Option Slot)). IsRuled setup (record { words = slice_set t.words place 0; homes = homes; views = slice_set t.views id w })) (sym back) rule,
             record {
               out = refl;
               loses = loses lock near;
@@ -375,7 +375,7 @@ module _ (setup : Setup) (slots id : ℕ) (me : Sits) (live : IsSettled me.0) (o
             },
           )
         where
-          by_place : (k : ℕ) → k ≤ setup.config.stripes → slice_index (slice_set t.words place 0) (lock_word k) ≡ 0 → (y : Slot) × (get_elem? (slice_set t.homes home_at (some slot)) (slot_at k) ≡ some (some y)) × Has given.state k y
+          by_place : (k : ℕ) → k ≤ setup.config.stripes → slice_index (slice_set t.words place 0) (lock_address k) ≡ 0 → (y : Slot) × (get_elem? (slice_set t.homes home_at (some slot)) (slot_at k) ≡ some (some y)) × Has given.state k y
           by_place k within zero_is = elim (cases_eq k which) [
             | inl same ↦
                 let count = r.means.slots in
@@ -398,10 +398,10 @@ module _ (setup : Setup) (slots id : ℕ) (me : Sits) (live : IsSettled me.0) (o
       goes setup slots id me live of t r at (miss_of lock) (miss_quiet lock) place (slice_index t.words place) (allowed_miss t r at lock near) (miss_words setup r.cuts t.words m.state r.means.words id lock) told
       (λ out happens. ((λ free. absurd (busy free)), λ _. (out, happens)))))
     where
-      allowed_miss : (t : Words) (r : Ruled setup t) (at : get_elem? t.views id ≡ some me.0) (l : Lock) → IsLockOf setup l → allows_step r.moment.state id (miss_of l) ≡ true
+      allowed_miss : (t : WordsOfTable) (r : IsRuled setup t) (at : get_elem? t.views id ≡ some me.0) (l : Lock) → IsLockOf setup l → allows_step r.moment.state id (miss_of l) ≡ true
       allowed_miss t r at SlabsLock within = refl
       allowed_miss t r at (StripeLock stripe) within = let count = lock_count t r at in lt-ltb stripe (length r.moment.state.stripe_locks) (omega arith)
 
   -- the store of a give
-  pub gives_back : (slot : Slot) → HasValue me.0 lock slot → can_give slot ≡ true → me.1 ≡ (slot_of lock, slot) ∷ rest me.1 → Allows (Rule setup) slots id me place (λ _. 0) (λ _. GivesValue lock me)
+  pub gives_back : (slot : Slot) → HasValue me.0 lock slot → may_be_given_back slot ≡ true → me.1 ≡ (slot_of lock, slot) ∷ rest me.1 → Allows (Rule setup) slots id me place (λ _. 0) (λ _. GivesValue lock me)
   gives_back slot value whole out = lifts setup slots id me live.1 place (λ _. 0) (λ _. GivesValue lock me) (λ t r _ at fits. give_goes t r at slot value whole out)

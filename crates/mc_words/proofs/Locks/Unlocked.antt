@@ -6,7 +6,7 @@ use Rattle.mc_stripe.specs.StripeState.{ReadyStripe}
 use Rattle.mc_words.specs.declared.lock.locks.Locks.{Locks}
 use Rattle.mc_words.specs.declared.lock.locks.Locks.TheVariants.{Neither, Slabs, Stripe, SlabsLast, StripeLast}
 use Rattle.mc_words.specs.hand.View.{View}
-use Rattle.mc_words.specs.lock.Out.{HasLocks, has_stripe_in, has_no_stripe, is_neither}
+use Rattle.mc_words.specs.lock.Out.{HasLocks, has_stripe_in, locks_have_no_stripe, is_neither}
 use Rattle.mc_words.specs.hand.Idle.{has_no_stripes, is_unlocked}
 
 -- where no stripe is among the locks, the view has none
@@ -55,7 +55,7 @@ unlocked_from view (StripeLast stripe) had = sym (slabs_there view had.0)
 unlocked_from view (Stripe stripe) had = sym (ap (λ (b : Bool). is_none view.slabs && b) (there_in view (Stripe stripe) stripe had had.2 (eq-eqb stripe stripe refl)) ∙ and_false (is_none view.slabs))
 
 -- a hand with no lock has no stripe's
-pub no_stripe_unlocked : (locks : Locks) → is_neither locks ≡ true → has_no_stripe locks ≡ true
+pub no_stripe_unlocked : (locks : Locks) → is_neither locks ≡ true → locks_have_no_stripe locks ≡ true
 no_stripe_unlocked Neither none = refl
 no_stripe_unlocked Slabs none = refl
 no_stripe_unlocked (Stripe stripe) none = absurd (cc)
@@ -63,14 +63,14 @@ no_stripe_unlocked (SlabsLast stripe) none = absurd (cc)
 no_stripe_unlocked (StripeLast stripe) none = absurd (cc)
 
 -- it has no stripe's lock exactly where it has a note of none
-pub no_stripe_from : (view : View) (locks : Locks) → HasLocks view locks → has_no_stripes view ≡ true → has_no_stripe locks ≡ true
+pub no_stripe_from : (view : View) (locks : Locks) → HasLocks view locks → has_no_stripes view ≡ true → locks_have_no_stripe locks ≡ true
 no_stripe_from view Neither had none = refl
 no_stripe_from view Slabs had none = refl
 no_stripe_from view (Stripe stripe) had none = absurd (let e = there_in view (Stripe stripe) stripe had had.2 (eq-eqb stripe stripe refl) in cc)
 no_stripe_from view (SlabsLast stripe) had none = absurd (let e = there_in view (SlabsLast stripe) stripe had had.2 (eq-eqb stripe stripe refl) in cc)
 no_stripe_from view (StripeLast stripe) had none = absurd (let e = there_in view (StripeLast stripe) stripe had had.2 (eq-eqb stripe stripe refl) in cc)
 
-pub no_stripes_there : (view : View) (locks : Locks) → HasLocks view locks → has_no_stripe locks ≡ true → has_no_stripes view ≡ true
+pub no_stripes_there : (view : View) (locks : Locks) → HasLocks view locks → locks_have_no_stripe locks ≡ true → has_no_stripes view ≡ true
 no_stripes_there view Neither had none = none_there view.stripes (range_with_len 0 view.setup.config.stripes) had.1
 no_stripes_there view Slabs had none = none_there view.stripes (range_with_len 0 view.setup.config.stripes) had.1
 no_stripes_there view (Stripe stripe) had none = absurd (cc)

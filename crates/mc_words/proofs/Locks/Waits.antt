@@ -4,7 +4,7 @@ use Rattle.mc_core.specs.declared.event.Step.TheVariants as core
 use Rattle.mc_core.specs.State.{State}
 use Rattle.mc_core.proofs.SameSlabs.{looked_keeps}
 use Rattle.mc_words.specs.hand.View.{View}
-use Rattle.mc_words.specs.rule.Layout.{lock_word}
+use Rattle.mc_words.specs.rule.Layout.{lock_address}
 use Rattle.mc_words.specs.rule.Happens.{Happens, MayWrite}
 use Rattle.mc_words.specs.hand.Views.{slabs_missed, stripe_missed}
 use Rattle.mc_words.specs.lock.Wait.{MissesSlabs, MissesStripe}
@@ -54,16 +54,16 @@ misses_seen stripe [] view now is = ap (λ (v : View). v.row.knows.seen) is
 misses_seen stripe (word ∷ words) view now (next, happens, rest) = misses_seen stripe words (stripe_missed stripe word view) now rest
 
 -- a read writes nothing
-pub may_look_at_slabs : (view : View) → MayWrite view core.MissSlabs (lock_word 0) (λ found. found)
+pub may_look_at_slabs : (view : View) → MayWrite view core.MissSlabs (lock_address 0) (λ found. found)
 may_look_at_slabs view was fits =
     let s : State = was.moment.state in
-    (refl, unwritten view.setup was.cuts was.words s.slabs_lock s.stripe_locks s.heads s.words was.are (lock_word 0))
+    (refl, unwritten view.setup was.cuts was.words s.slabs_lock s.stripe_locks s.heads s.words was.are (lock_address 0))
 
-pub may_look_at_stripe : (view : View) (stripe : ℕ) → stripe < view.setup.config.stripes → MayWrite view (core.MissStripe stripe) (lock_word (suc stripe)) (λ found. found)
+pub may_look_at_stripe : (view : View) (stripe : ℕ) → stripe < view.setup.config.stripes → MayWrite view (core.MissStripe stripe) (lock_address (suc stripe)) (λ found. found)
 may_look_at_stripe view stripe near was fits =
     let s : State = was.moment.state in
     let count = lock_count view view was in (
       lt-ltb stripe (length s.stripe_locks) (omega arith),
-      subst (AreAll view.setup was.cuts (slice_set was.words (lock_word (suc stripe)) (slice_index was.words (lock_word (suc stripe))))) (sym (looked_keeps columns s was.hand _ refl))
-          (unwritten view.setup was.cuts was.words s.slabs_lock s.stripe_locks s.heads s.words was.are (lock_word (suc stripe))),
+      subst (AreAll view.setup was.cuts (slice_set was.words (lock_address (suc stripe)) (slice_index was.words (lock_address (suc stripe))))) (sym (looked_keeps columns s was.hand _ refl))
+          (unwritten view.setup was.cuts was.words s.slabs_lock s.stripe_locks s.heads s.words was.are (lock_address (suc stripe))),
     )

@@ -14,7 +14,7 @@ use Rattle.mc_core.specs.declared.look.Look.{Look}
 use Rattle.mc_core.specs.declared.look.Look.TheVariants.{Saw}
 use Rattle.mc_core.specs.Head.{decode, is_dead}
 use Rattle.mc_core.specs.Looks.{is_found_alive}
-use Rattle.mc_words.specs.chunk.Dead.{AreHandedOut, AreJudged, IsJudged, IsOut, IsOutside, NotedChunks, Notes, ShareAnOrder}
+use Rattle.mc_words.specs.chunk.Dead.{AreHandedOut, AreJudged, IsAliveOrNoted, IsOut, IsOutside, NotedChunks, Notes, ShareAnOrder}
 use Rattle.mc_words.specs.hand.View.{View}
 use Rattle.mc_words.specs.hand.Views.{head_seen}
 use Rattle.mc_words.proofs.Chunks.Judging.{seen_is}
@@ -34,7 +34,7 @@ module _ (looks : List Look) (chunk : ChunkId) (head : Head) where
   ]
 
   -- whatever was found, the others are judged as before
-  pub other_kept : (dead : NotedChunks) (other : ChunkId) → (other ≡ chunk → ⊥) → IsJudged looks dead other → IsJudged (looks ++ Saw chunk head ∷ []) dead other
+  pub other_kept : (dead : NotedChunks) (other : ChunkId) → (other ≡ chunk → ⊥) → IsAliveOrNoted looks dead other → IsAliveOrNoted (looks ++ Saw chunk head ∷ []) dead other
   other_kept dead other apart judged few = elim (cases_Bool (is_chunk other chunk)) [
     | inl same ↦ absurd (apart (same_from_is_chunk other chunk same))
     | inr differs ↦ elim (judged few) [
@@ -48,10 +48,10 @@ module _ (looks : List Look) (chunk : ChunkId) (head : Head) (dead : NotedChunks
   after = looks ++ Saw chunk head ∷ []
 
   -- it was found alive
-  pub alive_judged : is_dead head ≡ false → IsJudged after dead chunk
+  pub alive_judged : is_dead head ≡ false → IsAliveOrNoted after dead chunk
   alive_judged alive few = inl (chunk_alive looks chunk head alive)
 
-  pub alive_kept : is_dead head ≡ false → (other : ChunkId) → IsJudged looks dead other → IsJudged after dead other
+  pub alive_kept : is_dead head ≡ false → (other : ChunkId) → IsAliveOrNoted looks dead other → IsAliveOrNoted after dead other
   alive_kept alive other judged few = elim (cases_Bool (is_chunk other chunk)) [
     | inl same ↦ inl (ap (is_found_alive after) (same_from_is_chunk other chunk same) ∙ chunk_alive looks chunk head alive)
     | inr apart ↦ elim (judged few) [
@@ -62,13 +62,13 @@ module _ (looks : List Look) (chunk : ChunkId) (head : Head) (dead : NotedChunks
 
   -- it was found dead, and noted
   module _ (now : NotedChunks) (notes : Notes chunk dead now) where
-    pub noted_judged : IsJudged after now chunk
+    pub noted_judged : IsAliveOrNoted after now chunk
     noted_judged few = elim notes [
       | inl is ↦ inr (subst (λ (d : NotedChunks). Contains d.chunks chunk) (sym is) (Contains-push dead.chunks chunk))
       | inr is ↦ absurd (let never : true ≡ false = sym (ap (λ (d : NotedChunks). d.are_more) is) ∙ few in cc)
     ]
 
-    pub noted_kept : (other : ChunkId) → IsJudged looks dead other → IsJudged after now other
+    pub noted_kept : (other : ChunkId) → IsAliveOrNoted looks dead other → IsAliveOrNoted after now other
     noted_kept other judged few = elim notes [
       | inl is ↦ elim (judged (sym (ap (λ (d : NotedChunks). d.are_more) is) ∙ few)) [
         | inl found ↦ elim (cases_Bool (is_chunk other chunk)) [
@@ -128,15 +128,15 @@ pub both_odd : (one other : ℕ) → bit_and one other / 65536 % 2 ≡ 1 → (on
 both_odd one other odd = both_one (one / 65536 % 2) (other / 65536 % 2) (omega arith) (omega arith) (sym (bit_at_and one other 16) ∙ odd)
 
 -- those of two lists were judged, where the first still are
-pub judged_both : (first second : List ChunkId) (looks more : List Look) (dead now : NotedChunks) → AreJudged first looks dead → ((other : ChunkId) → IsJudged looks dead other → IsJudged more now other) → AreJudged second more now → AreJudged (first ++ second) more now
+pub judged_both : (first second : List ChunkId) (looks more : List Look) (dead now : NotedChunks) → AreJudged first looks dead → ((other : ChunkId) → IsAliveOrNoted looks dead other → IsAliveOrNoted more now other) → AreJudged second more now → AreJudged (first ++ second) more now
 judged_both first second looks more dead now before kept behind chunk there = elim (Contains-append_cases first second chunk there) [
   | inl one ↦ kept chunk (before chunk one)
   | inr other ↦ behind chunk other
 ]
 
 -- one more
-pub judged_more : (chunks : List ChunkId) (last : ChunkId) (looks more : List Look) (dead now : NotedChunks) → AreJudged chunks looks dead → ((other : ChunkId) → IsJudged looks dead other → IsJudged more now other) → IsJudged more now last → AreJudged (chunks ++ last ∷ []) more now
+pub judged_more : (chunks : List ChunkId) (last : ChunkId) (looks more : List Look) (dead now : NotedChunks) → AreJudged chunks looks dead → ((other : ChunkId) → IsAliveOrNoted looks dead other → IsAliveOrNoted more now other) → IsAliveOrNoted more now last → AreJudged (chunks ++ last ∷ []) more now
 judged_more chunks last looks more dead now before kept here chunk there = elim (Contains-push_cases chunks last chunk there) [
   | inl one ↦ kept chunk (before chunk one)
-  | inr alike ↦ subst (λ (c : ChunkId). IsJudged more now c) alike here
+  | inr alike ↦ subst (λ (c : ChunkId). IsAliveOrNoted more now c) alike here
 ]

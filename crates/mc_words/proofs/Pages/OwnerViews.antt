@@ -10,9 +10,9 @@ use Rattle.mc_core.specs.declared.look.Look.{Look}
 use Rattle.mc_core.specs.declared.look.Look.TheVariants.{Popped, PoppedOff, PutBack, Cleared, Cut}
 use Rattle.mc_core.specs.declared.event.Step.{Step}
 use Rattle.mc_core.specs.declared.event.Step.TheVariants as core
-use Rattle.mc_core.specs.Holdings.{is_of, lose, change_each}
+use Rattle.mc_core.specs.Holdings.{is_of_chunk, without_first, change_each}
 use Rattle.mc_core.specs.State.{State, is_class, has_chunk, has_slabs, head_at, holdings_at, looks_at, room_in, with_slabs}
-use Rattle.mc_core.specs.Chunks.{next_free, handed_out, with_tag_free, with_tag_out, popped, popped_off, target_of, filled}
+use Rattle.mc_core.specs.Chunks.{next_free, head_after_hand_out, with_tag_free, with_tag_out, state_after_pop_of, popped_off, target_of, holding_with_word}
 use Rattle.mc_core.specs.Past.{Moment, Knowledge, knowledge_at, moment_stepped}
 use Rattle.mc_core.specs.Views.{held_slabs}
 use Rattle.mc_core.specs.Run.{after_step}
@@ -43,7 +43,7 @@ module _ (view now : View) where
       let m : Moment = h.was.moment in
       let id : ℕ = h.was.hand in
       let after : Moment = moment_stepped m id (core.Fill chunk place word) in
-      let change : List Holding → List Holding = λ holdings. change_each (is_of chunk) (filled place word) holdings in
+      let change : List Holding → List Holding = λ holdings. change_each (is_of_chunk chunk) (holding_with_word place word) holdings in
       h.is ∙ view_from view h.was _ after refl (change view.row.holdings) (get_or-set_same m.state.holdings id (change (holdings_at m.state id)) [] (holding_rows view h.was) ∙ ap change (holdings_were view now h.was)) view.row.looks (looks_were view now h.was)
       view.row.knows (learned_none (core.Fill chunk place word) h refl refl (λ knows. refl)) view.slabs (slabs_were view now h.was) view.stripes (stripes_were view now h.was)
 
@@ -53,7 +53,7 @@ module _ (view now : View) where
       let m : Moment = h.was.moment in
       let id : ℕ = h.was.hand in
       let after : Moment = moment_stepped m id (core.Discard chunk) in
-      h.is ∙ view_from view h.was _ after refl (lose (is_of chunk) view.row.holdings) (get_or-set_same m.state.holdings id (lose (is_of chunk) (holdings_at m.state id)) [] (holding_rows view h.was) ∙ ap (lose (is_of chunk)) (holdings_were view now h.was)) view.row.looks (looks_were view now h.was)
+      h.is ∙ view_from view h.was _ after refl (without_first (is_of_chunk chunk) view.row.holdings) (get_or-set_same m.state.holdings id (without_first (is_of_chunk chunk) (holdings_at m.state id)) [] (holding_rows view h.was) ∙ ap (without_first (is_of_chunk chunk)) (holdings_were view now h.was)) view.row.looks (looks_were view now h.was)
       view.row.knows (learned_none (core.Discard chunk) h refl refl (λ knows. refl)) view.slabs (slabs_were view now h.was) view.stripes (stripes_were view now h.was)
 
   module _ (slabs : SlabState) (mine : view.slabs ≡ Some slabs) where
@@ -111,21 +111,21 @@ module _ (view now : View) where
         let same = (slabs_here view h.was slabs mine).1 in
         let next : next_free m.state class ≡ Some chunk = ap (λ slabs. first_free (class_at slabs class)) same ∙ first in
         let with : State = with_slabs m.state (slabs_changes.after_pop m.state.slabs class) in
-        let state_is : (moment_stepped m id (core.Pop class)).state ≡ popped with id (Some chunk) = ap (popped with id) next in
+        let state_is : (moment_stepped m id (core.Pop class)).state ≡ state_after_pop_of with id (Some chunk) = ap (state_after_pop_of with id) next in
         let after : Moment = moment_stepped m id (core.Pop class) in
         let room : room_in m.state.table (class_of_page m.state.slabs chunk.page) ≡ room_in view.setup.table class = ap₂ room_in h.was.same_table on in
         let new : Holding = record { chunk = chunk; issue = (head_at m.state chunk).issue + 1; kind = Rattle.mc_core.specs.declared.holding.Kind.TheVariants.Fresh Rattle.mc_core.specs.declared.holding.Purpose.TheVariants.Item (replicate (room_in m.state.table (class_of_page m.state.slabs chunk.page)) None) } in
-        let held : held_slabs (popped with id (Some chunk)) id ≡ Some (slabs_changes.after_pop slabs class) =
+        let held : held_slabs (state_after_pop_of with id (Some chunk)) id ≡ Some (slabs_changes.after_pop slabs class) =
         (λ k. Rattle.std.specs.Prelude.if◌then◌else◌ ((slabs_here view h.was slabs mine).0 k) (Some (slabs_changes.after_pop (same k) class)) None) in
         h.is ∙ view_from view h.was _ after (ap (λ (s : State). Rattle.mc_core.specs.State.ids_at s id) state_is)
         (view.row.holdings ++ fresh_holding chunk (head.issue + 1) (room_in view.setup.table class) ∷ [])
         (ap (λ (s : State). holdings_at s id) state_is
         ∙ (get_or-set_same m.state.holdings id (holdings_at m.state id ++ new ∷ []) [] (holding_rows view h.was)
         ∙ (λ k. holdings_were view now h.was k ++ fresh_holding chunk ((is k).issue + 1) (room k) ∷ [])))
-        (view.row.looks ++ Popped chunk (handed_out head) ∷ [])
+        (view.row.looks ++ Popped chunk (head_after_hand_out head) ∷ [])
         (ap (λ (s : State). looks_at s id) state_is
-        ∙ (get_or-set_same m.state.looks id (looks_at m.state id ++ Popped chunk (handed_out (head_at m.state chunk)) ∷ []) [] (rows view now h.was)
-        ∙ ap₂ (λ (looks : List Look) (head : Head). looks ++ Popped chunk (handed_out head) ∷ []) (looks_were view now h.was) is))
+        ∙ (get_or-set_same m.state.looks id (looks_at m.state id ++ Popped chunk (head_after_hand_out (head_at m.state chunk)) ∷ []) [] (rows view now h.was)
+        ∙ ap₂ (λ (looks : List Look) (head : Head). looks ++ Popped chunk (head_after_hand_out head) ∷ []) (looks_were view now h.was) is))
         view.row.knows (learned_none (core.Pop class) h refl (ap (λ (s : State). s.stripes) state_is) (λ knows. refl))
         (Some (slabs_changes.after_pop slabs class)) (ap (λ (s : State). held_slabs s id) state_is ∙ held) view.stripes
         (ap (λ (s : State). Rattle.mc_words.specs.hand.View.held_stripes view.setup s id) state_is ∙ stripes_were view now h.was)
@@ -149,10 +149,10 @@ module _ (view now : View) where
         (ap (λ (s : State). holdings_at s id) state_is
         ∙ (get_or-set_same m.state.holdings id (holdings_at m.state id ++ new ∷ []) [] (holding_rows view h.was)
         ∙ (λ k. holdings_were view now h.was k ++ copy_holding old chunk ((is k).issue + 1) (room k) ∷ [])))
-        (view.row.looks ++ PoppedOff chunk old (handed_out head) ∷ [])
+        (view.row.looks ++ PoppedOff chunk old (head_after_hand_out head) ∷ [])
         (ap (λ (s : State). looks_at s id) state_is
-        ∙ (get_or-set_same m.state.looks id (looks_at m.state id ++ PoppedOff chunk old (handed_out (head_at m.state chunk)) ∷ []) [] (rows view now h.was)
-        ∙ ap₂ (λ (looks : List Look) (head : Head). looks ++ PoppedOff chunk old (handed_out head) ∷ []) (looks_were view now h.was) is))
+        ∙ (get_or-set_same m.state.looks id (looks_at m.state id ++ PoppedOff chunk old (head_after_hand_out (head_at m.state chunk)) ∷ []) [] (rows view now h.was)
+        ∙ ap₂ (λ (looks : List Look) (head : Head). looks ++ PoppedOff chunk old (head_after_hand_out head) ∷ []) (looks_were view now h.was) is))
         view.row.knows (learned_none (core.PopOff old) h refl (ap (λ (s : State). s.stripes) state_is) (λ knows. refl))
         (Some (slabs_changes.after_replace slabs chunk old)) (ap (λ (s : State). held_slabs s id) state_is ∙ held) view.stripes
         (ap (λ (s : State). Rattle.mc_words.specs.hand.View.held_stripes view.setup s id) state_is ∙ stripes_were view now h.was)

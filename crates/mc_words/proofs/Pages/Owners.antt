@@ -11,12 +11,12 @@ use Rattle.mc_core.specs.declared.head.Tag.TheVariants.{Out, Free}
 use Rattle.mc_core.specs.declared.holding.Holding.{Holding}
 use Rattle.mc_core.specs.declared.event.Step.TheVariants as core
 use Rattle.mc_core.specs.Head.{code, decode, is_free, is_dead}
-use Rattle.mc_core.specs.Holdings.{is_of, is_fresh, holding_of, lose, words_of}
-use Rattle.mc_core.specs.State.{State, is_class, has_chunk, has_slabs, head_at, head_place, holdings_at, looks_at, room_at, room_in, page_words, with_slabs}
+use Rattle.mc_core.specs.Holdings.{is_of_chunk, is_fresh, holding_of, without_first, holding_words}
+use Rattle.mc_core.specs.State.{State, is_class, has_chunk, has_slabs, head_at, head_place, holdings_at, looks_at, chunk_room, room_in, page_words, with_slabs}
 use Rattle.mc_core.specs.Chunks as chunks
-use Rattle.mc_core.specs.Chunks.{most_issue, most_holdings, has_place, next_free, handed_out, let_go, with_tag_free, holds_as, can_fill_in, popped, after_fill, filled}
-use Rattle.mc_core.specs.Codes.{plus, minus, FitsBits}
-use Rattle.mc_core.specs.Counts.{IsSized}
+use Rattle.mc_core.specs.Chunks.{most_issue, most_holdings, has_place, next_free, head_after_hand_out, head_after_release, with_tag_free, holds_as, can_fill_in, state_after_pop_of, after_fill, holding_with_word}
+use Rattle.mc_core.specs.Codes.{word_plus, word_minus, FitsBits}
+use Rattle.mc_core.specs.Counts.{IsHoldingSized}
 use Rattle.mc_core.specs.Columns.{place_in}
 use Rattle.mc_core.specs.Seen.{seen_head}
 use Rattle.mc_core.specs.Judged.{IsJudged}
@@ -68,7 +68,7 @@ module _ (view : View) (was : LawfulView view) where
   fits_here chunk near = needless.fits chunk (near_here view chunk near was)
 
 -- a fresh chunk is given up
-pub may_discard : (view : View) (chunk : ChunkId) (holding : Holding) → has_chunk view.setup.table chunk ≡ true → holding_of chunk view.row.holdings ≡ Some holding → is_fresh holding ≡ true → MayWrite view (core.Discard chunk) (head_word view.setup chunk) (minus 1)
+pub may_discard : (view : View) (chunk : ChunkId) (holding : Holding) → has_chunk view.setup.table chunk ≡ true → holding_of chunk view.row.holdings ≡ Some holding → is_fresh holding ≡ true → MayWrite view (core.Discard chunk) (head_word view.setup chunk) (word_minus 1)
 may_discard view chunk holding near found fresh was fits =
     let m = was.moment in
     let word = slice_index was.words (head_word view.setup chunk) in
@@ -76,29 +76,29 @@ may_discard view chunk holding near found fresh was fits =
     let is : head_at m.state chunk ≡ decode word = head_is view chunk near was in
     let count : 1 ≤ (decode word).count = subst (λ (h : Head). 1 ≤ h.count) is (held_count m was.lawful was.hand chunk holding here) in
     let small : FitsBits (decode word) = subst FitsBits is (fits_here view was chunk near) in
-    let gone : decode (minus 1 word) ≡ let_go (head_at m.state chunk) =
-    summed word fits let_go (minus 1) ((all_are_sums (decode word) small).release count) (record { issue = small.issue; count = let c = small.count in omega arith }) ∙ ap let_go (sym is) in (
+    let gone : decode (word_minus 1 word) ≡ head_after_release (head_at m.state chunk) =
+    summed word fits head_after_release (word_minus 1) ((all_are_sums (decode word) small).release count) (record { issue = small.issue; count = let c = small.count in omega arith }) ∙ ap head_after_release (sym is) in (
       ap (holds_as true) here ∙ ap (λ b. b && true || not b && not true) fresh,
-      header_written view chunk near was (minus 1 word) (let_go (head_at m.state chunk)) gone,
+      header_written view chunk near was (word_minus 1 word) (head_after_release (head_at m.state chunk)) gone,
     )
 
 -- a word of it is written
-module _ (view : View) (chunk : ChunkId) (holding : Holding) (place : ℕ) (found : holding_of chunk view.row.holdings ≡ Some holding) (fresh : is_fresh holding ≡ true) (near : place < length (words_of holding)) (was : LawfulView view) where
+module _ (view : View) (chunk : ChunkId) (holding : Holding) (place : ℕ) (found : holding_of chunk view.row.holdings ≡ Some holding) (fresh : is_fresh holding ≡ true) (near : place < length (holding_words holding)) (was : LawfulView view) where
   filled_here : holding_of chunk (holdings_at was.moment.state was.hand) ≡ Some holding
   filled_here = ap (holding_of chunk) (holdings_here view was) ∙ found
 
   filled_can : can_fill_in place (Some holding) ≡ true
-  filled_can = and_from _ _ fresh (lt-ltb place (length (words_of holding)) near)
+  filled_can = and_from _ _ fresh (lt-ltb place (length (holding_words holding)) near)
 
   -- how many words it has
-  pub room_is : room_at was.moment.state chunk ≡ length (words_of holding)
+  pub room_is : chunk_room was.moment.state chunk ≡ length (holding_words holding)
   room_is =
       let m = was.moment in
-      let sized = found_each (λ h. IsSized (room_in m.state.table (class_of_page m.state.slabs h.chunk.page)) h) m.state.holdings was.hand (is_of chunk) holding filled_here was.lawful.held.sized in
+      let sized = found_each (λ h. IsHoldingSized (room_in m.state.table (class_of_page m.state.slabs h.chunk.page)) h) m.state.holdings was.hand (is_of_chunk chunk) holding filled_here was.lawful.held.sized in
       ap (λ (c : ChunkId). room_in m.state.table (class_of_page m.state.slabs c.page)) (sym (fill_at m was.lawful was.hand chunk place holding filled_here filled_can)) ∙ sym (sized.0 fresh)
 
   -- where the word stands
-  pub place_is : data_word view.setup (length (words_of holding)) chunk place ≡ data_from view.setup + place_in was.moment.state.table was.moment.state.slabs chunk place
+  pub place_is : data_word view.setup (length (holding_words holding)) chunk place ≡ data_from view.setup + place_in was.moment.state.table was.moment.state.slabs chunk place
   place_is = ap₂ (λ (a b : ℕ). data_from view.setup + (chunk.page * a + chunk.index * b + place)) (ap page_words (sym was.same_table)) (sym room_is)
 
   pub place_near : place_in was.moment.state.table was.moment.state.slabs chunk place < data_count view.setup
@@ -111,10 +111,10 @@ module _ (view : View) (chunk : ChunkId) (holding : Holding) (place : ℕ) (foun
       omega arith
 
   -- it is a data word
-  pub fill_near : data_word view.setup (length (words_of holding)) chunk place < config_from view.setup
+  pub fill_near : data_word view.setup (length (holding_words holding)) chunk place < config_from view.setup
   fill_near = let is = place_is in let near = place_near in omega arith
 
-  pub can_fill_here : (word : ℕ) → (chunks.can_fill was.moment.state was.hand chunk place ≡ true) × AreAll view.setup was.cuts (slice_set was.words (data_word view.setup (length (words_of holding)) chunk place) word) (columns (after_fill was.moment.state was.hand chunk place word))
+  pub can_fill_here : (word : ℕ) → (chunks.can_fill was.moment.state was.hand chunk place ≡ true) × AreAll view.setup was.cuts (slice_set was.words (data_word view.setup (length (holding_words holding)) chunk place) word) (columns (after_fill was.moment.state was.hand chunk place word))
   can_fill_here word =
       let s : State = was.moment.state in (
         ap (can_fill_in place) filled_here ∙ filled_can,
@@ -122,13 +122,13 @@ module _ (view : View) (chunk : ChunkId) (holding : Holding) (place : ℕ) (foun
             (data_written view.setup was.cuts was.words s.slabs_lock s.stripe_locks s.heads s.words was.are (place_in s.table s.slabs chunk place) word place_near),
       )
 
-pub may_fill : (view : View) (chunk : ChunkId) (holding : Holding) (place word : ℕ) → holding_of chunk view.row.holdings ≡ Some holding → is_fresh holding ≡ true → place < length (words_of holding)
-    → MayWrite view (core.Fill chunk place word) (data_word view.setup (length (words_of holding)) chunk place) (λ found. word)
+pub may_fill : (view : View) (chunk : ChunkId) (holding : Holding) (place word : ℕ) → holding_of chunk view.row.holdings ≡ Some holding → is_fresh holding ≡ true → place < length (holding_words holding)
+    → MayWrite view (core.Fill chunk place word) (data_word view.setup (length (holding_words holding)) chunk place) (λ found. word)
 may_fill view chunk holding place word found fresh near was fits = can_fill_here view chunk holding place found fresh near was word
 
 -- the next free chunk of a class is handed out
 pub may_pop : (view : View) (slabs : SlabState) (class : ℕ) (chunk : ChunkId) (seen : Head) → view.slabs ≡ Some slabs → is_class view.setup.table class ≡ true → first_free (class_at slabs class) ≡ Some chunk → has_chunk view.setup.table chunk ≡ true
-    → length view.row.holdings < most_holdings → seen_head view.row.looks chunk ≡ Some seen → seen.issue < most_issue → MayWrite view (core.Pop class) (head_word view.setup chunk) (plus 327681)
+    → length view.row.holdings < most_holdings → seen_head view.row.looks chunk ≡ Some seen → seen.issue < most_issue → MayWrite view (core.Pop class) (head_word view.setup chunk) (word_plus 327681)
 may_pop view slabs class chunk seen mine is first near few last left was fits =
     let m = was.moment in
     let word = slice_index was.words (head_word view.setup chunk) in
@@ -144,17 +144,17 @@ may_pop view slabs class chunk seen mine is first near few last left was fits =
     let is_word : head_at m.state chunk ≡ decode word = head_is view chunk near was in
     let small : FitsBits (decode word) = subst FitsBits is_word (fits_here view was chunk near) in
     let left' : (decode word).issue < most_issue = subst (λ (h : Head). h.issue < most_issue) (sym still ∙ is_word) left in
-    let out : decode (plus 327681 word) ≡ handed_out (head_at m.state chunk) =
-    summed word fits handed_out (plus 327681) ((all_are_sums (decode word) small).hand_out (sym (ap (λ (h : Head). h.tag) is_word) ∙ free) (sym (ap (λ (h : Head). h.count) is_word) ∙ count) left') (record { issue = omega arith; count = omega arith })
-    ∙ ap handed_out (sym is_word) in
-    let after : columns (chunks.after_pop m.state was.hand class) ≡ (m.state.slabs_lock, m.state.stripe_locks, slice_set m.state.heads (head_place m.state.table chunk) (handed_out (head_at m.state chunk)), m.state.words) =
-    ap (λ o. columns (popped (with_slabs m.state (slabs_changes.after_pop m.state.slabs class)) was.hand o)) next in (
+    let out : decode (word_plus 327681 word) ≡ head_after_hand_out (head_at m.state chunk) =
+    summed word fits head_after_hand_out (word_plus 327681) ((all_are_sums (decode word) small).hand_out (sym (ap (λ (h : Head). h.tag) is_word) ∙ free) (sym (ap (λ (h : Head). h.count) is_word) ∙ count) left') (record { issue = omega arith; count = omega arith })
+    ∙ ap head_after_hand_out (sym is_word) in
+    let after : columns (chunks.state_after_pop m.state was.hand class) ≡ (m.state.slabs_lock, m.state.stripe_locks, slice_set m.state.heads (head_place m.state.table chunk) (head_after_hand_out (head_at m.state chunk)), m.state.words) =
+    ap (λ o. columns (state_after_pop_of (with_slabs m.state (slabs_changes.after_pop m.state.slabs class)) was.hand o)) next in (
       judge.pop class chunk seen class_is place next looked left,
-      subst (AreAll view.setup was.cuts (slice_set was.words (head_word view.setup chunk) (plus 327681 word))) (sym after) (header_written view chunk near was (plus 327681 word) (handed_out (head_at m.state chunk)) out),
+      subst (AreAll view.setup was.cuts (slice_set was.words (head_word view.setup chunk) (word_plus 327681 word))) (sym after) (header_written view chunk near was (word_plus 327681 word) (head_after_hand_out (head_at m.state chunk)) out),
     )
 
 -- a dead chunk is put back
-pub may_put_back : (view : View) (slabs : SlabState) (chunk : ChunkId) (seen : Head) → view.slabs ≡ Some slabs → has_chunk view.setup.table chunk ≡ true → seen_head view.row.looks chunk ≡ Some seen → is_dead seen ≡ true → MayWrite view (core.PutBack chunk) (head_word view.setup chunk) (minus 65536)
+pub may_put_back : (view : View) (slabs : SlabState) (chunk : ChunkId) (seen : Head) → view.slabs ≡ Some slabs → has_chunk view.setup.table chunk ≡ true → seen_head view.row.looks chunk ≡ Some seen → is_dead seen ≡ true → MayWrite view (core.PutBack chunk) (head_word view.setup chunk) (word_minus 65536)
 may_put_back view slabs chunk seen mine near last dead was fits =
     let m = was.moment in
     let word = slice_index was.words (head_word view.setup chunk) in
@@ -163,15 +163,15 @@ may_put_back view slabs chunk seen mine near last dead was fits =
     let is_word : head_at m.state chunk ≡ decode word = head_is view chunk near was in
     let small : FitsBits (decode word) = subst FitsBits is_word (fits_here view was chunk near) in
     let dead' : is_dead (decode word) ≡ true = subst (λ (h : Head). is_dead h ≡ true) (sym judge.0 ∙ is_word) dead in
-    let back : decode (minus 65536 word) ≡ with_tag_free (head_at m.state chunk) =
-    summed word fits with_tag_free (minus 65536) ((all_are_sums (decode word) small).put_back dead') (record { issue = small.issue; count = small.count }) ∙ ap with_tag_free (sym is_word) in (
+    let back : decode (word_minus 65536 word) ≡ with_tag_free (head_at m.state chunk) =
+    summed word fits with_tag_free (word_minus 65536) ((all_are_sums (decode word) small).put_back dead') (record { issue = small.issue; count = small.count }) ∙ ap with_tag_free (sym is_word) in (
       judge.1,
-      header_written view chunk near was (minus 65536 word) (with_tag_free (head_at m.state chunk)) back,
+      header_written view chunk near was (word_minus 65536 word) (with_tag_free (head_at m.state chunk)) back,
     )
 
 -- the lowest uncut chunk is cut
 pub may_cut : (view : View) (slabs : SlabState) (page index : ℕ) → view.slabs ≡ Some slabs → has_chunk view.setup.table (record { page = page; index = index }) ≡ true → slabs.uncut ≡ Some (record { page = page; index = index })
-    → MayWrite view (core.Cut page index) (head_word view.setup (record { page = page; index = index })) (plus 65536)
+    → MayWrite view (core.Cut page index) (head_word view.setup (record { page = page; index = index })) (word_plus 65536)
 may_cut view slabs page index mine near next was fits =
     let m = was.moment in
     let chunk : ChunkId = record { page = page; index = index } in
@@ -181,10 +181,10 @@ may_cut view slabs page index mine near next was fits =
     let is_word : head_at m.state chunk ≡ decode word = head_is view chunk near was in
     let small : FitsBits (decode word) = subst FitsBits is_word (fits_here view was chunk near) in
     let out : (decode word).tag ≡ Out = sym (ap (λ (h : Head). h.tag) is_word) ∙ ((needless view was).uncut chunk uncut).1 in
-    let cut : decode (plus 65536 word) ≡ with_tag_free (head_at m.state chunk) =
-    summed word fits with_tag_free (plus 65536) ((all_are_sums (decode word) small).cut out) (record { issue = small.issue; count = small.count }) ∙ ap with_tag_free (sym is_word) in (
+    let cut : decode (word_plus 65536 word) ≡ with_tag_free (head_at m.state chunk) =
+    summed word fits with_tag_free (word_plus 65536) ((all_are_sums (decode word) small).cut out) (record { issue = small.issue; count = small.count }) ∙ ap with_tag_free (sym is_word) in (
       (judged view was slabs mine).cut chunk uncut,
-      header_written view chunk near was (plus 65536 word) (with_tag_free (head_at m.state chunk)) cut,
+      header_written view chunk near was (word_plus 65536 word) (with_tag_free (head_at m.state chunk)) cut,
     )
 
 -- chunks that the values name are near
@@ -204,9 +204,9 @@ holding_near view was chunk holding found fresh =
     ap (λ table. has_chunk table chunk) (sym was.same_table) ∙ ((needless view was).fresh was.hand chunk holding (ap (holding_of chunk) (holdings_here view was) ∙ found) fresh).0
 
 -- one holding less
-pub one_less : (chunk : ChunkId) (holdings : List Holding) (holding : Holding) → holding_of chunk holdings ≡ Some holding → suc (length (lose (is_of chunk) holdings)) ≡ length holdings
+pub one_less : (chunk : ChunkId) (holdings : List Holding) (holding : Holding) → holding_of chunk holdings ≡ Some holding → suc (length (without_first (is_of_chunk chunk) holdings)) ≡ length holdings
 one_less chunk [] holding found = absurd (cc)
-one_less chunk (first ∷ more) holding found = elim (cases_Bool (is_of chunk first)) [
-  | inl is ↦ ap (λ (b : Bool). suc (length (if b then more else first ∷ lose (is_of chunk) more))) is
-  | inr isnt ↦ ap (λ (b : Bool). suc (length (if b then more else first ∷ lose (is_of chunk) more))) isnt ∙ ap suc (one_less chunk more holding (ap (λ (b : Bool). if b then Some first else holding_of chunk more) (sym isnt) ∙ found))
+one_less chunk (first ∷ more) holding found = elim (cases_Bool (is_of_chunk chunk first)) [
+  | inl is ↦ ap (λ (b : Bool). suc (length (if b then more else first ∷ without_first (is_of_chunk chunk) more))) is
+  | inr isnt ↦ ap (λ (b : Bool). suc (length (if b then more else first ∷ without_first (is_of_chunk chunk) more))) isnt ∙ ap suc (one_less chunk more holding (ap (λ (b : Bool). if b then Some first else holding_of chunk more) (sym isnt) ∙ found))
 ]

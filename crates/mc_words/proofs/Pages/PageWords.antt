@@ -12,12 +12,12 @@ use Rattle.mc_pages.specs.Changes.{next_page, after_grow}
 use Rattle.mc_core.specs.declared.event.Change.TheVariants.{Evicted, Grow, SetAutomove, Touch, TrimLedger}
 use Rattle.mc_core.specs.declared.event.Step.TheVariants as core
 use Rattle.mc_core.specs.State.{State, is_class}
-use Rattle.mc_core.specs.Silent.{grown, can_change_slabs, is_handed_out}
+use Rattle.mc_core.specs.Silent.{after_growth, can_change_slabs, is_handed_out}
 use Rattle.mc_core.proofs.SamePages.{grown_owners, grown_pages}
 use Rattle.mc_words.specs.hand.View.{View}
-use Rattle.mc_words.specs.rule.Layout.{lock_word, page_word}
+use Rattle.mc_words.specs.rule.Layout.{lock_address, page_word}
 use Rattle.mc_words.specs.rule.Meaning.{AreCut}
-use Rattle.mc_words.specs.rule.Happens.{LawfulView, MayTell}
+use Rattle.mc_words.specs.rule.Happens.{LawfulView, AllowsStep}
 use Rattle.mc_words.proofs.Rules.Written.{cuts_long, page_written, unwritten}
 use Rattle.mc_words.proofs.Pages.Owners.{slabs_here}
 
@@ -36,7 +36,7 @@ cut_written cuts x page class within owned cut other = elim (cases_eq other page
 
 -- a class gets the next page, whose word tells that
 pub may_grow : (view : View) (slabs : SlabState) (class page : ℕ) → view.slabs ≡ Some slabs → can_change_slabs view.setup.table slabs (Grow class) ≡ true → next_page slabs class ≡ Some page → page < arena_pages_of view.setup.table → page < length slabs.owners
-    → MayTell view (Grow class) core.MissSlabs (page_word view.setup page) (λ found. class)
+    → AllowsStep view (Grow class) core.MissSlabs (page_word view.setup page) (λ found. class)
 may_grow view slabs class page mine can next near owned = record {
   allowed = λ was.
       let held = slabs_here view was slabs mine in
@@ -47,7 +47,7 @@ may_grow view slabs class page mine can next near owned = record {
       let same = (slabs_here view was slabs mine).1 in
       let long = cuts_long view.setup was.cuts was.words s.slabs_lock s.stripe_locks s.heads s.words was.are in
       let cut : AreCut was.cuts slabs = subst (AreCut was.cuts) same was.cut in
-      let is : grown s.slabs class (next_page s.slabs class) ≡ after_grow slabs class page = ap (λ slabs. grown slabs class (next_page slabs class)) same ∙ ap (grown slabs class) next in (
+      let is : after_growth s.slabs class (next_page s.slabs class) ≡ after_grow slabs class page = ap (λ slabs. after_growth slabs class (next_page slabs class)) same ∙ ap (after_growth slabs class) next in (
         slice_set was.cuts page class,
         page_written view.setup was.cuts was.words s.slabs_lock s.stripe_locks s.heads s.words was.are page class near,
         subst (AreCut (slice_set was.cuts page class)) (sym is) (cut_written was.cuts slabs page class (omega arith) owned cut),
@@ -55,35 +55,35 @@ may_grow view slabs class page mine can next near owned = record {
 }
 
 -- the mode is set
-pub may_set_automove : (view : View) (slabs : SlabState) (mode : ℕ) → view.slabs ≡ Some slabs → can_change_slabs view.setup.table slabs (SetAutomove mode) ≡ true → MayTell view (SetAutomove mode) core.MissSlabs (lock_word 0) (λ found. found)
+pub may_set_automove : (view : View) (slabs : SlabState) (mode : ℕ) → view.slabs ≡ Some slabs → can_change_slabs view.setup.table slabs (SetAutomove mode) ≡ true → AllowsStep view (SetAutomove mode) core.MissSlabs (lock_address 0) (λ found. found)
 may_set_automove view slabs mode mine can = record {
   allowed = λ was. and_from _ _ (slabs_here view was slabs mine).0 can;
   step_allowed = λ was. refl;
-  writes = λ was. let s : State = was.moment.state in (was.cuts, unwritten view.setup was.cuts was.words s.slabs_lock s.stripe_locks s.heads s.words was.are (lock_word 0), was.cut);
+  writes = λ was. let s : State = was.moment.state in (was.cuts, unwritten view.setup was.cuts was.words s.slabs_lock s.stripe_locks s.heads s.words was.are (lock_address 0), was.cut);
 }
 
 -- the ledger is trimmed
-pub may_trim_ledger : (view : View) (slabs : SlabState) → view.slabs ≡ Some slabs → MayTell view TrimLedger core.MissSlabs (lock_word 0) (λ found. found)
+pub may_trim_ledger : (view : View) (slabs : SlabState) → view.slabs ≡ Some slabs → AllowsStep view TrimLedger core.MissSlabs (lock_address 0) (λ found. found)
 may_trim_ledger view slabs mine = record {
   allowed = λ was. and_from _ _ (slabs_here view was slabs mine).0 refl;
   step_allowed = λ was. refl;
-  writes = λ was. let s : State = was.moment.state in (was.cuts, unwritten view.setup was.cuts was.words s.slabs_lock s.stripe_locks s.heads s.words was.are (lock_word 0), was.cut);
+  writes = λ was. let s : State = was.moment.state in (was.cuts, unwritten view.setup was.cuts was.words s.slabs_lock s.stripe_locks s.heads s.words was.are (lock_address 0), was.cut);
 }
 
 -- a chunk that is handed out is touched
-pub may_touch : (view : View) (slabs : SlabState) (chunk : ChunkId) → view.slabs ≡ Some slabs → is_handed_out slabs chunk ≡ true → MayTell view (Touch chunk) core.MissSlabs (lock_word 0) (λ found. found)
+pub may_touch : (view : View) (slabs : SlabState) (chunk : ChunkId) → view.slabs ≡ Some slabs → is_handed_out slabs chunk ≡ true → AllowsStep view (Touch chunk) core.MissSlabs (lock_address 0) (λ found. found)
 may_touch view slabs chunk mine out = record {
   allowed = λ was. let held = slabs_here view was slabs mine in and_from _ _ held.0 (ap (λ slabs. is_handed_out slabs chunk) held.1 ∙ out);
   step_allowed = λ was. refl;
-  writes = λ was. let s : State = was.moment.state in (was.cuts, unwritten view.setup was.cuts was.words s.slabs_lock s.stripe_locks s.heads s.words was.are (lock_word 0), was.cut);
+  writes = λ was. let s : State = was.moment.state in (was.cuts, unwritten view.setup was.cuts was.words s.slabs_lock s.stripe_locks s.heads s.words was.are (lock_address 0), was.cut);
 }
 
 -- an eviction is counted
-pub may_evicted : (view : View) (slabs : SlabState) (class : ℕ) → view.slabs ≡ Some slabs → is_class view.setup.table class ≡ true → MayTell view (Evicted class) core.MissSlabs (lock_word 0) (λ found. found)
+pub may_evicted : (view : View) (slabs : SlabState) (class : ℕ) → view.slabs ≡ Some slabs → is_class view.setup.table class ≡ true → AllowsStep view (Evicted class) core.MissSlabs (lock_address 0) (λ found. found)
 may_evicted view slabs class mine is = record {
   allowed = λ was. and_from _ _ (slabs_here view was slabs mine).0 (ap (λ table. is_class table class) was.same_table ∙ is);
   step_allowed = λ was. refl;
-  writes = λ was. let s : State = was.moment.state in (was.cuts, unwritten view.setup was.cuts was.words s.slabs_lock s.stripe_locks s.heads s.words was.are (lock_word 0), was.cut);
+  writes = λ was. let s : State = was.moment.state in (was.cuts, unwritten view.setup was.cuts was.words s.slabs_lock s.stripe_locks s.heads s.words was.are (lock_address 0), was.cut);
 }
 
 -- the page that comes next stands in the arena

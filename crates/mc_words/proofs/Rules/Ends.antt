@@ -19,12 +19,12 @@ use Rattle.mc_core.specs.InOrder.{IsOfTable}
 use Rattle.mc_core.specs.State.{State, head_at, most_of, has_chunk, head_place, stripe_at}
 use Rattle.mc_words.specs.declared.lock.slot.Slot.{Slot}
 use Rattle.mc_words.specs.declared.lock.slot.Slot.TheVariants.{Empty, OfSlabs, OfStripe}
-use Rattle.mc_words.specs.hand.View.{Setup, View, settled}
-use Rattle.mc_words.specs.rule.Layout.{lock_word, head_word, heads_from, head_count}
+use Rattle.mc_words.specs.hand.View.{Setup, View, settled_view}
+use Rattle.mc_words.specs.rule.Layout.{lock_address, head_word, heads_from, head_count}
 use Rattle.mc_words.specs.lock.Slots.{slot_at}
-use Rattle.mc_words.specs.rule.Meaning.{Words, Has, Ruled}
+use Rattle.mc_words.specs.rule.Meaning.{WordsOfTable, Has, IsRuled}
 use Rattle.mc_words.specs.rule.Joins.{Rule, all_settled}
-use Rattle.mc_words.specs.rule.End.{Closes, IsLeftOf, Left, at_home, left_of, slabs_in, slabs_left, stripe_in, stripe_left}
+use Rattle.mc_words.specs.rule.End.{Closes, IsLeftOf, ArenaEnd, at_home, left_of, slabs_in, slabs_left, stripe_in, stripe_left}
 use Rattle.mc_words.proofs.Rules.Headlines.{rule_gives_headline}
 use Rattle.mc_words.proofs.Rules.NextMoments.{lawful_view}
 use Rattle.mc_words.proofs.Rules.Settled.{IsSettled, settled_same}
@@ -60,13 +60,13 @@ left_by word lock found value same free = elim (cases_eq word 0) [
   | inr not ↦ ap (λ (b : Bool). if b then found else None) (ne_eqb word 0 not) ∙ sym (ap (λ (b : Bool). if b then Some value else None) (ne_eqb lock 0 (λ is. not (same ∙ is))))
 ]
 
-module _ (setup : Setup) (t : Words) (r : Ruled setup t) (slots : List Slot) (last : (lock : ℕ) (slot : Slot) → get_elem? t.homes lock ≡ some (some slot) → get_elem? slots lock ≡ some slot) where
+module _ (setup : Setup) (t : WordsOfTable) (r : IsRuled setup t) (slots : List Slot) (last : (lock : ℕ) (slot : Slot) → get_elem? t.homes lock ≡ some (some slot) → get_elem? slots lock ≡ some slot) where
   abbrev s : State
   s = r.moment.state
 
   slabs_is : slabs_left t.words slots ≡ at_home s.slabs_lock s.slabs
   slabs_is =
-      left_by (slice_index t.words (lock_word zero)) s.slabs_lock (slabs_in (slice_index_or slots (slot_at zero) Empty)) s.slabs
+      left_by (slice_index t.words (lock_address zero)) s.slabs_lock (slabs_in (slice_index_or slots (slot_at zero) Empty)) s.slabs
       (slabs_lock_read setup r.cuts t.words s.slabs_lock s.stripe_locks s.heads s.words r.means.words)
       (λ free.
       let (slot, home, has) = r.means.homes zero (omega arith) free in
@@ -74,7 +74,7 @@ module _ (setup : Setup) (t : Words) (r : Ruled setup t) (slots : List Slot) (la
 
   stripe_is : (stripe : ℕ) → stripe < setup.config.stripes → stripe_left t.words slots stripe ≡ at_home (slice_index s.stripe_locks stripe) (stripe_at s stripe)
   stripe_is stripe near =
-      left_by (slice_index t.words (lock_word (suc stripe))) (slice_index s.stripe_locks stripe) (stripe_in (slice_index_or slots (slot_at (suc stripe)) Empty)) (stripe_at s stripe)
+      left_by (slice_index t.words (lock_address (suc stripe))) (slice_index s.stripe_locks stripe) (stripe_in (slice_index_or slots (slot_at (suc stripe)) Empty)) (stripe_at s stripe)
       (lock_read setup r.cuts t.words s.slabs_lock s.stripe_locks s.heads s.words r.means.words stripe near)
       (λ free.
       let (slot, home, has) = r.means.homes (suc stripe) (omega arith) free in
@@ -89,10 +89,10 @@ module _ (setup : Setup) (t : Words) (r : Ruled setup t) (slots : List Slot) (la
       ])
 
 -- all of it, of the hand that closes it
-closed_by : (view : View) (t : Words) (slots : List Slot) → ((lock : ℕ) (slot : Slot) → get_elem? t.homes lock ≡ some (some slot) → get_elem? slots lock ≡ some slot) → (id : ℕ) → get_elem? t.views id ≡ some view → IsSettled view → Rule view.setup t
+closed_by : (view : View) (t : WordsOfTable) (slots : List Slot) → ((lock : ℕ) (slot : Slot) → get_elem? t.homes lock ≡ some (some slot) → get_elem? slots lock ≡ some slot) → (id : ℕ) → get_elem? t.views id ≡ some view → IsSettled view → Rule view.setup t
     → Closes view (left_of view.setup t.words slots)
 closed_by view t slots last id mine live rule =
-    let at : get_elem? (map settled t.views) id ≡ some view = at_map settled t.views id view mine ∙ ap some (settled_same view live.1) in
+    let at : get_elem? (map settled_view t.views) id ≡ some view = at_map settled_view t.views id view mine ∙ ap some (settled_same view live.1) in
     let s = rule.ruled.moment.state in record {
       was = lawful_view view.setup (all_settled t) rule.ruled id view at live.0 refl;
       table = t;
@@ -129,27 +129,27 @@ module _ (setup : Setup) (words : List ℕ) (slots : List Slot) (left : IsLeftOf
       ∙ (get_or-drop (heads_from setup) words (head_place setup.table chunk) 0 ∙ (ap (slice_index words) (sym is) ∙ read words place word 0 at)))
 
   -- pages and lists, where they are at home
-  pub slabs_told : (word : ℕ) → get_elem? words (lock_word zero) ≡ some word → word ≡ 0 → (slot : Slot) → slot ≡ slice_index_or slots (slot_at zero) slot → slabs_in slot ≡ (left_of setup words slots).slabs
+  pub slabs_told : (word : ℕ) → get_elem? words (lock_address zero) ≡ some word → word ≡ 0 → (slot : Slot) → slot ≡ slice_index_or slots (slot_at zero) slot → slabs_in slot ≡ (left_of setup words slots).slabs
   slabs_told word at free slot found =
       let count = left.locks in
       let here = read slots (slot_at zero) slot Empty (at_index slots (slot_at zero) slot (omega arith) found) in
-      sym (ap (λ (b : Bool). if b then slabs_in (slice_index_or slots (slot_at zero) Empty) else None) (eq-eqb (slice_index words (lock_word zero)) 0 (read words (lock_word zero) word 0 at ∙ free))
+      sym (ap (λ (b : Bool). if b then slabs_in (slice_index_or slots (slot_at zero) Empty) else None) (eq-eqb (slice_index words (lock_address zero)) 0 (read words (lock_address zero) word 0 at ∙ free))
       ∙ ap slabs_in here)
 
   -- the numbers of locks are small
   pub few_stripes : (stripe : ℕ) → stripe < setup.config.stripes → suc stripe < 2 ^ 59
   few_stripes stripe near = let small = left.small in omega arith
 
-  module _ (stripe : ℕ) (near : stripe < setup.config.stripes) (word : ℕ) (at : get_elem? words (lock_word (suc stripe)) ≡ some word) where
-    word_is : slice_index words (lock_word (suc stripe)) ≡ word
-    word_is = read words (lock_word (suc stripe)) word 0 at
+  module _ (stripe : ℕ) (near : stripe < setup.config.stripes) (word : ℕ) (at : get_elem? words (lock_address (suc stripe)) ≡ some word) where
+    word_is : slice_index words (lock_address (suc stripe)) ≡ word
+    word_is = read words (lock_address (suc stripe)) word 0 at
 
     of_stripe : slice_index_or (left_of setup words slots).stripes stripe None ≡ stripe_left words slots stripe
     of_stripe = get_or-map-range_with_len (stripe_left words slots) 0 setup.config.stripes stripe stripe None near (zero-add stripe)
 
     -- where a hand has it
     pub none_told : (word ≡ 0 → ⊥) → None ≡ slice_index_or (left_of setup words slots).stripes stripe None
-    none_told held = sym (of_stripe ∙ ap (λ (b : Bool). if b then stripe_in (slice_index_or slots (slot_at (suc stripe)) Empty) else None) (ne_eqb (slice_index words (lock_word (suc stripe))) 0 (λ is. held (sym word_is ∙ is))))
+    none_told held = sym (of_stripe ∙ ap (λ (b : Bool). if b then stripe_in (slice_index_or slots (slot_at (suc stripe)) Empty) else None) (ne_eqb (slice_index words (lock_address (suc stripe))) 0 (λ is. held (sym word_is ∙ is))))
 
     -- and where it is at home
     pub stripe_told : word ≡ 0 → (slot : Slot) → slot ≡ slice_index_or slots (slot_at (suc stripe)) slot → stripe_in slot ≡ slice_index_or (left_of setup words slots).stripes stripe None
@@ -157,7 +157,7 @@ module _ (setup : Setup) (words : List ℕ) (slots : List Slot) (left : IsLeftOf
         let count = left.locks in
         let here = read slots (slot_at (suc stripe)) slot Empty (at_index slots (slot_at (suc stripe)) slot (omega arith) found) in
         sym (of_stripe
-        ∙ (ap (λ (b : Bool). if b then stripe_in (slice_index_or slots (slot_at (suc stripe)) Empty) else None) (eq-eqb (slice_index words (lock_word (suc stripe))) 0 (word_is ∙ free))
+        ∙ (ap (λ (b : Bool). if b then stripe_in (slice_index_or slots (slot_at (suc stripe)) Empty) else None) (eq-eqb (slice_index words (lock_address (suc stripe))) 0 (word_is ∙ free))
         ∙ ap stripe_in here))
 
 -- a slot without a stripe
@@ -167,7 +167,7 @@ no_stripe_in (OfSlabs slabs) not = refl
 no_stripe_in (OfStripe value) not = absurd (not value refl)
 
 -- what is read is what the last moment has
-module _ (view : View) (left : Left) (closes : Closes view left) where
+module _ (view : View) (left : ArenaEnd) (closes : Closes view left) where
   abbrev ended : State
   ended = closes.was.moment.state
 

@@ -9,23 +9,23 @@ use Rattle.atomic_table.proofs.Lists.{at_map}
 use Rattle.mc_classes.specs.Classes.{Classes, arena_pages_of}
 use Rattle.mc_pages.specs.declared.ids.ChunkId.{ChunkId}
 use Rattle.mc_pages.specs.Accounted.{is_cut, is_moving, is_of_class, places_in, truth, cut_count}
-use Rattle.mc_pages.specs.ClassState.{times}
+use Rattle.mc_pages.specs.ClassState.{times_in}
 use Rattle.mc_pages.specs.Ledger.{all_untouched, ordinary_count, owner_at, replay}
-use Rattle.mc_pages.specs.SlabState.{IsClass, SlabState, class_at, class_of_page, page_count}
+use Rattle.mc_pages.specs.SlabState.{HasClass, SlabState, class_at, class_of_page, page_count}
 use Rattle.mc_core.specs.declared.event.Event.{Event}
 use Rattle.mc_core.specs.declared.head.Head.{Head}
 use Rattle.mc_core.specs.declared.head.Tag.{Tag}
 use Rattle.mc_core.specs.declared.head.Tag.TheVariants.{Free, Linked, Out, Unlinked}
 use Rattle.mc_core.specs.declared.holding.Holding.{Holding}
-use Rattle.mc_core.specs.Columns.{IsHandedOut, head_in, holders, holds, link_of, place_in}
+use Rattle.mc_core.specs.Columns.{IsHandedOut, head_in, holder_count, count_of_holdings, link_count, place_in}
 use Rattle.mc_core.specs.Head.{is_free, is_out, never_cut}
-use Rattle.mc_core.specs.Holdings.{words_of}
+use Rattle.mc_core.specs.Holdings.{holding_words}
 use Rattle.mc_core.specs.InOrder.{IsOfTable}
 use Rattle.mc_core.specs.Lawful.{IsKept, IsLawful}
 use Rattle.mc_core.specs.Laws.{moment_at_end}
 use Rattle.mc_core.specs.Past.{Moment, moment_after}
-use Rattle.mc_core.specs.Stretch.{HasSameWords, Holds, KeepsHolding, StaysKept}
-use Rattle.mc_core.specs.State.{has_chunk, head_place, holdings_at, is_hand, number_at, page_words, room_at, room_in, word_at}
+use Rattle.mc_core.specs.Stretch.{HasSameWords, HoldsChunk, KeepsHolding, StaysKept}
+use Rattle.mc_core.specs.State.{has_chunk, head_place, holdings_at, is_hand, number_at, page_words, chunk_room, room_in, word_at}
 use Rattle.mc_core.proofs.Base.{chunk_within, placed_at, word_within}
 use Rattle.mc_pages.proofs.GrantedPage.{length-owners}
 use Rattle.mc_core.proofs.Follows.{are_kept}
@@ -36,19 +36,19 @@ use Rattle.mc_words.specs.declared.lock.slot.Slot.TheVariants.{Empty, OfSlabs, O
 use Rattle.mc_words.specs.Headline.{HasSameData, HeldStaysTheSame, HeldStaysThroughout, IsAccountedFor, IsInOnePlace, IsKeptIn, RuleGivesHeadline, StaysThroughout, ViewsGiveHeadline, ViewsStayThroughout, class_in, data_in, header_in, holders_among}
 use Rattle.mc_words.specs.rule.Joins.{all_settled}
 use Rattle.mc_words.specs.rule.Layout.{data_count, data_from, data_word, slabs_word}
-use Rattle.mc_words.specs.rule.Meaning.{AreCut, Has, IsViewOf, LeadsTo, Ruled, Words, WordsOf, beginning_of}
-use Rattle.mc_words.specs.hand.View.{Setup, View, new_view, settled}
+use Rattle.mc_words.specs.rule.Meaning.{AreCut, Has, IsViewOf, IsReachedBy, IsRuled, WordsOfTable, WordsOf, beginning_of}
+use Rattle.mc_words.specs.hand.View.{Setup, View, new_view, settled_view}
 use Rattle.mc_words.proofs.Rules.Written.{data_read, head_near, head_read, page_read, slabs_lock_read}
 
 -- all holders are those of the rows
 same_holders : (chunk : ChunkId) (rows : List (List Holding)) (views : List View) → ((i : ℕ) (view : View) → get_elem? views i ≡ some view → slice_index_or rows i [] ≡ view.row.holdings)
-    → ((i : ℕ) → length views ≤ i → i < length rows → slice_index_or rows i [] ≡ []) → length views ≤ length rows → holders chunk rows ≡ holders_among chunk views
+    → ((i : ℕ) → length views ≤ i → i < length rows → slice_index_or rows i [] ≡ []) → length views ≤ length rows → holder_count chunk rows ≡ holders_among chunk views
 same_holders chunk [] [] have none few = refl
 same_holders chunk [] (view ∷ views) have none few = absurd (omega arith)
 same_holders chunk (row ∷ rows) [] have none few =
-    ap₂ (λ (own : List Holding) (n : ℕ). holds chunk own + n) (none 0 (omega arith) (omega arith)) (same_holders chunk rows [] (λ i view at. absurd (maybe.some-ne-none view (sym at))) (λ i past near. none (suc i) (omega arith) (omega arith)) (omega arith))
+    ap₂ (λ (own : List Holding) (n : ℕ). count_of_holdings chunk own + n) (none 0 (omega arith) (omega arith)) (same_holders chunk rows [] (λ i view at. absurd (maybe.some-ne-none view (sym at))) (λ i past near. none (suc i) (omega arith) (omega arith)) (omega arith))
 same_holders chunk (row ∷ rows) (view ∷ views) have none few =
-    ap₂ (λ (own : List Holding) (n : ℕ). holds chunk own + n) (have 0 view refl) (same_holders chunk rows views (λ i v at. have (suc i) v at) (λ i past near. none (suc i) (omega arith) (omega arith)) (omega arith))
+    ap₂ (λ (own : List Holding) (n : ℕ). count_of_holdings chunk own + n) (have 0 view refl) (same_holders chunk rows views (λ i v at. have (suc i) v at) (λ i past near. none (suc i) (omega arith) (omega arith)) (omega arith))
 
 known_near : {A : Type 0} (l : List A) (i : ℕ) (a : A) → slice_get l i ≡ Some a → i < length l
 known_near [] i a e = absurd (cc)
@@ -63,9 +63,9 @@ no_number None e = refl
 no_number (Some x) e = absurd (cc)
 
 -- so it is of the settled views
-same_settled : (chunk : ChunkId) (views : List View) → holders_among chunk (map settled views) ≡ holders_among chunk views
+same_settled : (chunk : ChunkId) (views : List View) → holders_among chunk (map settled_view views) ≡ holders_among chunk views
 same_settled chunk [] = refl
-same_settled chunk (view ∷ views) = ap (λ (n : ℕ). holds chunk view.row.holdings + n) (same_settled chunk views)
+same_settled chunk (view ∷ views) = ap (λ (n : ℕ). count_of_holdings chunk view.row.holdings + n) (same_settled chunk views)
 
 -- a lawful moment, as these words have it
 module _ (setup : Setup) (cuts words : List ℕ) (m : Moment) (lawful : IsLawful m) (same_table : m.state.table ≡ setup.table) (are : WordsOf setup cuts words m.state) (cut : AreCut cuts m.state.slabs) where
@@ -85,7 +85,7 @@ module _ (setup : Setup) (cuts words : List ℕ) (m : Moment) (lawful : IsLawful
   near_here chunk inside = subst (λ (table : Classes). has_chunk table chunk ≡ true) same_table inside
 
   -- a word of a chunk that is handed out
-  pub data_same : (chunk : ChunkId) (issue place : ℕ) → has_chunk m.state.table chunk ≡ true → IsHandedOut (head_in m.state.table m.state.heads chunk) issue → place < room_at m.state chunk → data_in setup words chunk place ≡ word_at m.state chunk place
+  pub data_same : (chunk : ChunkId) (issue place : ℕ) → has_chunk m.state.table chunk ≡ true → IsHandedOut (head_in m.state.table m.state.heads chunk) issue → place < chunk_room m.state chunk → data_in setup words chunk place ≡ word_at m.state chunk place
   data_same chunk issue place inside out fits =
       let at : ℕ = place_in m.state.table m.state.slabs chunk place in
       let class = class_same chunk (near_here chunk inside) in
@@ -105,7 +105,7 @@ module _ (setup : Setup) (cuts words : List ℕ) (m : Moment) (lawful : IsLawful
         owned = let owned = kept.owned.0 in omega arith;
         shows = λ place word known.
             let fits = kept.shows.fits in
-            let inside_words : place < length (words_of holding) = known_near (words_of holding) place (Some word) known in
+            let inside_words : place < length (holding_words holding) = known_near (holding_words holding) place (Some word) known in
             data_same holding.chunk holding.issue place inside kept.handed_out (omega arith) ∙ kept.shows.known_words place word known;
       }
 
@@ -116,16 +116,16 @@ module _ (setup : Setup) (cuts words : List ℕ) (m : Moment) (lawful : IsLawful
       (All-contains (IsKept m.state) (holdings_at m.state hand) holding (are_kept m lawful hand) among)
 
   -- counts
-  pub counts_at : (chunk : ChunkId) → has_chunk setup.table chunk ≡ true → (header_in setup words chunk).count ≡ link_of (header_in setup words chunk).tag + holders chunk m.state.holdings
+  pub counts_at : (chunk : ChunkId) → has_chunk setup.table chunk ≡ true → (header_in setup words chunk).count ≡ link_count (header_in setup words chunk).tag + holder_count chunk m.state.holdings
   counts_at chunk near =
       let inside : has_chunk m.state.table chunk ≡ true = subst (λ (table : Classes). has_chunk table chunk ≡ true) (sym same_table) near in
-      subst (λ (h : Head). h.count ≡ link_of h.tag + holders chunk m.state.holdings) (header_same chunk near) (lawful.counted.counted chunk inside)
+      subst (λ (h : Head). h.count ≡ link_count h.tag + holder_count chunk m.state.holdings) (header_same chunk near) (lawful.counted.counted chunk inside)
 
   abbrev slabs : SlabState
   slabs = m.state.slabs
 
   -- a chunk of which nothing is uncut is in one place, by its tag
-  one_place : (class : ℕ) (chunk : ChunkId) (head : Head) (tag : Tag) → head.tag ≡ tag → times chunk (class_at slabs class).free ≡ truth (is_free tag) → times chunk (class_at slabs class).order ≡ truth (not (is_free tag) && not (is_out tag))
+  one_place : (class : ℕ) (chunk : ChunkId) (head : Head) (tag : Tag) → head.tag ≡ tag → times_in chunk (class_at slabs class).free ≡ truth (is_free tag) → times_in chunk (class_at slabs class).order ≡ truth (not (is_free tag) && not (is_out tag))
       → (tag ≡ Out → is_moving (owner_at slabs.owners chunk.page) ≡ true) → IsInOnePlace slabs class chunk head
   one_place class chunk head Free is free order moves = inl (is, (free, order))
   one_place class chunk head Out is free order moves = inr (inl (is, (free, order), moves refl))
@@ -140,7 +140,7 @@ module _ (setup : Setup) (cuts words : List ℕ) (m : Moment) (lawful : IsLawful
     cut_here class chunk of within =
         and_from _ _ of (ap (λ (o : Option ChunkId). nat_lt chunk.index (cut_count o chunk.page (class_at slabs class).per_page)) none_uncut ∙ lt-ltb chunk.index (class_at slabs class).per_page within)
 
-    chunks_here : (class : ℕ) (chunk : ChunkId) → IsClass slabs class → has_chunk setup.table chunk ≡ true → is_of_class class (owner_at slabs.owners chunk.page) ≡ true → chunk.index < (class_at slabs class).per_page
+    chunks_here : (class : ℕ) (chunk : ChunkId) → HasClass slabs class → has_chunk setup.table chunk ≡ true → is_of_class class (owner_at slabs.owners chunk.page) ≡ true → chunk.index < (class_at slabs class).per_page
         → IsInOnePlace slabs class chunk (header_in setup words chunk)
     chunks_here class chunk of_class near of within =
         let cut = cut_here class chunk of within in
@@ -150,7 +150,7 @@ module _ (setup : Setup) (cuts words : List ℕ) (m : Moment) (lawful : IsLawful
         (lawful.placed.order class chunk of_class ∙ ap (λ (b : Bool). truth (b && (not (is_free head.tag) && not (is_out head.tag)))) cut) (lawful.placed.cleared class chunk of_class cut))
 
     -- what stands in a list of a class was cut for it
-    only_here : (class : ℕ) (chunk : ChunkId) → IsClass slabs class → 1 ≤ places_in slabs class chunk → (is_of_class class (owner_at slabs.owners chunk.page) ≡ true) × (chunk.index < (class_at slabs class).per_page)
+    only_here : (class : ℕ) (chunk : ChunkId) → HasClass slabs class → 1 ≤ places_in slabs class chunk → (is_of_class class (owner_at slabs.owners chunk.page) ≡ true) × (chunk.index < (class_at slabs class).per_page)
     only_here class chunk of_class standing =
         let all = lawful.paged.of_table.accounted.chunks class chunk of_class in
         let cut : is_cut slabs class chunk ≡ true = elim (cases_Bool (is_cut slabs class chunk)) [
@@ -183,7 +183,7 @@ module _ (setup : Setup) (cuts words : List ℕ) (m : Moment) (lawful : IsLawful
           only = only_here;
         }
 
-module _ (setup : Setup) (t : Words) (r : Ruled setup t) where
+module _ (setup : Setup) (t : WordsOfTable) (r : IsRuled setup t) where
   abbrev m : Moment
   m = r.moment
 
@@ -194,7 +194,7 @@ module _ (setup : Setup) (t : Words) (r : Ruled setup t) where
     | inr none ↦ r.lawful.hands.nothing hand (no_number (number_at m.state hand) none) ∙ ap (λ (v : View). v.row.holdings) (sym (is.gone none))
   ]
 
-  holders_same : (chunk : ChunkId) → holders chunk m.state.holdings ≡ holders_among chunk t.views
+  holders_same : (chunk : ChunkId) → holder_count chunk m.state.holdings ≡ holders_among chunk t.views
   holders_same chunk =
       let count = r.lawful.hands.holding_rows in
       let hands = r.means.hands in
@@ -208,10 +208,10 @@ module _ (setup : Setup) (t : Words) (r : Ruled setup t) where
       (subst (λ (l : List Holding). Contains l holding) (sym (holds_same hand view (r.means.views hand view at))) has)
 
   -- counts
-  pub counts_here : (chunk : ChunkId) → has_chunk setup.table chunk ≡ true → (header_in setup t.words chunk).count ≡ link_of (header_in setup t.words chunk).tag + holders_among chunk t.views
+  pub counts_here : (chunk : ChunkId) → has_chunk setup.table chunk ≡ true → (header_in setup t.words chunk).count ≡ link_count (header_in setup t.words chunk).tag + holders_among chunk t.views
   counts_here chunk near =
       counts_at setup r.cuts t.words m r.lawful r.means.same_table r.means.words r.means.cut chunk near
-      ∙ ap (λ (n : ℕ). link_of (header_in setup t.words chunk).tag + n) (holders_same chunk)
+      ∙ ap (λ (n : ℕ). link_count (header_in setup t.words chunk).tag + n) (holders_same chunk)
 
   -- the value at home accounts for all
   pub free_here : slice_index t.words slabs_word ≡ 0 → (slabs : SlabState) × (get_elem? t.homes 0 ≡ some (some (OfSlabs slabs))) × IsAccountedFor setup t.words slabs
@@ -225,8 +225,8 @@ module _ (setup : Setup) (t : Words) (r : Ruled setup t) where
 pub rule_gives_headline : RuleGivesHeadline
 rule_gives_headline setup t rule = record {
   free = λ free. free_here setup (all_settled t) rule.ruled free;
-  counts = λ chunk near. counts_here setup (all_settled t) rule.ruled chunk near ∙ ap (λ (n : ℕ). link_of (header_in setup t.words chunk).tag + n) (same_settled chunk t.views);
-  kept = λ hand view holding at has. kept_here setup (all_settled t) rule.ruled hand (settled view) holding (at_map settled t.views hand view at) has;
+  counts = λ chunk near. counts_here setup (all_settled t) rule.ruled chunk near ∙ ap (λ (n : ℕ). link_count (header_in setup t.words chunk).tag + n) (same_settled chunk t.views);
+  kept = λ hand view holding at has. kept_here setup (all_settled t) rule.ruled hand (settled_view view) holding (at_map settled_view t.views hand view at) has;
 }
 
 pub held_stays_the_same : HeldStaysTheSame
@@ -254,11 +254,11 @@ keeps_first moment hand chunk issue [] [] keeps = keeps
 keeps_first moment hand chunk issue [] (event ∷ more) keeps = keeps.0
 keeps_first moment hand chunk issue (event ∷ run) more keeps = (keeps.0, keeps.1, keeps_first (moment_after moment event) hand chunk issue run more keeps.2)
 
-keeps_at_end : (moment : Moment) (hand : ℕ) (chunk : ChunkId) (issue : ℕ) (run : List Event) → KeepsHolding moment hand chunk issue run → Holds (moment_at_end moment run) hand chunk issue
+keeps_at_end : (moment : Moment) (hand : ℕ) (chunk : ChunkId) (issue : ℕ) (run : List Event) → KeepsHolding moment hand chunk issue run → HoldsChunk (moment_at_end moment run) hand chunk issue
 keeps_at_end moment hand chunk issue [] keeps = keeps
 keeps_at_end moment hand chunk issue (event ∷ run) keeps = keeps_at_end (moment_after moment event) hand chunk issue run keeps.2
 
-keeps_at_first : (moment : Moment) (hand : ℕ) (chunk : ChunkId) (issue : ℕ) (run : List Event) → KeepsHolding moment hand chunk issue run → Holds moment hand chunk issue
+keeps_at_first : (moment : Moment) (hand : ℕ) (chunk : ChunkId) (issue : ℕ) (run : List Event) → KeepsHolding moment hand chunk issue run → HoldsChunk moment hand chunk issue
 keeps_at_first moment hand chunk issue [] keeps = keeps
 keeps_at_first moment hand chunk issue (event ∷ run) keeps = keeps.0
 
@@ -267,11 +267,11 @@ end_of_both : (first : Moment) (run more : List Event) → moment_at_end first (
 end_of_both first [] more = refl
 end_of_both first (event ∷ run) more = end_of_both (moment_after first event) run more
 
-ends_there : (setup : Setup) (run more whole : List Event) (before now : Moment) → LeadsTo setup run before → LeadsTo setup whole now → whole ≡ run ++ more → moment_at_end before more ≡ now
+ends_there : (setup : Setup) (run more whole : List Event) (before now : Moment) → IsReachedBy setup run before → IsReachedBy setup whole now → whole ≡ run ++ more → moment_at_end before more ≡ now
 ends_there setup run more whole before now first last is =
     sym (ap (λ (moment : Moment). moment_at_end moment more) first.end) ∙ (sym (end_of_both (beginning_of setup) run more) ∙ (sym (ap (moment_at_end (beginning_of setup)) is) ∙ last.end))
 
-held_inside : (m : Moment) → IsLawful m → (hand : ℕ) (chunk : ChunkId) (issue : ℕ) → Holds m hand chunk issue → (has_chunk m.state.table chunk ≡ true) × IsHandedOut (head_in m.state.table m.state.heads chunk) issue
+held_inside : (m : Moment) → IsLawful m → (hand : ℕ) (chunk : ChunkId) (issue : ℕ) → HoldsChunk m hand chunk issue → (has_chunk m.state.table chunk ≡ true) × IsHandedOut (head_in m.state.table m.state.heads chunk) issue
 held_inside m lawful hand chunk issue held =
     let inside = each_contained (λ (h : Holding). has_chunk m.state.table h.chunk ≡ true) m.state.holdings hand held.holding lawful.held.inside held.among in
     let kept = All-contains (IsKept m.state) (holdings_at m.state hand) held.holding (are_kept m lawful hand) held.among in
@@ -304,10 +304,10 @@ module _ (setup : Setup) (cuts then words later : List ℕ) (m n : Moment) (lawf
 
   words_same : HasSameWords m.state n.state chunk → HasSameData setup words later chunk
   words_same same place fits =
-      let room : room_at m.state chunk ≡ room_in setup.table (class_in setup words chunk) = λ k. room_in (same_table k) (sym class_was k) in
-      let room_then : room_at n.state chunk ≡ room_in setup.table (class_in setup words chunk) = λ k. room_in (table_then k) ((kept.same_class ∙ sym class_was) k) in
-      let below : place < room_at m.state chunk = subst (λ (n : ℕ). place < n) (sym room) fits in
-      let below_then : place < room_at n.state chunk = subst (λ (n : ℕ). place < n) (sym room_then) fits in
+      let room : chunk_room m.state chunk ≡ room_in setup.table (class_in setup words chunk) = λ k. room_in (same_table k) (sym class_was k) in
+      let room_then : chunk_room n.state chunk ≡ room_in setup.table (class_in setup words chunk) = λ k. room_in (table_then k) ((kept.same_class ∙ sym class_was) k) in
+      let below : place < chunk_room m.state chunk = subst (λ (n : ℕ). place < n) (sym room) fits in
+      let below_then : place < chunk_room n.state chunk = subst (λ (n : ℕ). place < n) (sym room_then) fits in
       data_same setup then later n lawful_then table_then are_then cut_then chunk issue place inside_then kept.handed_out below_then
       ∙ (same place below ∙ sym (data_same setup cuts words m lawful same_table are cut chunk issue place here.0 here.1 below))
 
@@ -332,4 +332,4 @@ views_stay_throughout first last was is hand chunk issue run more same later kee
     let table_then : is.moment.state.table ≡ first.setup.table = is.same_table ∙ ap (λ (s : Setup). s.table) same in
     stays_throughout first.setup was.cuts is.cuts was.words is.words was.moment is.moment was.lawful was.same_table was.are was.cut is.lawful table_then
     (subst (λ (s : Setup). WordsOf s is.cuts is.words is.moment.state) same is.are) is.cut hand chunk issue run more keeps
-    (ends_there first.setup was.run run is.run was.moment is.moment was.reached (subst (λ (s : Setup). LeadsTo s is.run is.moment) same is.reached) later)
+    (ends_there first.setup was.run run is.run was.moment is.moment was.reached (subst (λ (s : Setup). IsReachedBy s is.run is.moment) same is.reached) later)

@@ -14,8 +14,8 @@ use Rattle.mc_words.specs.declared.lock.slot.Slot.{Slot}
 use Rattle.mc_words.specs.declared.lock.slot.Slot.TheVariants.{Empty, OfSlabs, OfStripe}
 use Rattle.mc_core.specs.declared.event.Event.{Event}
 use Rattle.mc_words.specs.hand.View.{OwnEvent, Setup, View, events_of, own_event, view_at, new_view}
-use Rattle.mc_words.specs.rule.Layout.{lock_word}
-use Rattle.mc_words.specs.rule.Meaning.{Words, WordsOf, AreCut, Has, AreHome, IsViewOf, LeadsTo, Ruled}
+use Rattle.mc_words.specs.rule.Layout.{lock_address}
+use Rattle.mc_words.specs.rule.Meaning.{WordsOfTable, WordsOf, AreCut, Has, AreHome, IsViewOf, IsReachedBy, IsRuled}
 use Rattle.mc_words.specs.rule.Happens.{LawfulView}
 use Rattle.mc_words.proofs.Rules.Reached.{events_else, events_own}
 use Rattle.mc_words.proofs.Rules.Written.{slabs_lock_read, lock_read}
@@ -27,7 +27,7 @@ within (x ∷ xs) (suc i) a e = let more = within xs i a e in omega arith
 
 -- the values at home, where no lock is taken or given
 module _ (setup : Setup) (cuts cuts' words words' : List ℕ) (homes : List (maybe.Option Slot)) (m now : Moment) (id : ℕ) (quiet : IsQuiet m now id) (are : WordsOf setup cuts words m.state) (are' : WordsOf setup cuts' words' now.state) (home : AreHome setup words homes m.state) where
-  still_home : (lock : ℕ) (slot : Slot) → slice_index words (lock_word lock) ≡ 0 → lock ≤ setup.config.stripes → Has m.state lock slot → Has now.state lock slot
+  still_home : (lock : ℕ) (slot : Slot) → slice_index words (lock_address lock) ≡ 0 → lock ≤ setup.config.stripes → Has m.state lock slot → Has now.state lock slot
   still_home zero Empty free near has = absurd has
   still_home zero (OfSlabs value) free near has = has ∙ sym (quiet.free_slabs (sym (slabs_lock_read setup cuts words m.state.slabs_lock m.state.stripe_locks m.state.heads m.state.words are) ∙ free))
   still_home zero (OfStripe value) free near has = absurd has
@@ -36,7 +36,7 @@ module _ (setup : Setup) (cuts cuts' words words' : List ℕ) (homes : List (may
   still_home (suc i) (OfStripe value) free near has =
       has ∙ sym (quiet.free_stripes i (sym (lock_read setup cuts words m.state.slabs_lock m.state.stripe_locks m.state.heads m.state.words are i (omega arith)) ∙ free))
 
-  was_free : (lock : ℕ) → lock ≤ setup.config.stripes → slice_index words' (lock_word lock) ≡ 0 → slice_index words (lock_word lock) ≡ 0
+  was_free : (lock : ℕ) → lock ≤ setup.config.stripes → slice_index words' (lock_address lock) ≡ 0 → slice_index words (lock_address lock) ≡ 0
   was_free zero near free =
       slabs_lock_read setup cuts words m.state.slabs_lock m.state.stripe_locks m.state.heads m.state.words are
       ∙ (sym quiet.slabs_lock ∙ (sym (slabs_lock_read setup cuts' words' now.state.slabs_lock now.state.stripe_locks now.state.heads now.state.words are') ∙ free))
@@ -79,13 +79,13 @@ there_if setup run m id view is numbered = elim (cases_Bool (is_hand m.state id)
   | inr gone ↦ absurd (let e : true ≡ false = sym numbered ∙ ap (λ (v : View). is_some v.row.ids.number) (is.gone gone) in cc)
 ]
 
-module _ (setup : Setup) (t : Words) (r : Ruled setup t) (id : ℕ) (view : View) (at : get_elem? t.views id ≡ some view) where
+module _ (setup : Setup) (t : WordsOfTable) (r : IsRuled setup t) (id : ℕ) (view : View) (at : get_elem? t.views id ≡ some view) where
   abbrev m : Moment
   m = r.moment
 
   -- the next moment, with its words, its values at home, and what the hand knows of it; of the run no other hand made more
-  pub ruled_next : (cuts : List ℕ) (now : Moment) (run : List Event) (words : List ℕ) (homes : List (maybe.Option Slot)) (is_now : View) → IsNext m now id → LeadsTo setup run now → ((other : ℕ) → other ≢ id → events_of other run ≡ events_of other r.run) → WordsOf setup cuts words now.state → AreCut cuts now.state.slabs → AreHome setup words homes now.state
-      → length homes ≡ length t.homes → IsViewOf setup run now id is_now → is_now.spare ≡ view.spare → Ruled setup (record { words = words; homes = homes; views = slice_set t.views id is_now })
+  pub ruled_next : (cuts : List ℕ) (now : Moment) (run : List Event) (words : List ℕ) (homes : List (maybe.Option Slot)) (is_now : View) → IsNext m now id → IsReachedBy setup run now → ((other : ℕ) → other ≢ id → events_of other run ≡ events_of other r.run) → WordsOf setup cuts words now.state → AreCut cuts now.state.slabs → AreHome setup words homes now.state
+      → length homes ≡ length t.homes → IsViewOf setup run now id is_now → is_now.spare ≡ view.spare → IsRuled setup (record { words = words; homes = homes; views = slice_set t.views id is_now })
   ruled_next cuts now run words homes is_now next leads others are cut home slots is spare =
       let means = r.means in
       let long = length-set t.views id is_now in
@@ -136,8 +136,8 @@ module _ (setup : Setup) (t : Words) (r : Ruled setup t) (id : ℕ) (view : View
     own_made are = ap (λ (events : List OwnEvent). events ++ own_event event.before event.step ∷ []) are ∙ sym (events_own event id by r.run)
 
     -- where no lock is taken or given
-    pub ruled_quiet : (cuts : List ℕ) (now : Moment) (words : List ℕ) → is_hand m.state id ≡ true → view.events ≡ events_of id r.run → IsQuiet m now id → LeadsTo setup (r.run ++ event ∷ []) now → WordsOf setup cuts words now.state → AreCut cuts now.state.slabs
-        → Ruled setup (record { words = words; homes = t.homes; views = slice_set t.views id (view_at setup view.spare (view.events ++ own_event event.before event.step ∷ []) now id) })
+    pub ruled_quiet : (cuts : List ℕ) (now : Moment) (words : List ℕ) → is_hand m.state id ≡ true → view.events ≡ events_of id r.run → IsQuiet m now id → IsReachedBy setup (r.run ++ event ∷ []) now → WordsOf setup cuts words now.state → AreCut cuts now.state.slabs
+        → IsRuled setup (record { words = words; homes = t.homes; views = slice_set t.views id (view_at setup view.spare (view.events ++ own_event event.before event.step ∷ []) now id) })
     ruled_quiet cuts now words there events quiet leads are cut =
         let run : List Event = r.run ++ event ∷ [] in
         ruled_next cuts now run words t.homes (view_at setup view.spare (view.events ++ own_event event.before event.step ∷ []) now id) quiet.next leads others_made are cut (homes_quiet setup r.cuts cuts t.words words t.homes m now id quiet r.means.words are r.means.homes) refl
@@ -155,7 +155,7 @@ module _ (setup : Setup) (t : Words) (r : Ruled setup t) (id : ℕ) (view : View
         stripes = r.means.stripes ∙ ap (λ (s : Setup). s.config.stripes) (sym of);
         there = found.0;
         run = r.run;
-        reached = subst (λ (s : Setup). LeadsTo s r.run m) (sym of) r.reached;
+        reached = subst (λ (s : Setup). IsReachedBy s r.run m) (sym of) r.reached;
         is = found.1 ∙ ap (λ (s : Setup). view_at s view.spare (events_of id r.run) m id) (sym of);
         words = t.words;
         cuts = r.cuts;

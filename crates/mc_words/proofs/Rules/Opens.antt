@@ -13,7 +13,7 @@ use Rattle.mc_pages.specs.Ledger.{all_untouched, owner_at}
 use Rattle.mc_pages.specs.SlabState.{fresh_slabs, class_of_owner}
 use Rattle.mc_stripe.specs.StripeState.{new_stripe}
 use Rattle.mc_core.specs.Head.{code, decode, uncut_from}
-use Rattle.mc_core.specs.State.{gone, is_held_by, number_at, stripe_at}
+use Rattle.mc_core.specs.State.{no_ids, is_held_by, number_at, stripe_at}
 use Rattle.mc_core.specs.Chunks.{most_issue}
 use Rattle.mc_core.specs.Past.{Moment, no_hold}
 use Rattle.mc_core.specs.Views.{held_slabs, held_stripe}
@@ -24,7 +24,7 @@ use Rattle.mc_words.specs.declared.lock.slot.Slot.{Slot}
 use Rattle.mc_words.specs.declared.lock.slot.Slot.TheVariants.{Empty, OfSlabs, OfStripe}
 use Rattle.mc_words.specs.hand.View.{Setup, View, view_at, new_view}
 use Rattle.mc_words.specs.rule.Layout.{words_between, spread, pages_from, heads_from, head_count, data_count, config_from, config_words}
-use Rattle.mc_words.specs.rule.Meaning.{AreWords, AreHome, IsViewOf, Ruled, beginning_of}
+use Rattle.mc_words.specs.rule.Meaning.{WordsAreColumns, AreHome, IsViewOf, IsRuled, beginning_of}
 use Rattle.mc_words.specs.declared.lock.locks.Locks.TheVariants.{Neither}
 use Rattle.mc_words.specs.lock.Out.{IsNoted}
 use Rattle.mc_words.specs.rule.Happens.{LawfulView}
@@ -91,7 +91,7 @@ module _ (setup : Setup) (small : setup.start ≤ most_issue) where
   abbrev behind_pages : List ℕ
   behind_pages = replicate headers (start * 262144) ++ behind_heads
 
-  pub words_first : AreWords setup (replicate (arena_pages_of setup.table) 0) (first_words setup) 0 (replicate setup.config.stripes 0) (replicate headers (uncut_from start)) (replicate data_words 0)
+  pub words_first : WordsAreColumns setup (replicate (arena_pages_of setup.table) 0) (first_words setup) 0 (replicate setup.config.stripes 0) (replicate headers (uncut_from start)) (replicate data_words 0)
   words_first = record {
     wide =
         let a : length (first_words setup) ≡ length (replicate {A = ℕ} H 0) + length behind_pages = length-append (replicate H 0) behind_pages in
@@ -178,7 +178,7 @@ module _ (setup : Setup) (sound : IsSound setup.table) (stripes : 1 ≤ setup.co
     spare = spare;
     events = [];
     row = record {
-      ids = get_or-map-range_with_len (λ number. record { number = Some number; stamps = 0 }) 0 setup.hands hand hand gone within (zero-add hand) k;
+      ids = get_or-map-range_with_len (λ number. record { number = Some number; stamps = 0 }) 0 setup.hands hand hand no_ids within (zero-add hand) k;
       holdings = same_entry setup.hands hand [] [] within k;
       looks = same_entry setup.hands hand [] [] within k;
       knows = record {
@@ -201,7 +201,7 @@ module _ (setup : Setup) (sound : IsSound setup.table) (stripes : 1 ≤ setup.co
     gone = λ none. absurd (let e : true ≡ false = sym (ap (λ (v : View). is_some v.row.ids.number) (view_first hand spare within)) ∙ none in cc);
   }
 
-  opens : Ruled setup (table.opening (first_words setup) (first_slots setup) (first_view setup))
+  opens : IsRuled setup (table.opening (first_words setup) (first_slots setup) (first_view setup))
   opens = record {
     moment = first;
     cuts = replicate (arena_pages_of setup.table) 0;

@@ -20,7 +20,7 @@ use Rattle.mc_words.specs.rule.Meaning.{AreHome}
 use Rattle.mc_words.specs.rule.Happens.{LawfulView}
 use Rattle.mc_words.specs.rule.Joins.{Rule}
 use Rattle.mc_words.specs.item.Refs.{IsRefOf}
-use Rattle.mc_words.specs.rule.Shown.{IsShown, TellsShown}
+use Rattle.mc_words.specs.rule.Shown.{IsShown, ShowsWord}
 use Rattle.mc_words.specs.rule.Told.{Sits}
 use Rattle.mc_words.proofs.Rules.Quiet.{was}
 use Rattle.mc_words.proofs.Items.Releases.{held_is_near}
@@ -33,9 +33,9 @@ use Rattle.mc_words.proofs.Rules.Written.{page_read, unwritten}
 stays : (m : Moment) → IsLawful m → (id : ℕ) → IsNext m m id
 stays m l id = record { lawful = l; table = refl; count = refl; stripe_count = refl; number = refl; rows = λ other apart. refl; slabs = λ other apart. refl; stripes = λ other i apart. refl }
 
-pub shows : (setup : Setup) (slots id : ℕ) (me : Sits) → IsSettled me.0 → me.0.setup ≡ setup → (place first second : ℕ) → Allows (Rule setup) slots id me place (λ n. n) (TellsShown (table.step slots place first second none) me)
+pub shows : (setup : Setup) (slots id : ℕ) (me : Sits) → IsSettled me.0 → me.0.setup ≡ setup → (place first second : ℕ) → Allows (Rule setup) slots id me place (λ n. n) (ShowsWord (table.step slots place first second none) me)
 shows setup slots id me live of place first second =
-    lifts setup slots id me live.1 place (λ n. n) (TellsShown (table.step slots place first second none) me)
+    lifts setup slots id me live.1 place (λ n. n) (ShowsWord (table.step slots place first second none) me)
     (λ t r _ at fits.
     let m : Moment = r.moment in (
       me.0,

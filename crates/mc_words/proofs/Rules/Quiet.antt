@@ -27,9 +27,9 @@ use Rattle.mc_pages.specs.SlabState.{SlabState, class_of_owner, class_of_page}
 use Rattle.mc_pages.specs.Ledger.{owner_at}
 use Rattle.mc_words.specs.declared.lock.slot.Slot.{Slot}
 use Rattle.mc_words.specs.hand.View.{OwnEvent, Setup, View, events_of, own_event, view_at, held_stripes}
-use Rattle.mc_words.specs.rule.Meaning.{Words, WordsOf, AreCut, LeadsTo, Ruled}
-use Rattle.mc_words.specs.rule.Happens.{LawfulView, Happens, HappensAt, MayWrite, MayExchange, MayTell, event_of, is_quiet}
-use Rattle.mc_words.specs.rule.Told.{Sits, StaysOut, TellsFound, TellsEvent, TellsChange, TellsExchange}
+use Rattle.mc_words.specs.rule.Meaning.{WordsOfTable, WordsOf, AreCut, IsReachedBy, IsRuled}
+use Rattle.mc_words.specs.rule.Happens.{LawfulView, Happens, HappensAt, MayWrite, MayExchange, AllowsStep, event_of, keeps_locks_and_hands}
+use Rattle.mc_words.specs.rule.Told.{Sits, StaysOut, HappensFinding, HappensAs, HappensAfterChange, HappensAsExchange}
 use Rattle.mc_words.specs.rule.Joins.{Rule}
 use Rattle.mc_words.proofs.Rules.NextMoments.{lawful_view, own_made, ruled_quiet}
 use Rattle.mc_words.proofs.Rules.Reached.{leads_more, leads_stepped}
@@ -42,7 +42,7 @@ Columns = ℕ × List ℕ × List Head × List ℕ
 abbrev pub columns : State → Columns
 columns s = (s.slabs_lock, s.stripe_locks, s.heads, s.words)
 
-pub plain_if : (step : Step) → is_quiet step ≡ true → is_plain step ≡ true
+pub plain_if : (step : Step) → keeps_locks_and_hands step ≡ true → is_plain step ≡ true
 plain_if core.TakeSlabs q = absurd (cc)
 plain_if (core.TakeStripe stripe) q = absurd (cc)
 plain_if core.GiveSlabs q = absurd (cc)
@@ -67,7 +67,7 @@ plain_if (core.Clear chunk) q = refl
 plain_if (core.Cut page index) q = refl
 plain_if (core.Again chunk issue) q = refl
 
-pub alone_if : (step : Step) → is_quiet step ≡ true → is_join step ≡ false
+pub alone_if : (step : Step) → keeps_locks_and_hands step ≡ true → is_join step ≡ false
 alone_if core.TakeSlabs q = refl
 alone_if (core.TakeStripe stripe) q = refl
 alone_if core.GiveSlabs q = refl
@@ -128,10 +128,10 @@ cut_stays cuts before now same cut page = cut page ∙ sym (same page)
 
 module _ (setup : Setup) (slots id : ℕ) (me : Sits) (live : IsSettled me.0) (of : me.0.setup ≡ setup) where
   -- the step can be made in this state, where the word becomes so
-  abbrev pub Goes : Words → ℕ → (ℕ → Sits → Type 0) → ℕ → Type 0
-  Goes t place told word = (w : View) × (a : Act Slot) × Valid t.homes me.1 a × Ruled setup (stepped t place word id me.1 w a) × told (slice_index t.words place) (w, carried_after me.1 a)
+  abbrev pub Goes : WordsOfTable → ℕ → (ℕ → Sits → Type 0) → ℕ → Type 0
+  Goes t place told word = (w : View) × (a : Act Slot) × Valid t.homes me.1 a × IsRuled setup (stepped t place word id me.1 w a) × told (slice_index t.words place) (w, carried_after me.1 a)
 
-  module _ (t : Words) (r : Ruled setup t) (at : get_elem? t.views id ≡ some me.0) where
+  module _ (t : WordsOfTable) (r : IsRuled setup t) (at : get_elem? t.views id ≡ some me.0) where
     abbrev m : Moment
     m = r.moment
 
@@ -162,7 +162,7 @@ module _ (setup : Setup) (slots id : ℕ) (me : Sits) (live : IsSettled me.0) (o
         )
 
     -- a quiet next moment is one of which the hand's view is lawful
-    pub lawful_after : (cuts : List ℕ) (now : Moment) (run : List Event) (events : List OwnEvent) (words : List ℕ) → LeadsTo setup run now → events ≡ events_of id run → IsQuiet m now id → WordsOf setup cuts words now.state → AreCut cuts now.state.slabs
+    pub lawful_after : (cuts : List ℕ) (now : Moment) (run : List Event) (events : List OwnEvent) (words : List ℕ) → IsReachedBy setup run now → events ≡ events_of id run → IsQuiet m now id → WordsOf setup cuts words now.state → AreCut cuts now.state.slabs
         → LawfulView (view_at setup me.0.spare events now id)
     lawful_after cuts now run events words leads made quiet are cut = record {
       moment = now;
@@ -186,7 +186,7 @@ module _ (setup : Setup) (slots id : ℕ) (me : Sits) (live : IsSettled me.0) (o
     now_made before step = me.0.events ++ own_event before step ∷ []
 
     -- a step that takes and gives no lock
-    pub goes : (step : Step) → is_quiet step ≡ true → (place word : ℕ) → allows_step m.state id step ≡ true → WordsOf setup r.cuts (slice_set t.words place word) (after_step m.state id step)
+    pub goes : (step : Step) → keeps_locks_and_hands step ≡ true → (place word : ℕ) → allows_step m.state id step ≡ true → WordsOf setup r.cuts (slice_set t.words place word) (after_step m.state id step)
         → (told : ℕ → Sits → Type 0)
         → (StaysOut me (view_at setup me.0.spare (now_made [] step) (moment_stepped m id step) id, me.1) → HappensAt place (slice_index t.words place) me.0 [] step (view_at setup me.0.spare (now_made [] step) (moment_stepped m id step) id)
         → told (slice_index t.words place) (view_at setup me.0.spare (now_made [] step) (moment_stepped m id step) id, me.1))
@@ -213,7 +213,7 @@ module _ (setup : Setup) (slots id : ℕ) (me : Sits) (live : IsSettled me.0) (o
         )
 
     -- a change, and then a step that takes and gives no lock
-    pub tells : (change : Change) (step : Step) → is_quiet step ≡ true → (place : ℕ) (written : ℕ → ℕ) → MayTell me.0 change step place written → Goes t place (λ found. TellsChange change step me) (written (slice_index t.words place))
+    pub tells : (change : Change) (step : Step) → keeps_locks_and_hands step ≡ true → (place : ℕ) (written : ℕ → ℕ) → AllowsStep me.0 change step place written → Goes t place (λ found. HappensAfterChange change step me) (written (slice_index t.words place))
     tells change step still place written may =
         let before : MayChange m id change = record { lawful = r.lawful; there = there; allowed = may.allowed was } in
         let changed : Moment = moment_changed m id change in
@@ -241,7 +241,7 @@ module _ (setup : Setup) (slots id : ℕ) (me : Sits) (live : IsSettled me.0) (o
         )
 
   -- as its callers show it
-  module _ (step : Step) (still : is_quiet step ≡ true) (place : ℕ) (written : ℕ → ℕ) (may : MayWrite me.0 step place written) where
+  module _ (step : Step) (still : keeps_locks_and_hands step ≡ true) (place : ℕ) (written : ℕ → ℕ) (may : MayWrite me.0 step place written) where
     pub may_go : (told : ℕ → Sits → Type 0) → ((found : ℕ) (now : View) → StaysOut me (now, me.1) → HappensAt place found me.0 [] step now → told found (now, me.1)) → Allows (Rule setup) slots id me place written told
     may_go told tells =
         lifts setup slots id me live.1 place written told
@@ -253,22 +253,22 @@ module _ (setup : Setup) (slots id : ℕ) (me : Sits) (live : IsSettled me.0) (o
         (λ out happens. tells (slice_index t.words place) (view_at setup me.0.spare (now_made t r at [] step) (moment_stepped m id step) id) out happens))
 
     -- a look, or a change whose found word is told
-    pub finds : (first second : ℕ) → Allows (Rule setup) slots id me place written (TellsFound step (table.step slots place first second none) me)
-    finds first second = may_go (TellsFound step (table.step slots place first second none) me) (λ found now out happens. (out, happens))
+    pub finds : (first second : ℕ) → Allows (Rule setup) slots id me place written (HappensFinding step (table.step slots place first second none) me)
+    finds first second = may_go (HappensFinding step (table.step slots place first second none) me) (λ found now out happens. (out, happens))
 
     -- a write
-    pub writes : (first word : ℕ) → Allows (Rule setup) slots id me place written (λ _. TellsEvent step (table.step slots place first 0 none) me word)
-    writes first word = may_go (λ _. TellsEvent step (table.step slots place first 0 none) me word) (λ found now out happens. (out, happens.0))
+    pub writes : (first word : ℕ) → Allows (Rule setup) slots id me place written (λ _. HappensAs step (table.step slots place first 0 none) me word)
+    writes first word = may_go (λ _. HappensAs step (table.step slots place first 0 none) me word) (λ found now out happens. (out, happens.0))
 
     -- a sum
-    pub changes : (first second : ℕ) → Allows (Rule setup) slots id me place written (λ found. TellsEvent step (table.step slots place first second none) me found)
-    changes first second = may_go (λ found. TellsEvent step (table.step slots place first second none) me found) (λ found now out happens. (out, happens.0))
+    pub changes : (first second : ℕ) → Allows (Rule setup) slots id me place written (λ found. HappensAs step (table.step slots place first second none) me found)
+    changes first second = may_go (λ found. HappensAs step (table.step slots place first second none) me found) (λ found now out happens. (out, happens.0))
 
   -- an exchange, of which a miss looks
-  pub exchanges : (step look : Step) → is_quiet step ≡ true → is_quiet look ≡ true → (place expected word : ℕ) → MayExchange me.0 step place expected word → MayWrite me.0 look place (λ found. found)
-      → Allows (Rule setup) slots id me place (λ n. either (eqb n expected) word n) (TellsExchange step look (table.step slots place expected word none) me)
+  pub exchanges : (step look : Step) → keeps_locks_and_hands step ≡ true → keeps_locks_and_hands look ≡ true → (place expected word : ℕ) → MayExchange me.0 step place expected word → MayWrite me.0 look place (λ found. found)
+      → Allows (Rule setup) slots id me place (λ n. either (eqb n expected) word n) (HappensAsExchange step look (table.step slots place expected word none) me)
   exchanges step look still quiet place expected word may may_look =
-      let told : ℕ → Sits → Type 0 = TellsExchange step look (table.step slots place expected word none) me in
+      let told : ℕ → Sits → Type 0 = HappensAsExchange step look (table.step slots place expected word none) me in
       lifts setup slots id me live.1 place (λ n. either (eqb n expected) word n) told
       (λ t r _ at fits.
       let m : Moment = r.moment in
@@ -284,11 +284,11 @@ module _ (setup : Setup) (slots id : ℕ) (me : Sits) (live : IsSettled me.0) (o
       goes t r at look quiet place found can.0 are told (λ out happens. (out, (λ hit. absurd (miss hit)), λ _. happens))))
 
   -- a change that is told by a look or by a store
-  pub tells_looking : (change : Change) (step : Step) → is_quiet step ≡ true → (place first second : ℕ) → MayTell me.0 change step place (λ found. found) → Allows (Rule setup) slots id me place (λ n. n) (λ found. TellsChange change step me)
-  tells_looking change step still place first second may = lifts setup slots id me live.1 place (λ n. n) (λ found. TellsChange change step me) (λ t r _ at fits. tells t r at change step still place (λ found. found) may)
+  pub tells_looking : (change : Change) (step : Step) → keeps_locks_and_hands step ≡ true → (place first second : ℕ) → AllowsStep me.0 change step place (λ found. found) → Allows (Rule setup) slots id me place (λ n. n) (λ found. HappensAfterChange change step me)
+  tells_looking change step still place first second may = lifts setup slots id me live.1 place (λ n. n) (λ found. HappensAfterChange change step me) (λ t r _ at fits. tells t r at change step still place (λ found. found) may)
 
-  pub tells_storing : (change : Change) (step : Step) → is_quiet step ≡ true → (place word : ℕ) → MayTell me.0 change step place (λ found. word) → Allows (Rule setup) slots id me place (λ n. word) (λ found. TellsChange change step me)
-  tells_storing change step still place word may = lifts setup slots id me live.1 place (λ n. word) (λ found. TellsChange change step me) (λ t r _ at fits. tells t r at change step still place (λ found. word) may)
+  pub tells_storing : (change : Change) (step : Step) → keeps_locks_and_hands step ≡ true → (place word : ℕ) → AllowsStep me.0 change step place (λ found. word) → Allows (Rule setup) slots id me place (λ n. word) (λ found. HappensAfterChange change step me)
+  tells_storing change step still place word may = lifts setup slots id me live.1 place (λ n. word) (λ found. HappensAfterChange change step me) (λ t r _ at fits. tells t r at change step still place (λ found. word) may)
 
 -- a view of a lawful moment has a number, and is settled
 pub has_number : (view : View) → LawfulView view → IsSettled view

@@ -8,7 +8,7 @@ use Rattle.mc_core.specs.Past.{Moment, moment_after, moment_stepped}
 use Rattle.mc_core.specs.Run.{allows_step, is_allowed}
 use Rattle.mc_core.specs.Laws.{IsRun, moment_at_end}
 use Rattle.mc_words.specs.hand.View.{OwnEvent, Setup, events_of, own_event}
-use Rattle.mc_words.specs.rule.Meaning.{LeadsTo, beginning_of}
+use Rattle.mc_words.specs.rule.Meaning.{IsReachedBy, beginning_of}
 use Rattle.mc_words.specs.rule.Happens.{event_of}
 
 module _ (event : Event) where
@@ -20,7 +20,7 @@ module _ (event : Event) where
   run_more first [] run allowed = (allowed, record {})
   run_more first (one ∷ events) run allowed = (run.0, run_more (moment_after first one) events run.1 allowed)
 
-  pub leads_more : (setup : Setup) (run : List Event) (m : Moment) → LeadsTo setup run m → is_allowed m.state event ≡ true → LeadsTo setup (run ++ event ∷ []) (moment_after m event)
+  pub leads_more : (setup : Setup) (run : List Event) (m : Moment) → IsReachedBy setup run m → is_allowed m.state event ≡ true → IsReachedBy setup (run ++ event ∷ []) (moment_after m event)
   leads_more setup run m leads allowed = record {
     is_run = run_more (beginning_of setup) run leads.is_run (ap (λ (moment : Moment). is_allowed moment.state event) leads.end ∙ allowed);
     end = end_more (beginning_of setup) run ∙ ap (λ (moment : Moment). moment_after moment event) leads.end;
@@ -46,5 +46,5 @@ module _ (event : Event) where
   events_else hand apart (one ∷ run) = ap (λ (l : List OwnEvent). if one.hand == hand then own_event one.before one.step ∷ l else l) (events_else hand apart run)
 
 -- by a step alone
-pub leads_stepped : (setup : Setup) (run : List Event) (m : Moment) (hand : ℕ) (step : Step) → LeadsTo setup run m → is_hand m.state hand ≡ true → allows_step m.state hand step ≡ true → LeadsTo setup (run ++ event_of hand [] step ∷ []) (moment_stepped m hand step)
+pub leads_stepped : (setup : Setup) (run : List Event) (m : Moment) (hand : ℕ) (step : Step) → IsReachedBy setup run m → is_hand m.state hand ≡ true → allows_step m.state hand step ≡ true → IsReachedBy setup (run ++ event_of hand [] step ∷ []) (moment_stepped m hand step)
 leads_stepped setup run m hand step leads there allowed = leads_more (event_of hand [] step) setup run m leads (and_from _ _ there allowed)

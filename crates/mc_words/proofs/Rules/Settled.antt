@@ -9,8 +9,8 @@ use Rattle.atomic_table.proofs.Lists.{at_set, at_map}
 use Rattle.mc_core.specs.declared.event.Event.{Event}
 use Rattle.mc_core.specs.State.{is_hand}
 use Rattle.mc_core.specs.Past.{Moment}
-use Rattle.mc_words.specs.hand.View.{Setup, View, settled}
-use Rattle.mc_words.specs.rule.Meaning.{IsViewOf, Ruled}
+use Rattle.mc_words.specs.hand.View.{Setup, View, settled_view}
+use Rattle.mc_words.specs.rule.Meaning.{IsViewOf, IsRuled}
 use Rattle.mc_words.specs.rule.Told.{Sits}
 use Rattle.mc_words.specs.rule.Joins.{IsMade, Rule, all_settled}
 
@@ -18,7 +18,7 @@ use Rattle.mc_words.specs.rule.Joins.{IsMade, Rule, all_settled}
 abbrev pub IsSettled : View → Type 0
 IsSettled view = (is_some view.row.ids.number ≡ true) × (view.made_of ≡ None)
 
-pub settled_same : (view : View) → view.made_of ≡ None → settled view ≡ view
+pub settled_same : (view : View) → view.made_of ≡ None → settled_view view ≡ view
 settled_same view none = ap (λ made. record view { made_of = made }) (sym none)
 
 pub plain_view : (setup : Setup) (run : List Event) (m : Moment) (hand : ℕ) (view : View) → IsViewOf setup run m hand view → view.made_of ≡ None
@@ -32,18 +32,18 @@ pub not_made : (view : View) → view.made_of ≡ None → IsMade view
 not_made view none kept spent own others made = absurd (cc)
 
 -- a step that keeps the meaning, of a hand that wasn't just made
-pub lifts : (setup : Setup) (slots id : ℕ) (me : Sits) → me.0.made_of ≡ None → (place : ℕ) (written : ℕ → ℕ) (told : ℕ → Sits → Type 0) → Allows (Ruled setup) slots id me place written told → Allows (Rule setup) slots id me place written told
+pub lifts : (setup : Setup) (slots id : ℕ) (me : Sits) → me.0.made_of ≡ None → (place : ℕ) (written : ℕ → ℕ) (told : ℕ → Sits → Type 0) → Allows (IsRuled setup) slots id me place written told → Allows (Rule setup) slots id me place written told
 lifts setup slots id me plain place written told allows t rule long at fits =
-    let at_settled : get_elem? (map settled t.views) id ≡ some me.0 = at_map settled t.views id me.0 at ∙ ap some (settled_same me.0 plain) in
+    let at_settled : get_elem? (map settled_view t.views) id ≡ some me.0 = at_map settled_view t.views id me.0 at ∙ ap some (settled_same me.0 plain) in
     let (w, act, valid, ruled, tells) = allows (all_settled t) rule.ruled long at_settled fits in
-    let near = Rattle.mc_words.proofs.Rules.NextMoments.within (map settled t.views) id me.0 at_settled in
-    let w_plain : w.made_of ≡ None = plain_view setup ruled.run ruled.moment id w (ruled.means.views id w (Rattle.atomic_table.proofs.Lists.set_here (map settled t.views) id w near)) in
-    let views : slice_set (map settled t.views) id w ≡ map settled (slice_set t.views id w) = ap (slice_set (map settled t.views) id) (sym (settled_same w w_plain)) ∙ sym (map-set settled t.views id w) in (
+    let near = Rattle.mc_words.proofs.Rules.NextMoments.within (map settled_view t.views) id me.0 at_settled in
+    let w_plain : w.made_of ≡ None = plain_view setup ruled.run ruled.moment id w (ruled.means.views id w (Rattle.atomic_table.proofs.Lists.set_here (map settled_view t.views) id w near)) in
+    let views : slice_set (map settled_view t.views) id w ≡ map settled_view (slice_set t.views id w) = ap (slice_set (map settled_view t.views) id) (sym (settled_same w w_plain)) ∙ sym (map-set settled_view t.views id w) in (
       w,
       act,
       valid,
       record {
-        ruled = subst (λ (views : List View). Ruled setup (record { words = slice_set t.words place (written (slice_index t.words place)); homes = homes_after t.homes me.1 act; views = views })) views ruled;
+        ruled = subst (λ (views : List View). IsRuled setup (record { words = slice_set t.words place (written (slice_index t.words place)); homes = homes_after t.homes me.1 act; views = views })) views ruled;
         made = λ hand view at_view. elim (at_set t.views id hand w view at_view) [
           | inl same ↦ subst IsMade same.1 (not_made w w_plain)
           | inr differs ↦ rule.made hand view differs.1

@@ -10,8 +10,8 @@ use Rattle.mc_core.specs.Head.{decode}
 use Rattle.mc_core.specs.State.{has_chunk, head_place, most_of}
 use Rattle.mc_core.proofs.Base.{chunk_within}
 use Rattle.mc_words.specs.hand.View.{Setup}
-use Rattle.mc_words.specs.rule.Layout.{words_apart, words_between, spread, slabs_word, lock_word, pages_from, heads_from, head_count, data_from, data_count, config_from}
-use Rattle.mc_words.specs.rule.Meaning.{AreWords}
+use Rattle.mc_words.specs.rule.Layout.{words_apart, words_between, spread, slabs_word, lock_address, pages_from, heads_from, head_count, data_from, data_count, config_from}
+use Rattle.mc_words.specs.rule.Meaning.{WordsAreColumns}
 use Rattle.mc_words.proofs.Rules.Spread.{spread_set, spread_get}
 
 -- a group of words that begins at `first`
@@ -28,7 +28,7 @@ module _ (first count : ℕ) (words : List ℕ) where
   behind : (i at word : ℕ) → i ≡ first + at → count ≤ at → take count (drop first (slice_set words i word)) ≡ take count (drop first words)
   behind i at word is past = ap (λ j. take count (drop first (slice_set words j word))) is ∙ (ap (take count) (drop-set-add first words at word) ∙ take-set-le count (drop first words) at word past)
 
-module _ (setup : Setup) (cuts words : List ℕ) (lock : ℕ) (locks : List ℕ) (heads : List Head) (stored : List ℕ) (are : AreWords setup cuts words lock locks heads stored) where
+module _ (setup : Setup) (cuts words : List ℕ) (lock : ℕ) (locks : List ℕ) (heads : List Head) (stored : List ℕ) (are : WordsAreColumns setup cuts words lock locks heads stored) where
   -- how many there are of each
   abbrev stripes : ℕ
   stripes = setup.config.stripes
@@ -64,7 +64,7 @@ module _ (setup : Setup) (cuts words : List ℕ) (lock : ℕ) (locks : List ℕ)
       ∙ (spread_set words_between 0 (0 ∷ lock ∷ locks) index word ∙ ap (spread words_between 0) same)))
 
   -- of the slabs
-  pub slabs_lock_written : (word : ℕ) → AreWords setup cuts (slice_set words slabs_word word) word locks heads stored
+  pub slabs_lock_written : (word : ℕ) → WordsAreColumns setup cuts (slice_set words slabs_word word) word locks heads stored
   slabs_lock_written word = let wide = are.wide in record {
     wide = length-set words slabs_word word ∙ are.wide;
     locks = locks_written slabs_word 1 word (0 ∷ word ∷ locks) refl (omega arith) refl;
@@ -75,18 +75,18 @@ module _ (setup : Setup) (cuts words : List ℕ) (lock : ℕ) (locks : List ℕ)
   }
 
   -- of a stripe
-  pub lock_written : (stripe word : ℕ) → stripe < stripes → AreWords setup cuts (slice_set words (lock_word (suc stripe)) word) lock (slice_set locks stripe word) heads stored
+  pub lock_written : (stripe word : ℕ) → stripe < stripes → WordsAreColumns setup cuts (slice_set words (lock_address (suc stripe)) word) lock (slice_set locks stripe word) heads stored
   lock_written stripe word near = let wide = are.wide in record {
-    wide = length-set words (lock_word (suc stripe)) word ∙ are.wide;
-    locks = locks_written (lock_word (suc stripe)) (suc (suc stripe)) word (0 ∷ lock ∷ slice_set locks stripe word) (omega arith) (omega arith) refl;
-    pages = before P pages words (lock_word (suc stripe)) word (omega arith) ∙ are.pages;
-    heads = ap (map decode) (before H headers words (lock_word (suc stripe)) word (omega arith)) ∙ are.heads;
-    items = before D words_count words (lock_word (suc stripe)) word (omega arith) ∙ are.items;
-    configured = drop-set-lt C words (lock_word (suc stripe)) word (omega arith) ∙ are.configured;
+    wide = length-set words (lock_address (suc stripe)) word ∙ are.wide;
+    locks = locks_written (lock_address (suc stripe)) (suc (suc stripe)) word (0 ∷ lock ∷ slice_set locks stripe word) (omega arith) (omega arith) refl;
+    pages = before P pages words (lock_address (suc stripe)) word (omega arith) ∙ are.pages;
+    heads = ap (map decode) (before H headers words (lock_address (suc stripe)) word (omega arith)) ∙ are.heads;
+    items = before D words_count words (lock_address (suc stripe)) word (omega arith) ∙ are.items;
+    configured = drop-set-lt C words (lock_address (suc stripe)) word (omega arith) ∙ are.configured;
   }
 
   -- the word of a page
-  pub page_written : (page word : ℕ) → page < pages → AreWords setup (slice_set cuts page word) (slice_set words (P + page) word) lock locks heads stored
+  pub page_written : (page word : ℕ) → page < pages → WordsAreColumns setup (slice_set cuts page word) (slice_set words (P + page) word) lock locks heads stored
   page_written page word near = let wide = are.wide in record {
     wide = length-set words (P + page) word ∙ are.wide;
     locks = take-set-le P words (P + page) word (omega arith) ∙ are.locks;
@@ -97,7 +97,7 @@ module _ (setup : Setup) (cuts words : List ℕ) (lock : ℕ) (locks : List ℕ)
   }
 
   -- a header
-  pub head_written : (at word : ℕ) → at < headers → AreWords setup cuts (slice_set words (H + at) word) lock locks (slice_set heads at (decode word)) stored
+  pub head_written : (at word : ℕ) → at < headers → WordsAreColumns setup cuts (slice_set words (H + at) word) lock locks (slice_set heads at (decode word)) stored
   head_written at word near = let wide = are.wide in record {
     wide = length-set words (H + at) word ∙ are.wide;
     locks = take-set-le P words (H + at) word (omega arith) ∙ are.locks;
@@ -108,7 +108,7 @@ module _ (setup : Setup) (cuts words : List ℕ) (lock : ℕ) (locks : List ℕ)
   }
 
   -- a data word
-  pub data_written : (at word : ℕ) → at < words_count → AreWords setup cuts (slice_set words (D + at) word) lock locks heads (slice_set stored at word)
+  pub data_written : (at word : ℕ) → at < words_count → WordsAreColumns setup cuts (slice_set words (D + at) word) lock locks heads (slice_set stored at word)
   data_written at word near = let wide = are.wide in record {
     wide = length-set words (D + at) word ∙ are.wide;
     locks = take-set-le P words (D + at) word (omega arith) ∙ are.locks;
@@ -119,8 +119,8 @@ module _ (setup : Setup) (cuts words : List ℕ) (lock : ℕ) (locks : List ℕ)
   }
 
   -- no word
-  pub unwritten : (at : ℕ) → AreWords setup cuts (slice_set words at (slice_index words at)) lock locks heads stored
-  unwritten at = subst (λ (l : List ℕ). AreWords setup cuts l lock locks heads stored) (sym (set-get_or words at 0)) are
+  pub unwritten : (at : ℕ) → WordsAreColumns setup cuts (slice_set words at (slice_index words at)) lock locks heads stored
+  unwritten at = subst (λ (l : List ℕ). WordsAreColumns setup cuts l lock locks heads stored) (sym (set-get_or words at 0)) are
 
   -- what a header's word means
   pub head_read : (at : ℕ) (none : Head) → at < headers → slice_index_or heads at none ≡ decode (slice_index words (H + at))
@@ -153,8 +153,8 @@ module _ (setup : Setup) (cuts words : List ℕ) (lock : ℕ) (locks : List ℕ)
   slabs_lock_read = locks_read slabs_word 1 refl (omega arith)
 
   -- of a stripe
-  pub lock_read : (stripe : ℕ) → stripe < stripes → slice_index words (lock_word (suc stripe)) ≡ slice_index locks stripe
-  lock_read stripe near = locks_read (lock_word (suc stripe)) (suc (suc stripe)) (omega arith) (omega arith)
+  pub lock_read : (stripe : ℕ) → stripe < stripes → slice_index words (lock_address (suc stripe)) ≡ slice_index locks stripe
+  lock_read stripe near = locks_read (lock_address (suc stripe)) (suc (suc stripe)) (omega arith) (omega arith)
 
 -- a header is among the words
 pub head_near : (setup : Setup) (chunk : ChunkId) → has_chunk setup.table chunk ≡ true → head_place setup.table chunk < head_count setup

@@ -21,12 +21,12 @@ abbrev pub ShareAnOrder : SlabState → List ChunkId → Type 0
 ShareAnOrder slabs chunks = (chunk other : ChunkId) → Contains chunks chunk → Contains chunks other → (class_of_page slabs other.page ≡ class_of_page slabs chunk.page) × Contains (class_of_chunk slabs chunk).order other
 
 -- the chunk was found alive, or is one of the dead that were noted; unless more were dead than are noted
-abbrev pub IsJudged : List Look → NotedChunks → ChunkId → Type 0
-IsJudged looks dead chunk = dead.are_more ≡ false → (is_found_alive looks chunk ≡ true) ⊎ Contains dead.chunks chunk
+abbrev pub IsAliveOrNoted : List Look → NotedChunks → ChunkId → Type 0
+IsAliveOrNoted looks dead chunk = dead.are_more ≡ false → (is_found_alive looks chunk ≡ true) ⊎ Contains dead.chunks chunk
 
 -- each of these was found alive, or is one of the dead that were noted
 abbrev pub AreJudged : List ChunkId → List Look → NotedChunks → Type 0
-AreJudged chunks looks dead = (chunk : ChunkId) → Contains chunks chunk → IsJudged looks dead chunk
+AreJudged chunks looks dead = (chunk : ChunkId) → Contains chunks chunk → IsAliveOrNoted looks dead chunk
 
 -- the chunk isn't one of those of the page from one index up to another
 abbrev pub IsOutside : ℕ → ℕ → ℕ → ChunkId → Type 0

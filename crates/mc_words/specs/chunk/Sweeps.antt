@@ -42,10 +42,10 @@ LooksAlong page from until view now =
     (looked : List ChunkId) × SeesHeaders looked view now × ((index : ℕ) → from ≤ index → index < until → is_among looked (record { page = page; index = index }) ≡ true)
 
 -- the order has these chunks in this sequence, with or without others between
-abbrev pub follows : List ChunkId → List ChunkId → Bool
-follows order [] = true
-follows [] (chunk ∷ chunks) = false
-follows (other ∷ order) (chunk ∷ chunks) = if is_chunk other chunk then follows order chunks else follows order (chunk ∷ chunks)
+abbrev pub is_in_sequence : List ChunkId → List ChunkId → Bool
+is_in_sequence order [] = true
+is_in_sequence [] (chunk ∷ chunks) = false
+is_in_sequence (other ∷ order) (chunk ∷ chunks) = if is_chunk other chunk then is_in_sequence order chunks else is_in_sequence order (chunk ∷ chunks)
 
 -- chunks were looked at, and then some of the hand-out order, oldest first, were each put back or seen alive. Those that were looked at and
 -- are handed out still were seen alive last, so all others were put back
@@ -54,7 +54,7 @@ pub record Recovers (order : List ChunkId) (view : View) (slabs : SlabState) (no
   pub seen : View
   pub sees : SeesHeaders looked view seen
   pub again : List ChunkId
-  pub oldest_first : follows order again ≡ true
+  pub oldest_first : is_in_sequence order again ≡ true
   pub each : SweepsEach again seen slabs now left
   pub alive : (chunk : ChunkId) → Contains looked chunk → Contains order chunk → Contains (class_of_chunk left chunk).order chunk → is_found_alive now.row.looks chunk ≡ true
 

@@ -19,8 +19,8 @@ abbrev pub locks_of : Hand → Locks
 locks_of hand = hand.locks
 
 -- the hand's number, with which it makes its stamps
-abbrev pub number_of : Hand → ℕ
-number_of hand = hand.number
+abbrev pub hand_number : Hand → ℕ
+hand_number hand = hand.number
 
 -- pages and lists, as their holder has them
 abbrev pub slabs_lent : SlabsHeld → SlabState

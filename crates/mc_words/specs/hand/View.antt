@@ -9,10 +9,10 @@ use Rattle.mc_core.specs.declared.event.Change.{Change}
 use Rattle.mc_core.specs.declared.event.Event.{Event}
 use Rattle.mc_core.specs.declared.event.Step.{Step}
 use Rattle.mc_core.specs.declared.event.Step.TheVariants.{Join}
-use Rattle.mc_core.specs.State.{State, gone}
+use Rattle.mc_core.specs.State.{State, no_ids}
 use Rattle.mc_core.specs.Past.{Knowledge, Moment, no_hold}
 use Rattle.mc_core.specs.Learns.{both_know, knows_nothing}
-use Rattle.mc_core.specs.Views.{Row, row_at, held_slabs, held_stripe}
+use Rattle.mc_core.specs.Views.{Row, hand_row, held_slabs, held_stripe}
 
 -- what an arena is made with: its configuration, the table of that, how many hands there are, and the issue number of each chunk at first
 pub record Setup : Type 0 where
@@ -59,7 +59,7 @@ view_at setup spare events moment hand = record {
   setup = setup;
   spare = spare;
   events = events;
-  row = row_at moment hand;
+  row = hand_row moment hand;
   slabs = held_slabs moment.state hand;
   stripes = held_stripes setup moment.state hand;
   made_of = None;
@@ -99,7 +99,7 @@ no_setup = record {
 
 -- the view of a hand that another took over: one constant, whatever the arena is
 abbrev pub spent_view : View
-spent_view = record { setup = no_setup; spare = 0; events = []; row = record { ids = gone; holdings = []; looks = []; knows = knows_nothing }; slabs = None; stripes = []; made_of = None }
+spent_view = record { setup = no_setup; spare = 0; events = []; row = record { ids = no_ids; holdings = []; looks = []; knows = knows_nothing }; slabs = None; stripes = []; made_of = None }
 
 -- the view of a hand that took another one over
 abbrev pub both_views : View → View → View
@@ -110,5 +110,5 @@ abbrev pub just_made : View → View → View
 just_made kept spent = record (both_views kept spent) { made_of = Some (kept.row, spent.row, kept.events, spent.events) }
 
 -- the view of a hand after it learned how it was made
-abbrev pub settled : View → View
-settled view = record view { made_of = None }
+abbrev pub settled_view : View → View
+settled_view view = record view { made_of = None }

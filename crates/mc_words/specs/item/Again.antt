@@ -4,7 +4,7 @@ use Rattle.mc_pages.specs.declared.ids.ChunkId.{ChunkId}
 use Rattle.mc_core.specs.declared.head.Head.{Head}
 use Rattle.mc_core.specs.declared.event.Step.TheVariants as step
 use Rattle.mc_core.specs.Head.{is_linked}
-use Rattle.mc_core.specs.Holdings.{length_of}
+use Rattle.mc_core.specs.Holdings.{length_of_item}
 use Rattle.mc_words.specs.hand.View.{View}
 use Rattle.mc_words.specs.rule.Happens.{Happens}
 use Rattle.mc_words.specs.item.Items.{held_item}
@@ -23,7 +23,7 @@ pub record RefersAgain (view : View) (chunk : ChunkId) (issue room : ℕ) (now :
   pub item : List ℕ
   pub held : held_item now chunk ≡ item
   -- the item has as many words as its length counts
-  pub whole : length item ≡ length_of item
+  pub whole : length item ≡ length_of_item item
   pub happens : Happens view [] (step.Again chunk issue) now
   pub is : now ≡ with_event [] (step.Again chunk issue) (item_referred (reference_to chunk issue item) room view)
 

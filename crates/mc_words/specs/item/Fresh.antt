@@ -2,7 +2,7 @@
 use Rattle.std.specs.Prelude.{◌≡◌, ℕ, true, List, length, Some}
 use Rattle.mc_pages.specs.declared.ids.ChunkId.{ChunkId}
 use Rattle.mc_core.specs.declared.holding.Holding.{Holding}
-use Rattle.mc_core.specs.Holdings.{holding_of, is_fresh, words_of}
+use Rattle.mc_core.specs.Holdings.{holding_of, is_fresh, holding_words}
 use Rattle.mc_words.specs.hand.View.{View}
 
 -- the first of these holdings that is of this chunk is fresh, and has n words
@@ -10,7 +10,7 @@ pub record IsFreshIn (holdings : List Holding) (chunk : ChunkId) (room : ℕ) : 
   pub holding : Holding
   pub found : holding_of chunk holdings ≡ Some holding
   pub fresh : is_fresh holding ≡ true
-  pub room_is : length (words_of holding) ≡ room
+  pub room_is : length (holding_words holding) ≡ room
 
 -- the hand fills this chunk, which has n words
 abbrev pub IsFreshOf : View → ChunkId → ℕ → Type 0

@@ -1,12 +1,12 @@
 -- The items of chunks, as a hand knows them.
 use Rattle.std.specs.Prelude.{◌≡◌, ◌<◌, ℕ, List, [], ◌∷◌, length, slice_index, slice_index_or, Option, None, Contains}
-use Rattle.mc_core.specs.Knowing.{IsSaid}
-use Rattle.mc_core.specs.Past.{Known, Moment}
+use Rattle.mc_core.specs.Knowing.{WasStored}
+use Rattle.mc_core.specs.Past.{KnownItem, Moment}
 use Rattle.std.specs.List.{fold}
 use Rattle.std.specs.Option.{option_map_or}
 use Rattle.mc_pages.specs.declared.ids.ChunkId.{ChunkId}
 use Rattle.mc_core.specs.declared.holding.Holding.{Holding}
-use Rattle.mc_core.specs.Holdings.{Words, holding_of, item_of, stamp_of, words_of}
+use Rattle.mc_core.specs.Holdings.{Words, holding_of, item_of, stamp_in_words, holding_words}
 use Rattle.mc_core.specs.Seen.{last_read}
 use Rattle.mc_words.specs.hand.View.{View}
 
@@ -23,8 +23,8 @@ abbrev pub word_read : View → ChunkId → ℕ → Option ℕ
 word_read view chunk place = fold (last_read chunk place) None view.row.looks
 
 -- the words of the chunk that the hand holds, as far as they are known; none where the hand doesn't hold the chunk
-abbrev pub words_in : View → ChunkId → Words
-words_in view chunk = option_map_or words_of (holding_of chunk view.row.holdings) []
+abbrev pub known_words_in : View → ChunkId → Words
+known_words_in view chunk = option_map_or holding_words (holding_of chunk view.row.holdings) []
 
 -- the issue number with which the chunk that the hand holds was handed out, 0 where it doesn't hold it
 abbrev pub issue_in : View → ChunkId → ℕ
@@ -33,8 +33,8 @@ issue_in view chunk = option_map_or (λ (holding : Holding). holding.issue) (hol
 -- some hand knows an item of this chunk, whose words some hand stored; this is the item's word at the place, if it has one
 pub record IsWordOfItem (moment : Moment) (chunk : ChunkId) (place word : ℕ) : Type 0 where
   pub hand : ℕ
-  pub item : Known
+  pub item : KnownItem
   pub known : Contains (slice_index_or moment.past.known hand []) item
   pub there : item.chunk ≡ chunk
-  pub said : IsSaid moment.past.said (stamp_of item.words) item.words
+  pub said : WasStored moment.past.said (stamp_in_words item.words) item.words
   pub is_word : place < length item.words → slice_index item.words place ≡ word

@@ -8,8 +8,8 @@ use Rattle.mc_core.specs.declared.holding.Holding.{Holding}
 use Rattle.mc_core.specs.declared.holding.Kind.TheVariants.{Fresh}
 use Rattle.mc_core.specs.declared.holding.Purpose.TheVariants.{Item}
 use Rattle.mc_core.specs.declared.holding.Purpose.TheVariants as purpose
-use Rattle.mc_core.specs.Holdings.{Words, holding_of, is_complete, is_of, item_in, key_in, lose, numbers, stamp_in}
-use Rattle.mc_core.specs.Items.{are_same, is_entry_aside, stamped}
+use Rattle.mc_core.specs.Holdings.{Words, holding_of, is_complete, is_of_chunk, words_of_item, known_key, without_first, numbers_of_known, stamp_in}
+use Rattle.mc_core.specs.Items.{are_same, is_entry_aside, ids_after_stamp}
 use Rattle.mc_core.specs.Past.{known_by}
 use Rattle.mc_core.specs.declared.event.Step.TheVariants.{Link}
 use Rattle.mc_words.specs.hand.View.{View, made}
@@ -24,7 +24,7 @@ own_item chunk issue words = record { chunk = chunk; issue = issue; kind = Fresh
 pub record IsItemFilled (view : View) (chunk : ChunkId) (issue : ℕ) (words : Words) (key stamp : ℕ) : Type 0 where
   pub found : holding_of chunk view.row.holdings ≡ Some (own_item chunk issue words)
   pub complete : is_complete words ≡ true
-  pub same_key : key_in words ≡ key
+  pub same_key : known_key words ≡ key
   pub same_stamp : stamp_in words ≡ stamp
 
 -- the view after the hand of this number linked the item: the hand refers to the item, stored its words with its stamp, and recorded the
@@ -33,13 +33,13 @@ abbrev pub item_linked : ℕ → ℕ → ReadyStripe → ℕ → ℕ → ChunkId
 item_linked number stripe value key stamp chunk issue words room view = record view {
   events = view.events ++ made [] (Link chunk) ∷ [];
   row = record {
-    ids = stamped view.row.ids;
-    holdings = lose (is_of chunk) view.row.holdings ++ reference_to chunk issue (numbers (item_in words)) ∷ [];
+    ids = ids_after_stamp view.row.ids;
+    holdings = without_first (is_of_chunk chunk) view.row.holdings ++ reference_to chunk issue (numbers_of_known (words_of_item words)) ∷ [];
     looks = view.row.looks;
     knows = record view.row.knows {
       mine = map (with_own_call number stripe (Set number key stamp)) view.row.knows.mine;
-      said = view.row.knows.said ++ record { stamp = stamp; words = numbers (item_in words) } ∷ [];
-      known = view.row.knows.known ++ known_by room (reference_to chunk issue (numbers (item_in words))) ∷ [];
+      said = view.row.knows.said ++ record { stamp = stamp; words = numbers_of_known (words_of_item words) } ∷ [];
+      known = view.row.knows.known ++ known_by room (reference_to chunk issue (numbers_of_known (words_of_item words))) ∷ [];
     };
   };
   stripes = slice_set view.stripes stripe (Some (used_up (after_link value.state number key chunk stamp)));
@@ -55,8 +55,8 @@ pub record IsCopyFilled (view : View) (stripe : StripeState) (chunk : ChunkId) (
   pub item : List ℕ
   pub found : holding_of chunk view.row.holdings ≡ Some (copied_item old chunk issue item words)
   pub complete : is_complete words ≡ true
-  pub same : are_same (item_in words) item ≡ true
-  pub same_key : key_in words ≡ key
+  pub same : are_same (words_of_item words) item ≡ true
+  pub same_key : known_key words ≡ key
   pub same_stamp : stamp_in words ≡ stamp
   pub aside : is_entry_aside stripe key old stamp ≡ true
 
@@ -67,11 +67,11 @@ copy_linked number stripe value key chunk issue words room view = record view {
   events = view.events ++ made [] (Link chunk) ∷ [];
   row = record {
     ids = view.row.ids;
-    holdings = lose (is_of chunk) view.row.holdings ++ reference_to chunk issue (numbers (item_in words)) ∷ [];
+    holdings = without_first (is_of_chunk chunk) view.row.holdings ++ reference_to chunk issue (numbers_of_known (words_of_item words)) ∷ [];
     looks = view.row.looks;
     knows = record view.row.knows {
       mine = map (with_own_call number stripe (Rescue number key)) view.row.knows.mine;
-      known = view.row.knows.known ++ known_by room (reference_to chunk issue (numbers (item_in words))) ∷ [];
+      known = view.row.knows.known ++ known_by room (reference_to chunk issue (numbers_of_known (words_of_item words))) ∷ [];
     };
   };
   stripes = slice_set view.stripes stripe (Some (used_up (after_rescue value.state number key chunk)));

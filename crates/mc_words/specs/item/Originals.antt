@@ -1,17 +1,17 @@
 -- Items that go to a copy: the original is taken away, and its key's entry is put aside until the copy is linked.
 use Rattle.std.specs.Prelude.{◌≡◌, ℕ, ◌<◌, true, List, [], length, slice_index, Some}
 use Rattle.mc_pages.specs.declared.ids.ChunkId.{ChunkId}
-use Rattle.mc_stripe.specs.StripeState.{ReadyStripe, place_of}
+use Rattle.mc_stripe.specs.StripeState.{ReadyStripe, chunk_and_stamp}
 use Rattle.mc_stripe.specs.Changes.{after_lift}
 use Rattle.mc_core.specs.declared.head.Head.{Head}
 use Rattle.mc_core.specs.declared.look.Look.TheVariants.{Condemned}
 use Rattle.mc_core.specs.declared.event.Step.TheVariants as step
-use Rattle.mc_core.specs.Evictions.{as_rescue, condemned, is_linked_unheld}
-use Rattle.mc_core.specs.Holdings.{change_each, is_copy_of, key_of, length_of, stamp_of}
+use Rattle.mc_core.specs.Evictions.{as_rescue, head_after_condemn, is_linked_unheld}
+use Rattle.mc_core.specs.Holdings.{change_each, is_copy_of, key_of, length_of_item, stamp_in_words}
 use Rattle.mc_words.specs.hand.View.{View}
 use Rattle.mc_words.specs.rule.Happens.{Happens}
 use Rattle.mc_words.specs.item.Items.{word_read}
-use Rattle.mc_words.specs.hand.Views.{head_seen, looked, with_event, with_holdings}
+use Rattle.mc_words.specs.hand.Views.{head_seen, view_after_look, with_event, with_holdings}
 use Rattle.mc_words.specs.item.Calls.{key_lifted}
 use Rattle.mc_words.specs.item.Removal.{key_read, key_seen}
 
@@ -19,7 +19,7 @@ use Rattle.mc_words.specs.item.Removal.{key_read, key_seen}
 abbrev pub original_condemned : ℕ → ReadyStripe → ℕ → ChunkId → List ℕ → Head → View → View
 original_condemned stripe value key chunk item head view =
     with_event [] (step.Condemn chunk)
-    (looked (Condemned chunk (condemned head)) (key_lifted stripe value key (with_holdings (change_each (is_copy_of chunk) (as_rescue chunk item) view.row.holdings) view)))
+    (view_after_look (Condemned chunk (head_after_condemn head)) (key_lifted stripe value key (with_holdings (change_each (is_copy_of chunk) (as_rescue chunk item) view.row.holdings) view)))
 
 -- the hand saw that the chunk is linked and held by nobody, has a copy of its item, and took the item away. The key led to the chunk, and
 -- its entry is aside then
@@ -27,12 +27,12 @@ pub record CondemnsOriginal (stripe : ℕ) (chunk : ChunkId) (value : ReadyStrip
   pub key : ℕ
   pub is_key : key_read view chunk ≡ Some key
   pub stamp : ℕ
-  pub led : place_of value.state key ≡ Some (chunk, stamp)
+  pub led : chunk_and_stamp value.state key ≡ Some (chunk, stamp)
   -- the item has as many words as its length counts, and is the one to which the stripe led
   pub item : List ℕ
-  pub whole : length item ≡ length_of item
+  pub whole : length item ≡ length_of_item item
   pub key_is : key_of item ≡ key
-  pub stamp_is : stamp_of item ≡ stamp
+  pub stamp_is : stamp_in_words item ≡ stamp
   -- each word of the item that the hand read under this hold of the slabs lock is the item's word at that place
   pub read_is : (place word : ℕ) → word_read view chunk place ≡ Some word → place < length item → slice_index item place ≡ word
   pub head : Head

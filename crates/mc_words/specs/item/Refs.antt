@@ -4,11 +4,11 @@ use Rattle.std.specs.Option.{option_map}
 use Rattle.mc_pages.specs.declared.ids.ChunkId.{ChunkId}
 use Rattle.mc_core.specs.declared.holding.Holding.{Holding}
 use Rattle.mc_core.specs.Holdings.{holding_of, is_fresh}
-use Rattle.mc_core.specs.Past.{Known, known_by}
+use Rattle.mc_core.specs.Past.{KnownItem, known_by}
 use Rattle.mc_words.specs.hand.View.{View}
 
 -- the first of these holdings that is of this chunk is a reference, and is known to have room for n words
-pub record IsRefIn (holdings : List Holding) (known : List Known) (chunk : ChunkId) (room : ℕ) : Type 0 where
+pub record IsRefIn (holdings : List Holding) (known : List KnownItem) (chunk : ChunkId) (room : ℕ) : Type 0 where
   pub holding : Holding
   pub found : holding_of chunk holdings ≡ Some holding
   pub linked : is_fresh holding ≡ false
@@ -28,7 +28,7 @@ pub record KeepsRefs (view now : View) : Type 0 where
   pub same : (chunk : ChunkId) (room : ℕ) → IsRefOf view chunk room → holding_of chunk now.row.holdings ≡ holding_of chunk view.row.holdings
 
 -- the hand still refers to each chunk that it referred to and still holds, by the same holding, whatever it gave up
-pub record KeepsHeld (view now : View) : Type 0 where
+pub record KeepsRemainingRefs (view now : View) : Type 0 where
   pub refers : (chunk : ChunkId) (room : ℕ) → IsRefOf view chunk room → is_some (holding_of chunk now.row.holdings) ≡ true → IsRefOf now chunk room
   pub same : (chunk : ChunkId) (room : ℕ) → IsRefOf view chunk room → is_some (holding_of chunk now.row.holdings) ≡ true →
       holding_of chunk now.row.holdings ≡ holding_of chunk view.row.holdings

@@ -4,7 +4,7 @@ use Rattle.std.specs.Option.{option_map}
 use Rattle.mc_pages.specs.Pages.{is_on_the_move}
 use Rattle.mc_pages.specs.declared.ids.ChunkId.{ChunkId}
 use Rattle.mc_pages.specs.SlabState.{SlabState}
-use Rattle.mc_stripe.specs.StripeState.{ReadyStripe, place_of}
+use Rattle.mc_stripe.specs.StripeState.{ReadyStripe, chunk_and_stamp}
 use Rattle.mc_stripe.specs.Changes.{after_evict, used_up}
 use Rattle.mc_core.specs.declared.head.Head.{Head}
 use Rattle.mc_core.specs.declared.holding.Holding.{Holding}
@@ -44,7 +44,7 @@ pub record Condemns (number stripe : ℕ) (chunk : ChunkId) (value : ReadyStripe
   pub key : ℕ
   pub is_key : key_read view chunk ≡ Some key
   pub stamp : ℕ
-  pub led : place_of value.state key ≡ Some (chunk, stamp)
+  pub led : chunk_and_stamp value.state key ≡ Some (chunk, stamp)
   pub head : Head
   pub unheld : is_linked_unheld head ≡ true
   pub reads : Happens view [] (step.WordHeld chunk 0) (key_seen chunk key view)

@@ -22,12 +22,12 @@ pub record IsDoneBehind (room : StripeChange) (number stripe : ℕ) (value : Rea
 
 -- under the stripe's lock, with this value behind it: room was made for a call that stores no entry, this was done, and the lock was given
 -- back
-abbrev pub IsDone : ℕ → ℕ → ReadyStripe → Doing → View → View → Type 0
-IsDone number stripe value Does view now = IsDoneBehind ReserveCall number stripe value Does view now
+abbrev pub UsesRoomForCall : ℕ → ℕ → ReadyStripe → Doing → View → View → Type 0
+UsesRoomForCall number stripe value Does view now = IsDoneBehind ReserveCall number stripe value Does view now
 
 -- under the stripe's lock, with this value behind it: room was made for a call and an entry, this was done, and the lock was given back
-abbrev pub IsStored : ℕ → ℕ → ReadyStripe → Doing → View → View → Type 0
-IsStored number stripe value Does view now = IsDoneBehind Reserve number stripe value Does view now
+abbrev pub UsesRoomForEntry : ℕ → ℕ → ReadyStripe → Doing → View → View → Type 0
+UsesRoomForEntry number stripe value Does view now = IsDoneBehind Reserve number stripe value Does view now
 
 -- what is done under the lock of the slabs, from a view and its pages and lists to those that it leaves
 abbrev pub SlabsDoing : Type 1

@@ -1,9 +1,9 @@
 -- What a hand finds behind a lock that it takes.
 use Rattle.std.specs.Prelude.{◌≡◌, ◌==◌, ℕ, ◌%◌, List, [], filter, slice_get, slice_index_or, unwrap_or, Some, None, All}
 use Rattle.mc_pages.specs.declared.ids.ChunkId.{ChunkId}
-use Rattle.mc_pages.specs.ClassState.{times}
+use Rattle.mc_pages.specs.ClassState.{times_in}
 use Rattle.mc_pages.specs.SlabState.{SlabState, class_of_chunk}
-use Rattle.mc_stripe.specs.StripeState.{ReadyStripe, new_stripe, place_of}
+use Rattle.mc_stripe.specs.StripeState.{ReadyStripe, new_stripe, chunk_and_stamp}
 use Rattle.mc_stripe.specs.declared.history.Call.{Call}
 use Rattle.mc_stripe.specs.Legal.{IsLegal}
 use Rattle.mc_core.specs.Histories.{IsBeginning, hand_of}
@@ -19,7 +19,7 @@ pub record IsLent (view : View) (slabs : SlabState) : Type 0 where
   -- no page is half cut
   pub whole : slabs.uncut ≡ None
   -- each chunk that the hand holds is once in the hand-out order of its class
-  pub kept : All (λ holding. times holding.chunk (class_of_chunk slabs holding.chunk).order ≡ 1) view.row.holdings
+  pub kept : All (λ holding. times_in holding.chunk (class_of_chunk slabs holding.chunk).order ≡ 1) view.row.holdings
 
 -- a stripe is the hand's, is whole, and has keys of its own alone
 pub record IsLentStripe (view : View) (number : ℕ) (stripe : ReadyStripe) : Type 0 where
@@ -29,7 +29,7 @@ pub record IsLentStripe (view : View) (number : ℕ) (stripe : ReadyStripe) : Ty
   -- no entry is aside
   pub whole : stripe.state.aside ≡ None
   -- each key that leads somewhere is one of the stripe's
-  pub keys : (key : ℕ) (place : ChunkId × ℕ) → place_of stripe.state key ≡ Some place → key % view.setup.config.stripes ≡ number
+  pub keys : (key : ℕ) (place : ChunkId × ℕ) → chunk_and_stamp stripe.state key ≡ Some place → key % view.setup.config.stripes ≡ number
   -- for each number of the hand, the hand's own calls are the history's calls of that number
   pub own : All (λ (own : Own). slice_index_or own.calls number [] ≡ filter (λ call. hand_of call == own.number) stripe.state.history) view.row.knows.mine
 

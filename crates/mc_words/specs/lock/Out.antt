@@ -56,12 +56,12 @@ IsNoted me number chunks locks =
     (me.0.row.ids.number ≡ Some number) × (number < 64) × (chunks ≡ length me.0.row.holdings) × (slots_out me.1 ≡ slots_in locks) × HasLocks me.0 locks
 
 -- the locks after the slabs lock was taken, as the last one, unless it was among them
-abbrev pub with_slabs : Locks → Locks
-with_slabs Neither = Slabs
-with_slabs Slabs = Slabs
-with_slabs (Stripe stripe) = SlabsLast stripe
-with_slabs (SlabsLast stripe) = SlabsLast stripe
-with_slabs (StripeLast stripe) = StripeLast stripe
+abbrev pub locks_with_slabs : Locks → Locks
+locks_with_slabs Neither = Slabs
+locks_with_slabs Slabs = Slabs
+locks_with_slabs (Stripe stripe) = SlabsLast stripe
+locks_with_slabs (SlabsLast stripe) = SlabsLast stripe
+locks_with_slabs (StripeLast stripe) = StripeLast stripe
 
 -- the locks without the slabs lock
 abbrev pub without_slabs : Locks → Locks
@@ -72,12 +72,12 @@ without_slabs (SlabsLast stripe) = Stripe stripe
 without_slabs (StripeLast stripe) = Stripe stripe
 
 -- the locks after this stripe's lock was taken, as the last one, unless a stripe's was among them
-abbrev pub with_stripe : ℕ → Locks → Locks
-with_stripe stripe Neither = Stripe stripe
-with_stripe stripe Slabs = StripeLast stripe
-with_stripe stripe (Stripe other) = Stripe other
-with_stripe stripe (SlabsLast other) = SlabsLast other
-with_stripe stripe (StripeLast other) = StripeLast other
+abbrev pub locks_with_stripe : ℕ → Locks → Locks
+locks_with_stripe stripe Neither = Stripe stripe
+locks_with_stripe stripe Slabs = StripeLast stripe
+locks_with_stripe stripe (Stripe other) = Stripe other
+locks_with_stripe stripe (SlabsLast other) = SlabsLast other
+locks_with_stripe stripe (StripeLast other) = StripeLast other
 
 -- the locks without the stripe's lock
 abbrev pub without_stripe : Locks → Locks
@@ -88,12 +88,12 @@ without_stripe (SlabsLast stripe) = Slabs
 without_stripe (StripeLast stripe) = Slabs
 
 -- no stripe's lock is among these locks
-abbrev pub has_no_stripe : Locks → Bool
-has_no_stripe Neither = true
-has_no_stripe Slabs = true
-has_no_stripe (Stripe stripe) = false
-has_no_stripe (SlabsLast stripe) = false
-has_no_stripe (StripeLast stripe) = false
+abbrev pub locks_have_no_stripe : Locks → Bool
+locks_have_no_stripe Neither = true
+locks_have_no_stripe Slabs = true
+locks_have_no_stripe (Stripe stripe) = false
+locks_have_no_stripe (SlabsLast stripe) = false
+locks_have_no_stripe (StripeLast stripe) = false
 
 -- these are no locks
 abbrev pub is_neither : Locks → Bool

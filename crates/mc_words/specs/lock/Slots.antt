@@ -12,9 +12,9 @@ abbrev pub slots_between : ℕ
 slots_between = slots_apart - 1
 
 -- the number of a lock: 0 of the slabs, and i + 1 of stripe i
-abbrev pub number_of : Lock → ℕ
-number_of SlabsLock = zero
-number_of (StripeLock stripe) = suc stripe
+abbrev pub lock_number : Lock → ℕ
+lock_number SlabsLock = zero
+lock_number (StripeLock stripe) = suc stripe
 
 -- the slot of the value behind the lock of this number
 abbrev pub slot_at : ℕ → ℕ
@@ -22,7 +22,7 @@ slot_at lock = slots_apart * lock
 
 -- the slot of the value behind this lock
 abbrev pub slot_of : Lock → ℕ
-slot_of lock = slot_at (number_of lock)
+slot_of lock = slot_at (lock_number lock)
 
 -- how many slots there are for n stripes
 abbrev pub slot_count : ℕ → ℕ

@@ -5,7 +5,7 @@ use Rattle.atomic_table.specs.Table.{rest}
 use Rattle.mc_core.specs.declared.event.Step.{Step}
 use Rattle.mc_core.specs.declared.event.Step.TheVariants as step
 use Rattle.mc_core.specs.Silent.{none_half_cut}
-use Rattle.mc_core.specs.Past.{Sight}
+use Rattle.mc_core.specs.Past.{SeenWord}
 use Rattle.mc_core.specs.Past as past
 use Rattle.mc_words.specs.declared.lock.slot.Slot.{Slot}
 use Rattle.mc_words.specs.declared.lock.slot.Slot.TheVariants.{Empty, OfSlabs, OfStripe}
@@ -13,7 +13,7 @@ use Rattle.mc_words.specs.declared.lock.locks.Lock.{Lock}
 use Rattle.mc_words.specs.declared.lock.locks.Lock.TheVariants.{SlabsLock, StripeLock}
 use Rattle.mc_words.specs.hand.View.{Setup, View}
 use Rattle.mc_words.specs.rule.Happens.{LawfulView, Happens, HappensAt}
-use Rattle.mc_words.specs.lock.Slots.{number_of, slot_of}
+use Rattle.mc_words.specs.lock.Slots.{lock_number, slot_of}
 use Rattle.mc_words.specs.rule.Told.{Sits, At, StaysOut}
 
 -- the event by which the lock is taken
@@ -32,13 +32,13 @@ give_of SlabsLock = step.GiveSlabs
 give_of (StripeLock stripe) = step.GiveStripe stripe
 
 -- what a look at the lock's word adds to what the hand saw
-abbrev pub sight_of : Lock → ℕ → Sight
-sight_of SlabsLock word = past.slabs_word word
-sight_of (StripeLock stripe) word = past.stripe_word stripe word
+abbrev pub seen_word_of : Lock → ℕ → SeenWord
+seen_word_of SlabsLock word = past.slabs_word word
+seen_word_of (StripeLock stripe) word = past.stripe_word stripe word
 
 -- the arena has such a lock
 abbrev pub IsLockOf : Setup → Lock → Type 0
-IsLockOf setup lock = number_of lock ≤ setup.config.stripes
+IsLockOf setup lock = lock_number lock ≤ setup.config.stripes
 
 -- the hand has this value behind the lock
 abbrev pub HasValue : View → Lock → Slot → Type 0
@@ -50,10 +50,10 @@ HasValue view (StripeLock number) (OfStripe stripe) = slice_index_or view.stripe
 HasValue view (StripeLock number) Empty = ⊥
 
 -- the value may be given back: pages and lists with no page half cut, or a stripe with no entry aside
-abbrev pub can_give : Slot → Bool
-can_give (OfSlabs slabs) = none_half_cut slabs
-can_give (OfStripe stripe) = is_none stripe.state.aside
-can_give Empty = false
+abbrev pub may_be_given_back : Slot → Bool
+may_be_given_back (OfSlabs slabs) = none_half_cut slabs
+may_be_given_back (OfStripe stripe) = is_none stripe.state.aside
+may_be_given_back Empty = false
 
 -- the hand has the locks of these stripes, and of no others
 abbrev pub HasStripes : View → (ℕ → Bool) → Type 0

@@ -14,12 +14,12 @@ use Rattle.mc_words.specs.hand.View.{Setup, View}
 use Rattle.mc_words.specs.Headline.{Headline}
 use Rattle.mc_words.specs.rule.Happens.{LawfulView}
 use Rattle.mc_words.specs.rule.Joins.{Rule}
-use Rattle.mc_words.specs.rule.Layout.{lock_word, heads_from, head_count, word_count}
-use Rattle.mc_words.specs.rule.Meaning.{Words}
+use Rattle.mc_words.specs.rule.Layout.{lock_address, heads_from, head_count, word_count}
+use Rattle.mc_words.specs.rule.Meaning.{WordsOfTable}
 use Rattle.mc_words.specs.lock.Slots.{slot_at, slot_count}
 
 -- what is left of an arena: the words of the headers, page 0 first, and the values behind the locks that no hand has
-pub record Left : Type 0 where
+pub record ArenaEnd : Type 0 where
   pub setup : Setup
   pub heads : List ℕ
   pub slabs : Option SlabState
@@ -32,9 +32,9 @@ at_home word value = if word == 0 then Some value else None
 
 -- a hand closes the arena. Its view is of a lawful moment, to which the arena's events lead and which the table means, with the views of
 -- all hands. The promise holds of that table, and these headers and values are left of it
-pub record Closes (view : View) (left : Left) : Type 0 where
+pub record Closes (view : View) (left : ArenaEnd) : Type 0 where
   pub was : LawfulView view
-  pub table : Words
+  pub table : WordsOfTable
   pub rule : Rule view.setup table
   pub headline : Headline view.setup table
   pub same_moment : rule.ruled.moment ≡ was.moment
@@ -57,14 +57,14 @@ stripe_in other = None
 
 -- pages and lists in the slot of their lock, none where the lock's word isn't 0
 abbrev pub slabs_left : List ℕ → List Slot → Option SlabState
-slabs_left words slots = if slice_index words (lock_word zero) == 0 then slabs_in (slice_index_or slots (slot_at zero) Empty) else None
+slabs_left words slots = if slice_index words (lock_address zero) == 0 then slabs_in (slice_index_or slots (slot_at zero) Empty) else None
 
 -- the stripe in the slot of its lock, none where the lock's word isn't 0
 abbrev pub stripe_left : List ℕ → List Slot → ℕ → Option ReadyStripe
-stripe_left words slots stripe = if slice_index words (lock_word (suc stripe)) == 0 then stripe_in (slice_index_or slots (slot_at (suc stripe)) Empty) else None
+stripe_left words slots stripe = if slice_index words (lock_address (suc stripe)) == 0 then stripe_in (slice_index_or slots (slot_at (suc stripe)) Empty) else None
 
 -- what is left of an arena, by these words and slots
-abbrev pub left_of : Setup → List ℕ → List Slot → Left
+abbrev pub left_of : Setup → List ℕ → List Slot → ArenaEnd
 left_of setup words slots = record {
   setup = setup;
   heads = take (head_count setup) (drop (heads_from setup) words);

@@ -10,7 +10,7 @@ use Rattle.mc_core.specs.Lawful.{IsLawful}
 use Rattle.mc_core.specs.Silent.{allows_change, after_change}
 use Rattle.mc_core.specs.Run.{allows_step, after_step, is_allowed}
 use Rattle.mc_words.specs.hand.View.{View, events_of, own_event, view_at}
-use Rattle.mc_words.specs.rule.Meaning.{WordsOf, AreCut, LeadsTo}
+use Rattle.mc_words.specs.rule.Meaning.{WordsOf, AreCut, IsReachedBy}
 
 -- the view is what a lawful moment has of a hand; with the words that the table had then, and the classes of its pages
 pub record LawfulView (view : View) : Type 0 where
@@ -23,7 +23,7 @@ pub record LawfulView (view : View) : Type 0 where
   pub there : is_hand moment.state hand ≡ true
   -- the events that lead to the moment from the arena's beginning, of which the view has those that the hand made
   pub run : List Event
-  pub reached : LeadsTo view.setup run moment
+  pub reached : IsReachedBy view.setup run moment
   pub is : view ≡ view_at view.setup view.spare (events_of hand run) moment hand
   pub words : List ℕ
   pub cuts : List ℕ
@@ -46,13 +46,13 @@ abbrev pub HappensAt : ℕ → ℕ → View → List Change → Step → View �
 HappensAt place word view before step now = (happens : Happens view before step now) × (slice_index happens.was.words place ≡ word)
 
 -- the step takes and gives no lock, and joins no hands
-abbrev pub is_quiet : Step → Bool
-is_quiet TakeSlabs = false
-is_quiet (TakeStripe stripe) = false
-is_quiet GiveSlabs = false
-is_quiet (GiveStripe stripe) = false
-is_quiet (Join kept spent) = false
-is_quiet other = true
+abbrev pub keeps_locks_and_hands : Step → Bool
+keeps_locks_and_hands TakeSlabs = false
+keeps_locks_and_hands (TakeStripe stripe) = false
+keeps_locks_and_hands GiveSlabs = false
+keeps_locks_and_hands (GiveStripe stripe) = false
+keeps_locks_and_hands (Join kept spent) = false
+keeps_locks_and_hands other = true
 
 -- wherever a hand knows this view, the model allows the step, which changes the word at this place by this function
 abbrev pub MayWrite : View → Step → ℕ → (ℕ → ℕ) → Type 0
@@ -67,7 +67,7 @@ MayExchange view step place expected word =
     (allows_step was.moment.state was.hand step ≡ true) × WordsOf view.setup was.cuts (slice_set was.words place word) (after_step was.moment.state was.hand step)
 
 -- wherever a hand knows this view, the model allows this change and then the step, which changes the word at this place by this function
-pub record MayTell (view : View) (change : Change) (step : Step) (place : ℕ) (written : ℕ → ℕ) : Type 0 where
+pub record AllowsStep (view : View) (change : Change) (step : Step) (place : ℕ) (written : ℕ → ℕ) : Type 0 where
   pub allowed : (was : LawfulView view) → allows_change was.moment.state was.hand change ≡ true
   pub step_allowed : (was : LawfulView view) → allows_step (after_change was.moment.state was.hand change) was.hand step ≡ true
   pub writes : (was : LawfulView view) →

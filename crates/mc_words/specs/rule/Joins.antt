@@ -3,12 +3,12 @@ use Rattle.std.specs.Prelude.{◌≡◌, ℕ, true, List, [], ◌∷◌, ◌++�
 use mathlib.Core.Option.{some}
 use lib.ListN.{get_elem?}
 use Rattle.mc_core.specs.declared.event.Step.TheVariants.{Join}
-use Rattle.mc_core.specs.Holdings.{stamp_of}
-use Rattle.mc_core.specs.Past.{Known, Knowledge, Saying, moment_after}
+use Rattle.mc_core.specs.Holdings.{stamp_in_words}
+use Rattle.mc_core.specs.Past.{KnownItem, Knowledge, StoredItem, moment_after}
 use Rattle.mc_core.specs.Run.{is_allowed}
-use Rattle.mc_core.specs.Views.{Row, row_at}
-use Rattle.mc_words.specs.hand.View.{OwnEvent, Setup, View, events_of, joined, view_at, settled}
-use Rattle.mc_words.specs.rule.Meaning.{Words, Ruled}
+use Rattle.mc_core.specs.Views.{Row, hand_row}
+use Rattle.mc_words.specs.hand.View.{OwnEvent, Setup, View, events_of, joined, view_at, settled_view}
+use Rattle.mc_words.specs.rule.Meaning.{WordsOfTable, IsRuled}
 use Rattle.mc_words.specs.rule.Happens.{LawfulView, event_of}
 use Rattle.mc_words.specs.rule.Told.{Sits, At}
 
@@ -17,33 +17,33 @@ use Rattle.mc_words.specs.rule.Told.{Sits, At}
 pub record Joins (view : View) (row : Row) (events : List OwnEvent) (now : View) : Type 0 where
   pub was : LawfulView view
   pub spent : ℕ
-  pub row_is : row ≡ row_at was.moment spent
+  pub row_is : row ≡ hand_row was.moment spent
   pub events_are : events ≡ events_of spent was.run
   pub allowed : is_allowed was.moment.state (event_of was.hand [] (Join was.hand spent)) ≡ true
   pub is : now ≡ view_at view.setup view.spare (view.events ++ joined ∷ []) (moment_after was.moment (event_of was.hand [] (Join was.hand spent))) was.hand
 
 -- what a hand stored and knows agrees: one stamp has one item's words, one chunk with one issue has one item, and a known item's words are
 -- those stored with its stamp
-pub record Agrees (knows : Knowledge) : Type 0 where
-  pub said : (a b : Saying) → Contains knows.said a → Contains knows.said b → a.stamp ≡ b.stamp → a.words ≡ b.words
-  pub known : (a b : Known) → Contains knows.known a → Contains knows.known b → a.chunk ≡ b.chunk → a.issue ≡ b.issue → a.words ≡ b.words
-  pub both : (s : Saying) (k : Known) → Contains knows.said s → Contains knows.known k → s.stamp ≡ stamp_of k.words → s.words ≡ k.words
+pub record KnowledgeAgrees (knows : Knowledge) : Type 0 where
+  pub said : (a b : StoredItem) → Contains knows.said a → Contains knows.said b → a.stamp ≡ b.stamp → a.words ≡ b.words
+  pub known : (a b : KnownItem) → Contains knows.known a → Contains knows.known b → a.chunk ≡ b.chunk → a.issue ≡ b.issue → a.words ≡ b.words
+  pub both : (s : StoredItem) (k : KnownItem) → Contains knows.said s → Contains knows.known k → s.stamp ≡ stamp_in_words k.words → s.words ≡ k.words
 
 -- a view that was made of two rows was made by a join
 abbrev pub IsMade : View → Type 0
-IsMade view = (kept spent : Row) (own others : List OwnEvent) → view.made_of ≡ Some (kept, spent, own, others) → Joins (record view { events = own; row = kept; made_of = None }) spent others (settled view)
+IsMade view = (kept spent : Row) (own others : List OwnEvent) → view.made_of ≡ Some (kept, spent, own, others) → Joins (record view { events = own; row = kept; made_of = None }) spent others (settled_view view)
 
 -- the table, where each hand learned what it was made of
-abbrev pub all_settled : Words → Words
-all_settled t = record t { views = map settled t.views }
+abbrev pub all_settled : WordsOfTable → WordsOfTable
+all_settled t = record t { views = map settled_view t.views }
 
 -- the rule of the table: it means a lawful moment, and hands that were made of two were made by a join
-pub record Rule (setup : Setup) (t : Words) : Type 0 where
-  pub ruled : Ruled setup (all_settled t)
+pub record Rule (setup : Setup) (t : WordsOfTable) : Type 0 where
+  pub ruled : IsRuled setup (all_settled t)
   pub made : (hand : ℕ) (view : View) → get_elem? t.views hand ≡ some view → IsMade view
 
 -- the step shows a hand how it was made
-pub record TellsMade (step : At) (me : Sits) (found : ℕ) (now : Sits) : Type 0 where
-  pub is : now ≡ (settled me.0, me.1)
+pub record ShowsMade (step : At) (me : Sits) (found : ℕ) (now : Sits) : Type 0 where
+  pub is : now ≡ (settled_view me.0, me.1)
   pub lawful : LawfulView now.0
   pub made : IsMade me.0

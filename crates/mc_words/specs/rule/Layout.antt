@@ -22,12 +22,12 @@ spread between other (x ∷ xs) = x ∷ (replicate between other ++ spread betwe
 
 -- the place of the word of the lock of this number. The slabs lock is number 0, and the lock of stripe i is number i + 1. Before them is
 -- word 0, which makes and joins hands
-abbrev pub lock_word : ℕ → ℕ
-lock_word lock = words_apart * (1 + lock)
+abbrev pub lock_address : ℕ → ℕ
+lock_address lock = words_apart * (1 + lock)
 
 -- the place of the slabs lock's word
 abbrev pub slabs_word : ℕ
-slabs_word = lock_word 0
+slabs_word = lock_address 0
 
 -- the place where the words of pages begin, behind those of the locks; each page has one
 abbrev pub pages_from : Setup → ℕ

@@ -15,14 +15,14 @@ or_refused None others = others
 -- the first test that the arguments fail: of the configuration, the number of hands, or the first issue number
 abbrev pub arena_refusal : Config → ℕ → ℕ → Option NewError
 arena_refusal config hands start =
-    or_refused (classes.refusal_of config)
+    or_refused (classes.config_refusal config)
     (if not (classes.is_between 1 64 hands) then Some refused.Hands
     else if not (nat_le start most_issue) then Some refused.Issue
     else None)
 
 -- the number of a refusal: 1 to 9 as for a configuration, 10 of the number of hands, and 11 of the first issue number
-abbrev pub refusal_number : NewError → ℕ
-refusal_number (refused.Config error) = classes.number_of error
-refusal_number (refused.NoMemory _) = 9
-refusal_number refused.Hands = 10
-refusal_number refused.Issue = 11
+abbrev pub new_error_number : NewError → ℕ
+new_error_number (refused.Config error) = classes.config_error_number error
+new_error_number (refused.NoMemory _) = 9
+new_error_number refused.Hands = 10
+new_error_number refused.Issue = 11

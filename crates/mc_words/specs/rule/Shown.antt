@@ -9,5 +9,5 @@ abbrev pub IsShown : ℕ → ℕ → View → Type 0
 IsShown place word view = (was : LawfulView view) × (slice_index was.words place ≡ word)
 
 -- the step changed nothing, and found this word
-abbrev pub TellsShown : At → Sits → ℕ → Sits → Type 0
-TellsShown at me found now = (now ≡ me) × IsShown at.word found me.0
+abbrev pub ShowsWord : At → Sits → ℕ → Sits → Type 0
+ShowsWord at me found now = (now ≡ me) × IsShown at.word found me.0

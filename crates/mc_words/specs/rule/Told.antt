@@ -20,18 +20,18 @@ abbrev pub StaysOut : Sits → Sits → Type 0
 StaysOut me now = (now.1 ≡ me.1) × IsSameHand me.0 now.0 × LawfulView now.0
 
 -- the step on the table was this event, and found this word
-abbrev pub TellsFound : Step → At → Sits → ℕ → Sits → Type 0
-TellsFound step at me found now = StaysOut me now × HappensAt at.word found me.0 [] step now.0
+abbrev pub HappensFinding : Step → At → Sits → ℕ → Sits → Type 0
+HappensFinding step at me found now = StaysOut me now × HappensAt at.word found me.0 [] step now.0
 
 -- the step on the table was this event
-abbrev pub TellsEvent : Step → At → Sits → ℕ → Sits → Type 0
-TellsEvent step at me written now = StaysOut me now × Happens me.0 [] step now.0
+abbrev pub HappensAs : Step → At → Sits → ℕ → Sits → Type 0
+HappensAs step at me written now = StaysOut me now × Happens me.0 [] step now.0
 
 -- the step on the table was the first event where it found its word as expected, and else the second, which looks at the word
-abbrev pub TellsExchange : Step → Step → At → Sits → ℕ → Sits → Type 0
-TellsExchange step look at me found now =
+abbrev pub HappensAsExchange : Step → Step → At → Sits → ℕ → Sits → Type 0
+HappensAsExchange step look at me found now =
     StaysOut me now × (found ≡ at.first → HappensAt at.word found me.0 [] step now.0) × (found ≢ at.first → HappensAt at.word found me.0 [] look now.0)
 
 -- the step on the table was this event, before which the change was made
-abbrev pub TellsChange : Change → Step → Sits → Sits → Type 0
-TellsChange change step me now = StaysOut me now × Happens me.0 (change ∷ []) step now.0
+abbrev pub HappensAfterChange : Change → Step → Sits → Sits → Type 0
+HappensAfterChange change step me now = StaysOut me now × Happens me.0 (change ∷ []) step now.0

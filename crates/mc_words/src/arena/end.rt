@@ -38,9 +38,9 @@ impl Model for Final {
     ghost use Rattle.std.specs.Slots.{IsFull, slots_items};
     ghost use Rattle.mc_core.specs.State.{most_of};
     ghost use Rattle.mc_words.specs.rule.Layout.{heads_from};
-    ghost use Rattle.mc_words.specs.rule.End.{IsLeftOf, Left, left_of};
+    ghost use Rattle.mc_words.specs.rule.End.{IsLeftOf, ArenaEnd, left_of};
 
-    ghost Value = { Left };
+    ghost Value = { ArenaEnd };
 
     ghost view = { λ f. left_of f.plan (slots_items f.closed.words) (slots_items f.closed.slots) };
 

@@ -1,6 +1,6 @@
 //! Why no arena is made.
 ghost use Rattle.std.specs.Prelude.{◌≡◌};
-ghost use Rattle.mc_words.specs.rule.Refused.{refusal_number};
+ghost use Rattle.mc_words.specs.rule.Refused.{new_error_number};
 
 use mc_classes::ConfigError;
 use mc_memory::Refused;
@@ -26,7 +26,7 @@ pub enum NewError {
 impl NewError {
     /// The refusal's number: 1 to 8 of a configuration, 9 for want of memory, 10 and 11 of hands and issue number.
     pub fn number(self) -> u64
-        ensures number { result ≡ refusal_number self }
+        ensures number { result ≡ new_error_number self }
     {
         match self {
             NewError::Config(error) => error.number(),

@@ -6,7 +6,7 @@ ghost use Rattle.mc_pages.specs.declared.ids.ChunkId.{ChunkId};
 ghost use Rattle.mc_pages.specs.SlabState.{class_at, class_of_page};
 ghost use Rattle.mc_core.specs.State.{is_class, most_of};
 ghost use Rattle.mc_words.specs.hand.Arenas.{IsHandOf, setup_of, view};
-ghost use Rattle.mc_words.specs.chunk.Dead.{AreHandedOut, AreJudged, IsJudged};
+ghost use Rattle.mc_words.specs.chunk.Dead.{AreHandedOut, AreJudged, IsAliveOrNoted};
 ghost use Rattle.mc_words.specs.chunk.Sweeps.{Recovers, SeesHeaders, with_seen};
 
 use crate::arena::Arena;
@@ -91,7 +91,7 @@ impl Arena {
         ensures locks { hand.new.locks ≡ hand.old.locks }
         ensures held { (view hand.new).slabs ≡ Some held.now.shared }
         ensures sees { (looked : List ChunkId) × SeesHeaders looked (view hand.old) (view hand.new) × AreJudged looked (view hand.new).row.looks dead.new }
-        ensures kept { (other : ChunkId) → IsJudged (view hand.old).row.looks dead.old other → IsJudged (view hand.new).row.looks dead.new other }
+        ensures kept { (other : ChunkId) → IsAliveOrNoted (view hand.old).row.looks dead.old other → IsAliveOrNoted (view hand.new).row.looks dead.new other }
         ensures out { AreHandedOut (setup_of self.now).table held.now.shared (class_of_page held.now.shared page) dead.new }
     {
         for word in 0..WORDS_A_PAGE {
@@ -124,7 +124,7 @@ impl Arena {
         ensures locks { hand.new.locks ≡ hand.old.locks }
         ensures held { (view hand.new).slabs ≡ Some held.now.shared }
         ensures sees { (looked : List ChunkId) × SeesHeaders looked (view hand.old) (view hand.new) × AreJudged looked (view hand.new).row.looks dead.new }
-        ensures kept { (other : ChunkId) → IsJudged (view hand.old).row.looks dead.old other → IsJudged (view hand.new).row.looks dead.new other }
+        ensures kept { (other : ChunkId) → IsAliveOrNoted (view hand.old).row.looks dead.old other → IsAliveOrNoted (view hand.new).row.looks dead.new other }
         ensures out { AreHandedOut (setup_of self.now).table held.now.shared (class_of_page held.now.shared first.page) dead.new }
     {
         let mut hinted = hinted;

@@ -6,8 +6,8 @@ ghost use Rattle.mc_pages.specs.SlabState.{class_at};
 ghost use Rattle.mc_core.specs.Looks.{is_found_alive};
 ghost use Rattle.mc_core.specs.State.{has_chunk, is_class};
 ghost use Rattle.mc_words.specs.hand.Arenas.{IsHandOf, setup_of, view};
-ghost use Rattle.mc_words.specs.chunk.Dead.{AreHandedOut, IsJudged};
-ghost use Rattle.mc_words.specs.chunk.Sweeps.{Sweeps, SweepsEach, follows, with_seen};
+ghost use Rattle.mc_words.specs.chunk.Dead.{AreHandedOut, IsAliveOrNoted};
+ghost use Rattle.mc_words.specs.chunk.Sweeps.{Sweeps, SweepsEach, is_in_sequence, with_seen};
 
 use crate::arena::Arena;
 use crate::chunk::dead::DeadChunks;
@@ -52,8 +52,8 @@ impl Arena {
         ensures arena { IsHandOf self.now hand.new }
         ensures locks { hand.new.locks ≡ hand.old.locks }
         ensures held { (view hand.new).slabs ≡ Some held.new.shared }
-        ensures each { (again : List ChunkId) × (follows (class_at held.old.shared class).order again ≡ true) × SweepsEach again (view hand.old) held.old.shared (view hand.new) held.new.shared }
-        ensures alive { (chunk : ChunkId) → (Contains (class_at held.old.shared class).order chunk → IsJudged (view hand.old).row.looks dead.old chunk) → Contains (class_at held.new.shared class).order chunk → is_found_alive (view hand.new).row.looks chunk ≡ true }
+        ensures each { (again : List ChunkId) × (is_in_sequence (class_at held.old.shared class).order again ≡ true) × SweepsEach again (view hand.old) held.old.shared (view hand.new) held.new.shared }
+        ensures alive { (chunk : ChunkId) → (Contains (class_at held.old.shared class).order chunk → IsAliveOrNoted (view hand.old).row.looks dead.old chunk) → Contains (class_at held.new.shared class).order chunk → is_found_alive (view hand.new).row.looks chunk ≡ true }
     {
         if dead.put_in_order(held.slabs()) {
             self.put_back_each(hand, held, dead.as_slice());

@@ -3,7 +3,7 @@ ghost use Rattle.std.specs.Prelude.{◌≡◌, true, []};
 ghost use Rattle.mc_words.specs.declared.lock.locks.Locks.TheVariants.{Neither};
 ghost use Rattle.mc_words.specs.hand.Arenas.{IsHandOf, IsOfArena, view};
 ghost use Rattle.mc_words.specs.hand.Idle.{is_idle};
-ghost use Rattle.mc_words.specs.rule.Joins.{Agrees, Joins};
+ghost use Rattle.mc_words.specs.rule.Joins.{KnowledgeAgrees, Joins};
 ghost use Rattle.mc_words.specs.hand.View.{both_views};
 
 use crate::arena::Arena;
@@ -22,7 +22,7 @@ impl Arena {
         ensures locks { result.locks ≡ Neither }
         ensures joins { Joins (view hand) (view other).row (view other).events (view result) }
         ensures view { view result ≡ both_views (view hand) (view other) }
-        ensures agree { Agrees (view result).row.knows }
+        ensures agree { KnowledgeAgrees (view result).row.knows }
     {
         let Hand {
             mut seat,

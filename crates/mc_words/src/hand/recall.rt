@@ -1,7 +1,7 @@
 //! Hands that come back, from where no more is known of them than at which table they sit.
 ghost use Rattle.std.specs.Prelude.{◌≡◌};
 ghost use Rattle.mc_words.specs.hand.Arenas.{IsHandOf, view};
-ghost use Rattle.mc_words.specs.hand.Observers.{locks_of, number_of};
+ghost use Rattle.mc_words.specs.hand.Observers.{locks_of, hand_number};
 ghost use Rattle.mc_words.specs.hand.Seats.{IsSeatedAt};
 
 use crate::arena::Arena;
@@ -17,7 +17,7 @@ impl Arena {
         ensures arena { IsHandOf self.now hand.new }
         ensures same { view hand.new ≡ view hand.old }
         ensures locks { locks_of hand.new ≡ locks_of hand.old }
-        ensures number { number_of hand.new ≡ number_of hand.old }
+        ensures number { hand_number hand.new ≡ hand_number hand.old }
     {
         self.table.shared.load::<ShownWord>(&mut hand.seat, 0);
     }

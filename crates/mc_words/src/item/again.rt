@@ -2,7 +2,7 @@
 ghost use Rattle.std.specs.Prelude.{◌≡◌, ◌≢◌, ◌+◌, ◌<◌, ◌≤◌, ◌^◌, ◌↔◌, [], true, length, Contains, Err, IfOk, IfErr};
 ghost use Rattle.mc_classes.specs.Limits.{most_refs};
 ghost use Rattle.mc_core.specs.Head.{decode};
-ghost use Rattle.mc_core.specs.Past.{Known};
+ghost use Rattle.mc_core.specs.Past.{KnownItem};
 ghost use Rattle.mc_core.specs.State.{has_chunk};
 ghost use Rattle.mc_core.specs.declared.event.Step.TheVariants as step;
 ghost use Rattle.mc_words.specs.hand.Arenas.{IsHandOf, setup_of, view};
@@ -31,7 +31,7 @@ impl Arena {
         ensures hinted { IfOk result (λ r. (r.chunk ≡ hint.chunk) × (r.issue ≡ hint.issue)) }
         ensures gets { IfOk result (λ r. GetsAgain (view hand.old) hint.chunk hint.issue r.room (view hand.new)) }
         ensures reference { IfOk result (λ r. IsRefOf (view hand.new) r.chunk r.room × IsIssueOf (view hand.new) r.chunk r.issue) }
-        ensures known { IfOk result (λ r. (k : Known) → Contains (view hand.old).row.knows.known k → k.chunk ≡ hint.chunk → k.issue ≡ hint.issue → held_item (view hand.new) r.chunk ≡ k.words) }
+        ensures known { IfOk result (λ r. (k : KnownItem) → Contains (view hand.old).row.knows.known k → k.chunk ≡ hint.chunk → k.issue ≡ hint.issue → held_item (view hand.new) r.chunk ≡ k.words) }
         ensures gone { result ≡ Err Again.Gone → FindsGone (view hand.old) hint.chunk hint.issue (view hand.new) }
         ensures contended { result ≡ Err Again.Contended → FindsContended (view hand.old) hint.chunk hint.issue (view hand.new) }
         ensures many { (result ≡ Err Again.TooManyRefs) ↔ (most_refs ≤ length (view hand.old).row.holdings) }
@@ -63,7 +63,7 @@ impl Arena {
         ensures hinted { IfOk result (λ r. (r.chunk ≡ hint.chunk) × (r.issue ≡ hint.issue)) }
         ensures refers { IfOk result (λ r. RefersAgain (view hand.old) hint.chunk hint.issue r.room (view hand.new)) }
         ensures reference { IfOk result (λ r. IsRefOf (view hand.new) r.chunk r.room × IsIssueOf (view hand.new) r.chunk r.issue) }
-        ensures known { IfOk result (λ r. (k : Known) → Contains (view hand.old).row.knows.known k → k.chunk ≡ hint.chunk → k.issue ≡ hint.issue → held_item (view hand.new) r.chunk ≡ k.words) }
+        ensures known { IfOk result (λ r. (k : KnownItem) → Contains (view hand.old).row.knows.known k → k.chunk ≡ hint.chunk → k.issue ≡ hint.issue → held_item (view hand.new) r.chunk ≡ k.words) }
         ensures missed { IfErr result (λ found. (found ≢ head) × Happens (view hand.old) [] (step.Head hint.chunk) (view hand.new) × (view hand.new ≡ head_seen hint.chunk (decode found) (view hand.old))) }
     {
         let word = self.head_word(hint.chunk);

@@ -1,13 +1,13 @@
 //! Items that are linked to their keys.
 ghost use Rattle.std.specs.Prelude.{◌≡◌, ◌%◌, [], true, slice_index_or, None, Some};
-ghost use Rattle.mc_stripe.specs.StripeState.{place_of, can_store};
+ghost use Rattle.mc_stripe.specs.StripeState.{chunk_and_stamp, can_store};
 ghost use Rattle.mc_stripe.specs.Changes.{after_link, used_up};
 ghost use Rattle.mc_core.specs.Items.{is_none_else_aside};
 ghost use Rattle.mc_core.specs.declared.event.Step.TheVariants as step;
 ghost use Rattle.mc_words.specs.hand.Arenas.{IsHandOf, setup_of, view};
 ghost use Rattle.mc_words.specs.item.Fresh.{IsFreshOf};
 ghost use Rattle.mc_words.specs.rule.Happens.{Happens};
-ghost use Rattle.mc_words.specs.item.Items.{issue_in, words_in};
+ghost use Rattle.mc_words.specs.item.Items.{issue_in, known_words_in};
 ghost use Rattle.mc_words.specs.item.Links.{IsItemFilled, item_linked};
 ghost use Rattle.mc_words.specs.item.Refs.{IsRefOf};
 ghost use Rattle.mc_words.specs.hand.Tallies.{next_stamp};
@@ -26,11 +26,11 @@ impl Arena {
         requires arena { IsHandOf self.now hand.old }
         requires held { slice_index_or (view hand.old).stripes held.old.number None ≡ Some held.old.stripe }
         requires fresh { IsFreshOf (view hand.old) fresh.chunk fresh.room }
-        requires item { IsItemFilled (view hand.old) fresh.chunk (issue_in (view hand.old) fresh.chunk) (words_in (view hand.old) fresh.chunk) fresh.key fresh.stamp }
+        requires item { IsItemFilled (view hand.old) fresh.chunk (issue_in (view hand.old) fresh.chunk) (known_words_in (view hand.old) fresh.chunk) fresh.key fresh.stamp }
         requires stamp { next_stamp (view hand.old).row.ids ≡ Some fresh.stamp }
         requires stripe { fresh.key % (setup_of self.now).config.stripes ≡ held.old.number }
         requires room { can_store held.old.stripe ≡ true }
-        requires new { place_of held.old.stripe.state fresh.key ≡ None }
+        requires new { chunk_and_stamp held.old.stripe.state fresh.key ≡ None }
         requires aside { is_none_else_aside held.old.stripe.state fresh.key ≡ true }
         ensures arena { IsHandOf self.now hand.new }
         ensures locks { hand.new.locks ≡ hand.old.locks }
@@ -38,7 +38,7 @@ impl Arena {
         ensures held { slice_index_or (view hand.new).stripes held.new.number None ≡ Some held.new.stripe }
         ensures stored { held.new.stripe ≡ used_up (after_link held.old.stripe.state hand.old.number fresh.key fresh.chunk fresh.stamp) }
         ensures happens { Happens (view hand.old) [] (step.Link fresh.chunk) (view hand.new) }
-        ensures linked { view hand.new ≡ item_linked hand.old.number held.old.number held.old.stripe fresh.key fresh.stamp fresh.chunk (issue_in (view hand.old) fresh.chunk) (words_in (view hand.old) fresh.chunk) fresh.room (view hand.old) }
+        ensures linked { view hand.new ≡ item_linked hand.old.number held.old.number held.old.stripe fresh.key fresh.stamp fresh.chunk (issue_in (view hand.old) fresh.chunk) (known_words_in (view hand.old) fresh.chunk) fresh.room (view hand.old) }
         ensures same { (result.chunk ≡ fresh.chunk) × (result.issue ≡ issue_in (view hand.old) fresh.chunk) × (result.room ≡ fresh.room) }
         ensures reference { IsRefOf (view hand.new) result.chunk result.room }
     {

@@ -1,7 +1,7 @@
 //! References to the items that keys lead to.
 ghost use Rattle.std.specs.Prelude.{◌≡◌, ℕ, ◌<◌, ◌≤◌, ◌%◌, ◌↔◌, [], ◌∷◌, true, false, length, slice_index_or, None, Some, Ok, IfOk, IfSome, IsErr, OnOk, OnErr};
 ghost use Rattle.mc_stripe.specs.Changes.{after_got, used_up};
-ghost use Rattle.mc_stripe.specs.StripeState.{place_of};
+ghost use Rattle.mc_stripe.specs.StripeState.{chunk_and_stamp};
 ghost use Rattle.mc_core.specs.Silent.{is_aside};
 ghost use Rattle.mc_core.specs.declared.event.Change.TheVariants as change;
 ghost use Rattle.mc_core.specs.declared.event.Step.TheVariants as step;
@@ -42,7 +42,7 @@ impl Arena {
         ensures told { OnOk result (held.new.stripe ≡ used_up (after_got held.old.stripe.state hand.old.number key)) }
         ensures gets { IfOk result (λ found. IfSome found (λ r. GetsItem (view hand.old) hand.old.number held.old.number held.old.stripe key r.chunk r.issue r.room (view hand.new))) }
         ensures reference { IfOk result (λ found. IfSome found (λ r. IsRefOf (view hand.new) r.chunk r.room × IsIssueOf (view hand.new) r.chunk r.issue)) }
-        ensures none { result ≡ Ok None → (place_of held.old.stripe.state key ≡ None) × Happens (view hand.old) (change.GotNone key ∷ []) (step.MissStripe held.old.number) (view hand.new) }
+        ensures none { result ≡ Ok None → (chunk_and_stamp held.old.stripe.state key ≡ None) × Happens (view hand.old) (change.GotNone key ∷ []) (step.MissStripe held.old.number) (view hand.new) }
         ensures view { result ≡ Ok None → view hand.new ≡ key_missed hand.old.number held.old.number held.old.stripe key (view hand.old) }
         ensures many { IsErr result ↔ (most_holdings ≤ length (view hand.old).row.holdings) }
         ensures refused { OnErr result ((held.new ≡ held.old) × (view hand.new ≡ view hand.old)) }
@@ -69,7 +69,7 @@ impl Arena {
         ensures told { held.new.stripe ≡ used_up (after_got held.old.stripe.state hand.old.number key) }
         ensures gets { IfSome result (λ r. GetsItem (view hand.old) hand.old.number held.old.number held.old.stripe key r.chunk r.issue r.room (view hand.new)) }
         ensures reference { IfSome result (λ r. IsRefOf (view hand.new) r.chunk r.room × IsIssueOf (view hand.new) r.chunk r.issue) }
-        ensures none { result ≡ None → (place_of held.old.stripe.state key ≡ None) × Happens (view hand.old) (change.GotNone key ∷ []) (step.MissStripe held.old.number) (view hand.new) }
+        ensures none { result ≡ None → (chunk_and_stamp held.old.stripe.state key ≡ None) × Happens (view hand.old) (change.GotNone key ∷ []) (step.MissStripe held.old.number) (view hand.new) }
         ensures view { result ≡ None → view hand.new ≡ key_missed hand.old.number held.old.number held.old.stripe key (view hand.old) }
     {
         let place = held.stripe().find(key);
@@ -90,7 +90,7 @@ impl Arena {
         requires held { slice_index_or (view hand.old).stripes held.now.number None ≡ Some held.now.stripe }
         requires ready { held.now.stripe.ready ≡ true }
         requires inside { is_aside held.now.stripe.state key ≡ false }
-        requires leads { (stamp : ℕ) × (place_of held.now.stripe.state key ≡ Some (chunk, stamp)) }
+        requires leads { (stamp : ℕ) × (chunk_and_stamp held.now.stripe.state key ≡ Some (chunk, stamp)) }
         requires few { length (view hand.old).row.holdings < most_holdings }
         ensures arena { IsHandOf self.now hand.new }
         ensures locks { hand.new.locks ≡ hand.old.locks }

@@ -1,6 +1,6 @@
 //! Items that are unlinked from their keys.
 ghost use Rattle.std.specs.Prelude.{◌≡◌, ℕ, ◌%◌, ◌&&◌, [], ◌∷◌, true, false, is_some, slice_index_or, None, Some};
-ghost use Rattle.mc_stripe.specs.StripeState.{place_of};
+ghost use Rattle.mc_stripe.specs.StripeState.{chunk_and_stamp};
 ghost use Rattle.mc_core.specs.Holdings.{has_fresh};
 ghost use Rattle.mc_core.specs.Items.{stripe_unlinked};
 ghost use Rattle.mc_core.specs.Silent.{is_aside};
@@ -33,7 +33,7 @@ impl Arena {
         ensures locks { hand.new.locks ≡ hand.old.locks }
         ensures number { held.new.number ≡ held.old.number }
         ensures held { slice_index_or (view hand.new).stripes held.new.number None ≡ Some held.new.stripe }
-        ensures there { result ≡ is_some (place_of held.old.stripe.state key) }
+        ensures there { result ≡ is_some (chunk_and_stamp held.old.stripe.state key) }
         ensures stripe { held.new.stripe ≡ stripe_unlinked held.old.stripe (result && has_fresh (view hand.old).row.holdings) hand.old.number key }
         ensures happens { result ≡ true → Happens (view hand.old) [] (step.Unlink key) (view hand.new) }
         ensures unlinked { result ≡ true → view hand.new ≡ key_unlinked hand.old.number held.old.number held.old.stripe key (view hand.old) }
@@ -62,7 +62,7 @@ impl Arena {
         requires ready { held.now.stripe.ready ≡ true }
         requires inside { is_aside held.now.stripe.state key ≡ false }
         requires free { has_fresh (view hand.old).row.holdings ≡ true → held.now.stripe.state.aside ≡ None }
-        requires leads { (stamp : ℕ) × (place_of held.now.stripe.state key ≡ Some (chunk, stamp)) }
+        requires leads { (stamp : ℕ) × (chunk_and_stamp held.now.stripe.state key ≡ Some (chunk, stamp)) }
         ensures arena { IsHandOf self.now hand.new }
         ensures locks { hand.new.locks ≡ hand.old.locks }
         ensures number { hand.new.number ≡ hand.old.number }

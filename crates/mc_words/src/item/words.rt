@@ -1,7 +1,7 @@
 //! Reads of an item's words.
 ghost use Rattle.std.specs.Prelude.{◌≡◌, ◌+◌, ◌<◌, ◌≤◌, [], true, length, slice_index, Some, IfSome};
 ghost use Rattle.mc_pages.specs.SlabState.{class_of_page};
-ghost use Rattle.mc_core.specs.Holdings.{key_of, stamp_of};
+ghost use Rattle.mc_core.specs.Holdings.{key_of, stamp_in_words};
 ghost use Rattle.mc_core.specs.Looks.{was_linked};
 ghost use Rattle.mc_core.specs.State.{has_chunk, room_in};
 ghost use Rattle.mc_core.specs.declared.event.Step.TheVariants as step;
@@ -56,7 +56,7 @@ impl Arena {
         ensures locks { hand.new.locks ≡ hand.old.locks }
         ensures view { view hand.new ≡ fields_seen reference.now.chunk (view hand.old) }
         ensures key { result.key ≡ key_of (held_item (view hand.old) reference.now.chunk) }
-        ensures stamp { result.stamp ≡ stamp_of (held_item (view hand.old) reference.now.chunk) }
+        ensures stamp { result.stamp ≡ stamp_in_words (held_item (view hand.old) reference.now.chunk) }
         ensures len { length (held_item (view hand.old) reference.now.chunk) ≡ 3 + result.len }
         ensures reference { IsRefOf (view hand.new) reference.now.chunk reference.now.room }
     {

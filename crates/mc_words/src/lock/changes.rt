@@ -2,7 +2,7 @@
 ghost use Rattle.std.specs.Prelude.{◌≡◌, ℕ, ◌+◌, ◌%◌, ◌<◌, ◌≤◌, ◌↔◌, Bool, if◌then◌else◌, [], ◌∷◌, true, false, slice_index_or, None, Some, Err, IfOk, OnOk, OnErr};
 ghost use Rattle.mc_classes.specs.Classes.{arena_pages_of};
 ghost use Rattle.mc_pages.specs.Changes.{HasNoPageFor, after_evicted, after_grow, after_touch, after_trim, next_page};
-ghost use Rattle.mc_stripe.specs.StripeState.{place_of};
+ghost use Rattle.mc_stripe.specs.StripeState.{chunk_and_stamp};
 ghost use Rattle.mc_core.specs.Silent.{call_of, is_aside, is_handed_out};
 ghost use Rattle.mc_core.specs.State.{is_class};
 ghost use Rattle.mc_core.specs.declared.event.Change.TheVariants as change;
@@ -129,7 +129,7 @@ impl Arena {
         requires held { slice_index_or (view hand.old).stripes held.now.number None ≡ Some held.now.stripe }
         requires ready { held.now.stripe.ready ≡ true }
         requires inside { is_aside held.now.stripe.state key ≡ false }
-        requires none { place_of held.now.stripe.state key ≡ None }
+        requires none { chunk_and_stamp held.now.stripe.state key ≡ None }
         ensures arena { IsHandOf self.now hand.new }
         ensures locks { hand.new.locks ≡ hand.old.locks }
         ensures number { hand.new.number ≡ hand.old.number }

@@ -4,9 +4,9 @@ ghost use Rattle.mc_words.specs.declared.lock.locks.Lock.{Lock};
 ghost use Rattle.mc_words.specs.declared.lock.slot.Slot.{Slot};
 ghost use Rattle.mc_words.specs.hand.Arenas.{IsOfArena, setup_of};
 ghost use Rattle.mc_words.specs.rule.Happens.{Happens, HappensAt, IsSameHand};
-ghost use Rattle.mc_words.specs.rule.Layout.{lock_word};
-ghost use Rattle.mc_words.specs.lock.Slots.{number_of, slot_of};
-ghost use Rattle.mc_words.specs.lock.Tries.{Gains, GivesValue, HasValue, IsLockOf, IsOneHand, Loses, can_give, give_of, miss_of, take_of};
+ghost use Rattle.mc_words.specs.rule.Layout.{lock_address};
+ghost use Rattle.mc_words.specs.lock.Slots.{lock_number, slot_of};
+ghost use Rattle.mc_words.specs.lock.Tries.{Gains, GivesValue, HasValue, IsLockOf, IsOneHand, Loses, may_be_given_back, give_of, miss_of, take_of};
 ghost use Rattle.mc_words.specs.lock.Out.{slots_out};
 
 use crate::arena::Arena;
@@ -32,7 +32,7 @@ impl Arena {
         ensures gains { IfSome result (λ slot. Gains told seat.old.me.0 seat.new.me.0) }
         ensures taken { IfSome result (λ slot. Happens seat.old.me.0 [] (take_of told) seat.new.me.0) }
         ensures stays { result ≡ None → (seat.new.me.1 ≡ seat.old.me.1) × IsSameHand seat.old.me.0 seat.new.me.0 }
-        ensures missed { result ≡ None → (word : ℕ) × (word ≢ 0) × HappensAt (lock_word (number_of told)) word seat.old.me.0 [] (miss_of told) seat.new.me.0 }
+        ensures missed { result ≡ None → (word : ℕ) × (word ≢ 0) × HappensAt (lock_address (lock_number told)) word seat.old.me.0 [] (miss_of told) seat.new.me.0 }
     {
         let word = lock.word();
         let slot = lock.slot();
@@ -53,7 +53,7 @@ impl Arena {
         requires seat { IsOfArena self.now seat.old.table_id seat.old.me.0 }
         requires last { (more : List ℕ) × (slots_out seat.old.me.1 ≡ slot_of told.0 ∷ more) }
         requires value { HasValue seat.old.me.0 told.0 told.1 }
-        requires whole { can_give told.1 ≡ true }
+        requires whole { may_be_given_back told.1 ≡ true }
         ensures seat { IsOfArena self.now seat.new.table_id seat.new.me.0 }
         ensures hand { IsOneHand seat.old.me.0 seat.new.me.0 }
         ensures out { slots_out seat.old.me.1 ≡ slot_of told.0 ∷ slots_out seat.new.me.1 }

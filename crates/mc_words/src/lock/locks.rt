@@ -1,8 +1,8 @@
 //! The locks of an arena: the place of each, and those that a hand has.
 ghost use Rattle.std.specs.Prelude.{◌≡◌, ◌<◌, ◌^◌};
-ghost use Rattle.mc_words.specs.rule.Layout.{lock_word};
-ghost use Rattle.mc_words.specs.lock.Out.{is_behind, is_neither, turned_locks, with_slabs, with_stripe, without_slabs, without_stripe};
-ghost use Rattle.mc_words.specs.lock.Slots.{number_of, slot_of};
+ghost use Rattle.mc_words.specs.rule.Layout.{lock_address};
+ghost use Rattle.mc_words.specs.lock.Out.{is_behind, is_neither, turned_locks, locks_with_slabs, locks_with_stripe, without_slabs, without_stripe};
+ghost use Rattle.mc_words.specs.lock.Slots.{lock_number, slot_of};
 
 use crate::lock::slot::Slot;
 
@@ -33,8 +33,8 @@ pub enum Lock {
 impl Lock {
     /// The number of the lock.
     pub(crate) fn number(self) -> usize
-        requires few { number_of self < 2 ^ 59 }
-        ensures number { result ≡ number_of self }
+        requires few { lock_number self < 2 ^ 59 }
+        ensures number { result ≡ lock_number self }
     {
         match self {
             Lock::SlabsLock => 0,
@@ -44,15 +44,15 @@ impl Lock {
 
     /// The word of the lock.
     pub(crate) fn word(self) -> usize
-        requires few { number_of self < 2 ^ 59 }
-        ensures word { result ≡ lock_word (number_of self) }
+        requires few { lock_number self < 2 ^ 59 }
+        ensures word { result ≡ lock_address (lock_number self) }
     {
         WORDS_APART * (1 + self.number())
     }
 
     /// The slot of the value behind it.
     pub(crate) fn slot(self) -> usize
-        requires few { number_of self < 2 ^ 59 }
+        requires few { lock_number self < 2 ^ 59 }
         ensures slot { result ≡ slot_of self }
     {
         SLOTS_APART * self.number()
@@ -74,7 +74,7 @@ pub enum Locks {
 impl Locks {
     /// These locks with the slabs lock, taken last unless it is among them.
     pub(crate) fn with_slabs(self) -> Locks
-        ensures locks { result ≡ with_slabs self }
+        ensures locks { result ≡ locks_with_slabs self }
     {
         match self {
             Locks::Neither | Locks::Slabs => Locks::Slabs,
@@ -98,7 +98,7 @@ impl Locks {
     /// The hand has the lock of this stripe, too. Most hands have no other lock, and one test finds these.
     #[inline(always)]
     pub(crate) fn add_stripe(&mut self, stripe: u64)
-        ensures locks { self.new ≡ with_stripe stripe self.old }
+        ensures locks { self.new ≡ locks_with_stripe stripe self.old }
     {
         match self {
             Locks::Neither => *self = Locks::Stripe(stripe),
@@ -110,7 +110,7 @@ impl Locks {
     // cases.
     #[inline(never)]
     fn add_beside(&mut self, stripe: u64)
-        ensures locks { self.new ≡ with_stripe stripe self.old }
+        ensures locks { self.new ≡ locks_with_stripe stripe self.old }
     {
         *self = match *self {
             Locks::Neither => Locks::Stripe(stripe),
@@ -138,7 +138,7 @@ impl Locks {
 
     /// Whether this lock, which is one of them, was taken before the other.
     pub(crate) fn is_behind(self, lock: Lock) -> bool
-        ensures behind { result ≡ is_behind self (number_of lock) }
+        ensures behind { result ≡ is_behind self (lock_number lock) }
     {
         match self {
             Locks::SlabsLast(_) => matches!(lock, Lock::StripeLock(_)),

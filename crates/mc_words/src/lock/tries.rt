@@ -6,7 +6,7 @@ ghost use Rattle.mc_words.specs.hand.Arenas.{IsHandOf, setup_of, view};
 ghost use Rattle.mc_words.specs.rule.Happens.{Happens};
 ghost use Rattle.mc_words.specs.lock.Lent.{BeginsWithSeen, IsLent, IsLentStripe};
 ghost use Rattle.mc_words.specs.hand.Idle.{has_no_stripes};
-ghost use Rattle.mc_words.specs.lock.Out.{with_slabs, with_stripe, without_slabs, without_stripe};
+ghost use Rattle.mc_words.specs.lock.Out.{locks_with_slabs, locks_with_stripe, without_slabs, without_stripe};
 ghost use Rattle.mc_words.specs.hand.Views.{slabs_given, slabs_missed, slabs_taken, stripe_given, stripe_missed, stripe_taken};
 
 use crate::arena::Arena;
@@ -20,7 +20,7 @@ impl Arena {
     pub fn try_slabs(&self, hand: &mut Hand) -> Result<SlabsHeld, Held>
         requires arena { IsHandOf self.now hand.old }
         ensures arena { IsHandOf self.now hand.new }
-        ensures locks { IfOk result (λ held. hand.new.locks ≡ with_slabs hand.old.locks) }
+        ensures locks { IfOk result (λ held. hand.new.locks ≡ locks_with_slabs hand.old.locks) }
         ensures taken { IfOk result (λ held. Happens (view hand.old) [] step.TakeSlabs (view hand.new)) }
         ensures lent { IfOk result (λ held. view hand.new ≡ slabs_taken held.shared (view hand.old)) }
         ensures whole { IfOk result (λ held. IsLent (view hand.new) held.shared) }
@@ -45,7 +45,7 @@ impl Arena {
         requires one { has_no_stripes (view hand.old) ≡ true }
         ensures arena { IsHandOf self.now hand.new }
         ensures number { IfOk result (λ held. held.number ≡ stripe) }
-        ensures locks { IfOk result (λ held. hand.new.locks ≡ with_stripe stripe hand.old.locks) }
+        ensures locks { IfOk result (λ held. hand.new.locks ≡ locks_with_stripe stripe hand.old.locks) }
         ensures taken { IfOk result (λ held. Happens (view hand.old) [] (step.TakeStripe stripe) (view hand.new)) }
         ensures lent { IfOk result (λ held. view hand.new ≡ stripe_taken stripe held.stripe (view hand.old)) }
         ensures whole { IfOk result (λ held. IsLentStripe (view hand.new) stripe held.stripe) }

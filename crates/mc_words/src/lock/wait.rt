@@ -6,7 +6,7 @@ ghost use Rattle.mc_words.specs.hand.Arenas.{IsHandOf, setup_of, view};
 ghost use Rattle.mc_words.specs.rule.Happens.{Happens};
 ghost use Rattle.mc_words.specs.hand.Idle.{is_unlocked};
 ghost use Rattle.mc_words.specs.lock.Lent.{IsLent, IsLentStripe};
-ghost use Rattle.mc_words.specs.lock.Out.{with_slabs, with_stripe};
+ghost use Rattle.mc_words.specs.lock.Out.{locks_with_slabs, locks_with_stripe};
 ghost use Rattle.mc_words.specs.hand.Views.{slabs_missed, stripe_missed};
 ghost use Rattle.mc_words.specs.lock.Wait.{WaitsForSlabs, WaitsForStripe};
 
@@ -49,7 +49,7 @@ impl Arena {
         requires arena { IsHandOf self.now hand.old }
         requires unlocked { is_unlocked (view hand.old) ≡ true }
         ensures arena { IsHandOf self.now hand.new }
-        ensures locks { hand.new.locks ≡ with_slabs hand.old.locks }
+        ensures locks { hand.new.locks ≡ locks_with_slabs hand.old.locks }
         ensures waits { WaitsForSlabs (view hand.old) result.shared (view hand.new) }
         ensures whole { IsLent (view hand.new) result.shared }
     {
@@ -77,7 +77,7 @@ impl Arena {
         requires unlocked { is_unlocked (view hand.old) ≡ true }
         ensures arena { IsHandOf self.now hand.new }
         ensures number { result.number ≡ stripe }
-        ensures locks { hand.new.locks ≡ with_stripe stripe hand.old.locks }
+        ensures locks { hand.new.locks ≡ locks_with_stripe stripe hand.old.locks }
         ensures waits { WaitsForStripe stripe (view hand.old) result.stripe (view hand.new) }
         ensures whole { IsLentStripe (view hand.new) stripe result.stripe }
     {
@@ -95,7 +95,7 @@ impl Arena {
         requires unlocked { is_unlocked (view hand.old) ≡ true }
         ensures arena { IsHandOf self.now hand.new }
         ensures number { result.number ≡ stripe }
-        ensures locks { hand.new.locks ≡ with_stripe stripe hand.old.locks }
+        ensures locks { hand.new.locks ≡ locks_with_stripe stripe hand.old.locks }
         ensures waits { WaitsForStripe stripe (view hand.old) result.stripe (view hand.new) }
         ensures whole { IsLentStripe (view hand.new) stripe result.stripe }
     {

@@ -4,7 +4,7 @@ ghost use Rattle.std.specs.Prelude.{◌≡◌, ◌<◌, true, IfOk, OnErr};
 ghost use Rattle.mc_words.specs.hand.Arenas.{IsHandOf, setup_of, view};
 ghost use Rattle.mc_words.specs.hand.Idle.{is_unlocked};
 ghost use Rattle.mc_words.specs.lock.Lent.{IsLent, IsLentStripe};
-ghost use Rattle.mc_words.specs.lock.Out.{with_slabs, with_stripe};
+ghost use Rattle.mc_words.specs.lock.Out.{locks_with_slabs, locks_with_stripe};
 ghost use Rattle.mc_words.specs.lock.Wait.{MissesSlabsEachTime, MissesStripeEachTime, TakesSlabsWithin, TakesStripeWithin};
 
 use crate::arena::Arena;
@@ -18,7 +18,7 @@ impl Arena {
     pub fn slabs_within(&self, hand: &mut Hand, tries: u64) -> Result<SlabsHeld, Held>
         requires arena { IsHandOf self.now hand.old }
         ensures arena { IsHandOf self.now hand.new }
-        ensures locks { IfOk result (λ held. hand.new.locks ≡ with_slabs hand.old.locks) }
+        ensures locks { IfOk result (λ held. hand.new.locks ≡ locks_with_slabs hand.old.locks) }
         ensures within { IfOk result (λ held. TakesSlabsWithin tries (view hand.old) held.shared (view hand.new)) }
         ensures whole { IfOk result (λ held. IsLent (view hand.new) held.shared) }
         ensures same { OnErr result (hand.new.locks ≡ hand.old.locks) }
@@ -48,7 +48,7 @@ impl Arena {
         requires unlocked { is_unlocked (view hand.old) ≡ true }
         ensures arena { IsHandOf self.now hand.new }
         ensures number { IfOk result (λ held. held.number ≡ stripe) }
-        ensures locks { IfOk result (λ held. hand.new.locks ≡ with_stripe stripe hand.old.locks) }
+        ensures locks { IfOk result (λ held. hand.new.locks ≡ locks_with_stripe stripe hand.old.locks) }
         ensures within { IfOk result (λ held. TakesStripeWithin tries stripe (view hand.old) held.stripe (view hand.new)) }
         ensures whole { IfOk result (λ held. IsLentStripe (view hand.new) stripe held.stripe) }
         ensures same { OnErr result (hand.new.locks ≡ hand.old.locks) }

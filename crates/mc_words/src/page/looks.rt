@@ -8,7 +8,7 @@ ghost use Rattle.mc_core.specs.Looks.{is_found_alive};
 ghost use Rattle.mc_core.specs.Silent.{is_among};
 ghost use Rattle.mc_core.specs.State.{has_chunk, is_class, most_of};
 ghost use Rattle.mc_words.specs.hand.Arenas.{IsHandOf, setup_of, view};
-ghost use Rattle.mc_words.specs.chunk.Dead.{AreHandedOut, IsJudged, IsOutside, NotedChunks};
+ghost use Rattle.mc_words.specs.chunk.Dead.{AreHandedOut, IsAliveOrNoted, IsOutside, NotedChunks};
 ghost use Rattle.mc_words.specs.rule.Layout.{head_word};
 ghost use Rattle.mc_words.specs.chunk.Sweeps.{LooksAlong, SeesHeader, SeesHeaders};
 
@@ -37,7 +37,7 @@ impl Arena {
         ensures locks { hand.new.locks ≡ hand.old.locks }
         ensures held { (view hand.new).slabs ≡ Some held.now.shared }
         ensures sees { (looked : List ChunkId) × SeesHeaders looked (view hand.old) (view hand.new) × (list_all (is_among looked) (class_at held.now.shared class).order ≡ true) }
-        ensures judged { (chunk : ChunkId) → Contains (class_at held.now.shared class).order chunk → IsJudged (view hand.new).row.looks dead.new chunk }
+        ensures judged { (chunk : ChunkId) → Contains (class_at held.now.shared class).order chunk → IsAliveOrNoted (view hand.new).row.looks dead.new chunk }
         ensures out { AreHandedOut (setup_of self.now).table held.now.shared class dead.new }
     {
         let per_page = held.slabs().per_page(class);
@@ -69,8 +69,8 @@ impl Arena {
         ensures held { (view hand.new).slabs ≡ Some held.now.shared }
         ensures sees { LooksAlong page 0 per_page (view hand.old) (view hand.new) }
         ensures out { AreHandedOut (setup_of self.now).table held.now.shared (class_of_page held.now.shared page) dead.new }
-        ensures judged { (index : ℕ) → index < per_page → IsJudged (view hand.new).row.looks dead.new (record { page = page; index = index }) }
-        ensures kept { (other : ChunkId) → IsJudged (view hand.old).row.looks dead.old other → IsJudged (view hand.new).row.looks dead.new other }
+        ensures judged { (index : ℕ) → index < per_page → IsAliveOrNoted (view hand.new).row.looks dead.new (record { page = page; index = index }) }
+        ensures kept { (other : ChunkId) → IsAliveOrNoted (view hand.old).row.looks dead.old other → IsAliveOrNoted (view hand.new).row.looks dead.new other }
     {
         let heads = self.heads_of_page(page);
         let fours = per_page / 4;
@@ -112,7 +112,7 @@ impl Arena {
         ensures held { (view hand.new).slabs ≡ Some held.now.shared }
         ensures sees { LooksAlong first.page first.index (first.index + 4) (view hand.old) (view hand.new) }
         ensures alive { result ≡ true → (index : ℕ) → first.index ≤ index → index < first.index + 4 → is_found_alive (view hand.new).row.looks (record { page = first.page; index = index }) ≡ true }
-        ensures kept { (dead : NotedChunks) (other : ChunkId) → IsOutside first.page first.index (first.index + 4) other → IsJudged (view hand.old).row.looks dead other → IsJudged (view hand.new).row.looks dead other }
+        ensures kept { (dead : NotedChunks) (other : ChunkId) → IsOutside first.page first.index (first.index + 4) other → IsAliveOrNoted (view hand.old).row.looks dead other → IsAliveOrNoted (view hand.new).row.looks dead other }
     {
         let mut common = u64::MAX;
         for offset in 0..4 {
@@ -147,8 +147,8 @@ impl Arena {
         ensures held { (view hand.new).slabs ≡ Some held.now.shared }
         ensures sees { LooksAlong first.page first.index (first.index + count) (view hand.old) (view hand.new) }
         ensures out { AreHandedOut (setup_of self.now).table held.now.shared (class_of_page held.now.shared first.page) dead.new }
-        ensures judged { (index : ℕ) → first.index ≤ index → index < first.index + count → IsJudged (view hand.new).row.looks dead.new (record { page = first.page; index = index }) }
-        ensures kept { (other : ChunkId) → IsJudged (view hand.old).row.looks dead.old other → IsJudged (view hand.new).row.looks dead.new other }
+        ensures judged { (index : ℕ) → first.index ≤ index → index < first.index + count → IsAliveOrNoted (view hand.new).row.looks dead.new (record { page = first.page; index = index }) }
+        ensures kept { (other : ChunkId) → IsAliveOrNoted (view hand.old).row.looks dead.old other → IsAliveOrNoted (view hand.new).row.looks dead.new other }
     {
         for offset in 0..count {
             let index = first.index + offset;
@@ -178,8 +178,8 @@ impl Arena {
         ensures held { (view hand.new).slabs ≡ Some held.now.shared }
         ensures out { AreHandedOut (setup_of self.now).table held.now.shared (class_of_page held.now.shared chunk.page) dead.new }
         ensures sees { SeesHeader (view hand.old) chunk (view hand.new) }
-        ensures judged { IsJudged (view hand.new).row.looks dead.new chunk }
-        ensures kept { (other : ChunkId) → IsJudged (view hand.old).row.looks dead.old other → IsJudged (view hand.new).row.looks dead.new other }
+        ensures judged { IsAliveOrNoted (view hand.new).row.looks dead.new chunk }
+        ensures kept { (other : ChunkId) → IsAliveOrNoted (view hand.old).row.looks dead.old other → IsAliveOrNoted (view hand.new).row.looks dead.new other }
     {
         let head = self.head_at(hand, word, chunk);
         if head % ISSUE_UNIT == DEAD {

@@ -2,9 +2,9 @@
 ghost use Rattle.std.specs.Prelude.{◌≡◌, ◌≢◌, ◌<◌, ◌∷◌, true, []};
 ghost use Rattle.mc_core.specs.declared.event.Change.{Change};
 ghost use Rattle.mc_core.specs.declared.event.Step.{Step};
-ghost use Rattle.mc_core.specs.Codes.{plus, minus};
+ghost use Rattle.mc_core.specs.Codes.{word_plus, word_minus};
 ghost use Rattle.mc_words.specs.hand.Arenas.{IsOfArena};
-ghost use Rattle.mc_words.specs.rule.Happens.{Happens, HappensAt, IsSameHand, MayExchange, MayTell, MayWrite, is_quiet};
+ghost use Rattle.mc_words.specs.rule.Happens.{Happens, HappensAt, IsSameHand, MayExchange, AllowsStep, MayWrite, keeps_locks_and_hands};
 
 use crate::arena::Arena;
 use crate::rule::HandSeat;
@@ -17,7 +17,7 @@ impl Arena {
     pub(crate) fn look(&self, seat: &mut HandSeat, word: usize, step: Step) -> u64
         ghost told: { Step }
         requires is { told ≡ step }
-        requires still { is_quiet told ≡ true }
+        requires still { keeps_locks_and_hands told ≡ true }
         requires near { word < self.now.table.shared.table_id.words }
         requires seat { IsOfArena self.now seat.old.table_id seat.old.me.0 }
         requires may { MayWrite seat.old.me.0 told word (λ found. found) }
@@ -34,7 +34,7 @@ impl Arena {
     pub(crate) fn write(&self, seat: &mut HandSeat, word: usize, new: u64, step: Step)
         ghost told: { Step }
         requires is { told ≡ step }
-        requires still { is_quiet told ≡ true }
+        requires still { keeps_locks_and_hands told ≡ true }
         requires near { word < self.now.table.shared.table_id.words }
         requires seat { IsOfArena self.now seat.old.table_id seat.old.me.0 }
         requires may { MayWrite seat.old.me.0 told word (λ found. new) }
@@ -51,10 +51,10 @@ impl Arena {
     pub(crate) fn add(&self, seat: &mut HandSeat, word: usize, more: u64, step: Step)
         ghost told: { Step }
         requires is { told ≡ step }
-        requires still { is_quiet told ≡ true }
+        requires still { keeps_locks_and_hands told ≡ true }
         requires near { word < self.now.table.shared.table_id.words }
         requires seat { IsOfArena self.now seat.old.table_id seat.old.me.0 }
-        requires may { MayWrite seat.old.me.0 told word (plus more) }
+        requires may { MayWrite seat.old.me.0 told word (word_plus more) }
         ensures seat { IsOfArena self.now seat.new.table_id seat.new.me.0 }
         ensures out { seat.new.me.1 ≡ seat.old.me.1 }
         ensures hand { IsSameHand seat.old.me.0 seat.new.me.0 }
@@ -68,10 +68,10 @@ impl Arena {
     pub(crate) fn fetch_add(&self, seat: &mut HandSeat, word: usize, more: u64, step: Step) -> u64
         ghost told: { Step }
         requires is { told ≡ step }
-        requires still { is_quiet told ≡ true }
+        requires still { keeps_locks_and_hands told ≡ true }
         requires near { word < self.now.table.shared.table_id.words }
         requires seat { IsOfArena self.now seat.old.table_id seat.old.me.0 }
-        requires may { MayWrite seat.old.me.0 told word (plus more) }
+        requires may { MayWrite seat.old.me.0 told word (word_plus more) }
         ensures seat { IsOfArena self.now seat.new.table_id seat.new.me.0 }
         ensures out { seat.new.me.1 ≡ seat.old.me.1 }
         ensures hand { IsSameHand seat.old.me.0 seat.new.me.0 }
@@ -85,10 +85,10 @@ impl Arena {
     pub(crate) fn subtract(&self, seat: &mut HandSeat, word: usize, less: u64, step: Step) -> u64
         ghost told: { Step }
         requires is { told ≡ step }
-        requires still { is_quiet told ≡ true }
+        requires still { keeps_locks_and_hands told ≡ true }
         requires near { word < self.now.table.shared.table_id.words }
         requires seat { IsOfArena self.now seat.old.table_id seat.old.me.0 }
-        requires may { MayWrite seat.old.me.0 told word (minus less) }
+        requires may { MayWrite seat.old.me.0 told word (word_minus less) }
         ensures seat { IsOfArena self.now seat.new.table_id seat.new.me.0 }
         ensures out { seat.new.me.1 ≡ seat.old.me.1 }
         ensures hand { IsSameHand seat.old.me.0 seat.new.me.0 }
@@ -110,7 +110,7 @@ impl Arena {
     ) -> u64
         ghost told: { Step × Step }
         requires is { told ≡ (step, look) }
-        requires still { (is_quiet told.0 ≡ true) × (is_quiet told.1 ≡ true) }
+        requires still { (keeps_locks_and_hands told.0 ≡ true) × (keeps_locks_and_hands told.1 ≡ true) }
         requires near { word < self.now.table.shared.table_id.words }
         requires seat { IsOfArena self.now seat.old.table_id seat.old.me.0 }
         requires may { MayExchange seat.old.me.0 told.0 word expected new }
@@ -131,10 +131,10 @@ impl Arena {
     pub(crate) fn tell(&self, seat: &mut HandSeat, word: usize, change: Change, step: Step)
         ghost told: { Change × Step }
         requires is { told ≡ (change, step) }
-        requires still { is_quiet told.1 ≡ true }
+        requires still { keeps_locks_and_hands told.1 ≡ true }
         requires near { word < self.now.table.shared.table_id.words }
         requires seat { IsOfArena self.now seat.old.table_id seat.old.me.0 }
-        requires may { MayTell seat.old.me.0 told.0 told.1 word (λ found. found) }
+        requires may { AllowsStep seat.old.me.0 told.0 told.1 word (λ found. found) }
         ensures seat { IsOfArena self.now seat.new.table_id seat.new.me.0 }
         ensures out { seat.new.me.1 ≡ seat.old.me.1 }
         ensures hand { IsSameHand seat.old.me.0 seat.new.me.0 }
@@ -155,10 +155,10 @@ impl Arena {
     )
         ghost told: { Change × Step }
         requires is { told ≡ (change, step) }
-        requires still { is_quiet told.1 ≡ true }
+        requires still { keeps_locks_and_hands told.1 ≡ true }
         requires near { word < self.now.table.shared.table_id.words }
         requires seat { IsOfArena self.now seat.old.table_id seat.old.me.0 }
-        requires may { MayTell seat.old.me.0 told.0 told.1 word (λ found. class) }
+        requires may { AllowsStep seat.old.me.0 told.0 told.1 word (λ found. class) }
         ensures seat { IsOfArena self.now seat.new.table_id seat.new.me.0 }
         ensures out { seat.new.me.1 ≡ seat.old.me.1 }
         ensures hand { IsSameHand seat.old.me.0 seat.new.me.0 }

@@ -1,6 +1,6 @@
 //! The numbers of a snapshot that are behind the slabs lock.
 ghost use Rattle.std.specs.Prelude.{◌≡◌, Some};
-ghost use Rattle.mc_pages.specs.SlabState.{IsClass};
+ghost use Rattle.mc_pages.specs.SlabState.{HasClass};
 ghost use Rattle.mc_core.specs.State.{is_class};
 ghost use Rattle.mc_words.specs.hand.Arenas.{IsHandOf, setup_of, view};
 ghost use Rattle.testlib_hands.specs.Hands.{IsReadyHandOf};
@@ -62,7 +62,7 @@ fn is_class(arena: &Arena, class: ClassId) -> bool
 
 /// A class's numbers, its free list, and its hand-out order.
 pub fn see_class(slabs: &Slabs, class: ClassId, seen: &mut Vec<u64>)
-    requires class { IsClass slabs.now.state class }
+    requires class { HasClass slabs.now.state class }
 {
     let numbers = slabs.numbers(class);
     note(seen, numbers.pages);

@@ -1,6 +1,6 @@
 //! Arenas with three hands: one that acts, one that reads, and one that looks.
 ghost use Rattle.std.specs.Prelude.{IfOk};
-ghost use Rattle.testlib_hands.specs.Hands.{AreHandsOf};
+ghost use Rattle.testlib_hands.specs.Hands.{AreEmptyHandsOf};
 ghost use Rattle.test_refusals.specs.Threes.{AreReadyOf};
 
 use super::looking::{Looker, room};
@@ -25,7 +25,7 @@ fn new_arena(
     config: &Config,
     start: Option<u64>,
 ) -> Result<(Arena, Vec<Hand>), NewError>
-    ensures hands { IfOk result (λ made. AreHandsOf made.0 made.1.items) }
+    ensures hands { IfOk result (λ made. AreEmptyHandsOf made.0 made.1.items) }
 {
     match start {
         Some(start) => Arena::from_issue(alloc, config, HANDS, start),
@@ -40,7 +40,7 @@ fn new_again<R: Print>(
     config: &Config,
     start: Option<u64>,
 ) -> Result<(Arena, Vec<Hand>), NewError>
-    ensures hands { IfOk result (λ made. AreHandsOf made.0 made.1.items) }
+    ensures hands { IfOk result (λ made. AreEmptyHandsOf made.0 made.1.items) }
 {
     let call = if start.is_some() { "from_issue" } else { "new" };
     tell_call(rt, call);

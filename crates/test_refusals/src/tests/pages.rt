@@ -1,6 +1,6 @@
 //! Pages without an arena: a class that gets one, and one that begins to move.
 ghost use Rattle.std.specs.Prelude.{IsTrue, ◌↔◌};
-ghost use Rattle.mc_pages.specs.SlabState.{IsClass};
+ghost use Rattle.mc_pages.specs.SlabState.{HasClass};
 ghost use Rattle.test_refusals.specs.Sized.{HasClasses};
 
 use super::assert_same;
@@ -50,7 +50,7 @@ impl Pages<'_> {
     }
 
     fn is_class(&self, class: ClassId) -> bool
-        ensures { IsTrue result ↔ IsClass self.now.slabs.state class }
+        ensures { IsTrue result ↔ HasClass self.now.slabs.state class }
     {
         class >= 1 && class <= self.table.count()
     }

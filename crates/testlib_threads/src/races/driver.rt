@@ -1,5 +1,5 @@
 //! Movers: each begins moves between all classes and the pool, turns, and changes the mode and surveys now and then.
-ghost use Rattle.testlib_hands.specs.Hands.{IsIdleHandOf};
+ghost use Rattle.testlib_hands.specs.Hands.{IsEmptyHandOf};
 
 use crate::races::words::draw;
 use mc_mover::{Survey, TryTurn, reassign, set_mode, survey, try_turn, turn};
@@ -44,8 +44,8 @@ struct Mover {
 
 /// Asks for the next move: to the pool or a class, from any class or a named one. It may be refused.
 fn begin_next<R: Wait>(rt: &R, arena: &Arena, hand: &mut Hand, drawn: u64)
-    requires arena { IsIdleHandOf arena.now hand.old }
-    ensures arena { IsIdleHandOf arena.now hand.new }
+    requires arena { IsEmptyHandOf arena.now hand.old }
+    ensures arena { IsEmptyHandOf arena.now hand.new }
 {
     let src = if drawn % 2 == 0 {
         None
@@ -57,8 +57,8 @@ fn begin_next<R: Wait>(rt: &R, arena: &Arena, hand: &mut Hand, drawn: u64)
 
 /// A turn that waits. True where no page moves behind it.
 fn turn_by<R: Wait>(rt: &R, arena: &Arena, mover: &mut Mover) -> bool
-    requires arena { IsIdleHandOf arena.now mover.old.hand }
-    ensures arena { IsIdleHandOf arena.now mover.new.hand }
+    requires arena { IsEmptyHandOf arena.now mover.old.hand }
+    ensures arena { IsEmptyHandOf arena.now mover.new.hand }
 {
     match turn(rt, arena, &mut mover.hand) {
         Ok(done) => mover.tally.turns.note(done),
@@ -71,8 +71,8 @@ fn turn_by<R: Wait>(rt: &R, arena: &Arena, mover: &mut Mover) -> bool
 
 /// A turn that waits for nobody.
 fn try_turn_by(arena: &Arena, mover: &mut Mover) -> bool
-    requires arena { IsIdleHandOf arena.now mover.old.hand }
-    ensures arena { IsIdleHandOf arena.now mover.new.hand }
+    requires arena { IsEmptyHandOf arena.now mover.old.hand }
+    ensures arena { IsEmptyHandOf arena.now mover.new.hand }
 {
     match try_turn(arena, &mut mover.hand) {
         Ok(done) => mover.tally.turns.note(done),
@@ -95,8 +95,8 @@ fn adds_up(found: &Survey) -> bool {
 
 /// A survey, which adds up.
 fn survey_by<R: Wait>(rt: &R, alloc: Global, arena: &Arena, mover: &mut Mover, sweep: bool)
-    requires arena { IsIdleHandOf arena.now mover.old.hand }
-    ensures arena { IsIdleHandOf arena.now mover.new.hand }
+    requires arena { IsEmptyHandOf arena.now mover.old.hand }
+    ensures arena { IsEmptyHandOf arena.now mover.new.hand }
 {
     match survey(rt, alloc, arena, &mut mover.hand, sweep) {
         Ok(found) => mover.tally.check(adds_up(&found)),
@@ -106,8 +106,8 @@ fn survey_by<R: Wait>(rt: &R, alloc: Global, arena: &Arena, mover: &mut Mover, s
 
 /// A turn that waits, or one that doesn't. True where no page moves behind it.
 fn one_turn<R: Wait>(rt: &R, arena: &Arena, mover: &mut Mover, waits: bool) -> bool
-    requires arena { IsIdleHandOf arena.now mover.old.hand }
-    ensures arena { IsIdleHandOf arena.now mover.new.hand }
+    requires arena { IsEmptyHandOf arena.now mover.old.hand }
+    ensures arena { IsEmptyHandOf arena.now mover.new.hand }
 {
     if waits {
         return turn_by(rt, arena, mover);
@@ -117,8 +117,8 @@ fn one_turn<R: Wait>(rt: &R, arena: &Arena, mover: &mut Mover, waits: bool) -> b
 
 /// One turn, and where no page moves behind it, the next move.
 fn turn_on<R: Wait>(rt: &R, arena: &Arena, mover: &mut Mover, drawn: u64)
-    requires arena { IsIdleHandOf arena.now mover.old.hand }
-    ensures arena { IsIdleHandOf arena.now mover.new.hand }
+    requires arena { IsEmptyHandOf arena.now mover.old.hand }
+    ensures arena { IsEmptyHandOf arena.now mover.new.hand }
 {
     if one_turn(rt, arena, mover, drawn % 2 == 0) {
         begin_next(rt, arena, &mut mover.hand, drawn / 256);
@@ -127,8 +127,8 @@ fn turn_on<R: Wait>(rt: &R, arena: &Arena, mover: &mut Mover, drawn: u64)
 
 /// One round.
 fn act<R: Wait>(rt: &R, alloc: Global, arena: &Arena, mover: &mut Mover, drawn: u64)
-    requires arena { IsIdleHandOf arena.now mover.old.hand }
-    ensures arena { IsIdleHandOf arena.now mover.new.hand }
+    requires arena { IsEmptyHandOf arena.now mover.old.hand }
+    ensures arena { IsEmptyHandOf arena.now mover.new.hand }
 {
     match drawn % 64 {
         0 => set_mode(rt, arena, &mut mover.hand, drawn / 64 % 3),
@@ -144,7 +144,7 @@ pub struct Driver(pub u64, pub Hand);
 impl Job for Driver {
     type Told = Tally;
 
-    ghost is_ready = { λ arena job. IsIdleHandOf arena job.1 };
+    ghost is_ready = { λ arena job. IsEmptyHandOf arena job.1 };
 
     /// The mover's rounds: what they counted.
     fn work<R: Wait>(self, rt: &R, alloc: Global, arena: &Arena) -> Worked<Tally> {

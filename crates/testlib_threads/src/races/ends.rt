@@ -1,5 +1,5 @@
 //! What is left of an arena that several hands used, against what they counted of their calls.
-ghost use Rattle.testlib_hands.specs.Hands.{IsIdleHandOf};
+ghost use Rattle.testlib_hands.specs.Hands.{IsEmptyHandOf};
 
 use crate::races::driver::Tally;
 use crate::races::replays::{Calls, are_first_stamps, are_legal, calls_of, is_ledger_right};
@@ -154,7 +154,7 @@ pub fn check_left<R: Wait>(
     low: (Tally, Told),
     high: (Tally, Told),
 ) -> Result<(), Fail>
-    requires hand { IsIdleHandOf arena hand }
+    requires hand { IsEmptyHandOf arena hand }
 {
     let mut hand = hand;
     let surveyed = survey(rt, alloc, &arena, &mut hand, true);

@@ -5,7 +5,7 @@ ghost use Rattle.mc_words.specs.hand.Arenas.{setup_of, view};
 ghost use Rattle.mc_words.specs.item.Refs.{KeepsRefs};
 ghost use Rattle.mc_items.specs.ItemRefs.{IsItemRef, item_chunk};
 ghost use Rattle.mc_items.specs.Keeping.{HoldsTheSame, HoldsToo};
-ghost use Rattle.testlib_hands.specs.Hands.{IsIdleHandOf, IsReadyHandOf};
+ghost use Rattle.testlib_hands.specs.Hands.{IsEmptyHandOf, IsReadyHandOf};
 ghost use Rattle.testlib_threads.specs.Keepers.{IsKeeperOf, IsNear};
 
 use crate::races::words::are_words_of;
@@ -133,7 +133,7 @@ pub fn give_back(arena: &Arena, hand: &mut Hand, kept: &mut Vec<Ref>, place: usi
 /// Gives all references that are kept back.
 pub fn give_all_back(arena: &Arena, hand: Hand, kept: Vec<Ref>) -> Hand
     requires keeper { IsKeeperOf arena.now hand kept.items }
-    ensures hand { IsIdleHandOf arena.now result }
+    ensures hand { IsEmptyHandOf arena.now result }
 {
     let mut hand = hand;
     let mut kept = kept;

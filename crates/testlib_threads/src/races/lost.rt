@@ -1,6 +1,6 @@
 //! Hands that are lost while others go on: with references, with a stripe, and with pages and lists. Who doesn't wait goes on reading.
 ghost use Rattle.std.specs.Prelude.{IfOk};
-ghost use Rattle.testlib_hands.specs.Hands.{AreHandsOf, IsIdleHandOf};
+ghost use Rattle.testlib_hands.specs.Hands.{AreEmptyHandsOf, IsEmptyHandOf};
 ghost use Rattle.testlib_threads.specs.Keepers.{AreNear, IsKeeperOf};
 
 use crate::races::calls::set_key;
@@ -62,7 +62,7 @@ fn act_often<R: Wait>(
 
 /// Takes a stripe by a hand that is lost with it. False where another hand has it all the time.
 fn lose_stripe(arena: &Arena, hand: Hand, stripe: u64) -> bool
-    requires hand { IsIdleHandOf arena.now hand }
+    requires hand { IsEmptyHandOf arena.now hand }
 {
     let mut hand = hand;
     for _try in 0..TRIES {
@@ -78,7 +78,7 @@ fn lose_stripe(arena: &Arena, hand: Hand, stripe: u64) -> bool
 
 /// Takes pages and lists by a hand that is lost with them.
 fn lose_slabs(arena: &Arena, hand: Hand) -> bool
-    requires hand { IsIdleHandOf arena.now hand }
+    requires hand { IsEmptyHandOf arena.now hand }
 {
     let mut hand = hand;
     arena.try_slabs(&mut hand).is_ok()
@@ -101,7 +101,7 @@ struct Mover(Hand, Hand);
 impl Job for Mover {
     type Told = Lost;
 
-    ghost is_ready = { λ arena job. IsIdleHandOf arena job.0 × IsIdleHandOf arena job.1 };
+    ghost is_ready = { λ arena job. IsEmptyHandOf arena job.0 × IsEmptyHandOf arena job.1 };
 
     fn work<R: Wait>(self, rt: &R, alloc: Global, arena: &Arena) -> Worked<Lost> {
         let Mover(hand, other) = self;
@@ -123,7 +123,7 @@ struct Reader(u64, (Hand, Hand, Hand));
 impl Job for Reader {
     type Told = Lost;
 
-    ghost is_ready = { λ arena job. IsIdleHandOf arena job.1.0 × IsIdleHandOf arena job.1.1 × IsIdleHandOf arena job.1.2 };
+    ghost is_ready = { λ arena job. IsEmptyHandOf arena job.1.0 × IsEmptyHandOf arena job.1.1 × IsEmptyHandOf arena job.1.2 };
 
     fn work<R: Wait>(self, rt: &R, alloc: Global, arena: &Arena) -> Worked<Lost> {
         let Reader(thread, (first, second, hand)) = self;
@@ -168,8 +168,8 @@ impl Job for Reader {
 
 /// Stores an item for each key, while there is room.
 fn store_each<R: Wait>(rt: &R, alloc: Global, arena: &Arena, hand: &mut Hand)
-    requires arena { IsIdleHandOf arena.now hand.old }
-    ensures arena { IsIdleHandOf arena.now hand.new }
+    requires arena { IsEmptyHandOf arena.now hand.old }
+    ensures arena { IsEmptyHandOf arena.now hand.new }
 {
     for key in 0..KEYS {
         let _stored = set_key(rt, alloc, arena, hand, key);
@@ -186,10 +186,10 @@ fn jobs_of<R: Wait>(
     arena: &Arena,
     hands: &mut Vec<Hand>,
 ) -> Result<Jobs, Fail>
-    requires hands { AreHandsOf arena.now hands.old.items }
-    ensures mover { IfOk result (λ jobs. IsIdleHandOf arena.now jobs.0.0 × IsIdleHandOf arena.now jobs.0.1) }
-    ensures first { IfOk result (λ jobs. IsIdleHandOf arena.now jobs.1.0.1.0 × IsIdleHandOf arena.now jobs.1.0.1.1 × IsIdleHandOf arena.now jobs.1.0.1.2) }
-    ensures second { IfOk result (λ jobs. IsIdleHandOf arena.now jobs.1.1.1.0 × IsIdleHandOf arena.now jobs.1.1.1.1 × IsIdleHandOf arena.now jobs.1.1.1.2) }
+    requires hands { AreEmptyHandsOf arena.now hands.old.items }
+    ensures mover { IfOk result (λ jobs. IsEmptyHandOf arena.now jobs.0.0 × IsEmptyHandOf arena.now jobs.0.1) }
+    ensures first { IfOk result (λ jobs. IsEmptyHandOf arena.now jobs.1.0.1.0 × IsEmptyHandOf arena.now jobs.1.0.1.1 × IsEmptyHandOf arena.now jobs.1.0.1.2) }
+    ensures second { IfOk result (λ jobs. IsEmptyHandOf arena.now jobs.1.1.1.0 × IsEmptyHandOf arena.now jobs.1.1.1.1 × IsEmptyHandOf arena.now jobs.1.1.1.2) }
 {
     let mut hand = next_hand(arena, hands)?;
     store_each(rt, alloc, arena, &mut hand);

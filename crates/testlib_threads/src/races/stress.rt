@@ -1,6 +1,6 @@
 //! Two movers move pages, while two workers store, get by hints, keep, read, touch and delete items of few keys.
 ghost use Rattle.std.specs.Prelude.{IfOk};
-ghost use Rattle.testlib_hands.specs.Hands.{AreHandsOf, IsIdleHandOf};
+ghost use Rattle.testlib_hands.specs.Hands.{AreEmptyHandsOf, IsEmptyHandOf};
 
 use crate::races::driver::Driver;
 use crate::races::ends::check_left;
@@ -25,9 +25,9 @@ type Pair = (Driver, Worker);
 
 /// Two of them, with the four hands of the lowest numbers that are left, which are the threads' numbers.
 fn two_pairs(arena: &Arena, hands: &mut Vec<Hand>) -> Result<(Pair, Pair), Fail>
-    requires hands { AreHandsOf arena.now hands.old.items }
-    ensures low { IfOk result (λ jobs. IsIdleHandOf arena.now jobs.0.0.1 × IsIdleHandOf arena.now jobs.0.1.1) }
-    ensures high { IfOk result (λ jobs. IsIdleHandOf arena.now jobs.1.0.1 × IsIdleHandOf arena.now jobs.1.1.1) }
+    requires hands { AreEmptyHandsOf arena.now hands.old.items }
+    ensures low { IfOk result (λ jobs. IsEmptyHandOf arena.now jobs.0.0.1 × IsEmptyHandOf arena.now jobs.0.1.1) }
+    ensures high { IfOk result (λ jobs. IsEmptyHandOf arena.now jobs.1.0.1 × IsEmptyHandOf arena.now jobs.1.1.1) }
 {
     let mover = Driver(0, next_hand(arena, hands)?);
     let low = (mover, Worker(1, next_hand(arena, hands)?));

@@ -1,6 +1,6 @@
 //! Workers: each keeps up to 255 references over its own calls, most of which it got by old hints.
 ghost use Rattle.std.specs.Prelude.{IfOk, IfSome};
-ghost use Rattle.testlib_hands.specs.Hands.{IsIdleHandOf};
+ghost use Rattle.testlib_hands.specs.Hands.{IsEmptyHandOf};
 ghost use Rattle.testlib_threads.specs.Keepers.{AreNear, IsKeeperOf, IsNear};
 
 use crate::races::calls::{delete_key, set_key, touch_key};
@@ -260,7 +260,7 @@ pub struct Worker(pub u64, pub Hand);
 impl Job for Worker {
     type Told = Told;
 
-    ghost is_ready = { λ arena job. IsIdleHandOf arena job.1 };
+    ghost is_ready = { λ arena job. IsEmptyHandOf arena job.1 };
 
     /// The worker's rounds: what they counted.
     fn work<R: Wait>(self, rt: &R, alloc: Global, arena: &Arena) -> Worked<Told> {

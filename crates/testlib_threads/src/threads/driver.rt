@@ -1,5 +1,5 @@
 //! The mover's thread of the stress: it begins moves between all classes and the pool, and turns without a pause.
-ghost use Rattle.testlib_hands.specs.Hands.{IsIdleHandOf, IsReadyHandOf};
+ghost use Rattle.testlib_hands.specs.Hands.{IsEmptyHandOf, IsReadyHandOf};
 
 use mc_mover::reassign;
 use mc_words::{Arena, Hand};
@@ -16,8 +16,8 @@ const LAST_TURNS: u64 = 32;
 
 /// Asks for the next move: to the pool or a class, from any class or a named one. It may be refused.
 fn begin_next<R: Wait>(rt: &R, arena: &Arena, hand: &mut Hand, round: u64)
-    requires arena { IsIdleHandOf arena.now hand.old }
-    ensures arena { IsIdleHandOf arena.now hand.new }
+    requires arena { IsEmptyHandOf arena.now hand.old }
+    ensures arena { IsEmptyHandOf arena.now hand.new }
 {
     let drawn = draw(0, round);
     let src = if drawn % 2 == 0 {
@@ -31,8 +31,8 @@ fn begin_next<R: Wait>(rt: &R, arena: &Arena, hand: &mut Hand, round: u64)
 
 /// One turn, and where no page moves behind it, the next move.
 fn turn_on<R: Wait>(rt: &R, arena: &Arena, hand: &mut Hand, tally: &mut Turns, round: u64)
-    requires arena { IsIdleHandOf arena.now hand.old }
-    ensures arena { IsIdleHandOf arena.now hand.new }
+    requires arena { IsEmptyHandOf arena.now hand.old }
+    ensures arena { IsEmptyHandOf arena.now hand.new }
 {
     let Some(turn) = turn_by(rt, arena, hand) else {
         return;
@@ -49,7 +49,7 @@ pub struct Mover(pub Hand);
 impl Job for Mover {
     type Told = Turns;
 
-    ghost is_ready = { λ arena job. IsIdleHandOf arena job.0 };
+    ghost is_ready = { λ arena job. IsEmptyHandOf arena job.0 };
 
     /// The mover's turns: what they counted.
     fn work<R: Wait>(self, rt: &R, _alloc: Global, arena: &Arena) -> Worked<Turns> {

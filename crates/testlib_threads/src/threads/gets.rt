@@ -1,6 +1,6 @@
 //! Four threads look up a key that leads nowhere: each get is noted in its stripe's history.
 ghost use Rattle.std.specs.Prelude.{IfOk};
-ghost use Rattle.testlib_hands.specs.Hands.{AreHandsOf, IsIdleHandOf};
+ghost use Rattle.testlib_hands.specs.Hands.{AreEmptyHandsOf, IsEmptyHandOf};
 
 use mc_stripe::{Call, Key};
 use mc_words::{Arena, Final, Hand};
@@ -25,7 +25,7 @@ struct Searcher(Hand);
 impl Job for Searcher {
     type Told = bool;
 
-    ghost is_ready = { λ arena job. IsIdleHandOf arena job.0 };
+    ghost is_ready = { λ arena job. IsEmptyHandOf arena job.0 };
 
     /// The searcher's gets: whether one found something.
     fn work<R: Wait>(self, rt: &R, _alloc: Global, arena: &Arena) -> Worked<bool> {
@@ -43,9 +43,9 @@ type Searchers = (Searcher, Searcher);
 
 /// Four, with the hands of the lowest numbers that are left.
 fn four_searchers(arena: &Arena, hands: &mut Vec<Hand>) -> Result<(Searchers, Searchers), Fail>
-    requires hands { AreHandsOf arena.now hands.old.items }
-    ensures low { IfOk result (λ jobs. IsIdleHandOf arena.now jobs.0.0.0 × IsIdleHandOf arena.now jobs.0.1.0) }
-    ensures high { IfOk result (λ jobs. IsIdleHandOf arena.now jobs.1.0.0 × IsIdleHandOf arena.now jobs.1.1.0) }
+    requires hands { AreEmptyHandsOf arena.now hands.old.items }
+    ensures low { IfOk result (λ jobs. IsEmptyHandOf arena.now jobs.0.0.0 × IsEmptyHandOf arena.now jobs.0.1.0) }
+    ensures high { IfOk result (λ jobs. IsEmptyHandOf arena.now jobs.1.0.0 × IsEmptyHandOf arena.now jobs.1.1.0) }
 {
     let first = Searcher(next_hand(arena, hands)?);
     let second = Searcher(next_hand(arena, hands)?);

@@ -1,7 +1,7 @@
 //! Four threads set, get, read, give up and delete items over forty keys of one class of two pages. Each word of an item shows
 //! its key and stamp, so a word of another item would be seen.
 ghost use Rattle.std.specs.Prelude.{IfOk};
-ghost use Rattle.testlib_hands.specs.Hands.{AreHandsOf};
+ghost use Rattle.testlib_hands.specs.Hands.{AreEmptyHandsOf};
 ghost use Rattle.testlib_hands.specs.Pairs.{AreIdle};
 
 use mc_classes::Config;
@@ -107,7 +107,7 @@ type Actors = (Actor, Actor);
 
 /// Four, with the eight hands of the lowest numbers that are left.
 fn four_actors(arena: &Arena, hands: &mut Vec<Hand>) -> Result<(Actors, Actors), Fail>
-    requires hands { AreHandsOf arena.now hands.old.items }
+    requires hands { AreEmptyHandsOf arena.now hands.old.items }
     ensures low { IfOk result (λ jobs. AreIdle arena.now jobs.0.0.1 × AreIdle arena.now jobs.0.1.1) }
     ensures high { IfOk result (λ jobs. AreIdle arena.now jobs.1.0.1 × AreIdle arena.now jobs.1.1.1) }
 {

@@ -1,6 +1,6 @@
 //! A mover's thread moves pages between four classes, while three workers store, hold, read and delete items.
 ghost use Rattle.std.specs.Prelude.{IfOk};
-ghost use Rattle.testlib_hands.specs.Hands.{AreHandsOf, IsIdleHandOf};
+ghost use Rattle.testlib_hands.specs.Hands.{AreEmptyHandsOf, IsEmptyHandOf};
 
 use crate::threads::driver::{Mover, end_if};
 use crate::threads::workers::{KEYS, Worker, store_each};
@@ -33,8 +33,8 @@ fn stress<R: Threads + Wait + Sync>(
     hands: &mut Vec<Hand>,
     mode: u64,
 ) -> Result<Worked<Told>, Fail>
-    requires hands { AreHandsOf arena.now hands.old.items }
-    ensures hand { IfOk result (λ worked. IsIdleHandOf arena.now worked.hand) }
+    requires hands { AreEmptyHandsOf arena.now hands.old.items }
+    ensures hand { IfOk result (λ worked. IsEmptyHandOf arena.now worked.hand) }
 {
     let mut hand = next_hand(arena, hands)?;
     if !set_mode_by(rt, arena, &mut hand, mode) {
@@ -132,7 +132,7 @@ fn check_left<R: Wait>(
     worked: Worked<Told>,
     ends: bool,
 ) -> Result<(), Fail>
-    requires hand { IsIdleHandOf arena worked.hand }
+    requires hand { IsEmptyHandOf arena worked.hand }
 {
     let Worked { mut hand, told } = worked;
     let ((mut tally, first), (second, third)) = told;

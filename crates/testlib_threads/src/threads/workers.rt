@@ -4,7 +4,7 @@ ghost use Rattle.std.specs.Prelude.{◌≡◌, true};
 ghost use Rattle.mc_core.specs.State.{has_chunk};
 ghost use Rattle.mc_words.specs.hand.Arenas.{setup_of};
 ghost use Rattle.mc_words.specs.hand.Observers.{hint_chunk};
-ghost use Rattle.testlib_hands.specs.Hands.{IsIdleHandOf};
+ghost use Rattle.testlib_hands.specs.Hands.{IsEmptyHandOf};
 ghost use Rattle.testlib_hands.specs.Pairs.{AreIdle};
 
 use mc_items::{again, hint};
@@ -61,8 +61,8 @@ pub fn store_each<R: Wait>(
     arena: &Arena,
     hand: &mut Hand,
 ) -> Result<(), Refused>
-    requires arena { IsIdleHandOf arena.now hand.old }
-    ensures arena { IsIdleHandOf arena.now hand.new }
+    requires arena { IsEmptyHandOf arena.now hand.old }
+    ensures arena { IsEmptyHandOf arena.now hand.new }
 {
     for key in 0..KEYS {
         let _stored = store_own(rt, alloc, arena, hand, key, len_of(key))?;
@@ -73,8 +73,8 @@ pub fn store_each<R: Wait>(
 /// Reads the key's item, if it has one, and gives it up. True if all words were its own.
 #[tactic(auto, using(testlib_hands::proofs::Kept::nothing_left))]
 fn read_once<R: Wait>(rt: &R, alloc: Global, arena: &Arena, hand: &mut Hand, key: Key) -> bool
-    requires arena { IsIdleHandOf arena.now hand.old }
-    ensures arena { IsIdleHandOf arena.now hand.new }
+    requires arena { IsEmptyHandOf arena.now hand.old }
+    ensures arena { IsEmptyHandOf arena.now hand.new }
 {
     let Some(item) = get_key(rt, arena, hand, key) else {
         return true;
@@ -84,8 +84,8 @@ fn read_once<R: Wait>(rt: &R, alloc: Global, arena: &Arena, hand: &mut Hand, key
 
 /// One line: a set, a get or a delete. True if all words that were read were their item's own. False, too, where memory ran out.
 fn do_line<R: Wait>(rt: &R, alloc: Global, arena: &Arena, hand: &mut Hand, drawn: u64) -> bool
-    requires arena { IsIdleHandOf arena.now hand.old }
-    ensures arena { IsIdleHandOf arena.now hand.new }
+    requires arena { IsEmptyHandOf arena.now hand.old }
+    ensures arena { IsEmptyHandOf arena.now hand.new }
 {
     let key = key_of(drawn);
     match drawn % 8 {
@@ -100,8 +100,8 @@ fn do_line<R: Wait>(rt: &R, alloc: Global, arena: &Arena, hand: &mut Hand, drawn
 
 /// The lines of a round. True if each was right.
 fn do_lines<R: Wait>(rt: &R, alloc: Global, arena: &Arena, hand: &mut Hand, round: Round) -> bool
-    requires arena { IsIdleHandOf arena.now hand.old }
-    ensures arena { IsIdleHandOf arena.now hand.new }
+    requires arena { IsEmptyHandOf arena.now hand.old }
+    ensures arena { IsEmptyHandOf arena.now hand.new }
 {
     let mut are_right = true;
     for line in 0..LINES {
@@ -114,9 +114,9 @@ fn do_lines<R: Wait>(rt: &R, alloc: Global, arena: &Arena, hand: &mut Hand, roun
 /// Reads the key's item once more by its hint, if it is there still, and gives it up. True if all words were its own.
 #[tactic(auto, using(testlib_hands::proofs::Kept::nothing_left))]
 fn read_again(alloc: Global, arena: &Arena, hand: &mut Hand, hint: Hint, key: Key) -> bool
-    requires arena { IsIdleHandOf arena.now hand.old }
+    requires arena { IsEmptyHandOf arena.now hand.old }
     requires near { has_chunk (setup_of arena.now).table (hint_chunk hint) ≡ true }
-    ensures arena { IsIdleHandOf arena.now hand.new }
+    ensures arena { IsEmptyHandOf arena.now hand.new }
 {
     let Ok(item) = again(arena, hand, hint) else {
         return true;

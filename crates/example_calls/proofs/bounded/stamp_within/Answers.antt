@@ -1,6 +1,6 @@
 use Rattle.std.proofs.Common.{◌≡◌, ◌%◌, ℕ, [], ◌∷◌, ◌++◌, length, refl, ap, sym, subst, ◌∙◌, arith}
 use Rattle.mc_classes.specs.declared.config.Config.{Config}
-use Rattle.mc_stripe.specs.StripeState.{ReadyStripe, stamp_of}
+use Rattle.mc_stripe.specs.StripeState.{ReadyStripe, stamp_of_key}
 use Rattle.mc_core.specs.declared.event.Step.TheVariants as step
 use Rattle.mc_words.specs.hand.Arenas.{view}
 use Rattle.mc_words.specs.hand.Observers.{last_given}
@@ -61,5 +61,5 @@ returns-clause-stamp c =
       value = value;
       given = ap (λ (v : View). last_given v stripe) c.give_stripe.ensures.left ∙ given_last held.held.number stripe value (view c.stripe_within.new.hand) (held.ensures.number ∙ at);
       begins = subst (λ (n : ℕ). BeginsWithSeen hand n value) at held.ensures.within.waits.begins;
-      is = ap (λ (value : ReadyStripe). stamp_of value.state c.args.key) (sym c.stripe.ensures.stripe) ∙ sym c.stamp_in-stamp.ensures;
+      is = ap (λ (value : ReadyStripe). stamp_of_key value.state c.args.key) (sym c.stripe.ensures.stripe) ∙ sym c.stamp_in-stamp.ensures;
     }

@@ -2,7 +2,7 @@ use Rattle.std.proofs.Common.{◌≤◌, ◌∙◌, ap, sym, subst, refl}
 use Rattle.mc_pages.specs.Accounted.{first_chunks}
 use Rattle.mc_pages.specs.Changes.{after_cut}
 use Rattle.mc_pages.specs.ClassState.{first_free}
-use Rattle.mc_pages.specs.SlabState.{SlabState, IsClass, class_at, class_of_chunk}
+use Rattle.mc_pages.specs.SlabState.{SlabState, HasClass, class_at, class_of_chunk}
 use Rattle.mc_pages.proofs.Cuts.{chunk_at}
 use Rattle.mc_core.specs.State.{is_class}
 use Rattle.mc_core.specs.declared.event.Change.TheVariants.{Grow}
@@ -49,7 +49,7 @@ returns-in-Ok-clause-after c =
 pub per_page-per_page-requires : goal.per_page-per_page-requires
 per_page-per_page-requires c =
     let view : View = c.args.hand.now.seat.me.0 in
-    subst (λ (s : SlabState). IsClass s c.args.class) (sym c.slabs.ensures.slabs)
+    subst (λ (s : SlabState). HasClass s c.args.class) (sym c.slabs.ensures.slabs)
     (class_of_slabs view c.requires.arena.lawful c.args.held.now.shared c.args.class c.requires.held (ap (λ (s : Setup). is_class s.table c.args.class) c.requires.arena.setup ∙ c.requires.class))
 
 pub returns-in-Ok-clause-free : goal.returns-in-Ok-clause-free

@@ -1,13 +1,13 @@
 use Rattle.std.proofs.Common.{◌∙◌, List, Contains, ap, drop, subst, sym}
 use Rattle.std.proofs.lemmas.List.Elements.{Contains-push}
-use Rattle.mc_core.specs.Past.{Saying}
+use Rattle.mc_core.specs.Past.{StoredItem}
 use Rattle.mc_words.specs.hand.Arenas.{view}
 use Rattle.mc_words.specs.item.Items.{item_with}
 use Rattle.example_calls.proofs.own.set_and_read.Goals as goal
 
 pub returns-in-Ok-found-clause-words : goal.returns-in-Ok-found-clause-words
 returns-in-Ok-found-clause-words g c =
-    let saying : Saying = record { stamp = c.in-Ok.stamp; words = item_with c.args.key c.in-Ok.stamp c.args.words.now } in
+    let saying : StoredItem = record { stamp = c.in-Ok.stamp; words = item_with c.args.key c.in-Ok.stamp c.args.words.now } in
     let said = c.read-found.ensures.unsaid ∙ (c.get.ensures.unsaid ∙ c.in-Ok.ensures.said) in
-    let among = subst (λ (l : List Saying). Contains l saying) (sym said) (Contains-push (view c.args.hand.now).row.knows.said saying) in
+    let among = subst (λ (l : List StoredItem). Contains l saying) (sym said) (Contains-push (view c.args.hand.now).row.knows.said saying) in
     ap (drop 3) (sym (c.in-Ok-found.ensures.said.own saying among (sym c.if-stamp.false ∙ c.stamp.ensures.stamp)))

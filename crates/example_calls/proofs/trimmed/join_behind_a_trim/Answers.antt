@@ -1,25 +1,25 @@
 use Rattle.std.proofs.Common.{ℕ, List, [], ◌∷◌, Result, Ok, Err, IfOk, OnErr, subst, sym}
 use Rattle.std.specs.Prelude.{Contains}
 use Rattle.std.proofs.lemmas.List.Elements.{Contains-append_left, Contains-append_right}
-use Rattle.mc_core.specs.Past.{Saying}
+use Rattle.mc_core.specs.Past.{StoredItem}
 use Rattle.mc_words.specs.hand.Arenas.{view}
 use Rattle.mc_words.specs.hand.View.{View}
 use Rattle.mc_words.specs.item.Items.{item_with}
-use Rattle.mc_items.specs.Keeping.{Says, SaysNothing}
+use Rattle.mc_items.specs.Keeping.{StoresWithStamp, StoresNothing}
 use Rattle.example_calls.proofs.trimmed.join_behind_a_trim.Goals as goal
 
 -- what a hand had said before a set it has said behind it
-said_still : {E : Type 0} (words : ℕ → List ℕ) (result : Result ℕ E) (before now : View) (saying : Saying) → IfOk result (λ stamp. Says (words stamp) stamp before now)
-    → OnErr result (SaysNothing before now) → Contains before.row.knows.said saying → Contains now.row.knows.said saying
+said_still : {E : Type 0} (words : ℕ → List ℕ) (result : Result ℕ E) (before now : View) (saying : StoredItem) → IfOk result (λ stamp. StoresWithStamp (words stamp) stamp before now)
+    → OnErr result (StoresNothing before now) → Contains before.row.knows.said saying → Contains now.row.knows.said saying
 said_still words (Ok stamp) before now saying says nothing there =
-    subst (λ (said : List Saying). Contains said saying) (sym says) (Contains-append_left before.row.knows.said (record { stamp = stamp; words = words stamp } ∷ []) saying there)
-said_still words (Err error) before now saying says nothing there = subst (λ (said : List Saying). Contains said saying) (sym nothing) there
+    subst (λ (said : List StoredItem). Contains said saying) (sym says) (Contains-append_left before.row.knows.said (record { stamp = stamp; words = words stamp } ∷ []) saying there)
+said_still words (Err error) before now saying says nothing there = subst (λ (said : List StoredItem). Contains said saying) (sym nothing) there
 
 pub returns-clause-first : goal.returns-clause-first
 returns-clause-first g c saying there =
     let words = λ (stamp : ℕ). item_with c.args.key stamp c.args.words.now in
     let set = said_still words c.set.result (view c.args.hand) (view c.set.new.hand) saying c.set.ensures.said c.set.ensures.unsaid there in
-    let first = subst (λ (said : List Saying). Contains said saying) (sym c.trim.ensures.unsaid) set in
+    let first = subst (λ (said : List StoredItem). Contains said saying) (sym c.trim.ensures.unsaid) set in
     subst (λ (v : View). Contains v.row.knows.said saying) (sym c.join_hands.ensures.view)
     (Contains-append_left (view c.trim.new.hand).row.knows.said (view c.set-2.new.hand).row.knows.said saying first)
 

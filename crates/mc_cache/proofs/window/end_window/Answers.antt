@@ -3,7 +3,7 @@ use Rattle.mc_pages.specs.declared.moves.Reassign.{Reassign}
 use Rattle.mc_watch.specs.declared.decider.Decision.{Decision}
 use Rattle.mc_words.specs.declared.hand.Hand.{Hand}
 use Rattle.mc_words.specs.page.Moves.{Reassigns}
-use Rattle.mc_mover.specs.Acting.{ActsOnce}
+use Rattle.mc_mover.specs.Acting.{ActsOnceByNumber}
 use Rattle.mc_cache.specs.Windows.{ActsOnDecision}
 use Rattle.mc_cache.proofs.window.end_window.Goals as goal
 
@@ -13,7 +13,7 @@ acts_on_none decided is hand = subst (λ (d : Option Decision). ActsOnDecision d
 
 -- this one was found
 acts_on_some : (decision : Decision) (decided : Option Decision) → Some decision ≡ decided → (answer : Result (Unit {0}) Reassign) (before now : Hand)
-    → ActsOnce (λ number. Reassigns number (Some decision.src) decision.dst answer) before now → ActsOnDecision decided (Some answer) before now
+    → ActsOnceByNumber (λ number. Reassigns number (Some decision.src) decision.dst answer) before now → ActsOnDecision decided (Some answer) before now
 acts_on_some decision decided is answer before now asks = subst (λ (d : Option Decision). ActsOnDecision d (Some answer) before now) is asks
 
 pub returns-in_default-clause-ends : goal.returns-in_default-clause-ends

@@ -1,7 +1,7 @@
 use Rattle.std.proofs.Common.{◌∙◌, ◌<◌, sym, ap, if◌then◌else◌, length, set, arith}
 use Rattle.mc_core.specs.declared.holding.Holding.{Holding}
-use Rattle.mc_core.specs.Holdings.{is_of}
-use Rattle.mc_core.specs.Chunks.{filled}
+use Rattle.mc_core.specs.Holdings.{is_of_chunk}
+use Rattle.mc_core.specs.Chunks.{holding_with_word}
 use Rattle.mc_core.proofs.Lists.{changed_more, changed_whole}
 use Rattle.mc_core.proofs.holding.fill_chunk.Goals as goal
 
@@ -10,7 +10,7 @@ loop-holding-init c = c.deref_mut-holding-items.ensures.value ∙ c.holdings.vie
 
 pub loop-holding-preserved : goal.loop-holding-preserved
 loop-holding-preserved c =
-    let change = λ (holding : Holding). if is_of c.args.chunk holding then filled c.args.place c.args.word holding else holding in
+    let change = λ (holding : Holding). if is_of_chunk c.args.chunk holding then holding_with_word c.args.place c.args.word holding else holding in
     let long = c.loop-holding.auto.holding-items in
     let test = c.loop-holding-test.true in
     let within : c.loop-holding.holding-index < length c.loop-holding.holding-items = omega arith in
@@ -20,7 +20,7 @@ loop-holding-preserved c =
 
 pub returns : goal.returns
 returns c =
-    let change = λ (holding : Holding). if is_of c.args.chunk holding then filled c.args.place c.args.word holding else holding in
+    let change = λ (holding : Holding). if is_of_chunk c.args.chunk holding then holding_with_word c.args.place c.args.word holding else holding in
     let long = c.loop-holding.auto.holding-items in
     let value = ap length (c.deref_mut-holding-items.ensures.value ∙ c.holdings.view_is) in
     let count = c.deref_mut-holding-items.ensures.len in

@@ -1,8 +1,8 @@
 use Rattle.std.proofs.Common.{◌≡◌, if◌then◌else◌}
-use Rattle.mc_core.specs.Holdings.{is_of}
-use Rattle.mc_core.specs.Chunks.{filled}
+use Rattle.mc_core.specs.Holdings.{is_of_chunk}
+use Rattle.mc_core.specs.Chunks.{holding_with_word}
 use Rattle.mc_core.proofs.Lists.{changed_to}
 use Rattle.mc_core.proofs.holding.fill_chunk.Given as goal
 
 abbrev pub invariant-loop-holding : goal.invariant-loop-holding
-invariant-loop-holding l = l.holding-items ≡ changed_to l.holding-index (λ holding. if is_of l.chunk holding then filled l.place l.word holding else holding) l.fn.holdings
+invariant-loop-holding l = l.holding-items ≡ changed_to l.holding-index (λ holding. if is_of_chunk l.chunk holding then holding_with_word l.place l.word holding else holding) l.fn.holdings

@@ -1,5 +1,5 @@
 use Rattle.std.proofs.Common.{◌∙◌, sym}
-use Rattle.mc_core.specs.Run.{play}
+use Rattle.mc_core.specs.Run.{state_after_all}
 use Rattle.mc_core.proofs.Plays.{more_events, ends_at, tells_end}
 use Rattle.mc_core.proofs.run.play_all.Goals as goal
 
@@ -11,5 +11,5 @@ loop-place-preserved c =
 
 pub returns : goal.returns
 returns c =
-    tells_end (play c.args.state c.args.events.now) c.loop-place.state
+    tells_end (state_after_all c.args.state c.args.events.now) c.loop-place.state
     (sym c.loop-place.invariant ∙ ends_at c.loop-place.state c.args.events.now c.loop-place.place c.loop-place-test.false)

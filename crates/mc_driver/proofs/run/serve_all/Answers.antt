@@ -4,7 +4,7 @@ use Rattle.std.proofs.KnownBytes.{Appends-trans}
 use Rattle.mc_script.specs.declared.command.Command.{Command}
 use Rattle.mc_script.specs.declared.command.Command.TheVariants.{Set}
 use Rattle.mc_serial_spec.specs.Machine.{Machine}
-use Rattle.mc_serial_spec.specs.Lines.{Served, serve, after_all}
+use Rattle.mc_serial_spec.specs.Lines.{Outcome, serve, after_all}
 use Rattle.mc_driver.proofs.Replies.{replies_more, after_more, ends_there}
 use Rattle.mc_driver.proofs.run.serve_all.Goals as goal
 
@@ -12,7 +12,7 @@ pub loop-command-preserved : goal.loop-command-preserved
 loop-command-preserved g c =
     let other : Command = Set 0 0 0 0 in
     let i : ℕ = c.loop-command.command-index in
-    let served : Served = c.in_ok-serve_one.ensures.written.served in
+    let served : Outcome = c.in_ok-serve_one.ensures.written.served in
     let is : serve c.loop-command.keeper (get_or c.args.commands.now i other) ≡ Some served = c.in_ok-serve_one.ensures.written.is in
     let so_far : after_all c.args.keeper.now (take i c.args.commands.now) ≡ Some c.loop-command.keeper = c.loop-command.invariant.machine in
     record {

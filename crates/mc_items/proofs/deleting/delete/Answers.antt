@@ -1,14 +1,14 @@
 use Rattle.std.proofs.Common.{◌≡◌, ◌%◌, ℕ, false, refl, ap, subst, ◌∙◌}
 use Rattle.mc_classes.specs.declared.config.Config.{Config}
 use Rattle.mc_core.specs.Holdings.{has_fresh}
-use Rattle.mc_words.specs.lock.Doing.{IsDone}
+use Rattle.mc_words.specs.lock.Doing.{UsesRoomForCall}
 use Rattle.mc_words.specs.lock.Lent.{IsLentStripe}
 use Rattle.mc_words.specs.lock.Out.{without_stripe}
 use Rattle.mc_words.specs.hand.View.{View}
 use Rattle.mc_words.specs.hand.Views.{stripe_given}
 use Rattle.mc_words.specs.lock.Wait.{WaitsForStripe}
 use Rattle.mc_stripe.specs.declared.history.Call.TheVariants.{Delete}
-use Rattle.mc_items.specs.Calls.{CallsOn, Deletes, OnlyWaits, TellsCall, TellsNoCall, IsFull}
+use Rattle.mc_items.specs.Calls.{CallsOn, Deletes, OnlyWaits, RecordsCall, RecordsNoCall, IsFull}
 use Rattle.mc_items.proofs.Chains.{ready_still, refs_stay}
 use Rattle.mc_items.proofs.Left.{Kept}
 use Rattle.mc_items.proofs.GetLeaves.{delete_kept}
@@ -39,7 +39,7 @@ returns-clause-deletes g c =
     let waits = held.ensures.waits in
     let number = number_stays hand held.new.hand (waits_keep (λ (v : View). v.row.ids) (c.args.key % c.config.result.now.stripes) (λ word v. refl) (λ value v. refl) before held.result.stripe taken waits) in
     let stripe = c.args.key % c.args.arena.now.table.shared.key.config.stripes in
-    ok_map (λ there. IsDone held.new.hand.number held.result.number held.result.stripe (Deletes held.new.hand.number held.result.number c.args.key there) taken now) (λ there. CallsOn hand.number stripe (Deletes hand.number stripe c.args.key there) before now) c.delete_at.result
+    ok_map (λ there. UsesRoomForCall held.new.hand.number held.result.number held.result.stripe (Deletes held.new.hand.number held.result.number c.args.key there) taken now) (λ there. CallsOn hand.number stripe (Deletes hand.number stripe c.args.key there) before now) c.delete_at.result
     (λ there. called_on (λ number stripe. Deletes number stripe c.args.key there) hand.number stripe held.new.hand.number held.result.number held.result.stripe before taken now number (held.ensures.number ∙ at)
     (subst (λ (n : ℕ). WaitsForStripe n before held.result.stripe taken) at waits) (subst (λ (n : ℕ). IsLentStripe taken n held.result.stripe) at held.ensures.whole)) c.delete_at.ensures.done
 
@@ -64,7 +64,7 @@ returns-clause-calls g c =
     let at : c.args.key % c.config.result.now.stripes ≡ c.args.key % c.args.arena.now.table.shared.key.config.stripes = ap (λ (f : Config). c.args.key % f.stripes) c.config.ensures.config in
     let number = number_stays hand held.new.hand (waits_keep (λ (v : View). v.row.ids) (c.args.key % c.config.result.now.stripes) (λ word v. refl) (λ value v. refl) before held.result.stripe taken held.ensures.waits) in
     let stripe = c.args.key % c.args.arena.now.table.shared.key.config.stripes in
-    ok_map (λ there. IsDone held.new.hand.number held.result.number held.result.stripe (Deletes held.new.hand.number held.result.number c.args.key there) taken now) (λ there. TellsCall hand.number stripe (Delete hand.number c.args.key there) before now) c.delete_at.result
+    ok_map (λ there. UsesRoomForCall held.new.hand.number held.result.number held.result.stripe (Deletes held.new.hand.number held.result.number c.args.key there) taken now) (λ there. RecordsCall hand.number stripe (Delete hand.number c.args.key there) before now) c.delete_at.result
     (λ there done. told_on hand.number stripe held.new.hand.number held.result.number (λ number. Delete number c.args.key there) held.result.stripe before taken now number (held.ensures.number ∙ at)
     (subst (λ (n : ℕ). WaitsForStripe n before held.result.stripe taken) at held.ensures.waits) (deleted_tells held.new.hand.number held.result.number held.result.stripe c.args.key there taken now done)) c.delete_at.ensures.done
 
@@ -76,7 +76,7 @@ returns-clause-refused g c =
     let now : View = c.delete_at.new.hand.seat.me.0 in
     let at : c.args.key % c.config.result.now.stripes ≡ c.args.key % c.args.arena.now.table.shared.key.config.stripes = ap (λ (f : Config). c.args.key % f.stripes) c.config.ensures.config in
     let stripe = c.args.key % c.args.arena.now.table.shared.key.config.stripes in
-    err_map ((now ≡ stripe_given held.result.number held.result.stripe taken) × (IsFull held.result.stripe)) (TellsNoCall before now) c.delete_at.result
+    err_map ((now ≡ stripe_given held.result.number held.result.stripe taken) × (IsFull held.result.stripe)) (RecordsNoCall before now) c.delete_at.result
     (λ both. told_none {Is = IsFull} stripe before now (only_waits stripe held.result.number held.result.stripe before taken now (held.ensures.number ∙ at) (subst (λ (n : ℕ). WaitsForStripe n before held.result.stripe taken) at held.ensures.waits) (subst (λ (n : ℕ). IsLentStripe taken n held.result.stripe) at held.ensures.whole) both.1 both.0)) (error_both (now ≡ stripe_given held.result.number held.result.stripe taken) (IsFull held.result.stripe) c.delete_at.result c.delete_at.ensures.given c.delete_at.ensures.full)
 
 pub returns-clause-holdings : goal.returns-clause-holdings

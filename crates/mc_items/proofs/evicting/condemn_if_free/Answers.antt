@@ -6,7 +6,7 @@ use Rattle.mc_words.specs.item.Removal.{Condemns, key_seen}
 use Rattle.mc_core.specs.declared.event.Step.TheVariants as step
 use Rattle.mc_words.specs.rule.Happens.{Happens}
 use Rattle.mc_words.specs.hand.View.{Setup, View}
-use Rattle.mc_words.specs.lock.Out.{with_stripe, without_stripe}
+use Rattle.mc_words.specs.lock.Out.{locks_with_stripe, without_stripe}
 use Rattle.mc_words.specs.hand.Views.{stripe_given, stripe_missed}
 use Rattle.mc_words.proofs.Chunks.SweepViews.{stands_out}
 use Rattle.mc_items.specs.Calls.{IsFull}
@@ -108,7 +108,7 @@ returns-clause-passed c e =
 pub returns-clause-locks : goal.returns-clause-locks
 returns-clause-locks c =
     let stripe = c.word_held-key.result % c.config.result.now.stripes in
-    c.condemn_at.ensures.locks ∙ (ap without_stripe (c.in-Ok.ensures.locks ∙ ap (with_stripe stripe) (c.word_held-key.ensures.locks ∙ c.head-head.ensures.locks)) ∙ stripe_back c.args.hand.now stripe c.requires.one)
+    c.condemn_at.ensures.locks ∙ (ap without_stripe (c.in-Ok.ensures.locks ∙ ap (locks_with_stripe stripe) (c.word_held-key.ensures.locks ∙ c.head-head.ensures.locks)) ∙ stripe_back c.args.hand.now stripe c.requires.one)
 
 pub returns-clause-no_memory : goal.returns-clause-no_memory
 returns-clause-no_memory c =

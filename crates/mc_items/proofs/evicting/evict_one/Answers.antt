@@ -9,7 +9,7 @@ use Rattle.mc_core.specs.declared.look.Look.TheVariants.{Saw}
 use Rattle.mc_core.specs.Holdings.{has_fresh}
 use Rattle.mc_core.specs.State.{is_class}
 use Rattle.mc_words.specs.hand.View.{Setup, View}
-use Rattle.mc_words.specs.lock.Out.{has_no_stripe}
+use Rattle.mc_words.specs.lock.Out.{locks_have_no_stripe}
 use Rattle.mc_words.specs.declared.hand.Hand.{Hand}
 use Rattle.mc_words.proofs.Chunks.Sweeps.{is_empty, stands_there, sweep_passes, swept_at}
 use Rattle.mc_words.proofs.Chunks.SweepViews.{class_here, order_once, stands_out}
@@ -75,7 +75,7 @@ free_one-requires-clause-one c =
     let inv = c.loop.invariant in
     let hand = c.args.hand.now in
     let now = c.loop.hand in
-    no_stripes_there now.seat.me.0 now.locks now.noted.4 (ap has_no_stripe inv.locks ∙ no_stripe_from hand.seat.me.0 hand.locks hand.noted.4 c.requires.one)
+    no_stripes_there now.seat.me.0 now.locks now.noted.4 (ap locks_have_no_stripe inv.locks ∙ no_stripe_from hand.seat.me.0 hand.locks hand.noted.4 c.requires.one)
 
 pub free_one-requires-clause-fresh : goal.free_one-requires-clause-fresh
 free_one-requires-clause-fresh c =

@@ -1,9 +1,9 @@
 use Rattle.std.proofs.Common.{◌≡◌, ℕ, ◌+◌, List, [], ◌∷◌, length, take, refl, ap, sym, subst, ◌∙◌, arith, slice_index, length-take-le, take_all, if◌then◌else◌, Bool}
 use Rattle.std.proofs.lemmas.List.{take_more}
 use Rattle.mc_pages.specs.declared.ids.ChunkId.{ChunkId}
-use Rattle.mc_core.specs.Holdings.{item_in}
+use Rattle.mc_core.specs.Holdings.{words_of_item}
 use Rattle.mc_words.specs.hand.View.{View}
-use Rattle.mc_words.specs.item.Items.{issue_in, item_with, words_in}
+use Rattle.mc_words.specs.item.Items.{issue_in, item_with, known_words_in}
 use Rattle.mc_words.specs.item.Links.{IsItemFilled}
 use Rattle.mc_words.specs.hand.Views.{word_filled}
 use Rattle.mc_items.specs.Storing.{item_filled}
@@ -73,7 +73,7 @@ returns-clause-item c =
     let past = c.loop-place-test.false in
     let is : now ≡ item_filled chunk (item_with c.args.key c.args.stamp c.args.words.now) view = filled ∙ ap (λ (l : List ℕ). item_filled chunk (c.args.key ∷ c.args.stamp ∷ length c.args.words.now ∷ l) view) (take_all c.loop-place.place c.args.words.now (omega arith)) in
     let long = long_enough view chunk c.args.fresh.now.room (3 + length c.args.words.now) c.requires.fresh c.requires.room in
-    subst (λ (at : ChunkId). IsItemFilled now at (issue_in now at) (words_in now at) c.args.key c.args.stamp) (sym chunks) (filled_item chunk c.args.key c.args.stamp c.args.words.now view now c.requires.own long is)
+    subst (λ (at : ChunkId). IsItemFilled now at (issue_in now at) (known_words_in now at) c.args.key c.args.stamp) (sym chunks) (filled_item chunk c.args.key c.args.stamp c.args.words.now view now c.requires.own long is)
 
 pub returns-clause-words : goal.returns-clause-words
 returns-clause-words c =
@@ -85,4 +85,4 @@ returns-clause-words c =
     let past = c.loop-place-test.false in
     let is : now ≡ item_filled chunk (item_with c.args.key c.args.stamp c.args.words.now) view = filled ∙ ap (λ (l : List ℕ). item_filled chunk (c.args.key ∷ c.args.stamp ∷ length c.args.words.now ∷ l) view) (take_all c.loop-place.place c.args.words.now (omega arith)) in
     let long = long_enough view chunk c.args.fresh.now.room (3 + length c.args.words.now) c.requires.fresh c.requires.room in
-    ap (λ (at : ChunkId). item_in (words_in now at)) chunks ∙ filled_words chunk c.args.key c.args.stamp c.args.words.now view now c.requires.own long is
+    ap (λ (at : ChunkId). words_of_item (known_words_in now at)) chunks ∙ filled_words chunk c.args.key c.args.stamp c.args.words.now view now c.requires.own long is

@@ -7,7 +7,7 @@ use Rattle.mc_words.specs.hand.View.{View}
 use Rattle.mc_words.specs.lock.Wait.{WaitsForStripe}
 use Rattle.std.specs.Option.{option_map}
 use Rattle.mc_items.specs.declared.refs.Ref.{Ref}
-use Rattle.mc_words.specs.lock.Doing.{IsDone}
+use Rattle.mc_words.specs.lock.Doing.{UsesRoomForCall}
 use Rattle.mc_items.specs.Calls.{CallsOn, LooksUp}
 use Rattle.mc_items.specs.ItemRefs.{item_chunk}
 use Rattle.mc_stripe.specs.declared.history.Call.TheVariants.{Get}
@@ -46,7 +46,7 @@ returns-in-Ok-clause-gets g c =
     let number = number_stays hand held.new.hand (waits_keep (λ (v : View). v.row.ids) (c.args.key % c.config.result.now.stripes) (λ word v. refl) (λ value v. refl) before held.result.stripe taken waits) in
     let found = option_map (λ (r : Ref). r.reference) c.in-Ok.found in
     let stripe : ℕ = c.args.key % c.args.arena.now.table.shared.key.config.stripes in
-    and_reads (option_map item_chunk c.in-Ok.found) (IsDone held.new.hand.number held.result.number held.result.stripe (LooksUp held.new.hand.number held.result.number c.args.key found)) (CallsOn hand.number stripe (LooksUp hand.number stripe c.args.key found)) taken before c.look_up.new.hand.seat.me.0
+    and_reads (option_map item_chunk c.in-Ok.found) (UsesRoomForCall held.new.hand.number held.result.number held.result.stripe (LooksUp held.new.hand.number held.result.number c.args.key found)) (CallsOn hand.number stripe (LooksUp hand.number stripe c.args.key found)) taken before c.look_up.new.hand.seat.me.0
     (λ got done. called_on (λ number stripe. LooksUp number stripe c.args.key found) hand.number stripe held.new.hand.number held.result.number held.result.stripe before taken got number (held.ensures.number ∙ at)
     (subst (λ (n : ℕ). WaitsForStripe n before held.result.stripe taken) at waits) (subst (λ (n : ℕ). IsLentStripe taken n held.result.stripe) at held.ensures.whole) done) c.in-Ok.ensures.done
 

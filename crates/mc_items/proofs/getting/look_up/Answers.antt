@@ -4,7 +4,7 @@ use Rattle.mc_stripe.specs.declared.history.Call.TheVariants.{Get}
 use Rattle.std.proofs.Common.{[]}
 use Rattle.std.specs.Option.{option_map_or}
 use Rattle.mc_core.specs.Views.{Row}
-use Rattle.mc_core.specs.Holdings.{holding_of, item_of, stamp_of}
+use Rattle.mc_core.specs.Holdings.{holding_of, item_of, stamp_in_words}
 use Rattle.mc_words.specs.declared.item.refs.Ref.{Ref}
 use Rattle.mc_words.specs.hand.View.{View}
 use Rattle.mc_words.specs.item.Calls.{with_own_call}
@@ -22,8 +22,8 @@ returns-in-Ok-Some-clause-calls c =
     let stripe = c.args.held.number in
     let same = ap (λ (v : View). v.row) c.look_at.ensures.view in
     let tells = looked_tells number stripe c.args.held.stripe c.args.key c.in-Ok-Some.field-0 before got c.in-Ok-Some.ensures.done in
-    let read = sym (ap (λ (row : Row). stamp_of (option_map_or item_of (holding_of r.chunk row.holdings) [])) same) ∙ (sym (ap (λ (x : Ref). stamp_of (held_item last x.chunk)) c.look_at.ensures.chunk) ∙ c.look_at.ensures.item.stamp) in
-    let stamp = c.in-Ok-Some.ensures.stamp ∙ (ap (option_map (λ (x : Ref). stamp_of (held_item got x.chunk))) c.in-Ok-Some.field-0-is ∙ ap Some read) in
+    let read = sym (ap (λ (row : Row). stamp_in_words (option_map_or item_of (holding_of r.chunk row.holdings) [])) same) ∙ (sym (ap (λ (x : Ref). stamp_in_words (held_item last x.chunk)) c.look_at.ensures.chunk) ∙ c.look_at.ensures.item.stamp) in
+    let stamp = c.in-Ok-Some.ensures.stamp ∙ (ap (option_map (λ (x : Ref). stamp_in_words (held_item got x.chunk))) c.in-Ok-Some.field-0-is ∙ ap Some read) in
     ap (λ (row : Row). row.knows.mine) same ∙ (tells ∙ ap (λ (o : Option ℕ). map (with_own_call number stripe (Get number c.args.key o)) before.row.knows.mine) stamp)
 
 pub returns-in-Ok-None-clause-calls : goal.returns-in-Ok-None-clause-calls
@@ -33,5 +33,5 @@ returns-in-Ok-None-clause-calls c =
     let number = c.args.hand.now.number in
     let stripe = c.args.held.number in
     let tells = looked_tells number stripe c.args.held.stripe c.args.key c.in-Ok-None.field-0 before got c.in-Ok-None.ensures.done in
-    let stamp = c.in-Ok-None.ensures.stamp ∙ ap (option_map (λ (x : Ref). stamp_of (held_item got x.chunk))) c.in-Ok-None.field-0-is in
+    let stamp = c.in-Ok-None.ensures.stamp ∙ ap (option_map (λ (x : Ref). stamp_in_words (held_item got x.chunk))) c.in-Ok-None.field-0-is in
     tells ∙ ap (λ (o : Option ℕ). map (with_own_call number stripe (Get number c.args.key o)) before.row.knows.mine) stamp

@@ -6,7 +6,7 @@ use Rattle.mc_words.specs.hand.View.{View}
 use Rattle.mc_words.specs.lock.Wait.{WaitsForStripe}
 use Rattle.std.specs.Option.{option_map}
 use Rattle.mc_items.specs.declared.refs.Ref.{Ref}
-use Rattle.mc_words.specs.lock.Doing.{IsDone}
+use Rattle.mc_words.specs.lock.Doing.{UsesRoomForCall}
 use Rattle.mc_items.specs.Calls.{CallsOn, IsFull, LooksUp}
 use Rattle.mc_items.specs.ItemRefs.{item_chunk}
 use Rattle.mc_stripe.specs.declared.history.Call.TheVariants.{Get}
@@ -35,7 +35,7 @@ returns-in-Ok-look_up-clause-gets c =
     let number = number_stays hand c.try_stripe.new.hand (ap (λ (v : View). v.row.ids) c.in-Ok.ensures.lent) in
     let found = option_map (λ (r : Ref). r.reference) c.in-Ok-look_up.found in
     let stripe : ℕ = c.args.key % c.args.arena.now.table.shared.key.config.stripes in
-    and_reads (option_map item_chunk c.in-Ok-look_up.found) (IsDone c.try_stripe.new.hand.number held.number held.stripe (LooksUp c.try_stripe.new.hand.number held.number c.args.key found)) (CallsOn hand.number stripe (LooksUp hand.number stripe c.args.key found)) taken before c.look_up.new.hand.seat.me.0
+    and_reads (option_map item_chunk c.in-Ok-look_up.found) (UsesRoomForCall c.try_stripe.new.hand.number held.number held.stripe (LooksUp c.try_stripe.new.hand.number held.number c.args.key found)) (CallsOn hand.number stripe (LooksUp hand.number stripe c.args.key found)) taken before c.look_up.new.hand.seat.me.0
     (λ got done. called_on (λ number stripe. LooksUp number stripe c.args.key found) hand.number stripe c.try_stripe.new.hand.number held.number held.stripe before taken got number (c.in-Ok.ensures.number ∙ at)
     (subst (λ (n : ℕ). WaitsForStripe n before held.stripe taken) at (taken_at_once (c.args.key % c.config.result.now.stripes) held.stripe before taken c.in-Ok.ensures.taken c.in-Ok.ensures.lent c.in-Ok.ensures.seen))
     (subst (λ (n : ℕ). IsLentStripe taken n held.stripe) at c.in-Ok.ensures.whole) done) c.in-Ok-look_up.ensures.done

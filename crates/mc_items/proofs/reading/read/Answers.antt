@@ -4,7 +4,7 @@ use Rattle.mc_words.specs.hand.View.{View}
 use Rattle.mc_words.specs.item.Items.{held_item, item_with}
 use Rattle.mc_words.specs.hand.Views.{word_seen}
 use Rattle.mc_items.specs.Reading.{words_seen}
-use Rattle.mc_items.specs.Keeping.{AreSaid}
+use Rattle.mc_items.specs.Keeping.{WordsWereStored}
 use Rattle.mc_items.proofs.Chains.{kept_refs_keep_items, refs_stay, words_said}
 use Rattle.mc_items.proofs.Freed.{no_value}
 use Rattle.mc_items.proofs.Words.{one_more, one_read, all_read}
@@ -68,7 +68,7 @@ returns-clause-said c =
     let now : View = c.loop-place.hand.seat.me.0 in
     let (arena, locks, same, room, words) = c.loop-place.invariant in
     let stays = kept_refs_keep_items c.args.hand.now.seat.me.0 now item (returns-clause-keeps c) c.requires.item in
-    subst (λ (l : List ℕ). AreSaid now item.stamp (item_with item.key item.stamp l)) (stays.words ∙ sym (returns-clause-words c)) (words_said now arena.lawful item stays.refers)
+    subst (λ (l : List ℕ). WordsWereStored now item.stamp (item_with item.key item.stamp l)) (stays.words ∙ sym (returns-clause-words c)) (words_said now arena.lawful item stays.refers)
 
 pub returns-clause-item : goal.returns-clause-item
 returns-clause-item c = (kept_refs_keep_items c.args.hand.now.seat.me.0 c.loop-place.hand.seat.me.0 c.args.item.now (returns-clause-keeps c) c.requires.item).refers

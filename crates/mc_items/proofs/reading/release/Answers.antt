@@ -1,6 +1,6 @@
 use Rattle.std.proofs.Common.{◌≡◌, List, length, ap, ◌∙◌, arith}
 use Rattle.mc_core.specs.declared.holding.Holding.{Holding}
-use Rattle.mc_core.specs.Holdings.{has_fresh, is_of, lose}
+use Rattle.mc_core.specs.Holdings.{has_fresh, is_of_chunk, without_first}
 use Rattle.mc_core.proofs.Holders.{length-lose-le}
 use Rattle.mc_words.specs.hand.View.{View}
 use Rattle.mc_items.proofs.Chains.{ready_less, refs_less}
@@ -13,10 +13,10 @@ returns-clause-ready c =
     let now = c.release.new.hand in
     let hs : List Holding = before.seat.me.0.row.holdings in
     let chunk = c.args.item.reference.chunk in
-    let holds : now.seat.me.0.row.holdings ≡ lose (is_of chunk) hs = ap (λ (v : View). v.row.holdings) c.release.ensures.dropped in
+    let holds : now.seat.me.0.row.holdings ≡ without_first (is_of_chunk chunk) hs = ap (λ (v : View). v.row.holdings) c.release.ensures.dropped in
     let same = ap (λ (l : List Holding). length l) holds in
-    let less = length-lose-le (is_of chunk) hs in
-    ready_less before now c.release.ensures.locks (ap has_fresh holds ∙ fresh_less (is_of chunk) hs c.requires.ready.unfilled) (omega arith) c.requires.ready
+    let less = length-lose-le (is_of_chunk chunk) hs in
+    ready_less before now c.release.ensures.locks (ap has_fresh holds ∙ fresh_less (is_of_chunk chunk) hs c.requires.ready.unfilled) (omega arith) c.requires.ready
 
 pub returns-clause-keeps : goal.returns-clause-keeps
 returns-clause-keeps c =

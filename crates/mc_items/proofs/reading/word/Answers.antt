@@ -2,7 +2,7 @@ use Rattle.std.proofs.Common.{List, ap, arith, subst, sym, ◌∙◌, ℕ}
 use Rattle.std.proofs.lemmas.List.{get_or-drop}
 use Rattle.mc_words.specs.hand.View.{View}
 use Rattle.mc_words.specs.item.Items.{held_item}
-use Rattle.mc_items.specs.Keeping.{AreSaid}
+use Rattle.mc_items.specs.Keeping.{WordsWereStored}
 use Rattle.mc_words.specs.item.Items.{item_with}
 use Rattle.mc_items.proofs.Chains.{kept_refs_keep_items, refs_stay, words_said}
 use Rattle.mc_items.proofs.Words.{place_small}
@@ -32,4 +32,4 @@ pub returns-clause-said : goal.returns-clause-said
 returns-clause-said c =
     let item = c.args.item.now in
     let now : View = c.word.new.hand.seat.me.0 in
-    subst (λ (l : List ℕ). AreSaid now item.stamp (item_with item.key item.stamp l)) (returns-clause-words c) (words_said now c.word.ensures.arena.lawful item (returns-clause-item c))
+    subst (λ (l : List ℕ). WordsWereStored now item.stamp (item_with item.key item.stamp l)) (returns-clause-words c) (words_said now c.word.ensures.arena.lawful item (returns-clause-item c))

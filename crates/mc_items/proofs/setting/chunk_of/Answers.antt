@@ -3,7 +3,7 @@ use Rattle.mc_classes.specs.Limits.{most_refs}
 use Rattle.mc_core.specs.declared.holding.Holding.{Holding}
 use Rattle.mc_core.specs.Holdings.{has_fresh}
 use Rattle.mc_words.specs.lock.Doing.{HoldsSlabs}
-use Rattle.mc_words.specs.lock.Out.{has_no_stripe, with_slabs, without_slabs}
+use Rattle.mc_words.specs.lock.Out.{locks_have_no_stripe, locks_with_slabs, without_slabs}
 use Rattle.mc_words.specs.hand.View.{View}
 use Rattle.mc_words.specs.declared.hand.held.Fresh.{Fresh}
 use Rattle.mc_words.specs.declared.hand.Hand.{Hand}
@@ -20,10 +20,10 @@ use Rattle.mc_items.proofs.Made.{holds_so}
 use Rattle.mc_items.proofs.setting.chunk_of.Goals as goal
 
 -- a hand that took the lock of the slabs alone has no stripe's
-none_with_slabs : (hand : Hand) → is_unlocked hand.seat.me.0 ≡ true → has_no_stripe (with_slabs hand.locks) ≡ true
+none_with_slabs : (hand : Hand) → is_unlocked hand.seat.me.0 ≡ true → locks_have_no_stripe (locks_with_slabs hand.locks) ≡ true
 none_with_slabs hand unlocked = by hand.locks (unlocked_from hand.seat.me.0 hand.locks hand.noted.4 ∙ unlocked)
   where
-    by : (locks : Locks) → is_neither locks ≡ true → has_no_stripe (with_slabs locks) ≡ true
+    by : (locks : Locks) → is_neither locks ≡ true → locks_have_no_stripe (locks_with_slabs locks) ≡ true
     by Neither none = refl
     by Slabs none = absurd (cc)
     by (Stripe other) none = absurd (cc)
@@ -41,7 +41,7 @@ if_err P Q (Err e) next p = next e p
 pub supply_chunk-supplied-requires-clause-one : goal.supply_chunk-supplied-requires-clause-one
 supply_chunk-supplied-requires-clause-one g c =
     let now = c.lock_slabs-slabs.new.hand in
-    no_stripes_there now.seat.me.0 now.locks now.noted.4 (ap has_no_stripe c.lock_slabs-slabs.ensures.locks ∙ none_with_slabs c.args.hand.now c.requires.unlocked)
+    no_stripes_there now.seat.me.0 now.locks now.noted.4 (ap locks_have_no_stripe c.lock_slabs-slabs.ensures.locks ∙ none_with_slabs c.args.hand.now c.requires.unlocked)
 
 pub supply_chunk-supplied-requires-clause-fresh : goal.supply_chunk-supplied-requires-clause-fresh
 supply_chunk-supplied-requires-clause-fresh g c =

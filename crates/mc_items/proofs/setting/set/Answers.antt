@@ -1,11 +1,11 @@
 use Rattle.std.proofs.Common.{◌≡◌, ◌+◌, ◌*◌, ◌≤◌, ◌%◌, ℕ, ◌∷◌, ◌++◌, [], List, length, Some, Option, IfSome, ap, sym, subst, ◌∙◌, inr}
 use Rattle.mc_classes.specs.Classes.{Classes, IsClass, class_of, size_of}
-use Rattle.mc_core.specs.Past.{Saying}
+use Rattle.mc_core.specs.Past.{StoredItem}
 use Rattle.mc_stripe.specs.declared.history.Call.TheVariants.{Set}
 use Rattle.mc_words.specs.lock.Doing.{HoldsSlabs}
 use Rattle.mc_words.specs.hand.View.{Setup, View}
 use Rattle.mc_words.specs.hand.Tallies.{next_stamp}
-use Rattle.mc_items.specs.Calls.{TellsCall}
+use Rattle.mc_items.specs.Calls.{RecordsCall}
 use Rattle.mc_pages.specs.declared.ids.ChunkId.{ChunkId}
 use Rattle.mc_items.specs.Setting.{class_for_words}
 use Rattle.mc_items.specs.Sources.{SuppliesChunk}
@@ -13,7 +13,7 @@ use Rattle.mc_items.specs.Storing.{LeavesDead, StoresItem, item_filled}
 use Rattle.mc_words.proofs.Hands.HandNumbers.{number_stays}
 use Rattle.mc_words.specs.item.Items.{item_with}
 use Rattle.mc_core.specs.declared.ids.Ids.{Ids}
-use Rattle.mc_core.specs.Items.{stamped}
+use Rattle.mc_core.specs.Items.{ids_after_stamp}
 use Rattle.mc_items.proofs.Chains.{number_kept, ready_still, refs_stay}
 use Rattle.mc_items.proofs.StoredRows.{dead_holds, dead_keeps, stored_holds, stored_ids, stored_keeps}
 use Rattle.mc_items.proofs.Locks.{still_unlocked}
@@ -87,14 +87,14 @@ returns-in-Ok-store_words-clause-calls g c =
     let number = number_stays hand c.chunk_of.new.hand told.ids in record {
       between = between;
       evicts = told.calls;
-      sets = subst (λ (p : ℕ × Setup). TellsCall p.0 (c.args.key % p.1.config.stripes) (Set p.0 c.args.key c.in-Some-next_stamp.stamp) between c.store_words.new.hand.seat.me.0) (λ k. (number k, sym c.requires.arena.setup k)) c.in-Ok-store_words.ensures.calls;
+      sets = subst (λ (p : ℕ × Setup). RecordsCall p.0 (c.args.key % p.1.config.stripes) (Set p.0 c.args.key c.in-Some-next_stamp.stamp) between c.store_words.new.hand.seat.me.0) (λ k. (number k, sym c.requires.arena.setup k)) c.in-Ok-store_words.ensures.calls;
     }
 
 pub returns-in-Ok-store_words-clause-said : goal.returns-in-Ok-store_words-clause-said
 returns-in-Ok-store_words-clause-said g c =
     let view : View = c.args.hand.now.seat.me.0 in
     let told = supplied_tells c.args.hand.now.number c.in-Some.class c.in-Ok.fresh.chunk view c.chunk_of.new.hand.seat.me.0 c.in-Ok.ensures.supplies in
-    c.in-Ok-store_words.ensures.said ∙ ap (λ (said : List Saying). said ++ record { stamp = c.in-Some-next_stamp.stamp; words = item_with c.args.key c.in-Some-next_stamp.stamp c.args.words.now } ∷ []) told.said
+    c.in-Ok-store_words.ensures.said ∙ ap (λ (said : List StoredItem). said ++ record { stamp = c.in-Some-next_stamp.stamp; words = item_with c.args.key c.in-Some-next_stamp.stamp c.args.words.now } ∷ []) told.said
 
 pub returns-in-Err-store_words-clause-refused : goal.returns-in-Err-store_words-clause-refused
 returns-in-Err-store_words-clause-refused g c =
@@ -191,7 +191,7 @@ returns-in-Ok-store_words-clause-number g c =
     let words = item_with c.args.key stamp c.args.words.now in
     let gains = supplied_gains hand.number c.in-Some.class fresh.chunk view between c.in-Ok.ensures.supplies in
     let told = supplied_tells hand.number c.in-Some.class fresh.chunk view between c.in-Ok.ensures.supplies in
-    number_kept hand now (ap (λ (i : Ids). i.number) (stored_ids fresh.chunk words view between c.requires.ready.unfilled gains c.in-Ok.ensures.own c.chunk_of.new.hand.number _ c.args.key stamp fresh.room now.seat.me.0 c.in-Ok-store_words.ensures.stores ∙ ap stamped told.ids))
+    number_kept hand now (ap (λ (i : Ids). i.number) (stored_ids fresh.chunk words view between c.requires.ready.unfilled gains c.in-Ok.ensures.own c.chunk_of.new.hand.number _ c.args.key stamp fresh.room now.seat.me.0 c.in-Ok-store_words.ensures.stores ∙ ap ids_after_stamp told.ids))
 
 pub returns-in-Ok-store_words-clause-ready : goal.returns-in-Ok-store_words-clause-ready
 returns-in-Ok-store_words-clause-ready g c =

@@ -1,6 +1,6 @@
 use Rattle.std.proofs.Common.{ℕ, ap, sym, subst, ◌∙◌}
 use Rattle.mc_stripe.specs.Entries.{AreRising}
-use Rattle.mc_stripe.specs.StripeState.{ReadyStripe, place_of, can_store}
+use Rattle.mc_stripe.specs.StripeState.{ReadyStripe, chunk_and_stamp, can_store}
 use Rattle.mc_core.specs.Holdings.{has_fresh}
 use Rattle.mc_core.specs.Items.{is_none_else_aside}
 use Rattle.mc_words.specs.hand.View.{View}
@@ -19,7 +19,7 @@ link-reference-requires-clause-new c =
     let key : ℕ = c.args.key in
     let value : ReadyStripe = c.reserve.new.held.stripe in
     let rising : AreRising value.state.index = subst AreRising (ap (λ (h : StripeHeld). h.stripe.state.index) (sym c.in_default.ensures.reserved)) c.requires.lent.legal.rising in
-    ap (place_of c.put_aside.new.held.stripe.state) c.requires.key ∙ (ap (λ (v : ReadyStripe). place_of v.state key) c.put_aside.ensures.lifted ∙ lifted_nowhere value key rising)
+    ap (chunk_and_stamp c.put_aside.new.held.stripe.state) c.requires.key ∙ (ap (λ (v : ReadyStripe). chunk_and_stamp v.state key) c.put_aside.ensures.lifted ∙ lifted_nowhere value key rising)
 
 pub link-reference-requires-clause-aside : goal.link-reference-requires-clause-aside
 link-reference-requires-clause-aside c =

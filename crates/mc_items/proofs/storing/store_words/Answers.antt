@@ -1,6 +1,6 @@
 use Rattle.std.proofs.Common.{◌≡◌, ◌%◌, ℕ, List, [], ◌∷◌, ◌++◌, OnErr, OnOk, ap, subst, ◌∙◌}
-use Rattle.mc_core.specs.Holdings.{numbers}
-use Rattle.mc_core.specs.Past.{Own, Saying}
+use Rattle.mc_core.specs.Holdings.{numbers_of_known}
+use Rattle.mc_core.specs.Past.{Own, StoredItem}
 use Rattle.mc_words.specs.hand.View.{View}
 use Rattle.mc_words.specs.declared.hand.held.Fresh.{Fresh}
 use Rattle.mc_items.specs.Storing.{StoresItem}
@@ -23,9 +23,9 @@ returns-clause-said g c =
     let fill = c.fill_item in
     let last : View = c.store.new.hand.seat.me.0 in
     let item = item_with c.args.key c.args.stamp c.args.words.now in
-    let words = ap numbers fill.ensures.words ∙ numbers_known item in
+    let words = ap numbers_of_known fill.ensures.words ∙ numbers_known item in
     let said = ap (λ (v : View). v.row.knows.said) fill.ensures.filled in
-    subst (λ (p : List Saying × ℕ × List ℕ). OnOk c.store.result (last.row.knows.said ≡ p.0 ++ record { stamp = p.1; words = p.2 } ∷ [])) (λ k. (said k, fill.ensures.stamp k, words k)) c.store.ensures.said
+    subst (λ (p : List StoredItem × ℕ × List ℕ). OnOk c.store.result (last.row.knows.said ≡ p.0 ++ record { stamp = p.1; words = p.2 } ∷ [])) (λ k. (said k, fill.ensures.stamp k, words k)) c.store.ensures.said
 
 pub returns-clause-refused : goal.returns-clause-refused
 returns-clause-refused g c =

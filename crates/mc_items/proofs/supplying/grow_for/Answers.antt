@@ -1,7 +1,7 @@
 use Rattle.std.proofs.Common.{◌≤◌, ◌∙◌, Err, is_some, ap, sym, subst}
 use Rattle.mc_pages.specs.ClassState.{first_free}
 use Rattle.mc_pages.specs.Changes.{after_grow, next_page}
-use Rattle.mc_pages.specs.SlabState.{SlabState, IsClass, class_at, class_of_chunk}
+use Rattle.mc_pages.specs.SlabState.{SlabState, HasClass, class_at, class_of_chunk}
 use Rattle.mc_pages.proofs.Cuts.{chunk_at}
 use Rattle.mc_core.specs.State.{is_class}
 use Rattle.mc_words.specs.hand.View.{Setup, View}
@@ -13,7 +13,7 @@ pub per_page-per_page-requires : goal.per_page-per_page-requires
 per_page-per_page-requires c =
     let slabs = c.args.held.now.shared in
     let is = ap (λ (s : Setup). is_class s.table c.args.class) c.requires.arena.setup ∙ c.requires.class in
-    subst (λ (s : SlabState). IsClass s c.args.class) (sym c.slabs.ensures.slabs) (class_of_slabs c.args.hand.now.seat.me.0 c.requires.arena.lawful slabs c.args.class c.requires.held is)
+    subst (λ (s : SlabState). HasClass s c.args.class) (sym c.slabs.ensures.slabs) (class_of_slabs c.args.hand.now.seat.me.0 c.requires.arena.lawful slabs c.args.class c.requires.held is)
 
 pub cut_page-requires-clause-first : goal.cut_page-requires-clause-first
 cut_page-requires-clause-first c =

@@ -1,10 +1,10 @@
 use Rattle.std.proofs.Common.{◌≡◌, ◌%◌, ℕ, List, Option, IfSome, is_some, refl, ap, sym, subst, ◌∙◌, arith, length}
 use Rattle.mc_classes.specs.declared.config.Config.{Config}
 use Rattle.mc_core.specs.declared.holding.Holding.{Holding}
-use Rattle.mc_words.specs.lock.Doing.{IsDone}
+use Rattle.mc_words.specs.lock.Doing.{UsesRoomForCall}
 use Rattle.mc_words.specs.lock.Lent.{IsLentStripe}
 use Rattle.mc_words.specs.lock.Out.{without_stripe}
-use Rattle.mc_core.specs.Holdings.{key_of, stamp_of}
+use Rattle.mc_core.specs.Holdings.{key_of, stamp_in_words}
 use Rattle.mc_words.specs.declared.item.refs.Ref.{Ref}
 use Rattle.mc_words.specs.item.Items.{held_item}
 use Rattle.mc_words.specs.item.Refs.{IsIssueOf, IsRefOf}
@@ -13,8 +13,8 @@ use Rattle.mc_words.specs.lock.Wait.{WaitsForStripe}
 use Rattle.mc_items.specs.Calls.{Finds, FindsNone, LooksUp}
 use Rattle.std.specs.Option.{option_map}
 use Rattle.mc_stripe.specs.declared.history.Call.TheVariants.{Get}
-use Rattle.mc_stripe.specs.StripeState.{stamp_of as stripe_stamp}
-use Rattle.mc_core.specs.Columns.{holds}
+use Rattle.mc_stripe.specs.StripeState.{stamp_of_key as stripe_stamp}
+use Rattle.mc_core.specs.Columns.{count_of_holdings}
 use Rattle.mc_items.proofs.Chains.{ready_less, ready_still, refs_stay}
 use Rattle.mc_items.proofs.Left.{Kept, finds_one, none_keeps, only_keeps}
 use Rattle.mc_items.proofs.Gets.{called_on, only_waits}
@@ -51,7 +51,7 @@ returns-in-Ok-None-clause-none g c _ =
     let number = number_stays hand held.new.hand (waits_keep (λ (v : View). v.row.ids) (c.args.key % c.config.result.now.stripes) (λ word v. refl) (λ value v. refl) before held.result.stripe taken held.ensures.waits) in
     called_on (λ number stripe. FindsNone number stripe c.args.key) hand.number _ held.new.hand.number held.result.number held.result.stripe before taken c.refer_at.new.hand.seat.me.0 number (held.ensures.number ∙ at)
     (subst (λ (n : ℕ). WaitsForStripe n before held.result.stripe taken) at held.ensures.waits) (subst (λ (n : ℕ). IsLentStripe taken n held.result.stripe) at held.ensures.whole)
-    (subst (λ (o : Option Ref). IsDone held.new.hand.number held.result.number held.result.stripe (LooksUp held.new.hand.number held.result.number c.args.key o) taken c.refer_at.new.hand.seat.me.0) c.in-Ok-None.field-0-is c.in-Ok-None.ensures.done)
+    (subst (λ (o : Option Ref). UsesRoomForCall held.new.hand.number held.result.number held.result.stripe (LooksUp held.new.hand.number held.result.number c.args.key o) taken c.refer_at.new.hand.seat.me.0) c.in-Ok-None.field-0-is c.in-Ok-None.ensures.done)
 
 pub returns-in-Ok-None-clause-calls : goal.returns-in-Ok-None-clause-calls
 returns-in-Ok-None-clause-calls g c =
@@ -66,7 +66,7 @@ returns-in-Ok-None-clause-calls g c =
     let stamp = stripe_stamp held.result.stripe.state c.args.key in
     let tells = told_on hand.number _ held.new.hand.number held.result.number (λ number. Get number c.args.key stamp) held.result.stripe before taken got number (held.ensures.number ∙ at) waits
     (looked_tells held.new.hand.number held.result.number held.result.stripe c.args.key c.in-Ok-None.field-0 taken got c.in-Ok-None.ensures.done) in
-    let there = c.in-Ok-None.ensures.stamp ∙ ap (option_map (λ (x : Ref). stamp_of (held_item got x.chunk))) c.in-Ok-None.field-0-is in
+    let there = c.in-Ok-None.ensures.stamp ∙ ap (option_map (λ (x : Ref). stamp_in_words (held_item got x.chunk))) c.in-Ok-None.field-0-is in
     (stamp, ap is_some there, tells)
 
 pub returns-in-Ok-None-clause-holdings : goal.returns-in-Ok-None-clause-holdings
@@ -74,7 +74,7 @@ returns-in-Ok-None-clause-holdings g c =
     let hand = c.args.hand.now in
     let now = c.refer_at.new.hand in
     let kept = none_keeps hand.number (c.args.key % c.args.arena.now.table.shared.key.config.stripes) c.args.key hand.seat.me.0 now.seat.me.0 (returns-in-Ok-None-clause-none g c refl) in
-    λ chunk. ap (λ (k : Kept). holds chunk k.0) kept
+    λ chunk. ap (λ (k : Kept). count_of_holdings chunk k.0) kept
 
 pub returns-in-Ok-None-clause-ready : goal.returns-in-Ok-None-clause-ready
 returns-in-Ok-None-clause-ready g c =
@@ -124,7 +124,7 @@ returns-in-Err-clause-holdings g c =
     let hand = c.args.hand.now in
     let now = c.refer_at.new.hand in
     let kept = only_keeps (c.args.key % c.args.arena.now.table.shared.key.config.stripes) hand.seat.me.0 now.seat.me.0 (returns-in-Err-clause-no_memory g c) in
-    λ chunk. ap (λ (k : Kept). holds chunk k.0) kept
+    λ chunk. ap (λ (k : Kept). count_of_holdings chunk k.0) kept
 
 pub returns-in-Err-clause-ready : goal.returns-in-Err-clause-ready
 returns-in-Err-clause-ready g c =
@@ -189,7 +189,7 @@ returns-clause-touches g c _ =
     let number = number_stays hand held.new.hand (waits_keep (λ (v : View). v.row.ids) (c.args.key % c.config.result.now.stripes) (λ word v. refl) (λ value v. refl) before held.result.stripe taken held.ensures.waits) in
     let gets = called_on (λ number stripe. Finds number stripe c.args.key r) hand.number _ held.new.hand.number held.result.number held.result.stripe before taken got number (held.ensures.number ∙ at)
     (subst (λ (n : ℕ). WaitsForStripe n before held.result.stripe taken) at held.ensures.waits) (subst (λ (n : ℕ). IsLentStripe taken n held.result.stripe) at held.ensures.whole)
-    (subst (λ (o : Option Ref). IsDone held.new.hand.number held.result.number held.result.stripe (LooksUp held.new.hand.number held.result.number c.args.key o) taken got) c.in-Ok-Some.field-0-is c.in-Ok-Some.ensures.done) in
+    (subst (λ (o : Option Ref). UsesRoomForCall held.new.hand.number held.result.number held.result.stripe (LooksUp held.new.hand.number held.result.number c.args.key o) taken got) c.in-Ok-Some.field-0-is c.in-Ok-Some.ensures.done) in
     let same = number_stays hand c.refer_at.new.hand (ap (λ (k : Kept). k.3) (finds_one hand.number _ c.args.key r before got gets).kept) in record {
       reference = r;
       got = got;
@@ -212,7 +212,7 @@ returns-clause-calls g c =
     let stamp = stripe_stamp held.result.stripe.state c.args.key in
     let tells = told_on hand.number _ held.new.hand.number held.result.number (λ number. Get number c.args.key stamp) held.result.stripe before taken got number (held.ensures.number ∙ at) waits
     (looked_tells held.new.hand.number held.result.number held.result.stripe c.args.key c.in-Ok-Some.field-0 taken got c.in-Ok-Some.ensures.done) in
-    let there = c.in-Ok-Some.ensures.stamp ∙ ap (option_map (λ (x : Ref). stamp_of (held_item got x.chunk))) c.in-Ok-Some.field-0-is in
+    let there = c.in-Ok-Some.ensures.stamp ∙ ap (option_map (λ (x : Ref). stamp_in_words (held_item got x.chunk))) c.in-Ok-Some.field-0-is in
     (stamp, ap is_some there, ap (λ (v : View). v.row.knows.mine) c.release.ensures.dropped ∙ (bumped_tells _ _ _ _ c.bump_chunk.ensures.bumps ∙ tells))
 
 pub returns-clause-holdings : goal.returns-clause-holdings

@@ -1,11 +1,11 @@
 use Rattle.std.proofs.Common.{◌≡◌, ◌+◌, ◌*◌, ◌≤◌, ◌%◌, ℕ, ◌∷◌, ◌++◌, [], List, length, Some, Option, IfSome, Result, Ok, Err, IfOk, IfErr, OnOk, OnErr, ap, sym, subst, ◌∙◌, inr}
 use Rattle.mc_classes.specs.Classes.{Classes, IsClass, class_of, size_of}
-use Rattle.mc_core.specs.Past.{Saying}
+use Rattle.mc_core.specs.Past.{StoredItem}
 use Rattle.mc_stripe.specs.declared.history.Call.TheVariants.{Set}
 use Rattle.mc_words.specs.lock.Doing.{HoldsSlabs}
 use Rattle.mc_words.specs.hand.View.{Setup, View}
 use Rattle.mc_words.specs.hand.Tallies.{next_stamp}
-use Rattle.mc_items.specs.Calls.{TellsCall}
+use Rattle.mc_items.specs.Calls.{RecordsCall}
 use Rattle.mc_pages.specs.declared.ids.ChunkId.{ChunkId}
 use Rattle.mc_items.specs.Setting.{class_for_words}
 use Rattle.mc_items.specs.Sources.{SuppliesChunk, SuppliesNone}
@@ -16,7 +16,7 @@ use Rattle.mc_items.specs.Storing.{IsOwnItem, LeavesDead, StoresItem, item_fille
 use Rattle.mc_words.proofs.Hands.HandNumbers.{number_stays}
 use Rattle.mc_words.specs.item.Items.{item_with}
 use Rattle.mc_core.specs.declared.ids.Ids.{Ids}
-use Rattle.mc_core.specs.Items.{stamped}
+use Rattle.mc_core.specs.Items.{ids_after_stamp}
 use Rattle.mc_items.proofs.Chains.{number_kept, ready_still, refs_stay}
 use Rattle.mc_items.proofs.StoredRows.{dead_holds, dead_keeps, stored_holds, stored_ids, stored_keeps}
 use Rattle.mc_items.proofs.Locks.{still_unlocked}
@@ -105,14 +105,14 @@ returns-in-Ok-Ok-store_words_within-clause-calls c =
     let number = number_stays hand c.chunk_within.new.hand told.ids in record {
       between = between;
       evicts = told.calls;
-      sets = subst (λ (p : ℕ × Setup). TellsCall p.0 (c.args.key % p.1.config.stripes) (Set p.0 c.args.key c.in-Some-next_stamp.stamp) between c.store_words_within.new.hand.seat.me.0) (λ k. (number k, sym c.requires.arena.setup k)) (on_ok (TellsCall c.chunk_within.new.hand.number (c.args.key % c.args.arena.now.table.shared.key.config.stripes) (Set c.chunk_within.new.hand.number c.args.key c.in-Some-next_stamp.stamp) c.chunk_within.new.hand.seat.me.0 c.store_words_within.new.hand.seat.me.0) c.in-Ok-Ok-store_words_within.field-0 _ c.in-Ok-Ok-store_words_within.field-0-is c.in-Ok-Ok-store_words_within.ensures.calls);
+      sets = subst (λ (p : ℕ × Setup). RecordsCall p.0 (c.args.key % p.1.config.stripes) (Set p.0 c.args.key c.in-Some-next_stamp.stamp) between c.store_words_within.new.hand.seat.me.0) (λ k. (number k, sym c.requires.arena.setup k)) (on_ok (RecordsCall c.chunk_within.new.hand.number (c.args.key % c.args.arena.now.table.shared.key.config.stripes) (Set c.chunk_within.new.hand.number c.args.key c.in-Some-next_stamp.stamp) c.chunk_within.new.hand.seat.me.0 c.store_words_within.new.hand.seat.me.0) c.in-Ok-Ok-store_words_within.field-0 _ c.in-Ok-Ok-store_words_within.field-0-is c.in-Ok-Ok-store_words_within.ensures.calls);
     }
 
 pub returns-in-Ok-Ok-store_words_within-clause-said : goal.returns-in-Ok-Ok-store_words_within-clause-said
 returns-in-Ok-Ok-store_words_within-clause-said c =
     let view : View = c.args.hand.now.seat.me.0 in
     let told = supplied_tells c.args.hand.now.number c.in-Some.class c.in-Ok-Ok.fresh.chunk view c.chunk_within.new.hand.seat.me.0 (ok_of (λ (fresh : Fresh). HoldsSlabs (SuppliesChunk c.args.hand.now.number c.in-Some.class fresh.chunk) c.args.hand.now.seat.me.0 c.chunk_within.new.hand.seat.me.0) c.in-Ok-Ok.field-0 c.in-Ok-Ok.fresh c.in-Ok-Ok.field-0-is c.in-Ok-Ok.ensures.supplies) in
-    (on_ok (c.store_words_within.new.hand.seat.me.0.row.knows.said ≡ c.chunk_within.new.hand.seat.me.0.row.knows.said ++ record { stamp = c.in-Some-next_stamp.stamp; words = (item_with c.args.key c.in-Some-next_stamp.stamp c.args.words.now) } ∷ []) c.in-Ok-Ok-store_words_within.field-0 _ c.in-Ok-Ok-store_words_within.field-0-is c.in-Ok-Ok-store_words_within.ensures.said) ∙ ap (λ (said : List Saying). said ++ record { stamp = c.in-Some-next_stamp.stamp; words = item_with c.args.key c.in-Some-next_stamp.stamp c.args.words.now } ∷ []) told.said
+    (on_ok (c.store_words_within.new.hand.seat.me.0.row.knows.said ≡ c.chunk_within.new.hand.seat.me.0.row.knows.said ++ record { stamp = c.in-Some-next_stamp.stamp; words = (item_with c.args.key c.in-Some-next_stamp.stamp c.args.words.now) } ∷ []) c.in-Ok-Ok-store_words_within.field-0 _ c.in-Ok-Ok-store_words_within.field-0-is c.in-Ok-Ok-store_words_within.ensures.said) ∙ ap (λ (said : List StoredItem). said ++ record { stamp = c.in-Some-next_stamp.stamp; words = item_with c.args.key c.in-Some-next_stamp.stamp c.args.words.now } ∷ []) told.said
 
 pub returns-in-Ok-Err-store_words_within-clause-refused : goal.returns-in-Ok-Err-store_words_within-clause-refused
 returns-in-Ok-Err-store_words_within-clause-refused c =
@@ -209,7 +209,7 @@ returns-in-Ok-Ok-store_words_within-clause-number c =
     let words = item_with c.args.key stamp c.args.words.now in
     let gains = supplied_gains hand.number c.in-Some.class fresh.chunk view between (ok_of (λ (fresh : Fresh). HoldsSlabs (SuppliesChunk c.args.hand.now.number c.in-Some.class fresh.chunk) c.args.hand.now.seat.me.0 c.chunk_within.new.hand.seat.me.0) c.in-Ok-Ok.field-0 c.in-Ok-Ok.fresh c.in-Ok-Ok.field-0-is c.in-Ok-Ok.ensures.supplies) in
     let told = supplied_tells hand.number c.in-Some.class fresh.chunk view between (ok_of (λ (fresh : Fresh). HoldsSlabs (SuppliesChunk c.args.hand.now.number c.in-Some.class fresh.chunk) c.args.hand.now.seat.me.0 c.chunk_within.new.hand.seat.me.0) c.in-Ok-Ok.field-0 c.in-Ok-Ok.fresh c.in-Ok-Ok.field-0-is c.in-Ok-Ok.ensures.supplies) in
-    number_kept hand now (ap (λ (i : Ids). i.number) (stored_ids fresh.chunk words view between c.requires.ready.unfilled gains (ok_of (λ (fresh : Fresh). IsOwnItem c.chunk_within.new.hand.seat.me.0 fresh.chunk) c.in-Ok-Ok.field-0 c.in-Ok-Ok.fresh c.in-Ok-Ok.field-0-is c.in-Ok-Ok.ensures.own) c.chunk_within.new.hand.number _ c.args.key stamp fresh.room now.seat.me.0 (on_ok (StoresItem c.chunk_within.new.hand.number (c.args.key % c.args.arena.now.table.shared.key.config.stripes) c.args.key c.in-Some-next_stamp.stamp c.in-Ok-Ok.fresh.chunk c.in-Ok-Ok.fresh.room (item_filled c.in-Ok-Ok.fresh.chunk (item_with c.args.key c.in-Some-next_stamp.stamp c.args.words.now) c.chunk_within.new.hand.seat.me.0) c.store_words_within.new.hand.seat.me.0) c.in-Ok-Ok-store_words_within.field-0 _ c.in-Ok-Ok-store_words_within.field-0-is c.in-Ok-Ok-store_words_within.ensures.stores) ∙ ap stamped told.ids))
+    number_kept hand now (ap (λ (i : Ids). i.number) (stored_ids fresh.chunk words view between c.requires.ready.unfilled gains (ok_of (λ (fresh : Fresh). IsOwnItem c.chunk_within.new.hand.seat.me.0 fresh.chunk) c.in-Ok-Ok.field-0 c.in-Ok-Ok.fresh c.in-Ok-Ok.field-0-is c.in-Ok-Ok.ensures.own) c.chunk_within.new.hand.number _ c.args.key stamp fresh.room now.seat.me.0 (on_ok (StoresItem c.chunk_within.new.hand.number (c.args.key % c.args.arena.now.table.shared.key.config.stripes) c.args.key c.in-Some-next_stamp.stamp c.in-Ok-Ok.fresh.chunk c.in-Ok-Ok.fresh.room (item_filled c.in-Ok-Ok.fresh.chunk (item_with c.args.key c.in-Some-next_stamp.stamp c.args.words.now) c.chunk_within.new.hand.seat.me.0) c.store_words_within.new.hand.seat.me.0) c.in-Ok-Ok-store_words_within.field-0 _ c.in-Ok-Ok-store_words_within.field-0-is c.in-Ok-Ok-store_words_within.ensures.stores) ∙ ap ids_after_stamp told.ids))
 
 pub returns-in-Ok-Ok-store_words_within-clause-ready : goal.returns-in-Ok-Ok-store_words_within-clause-ready
 returns-in-Ok-Ok-store_words_within-clause-ready c =

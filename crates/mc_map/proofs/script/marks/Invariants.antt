@@ -1,6 +1,6 @@
 use Rattle.std.proofs.Common.{◌≡◌, ◌+◌, ◌≤◌, ◌++◌, length}
 use Rattle.std.specs.Str.Lines.{lines}
-use Rattle.mc_map.specs.Marks.{marks_of}
+use Rattle.mc_map.specs.Marks.{script_marks}
 use Rattle.mc_map.proofs.script.marks.Given as goal
 
 -- the marks so far, before those of the lines that are left, are the script's
@@ -11,5 +11,5 @@ invariant-loop-line l =
       ends : (goal.iterator-loop-line).is_finite l.line-iterator;
       numbered : l.number + length (lines l.line-iterator.rest.now) ≤ length (lines l.bytes);
       fewer : l.done ≤ l.number;
-      told : l.marks.items ++ marks_of l.number l.done (lines l.line-iterator.rest.now) ≡ marks_of 0 0 (lines l.bytes);
+      told : l.marks.items ++ script_marks l.number l.done (lines l.line-iterator.rest.now) ≡ script_marks 0 0 (lines l.bytes);
     }

@@ -1,5 +1,5 @@
 use Rattle.std.proofs.Common.{◌≡◌, ◌∙◌, ap, sym, subst, refl, inr, arith, Some}
-use Rattle.mc_pages.specs.SlabState.{SlabState, IsClass, class_at}
+use Rattle.mc_pages.specs.SlabState.{SlabState, HasClass, class_at}
 use Rattle.mc_mover.specs.Turning.{IsAtEnd}
 use Rattle.mc_mover.proofs.Ends.{move_here}
 use Rattle.mc_mover.proofs.ending.end_turn.Goals as goal
@@ -9,7 +9,7 @@ per_page-requires c =
     let move = c.in-Some.moving in
     let slabs = c.args.held.now.shared in
     let runs : slabs.moving ≡ Some move = sym c.in-Some.ensures.moving in
-    subst (λ (s : SlabState). IsClass s move.src) (sym c.slabs.ensures.slabs) (move_here c.args.hand.now.seat.me.0 c.requires.arena.lawful slabs c.requires.held move runs).src
+    subst (λ (s : SlabState). HasClass s move.src) (sym c.slabs.ensures.slabs) (move_here c.args.hand.now.seat.me.0 c.requires.arena.lawful slabs c.requires.held move runs).src
 
 pub returns-then-moving-gt0-clause-ends : goal.returns-then-moving-gt0-clause-ends
 returns-then-moving-gt0-clause-ends c =

@@ -5,7 +5,7 @@ use Rattle.mc_pages.proofs.Chunks.{is_chunk-same}
 use Rattle.mc_pages.specs.Pages.{is_on_the_move}
 use Rattle.mc_core.specs.declared.holding.Holding.{Holding}
 use Rattle.mc_core.specs.Evictions.{has_copy}
-use Rattle.mc_core.specs.Holdings.{holding_of, is_of, lose}
+use Rattle.mc_core.specs.Holdings.{holding_of, is_of_chunk, without_first}
 use Rattle.mc_core.specs.State.{room_in}
 use Rattle.mc_words.specs.hand.View.{Setup, View}
 use Rattle.mc_words.specs.item.Fresh.{IsFreshIn}
@@ -95,7 +95,7 @@ rescue-requires-clause-alone c =
     let all : popped.row.holdings ≡ view.row.holdings ++ last ∷ [] = popped_holds view popped slabs chunk copy pops in
     let fresh = subst (λ (hs : List Holding). IsFreshIn hs copy c.in-Some.fresh.room) all c.in-Some.ensures.fresh.1 in
     let none = none_before view.row.holdings last c.requires.fresh c.in-Some.fresh.room fresh in
-    ap (λ (hs : List Holding). holding_of copy (lose (is_of copy) hs)) all ∙ (ap (holding_of copy) (lose_last copy view.row.holdings last none (is_chunk-same copy)) ∙ none)
+    ap (λ (hs : List Holding). holding_of copy (without_first (is_of_chunk copy) hs)) all ∙ (ap (holding_of copy) (lose_last copy view.row.holdings last none (is_chunk-same copy)) ∙ none)
 
 pub rescue-requires-clause-only : goal.rescue-requires-clause-only
 rescue-requires-clause-only c =
@@ -109,7 +109,7 @@ rescue-requires-clause-only c =
     let all : popped.row.holdings ≡ view.row.holdings ++ last ∷ [] = popped_holds view popped slabs chunk copy pops in
     let fresh = subst (λ (hs : List Holding). IsFreshIn hs copy c.in-Some.fresh.room) all c.in-Some.ensures.fresh.1 in
     let none = none_before view.row.holdings last c.requires.fresh c.in-Some.fresh.room fresh in
-    ap (λ (hs : List Holding). has_copy (lose (is_of copy) hs) chunk) all ∙ (ap (λ (hs : List Holding). has_copy hs chunk) (lose_last copy view.row.holdings last none (is_chunk-same copy)) ∙ no_copies view.row.holdings chunk c.requires.fresh)
+    ap (λ (hs : List Holding). has_copy (without_first (is_of_chunk copy) hs) chunk) all ∙ (ap (λ (hs : List Holding). has_copy hs chunk) (lose_last copy view.row.holdings last none (is_chunk-same copy)) ∙ no_copies view.row.holdings chunk c.requires.fresh)
 
 pub returns-in-Some-clause-rescues : goal.returns-in-Some-clause-rescues
 returns-in-Some-clause-rescues c =
@@ -141,7 +141,7 @@ returns-in-Some-clause-holdings c =
     let all : popped.row.holdings ≡ view.row.holdings ++ last ∷ [] = popped_holds view popped slabs chunk copy pops in
     let fresh = subst (λ (hs : List Holding). IsFreshIn hs copy c.in-Some.fresh.room) all c.in-Some.ensures.fresh.1 in
     let none = none_before view.row.holdings last c.requires.fresh c.in-Some.fresh.room fresh in
-    c.rescue.ensures.holdings ∙ (ap (lose (is_of copy)) all ∙ lose_last copy view.row.holdings last none (is_chunk-same copy))
+    c.rescue.ensures.holdings ∙ (ap (without_first (is_of_chunk copy)) all ∙ lose_last copy view.row.holdings last none (is_chunk-same copy))
 
 pub returns-in-Some-clause-ids : goal.returns-in-Some-clause-ids
 returns-in-Some-clause-ids c =

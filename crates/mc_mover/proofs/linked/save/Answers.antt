@@ -4,7 +4,7 @@ use Rattle.mc_pages.specs.ClassState.{ClassState}
 use Rattle.mc_pages.specs.SlabState.{SlabState, class_at, class_of_page}
 use Rattle.mc_pages.proofs.ClassChanges.{per_pages-with_class}
 use Rattle.mc_pages.proofs.Cuts.{per_page-map}
-use Rattle.mc_stripe.specs.StripeState.{ReadyStripe, place_of, can_store}
+use Rattle.mc_stripe.specs.StripeState.{ReadyStripe, chunk_and_stamp, can_store}
 use Rattle.mc_words.specs.declared.hand.held.StripeHeld.{StripeHeld}
 use Rattle.mc_words.specs.item.Items.{word_read}
 use Rattle.mc_words.specs.hand.View.{View}
@@ -96,7 +96,7 @@ sweep_and_save-requires-in-Err-rescue_to_target-clause-leads c =
     let read = word_read view chunk 0 in
     let last = reaches_passed number value key chunk stamp read chunk.page (class_at slabs (class_of_page slabs chunk.page)).free made passed slabs c.in-Err-rescue_to_target.ensures.lacks first in
     let back = c.in-Err-rescue_to_target.ensures.back in
-    (key, stamp, ap (λ (held : StripeHeld). place_of held.stripe.state key) back ∙ last.leads.leads, last.leads.of_key ∙ ap (λ (held : StripeHeld). held.number) (sym back))
+    (key, stamp, ap (λ (held : StripeHeld). chunk_and_stamp held.stripe.state key) back ∙ last.leads.leads, last.leads.of_key ∙ ap (λ (held : StripeHeld). held.number) (sym back))
 
 pub sweep_and_save-requires-in-Err-rescue_to_target-clause-key : goal.sweep_and_save-requires-in-Err-rescue_to_target-clause-key
 sweep_and_save-requires-in-Err-rescue_to_target-clause-key c =

@@ -3,9 +3,9 @@ use Rattle.mc_pages.specs.declared.ids.ChunkId.{ChunkId}
 use Rattle.mc_stripe.specs.Changes.{after_rescue, used_up}
 use Rattle.mc_stripe.specs.StripeState.{ReadyStripe}
 use Rattle.mc_core.specs.declared.holding.Holding.{Holding}
-use Rattle.mc_core.specs.Holdings.{is_of, lose}
+use Rattle.mc_core.specs.Holdings.{is_of_chunk, without_first}
 use Rattle.mc_words.specs.item.Fresh.{IsFreshIn}
-use Rattle.mc_words.specs.item.Items.{issue_in, words_in}
+use Rattle.mc_words.specs.item.Items.{issue_in, known_words_in}
 use Rattle.mc_words.specs.item.Links.{IsCopyFilled, copy_linked}
 use Rattle.mc_words.specs.hand.View.{Setup, View}
 use Rattle.mc_words.specs.hand.Views.{chunk_discarded, chunk_released}
@@ -96,7 +96,7 @@ link_copy-reference-requires-clause-copy c =
     let fits = length_fits chunk copy key stamp words view filled done.is c.args.fresh.room c.copy_item.ensures.fits in
     let took = c.in-Ok.ensures.condemned in
     let (same, rooms) = c.copy_item.ensures.same in
-    subst (λ (at : ChunkId). IsCopyFilled now left.state at (issue_in now at) (words_in now at) key stamp) (sym same) (copy_filled chunk copy key stamp words view filled done.is c.requires.copy.0 c.args.fresh.room c.requires.copy.1 fits number c.args.stripe.now.stripe left now took)
+    subst (λ (at : ChunkId). IsCopyFilled now left.state at (issue_in now at) (known_words_in now at) key stamp) (sym same) (copy_filled chunk copy key stamp words view filled done.is c.requires.copy.0 c.args.fresh.room c.requires.copy.1 fits number c.args.stripe.now.stripe left now took)
 
 pub link_copy-reference-requires-clause-stripe : goal.link_copy-reference-requires-clause-stripe
 link_copy-reference-requires-clause-stripe c =
@@ -161,8 +161,8 @@ returns-in-Ok-clause-moves c =
     let linked : View = c.link_copy-reference.new.hand.seat.me.0 in
     let last : View = c.release.new.hand.seat.me.0 in
     let numbers : c.condemn_original.new.hand.number ≡ c.args.hand.now.number = number_stays c.args.hand.now c.condemn_original.new.hand (ids_now chunk copy key stamp words view filled done.is c.requires.copy.0 c.args.fresh.room c.requires.copy.1 fits number c.args.stripe.now.stripe left now took ∙ ids_stay chunk copy key stamp words view filled done.is) in
-    let linked_is : linked ≡ copy_linked c.args.hand.now.number number left key copy (issue_in now copy) (words_in now copy) c.args.fresh.room now =
-    c.link_copy-reference.ensures.linked ∙ (λ k. copy_linked (numbers k) (c.condemn_original.ensures.number k) left key (same k) (issue_in now (same k)) (words_in now (same k)) (rooms k) now) in
+    let linked_is : linked ≡ copy_linked c.args.hand.now.number number left key copy (issue_in now copy) (known_words_in now copy) c.args.fresh.room now =
+    c.link_copy-reference.ensures.linked ∙ (λ k. copy_linked (numbers k) (c.condemn_original.ensures.number k) left key (same k) (issue_in now (same k)) (known_words_in now (same k)) (rooms k) now) in
     let last_is : last ≡ chunk_released copy linked = c.release.ensures.dropped ∙ ap (λ (at : ChunkId). chunk_released at linked) (c.link_copy-reference.ensures.same.0 ∙ same) in
     record {
       key = key;
@@ -196,8 +196,8 @@ returns-in-Ok-clause-holdings c =
     let linked : View = c.link_copy-reference.new.hand.seat.me.0 in
     let last : View = c.release.new.hand.seat.me.0 in
     let numbers : c.condemn_original.new.hand.number ≡ c.args.hand.now.number = number_stays c.args.hand.now c.condemn_original.new.hand (ids_now chunk copy key stamp words view filled done.is c.requires.copy.0 c.args.fresh.room c.requires.copy.1 fits number c.args.stripe.now.stripe left now took ∙ ids_stay chunk copy key stamp words view filled done.is) in
-    let linked_is : linked ≡ copy_linked c.args.hand.now.number number left key copy (issue_in now copy) (words_in now copy) c.args.fresh.room now =
-    c.link_copy-reference.ensures.linked ∙ (λ k. copy_linked (numbers k) (c.condemn_original.ensures.number k) left key (same k) (issue_in now (same k)) (words_in now (same k)) (rooms k) now) in
+    let linked_is : linked ≡ copy_linked c.args.hand.now.number number left key copy (issue_in now copy) (known_words_in now copy) c.args.fresh.room now =
+    c.link_copy-reference.ensures.linked ∙ (λ k. copy_linked (numbers k) (c.condemn_original.ensures.number k) left key (same k) (issue_in now (same k)) (known_words_in now (same k)) (rooms k) now) in
     let last_is : last ≡ chunk_released copy linked = c.release.ensures.dropped ∙ ap (λ (at : ChunkId). chunk_released at linked) (c.link_copy-reference.ensures.same.0 ∙ same) in
     dropped_holdings chunk copy key stamp words view filled done.is c.requires.copy.0 c.args.fresh.room c.requires.copy.1 fits number c.args.stripe.now.stripe left now took c.args.hand.now.number linked last linked_is last_is c.requires.alone c.requires.only
 
@@ -220,8 +220,8 @@ returns-in-Ok-clause-ids c =
     let linked : View = c.link_copy-reference.new.hand.seat.me.0 in
     let last : View = c.release.new.hand.seat.me.0 in
     let numbers : c.condemn_original.new.hand.number ≡ c.args.hand.now.number = number_stays c.args.hand.now c.condemn_original.new.hand (ids_now chunk copy key stamp words view filled done.is c.requires.copy.0 c.args.fresh.room c.requires.copy.1 fits number c.args.stripe.now.stripe left now took ∙ ids_stay chunk copy key stamp words view filled done.is) in
-    let linked_is : linked ≡ copy_linked c.args.hand.now.number number left key copy (issue_in now copy) (words_in now copy) c.args.fresh.room now =
-    c.link_copy-reference.ensures.linked ∙ (λ k. copy_linked (numbers k) (c.condemn_original.ensures.number k) left key (same k) (issue_in now (same k)) (words_in now (same k)) (rooms k) now) in
+    let linked_is : linked ≡ copy_linked c.args.hand.now.number number left key copy (issue_in now copy) (known_words_in now copy) c.args.fresh.room now =
+    c.link_copy-reference.ensures.linked ∙ (λ k. copy_linked (numbers k) (c.condemn_original.ensures.number k) left key (same k) (issue_in now (same k)) (known_words_in now (same k)) (rooms k) now) in
     let last_is : last ≡ chunk_released copy linked = c.release.ensures.dropped ∙ ap (λ (at : ChunkId). chunk_released at linked) (c.link_copy-reference.ensures.same.0 ∙ same) in
     ap (λ (v : View). v.row.ids) last_is ∙ (ap (λ (v : View). v.row.ids) linked_is ∙ (ids_now chunk copy key stamp words view filled done.is c.requires.copy.0 c.args.fresh.room c.requires.copy.1 fits number c.args.stripe.now.stripe left now took ∙ ids_stay chunk copy key stamp words view filled done.is))
 
@@ -264,7 +264,7 @@ returns-in-Err-clause-holdings c =
     let finds = c.in-Err.ensures.moved.0 in
     let (same, rooms) = c.copy_item.ensures.same in
     let still = finds_keep (λ (v : View). v.row.holdings) (λ one v. refl) (λ chunk head v. refl) chunk filled now finds in
-    ap (λ (v : View). v.row.holdings) c.discard.ensures.dropped ∙ ((λ k. lose (is_of (same k)) (still k)) ∙ others_filled chunk copy key stamp words view filled done.is c.requires.alone)
+    ap (λ (v : View). v.row.holdings) c.discard.ensures.dropped ∙ ((λ k. without_first (is_of_chunk (same k)) (still k)) ∙ others_filled chunk copy key stamp words view filled done.is c.requires.alone)
 
 pub returns-in-Err-clause-ids : goal.returns-in-Err-clause-ids
 returns-in-Err-clause-ids c =

@@ -1,9 +1,9 @@
 use Rattle.std.proofs.Common.{◌∙◌, ap, sym, subst, refl, arith}
 use Rattle.mc_classes.specs.declared.config.Config.{Config}
-use Rattle.mc_pages.specs.SlabState.{SlabState, IsClass, class_at}
+use Rattle.mc_pages.specs.SlabState.{SlabState, HasClass, class_at}
 use Rattle.mc_words.specs.hand.View.{Setup, View}
 use Rattle.mc_words.specs.hand.Arenas.{setup_of}
-use Rattle.mc_words.specs.lock.Out.{has_no_stripe}
+use Rattle.mc_words.specs.lock.Out.{locks_have_no_stripe}
 use Rattle.mc_words.proofs.Locks.Unlocked.{no_stripe_from, no_stripes_there}
 use Rattle.mc_mover.specs.Turning.{Section}
 use Rattle.mc_mover.proofs.Ends.{move_here}
@@ -30,14 +30,14 @@ pub per_page-requires : goal.per_page-requires
 per_page-requires c =
     let inv = c.loop.invariant in
     let move = c.in-Some.moving in
-    subst (λ (s : SlabState). IsClass s move.src) (sym c.slabs.ensures.slabs) (move_here c.loop.hand.seat.me.0 inv.arena.lawful c.loop.held.shared inv.held move (sym c.in-Some.ensures.moving)).src
+    subst (λ (s : SlabState). HasClass s move.src) (sym c.slabs.ensures.slabs) (move_here c.loop.hand.seat.me.0 inv.arena.lawful c.loop.held.shared inv.held move (sym c.in-Some.ensures.moving)).src
 
 pub section-requires-clause-one : goal.section-requires-clause-one
 section-requires-clause-one c =
     let inv = c.loop.invariant in
     let hand = c.args.hand.now in
     let now = c.loop.hand in
-    no_stripes_there now.seat.me.0 now.locks now.noted.4 (ap has_no_stripe inv.locks ∙ no_stripe_from hand.seat.me.0 hand.locks hand.noted.4 c.requires.one)
+    no_stripes_there now.seat.me.0 now.locks now.noted.4 (ap locks_have_no_stripe inv.locks ∙ no_stripe_from hand.seat.me.0 hand.locks hand.noted.4 c.requires.one)
 
 pub returns-in_err-found-clause-lacks : goal.returns-in_err-found-clause-lacks
 returns-in_err-found-clause-lacks c =

@@ -1,7 +1,7 @@
 use Rattle.std.proofs.Common.{ap, refl, subst, ◌∙◌}
 use Rattle.mc_words.specs.lock.Out.{without_slabs}
 use Rattle.mc_words.specs.hand.View.{View}
-use Rattle.mc_mover.specs.Turning.{LacksMemory, Turns}
+use Rattle.mc_mover.specs.Turning.{TurnLacksMemory, Turns}
 use Rattle.mc_words.proofs.Hands.HandNumbers.{number_stays}
 use Rattle.mc_mover.proofs.Chains.{held_answer, lacks_leaves, ready_still, refs_kept, turn_leaves}
 use Rattle.mc_mover.proofs.Grows.{turns_grow}
@@ -39,8 +39,8 @@ returns-in-Err-clause-lacks c _ =
     let last : View = c.turn_held-answer.new.hand.seat.me.0 in
     let left = c.turn_held-answer.new.held.shared in
     let number = number_stays hand c.try_slabs.new.hand (ap (λ (v : View). v.row.ids) c.in-Ok.ensures.lent) in
-    held_for (LacksMemory hand.number) view taken last c.give_slabs.new.hand.seat.me.0 found left (taken_at_once found view taken c.in-Ok.ensures.taken c.in-Ok.ensures.lent)
-    (subst (λ n. LacksMemory n taken found last left) number c.in-Err.ensures.lacks) c.give_slabs.ensures.left
+    held_for (TurnLacksMemory hand.number) view taken last c.give_slabs.new.hand.seat.me.0 found left (taken_at_once found view taken c.in-Ok.ensures.taken c.in-Ok.ensures.lent)
+    (subst (λ n. TurnLacksMemory n taken found last left) number c.in-Err.ensures.lacks) c.give_slabs.ensures.left
 
 pub returns-in-Ok-answer-clause-told : goal.returns-in-Ok-answer-clause-told
 returns-in-Ok-answer-clause-told c =

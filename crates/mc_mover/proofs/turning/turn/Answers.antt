@@ -3,14 +3,14 @@ use Rattle.mc_classes.specs.Limits.{most_refs}
 use Rattle.mc_core.specs.declared.holding.Holding.{Holding}
 use Rattle.mc_core.specs.Holdings.{has_fresh}
 use Rattle.mc_words.specs.lock.Doing.{HoldsSlabs}
-use Rattle.mc_words.specs.lock.Out.{has_no_stripe, without_slabs}
+use Rattle.mc_words.specs.lock.Out.{locks_have_no_stripe, without_slabs}
 use Rattle.mc_words.specs.hand.View.{View}
 use Rattle.mc_words.proofs.Hands.HandNumbers.{number_stays}
 use Rattle.mc_words.proofs.Locks.Unlocked.{no_stripes_there}
 use Rattle.mc_mover.specs.declared.counts.Turn.{Turn}
 use Rattle.mc_mover.specs.Answering.{AnswersMove, IsAnswerOf}
-use Rattle.mc_mover.specs.Telling.{TellsAsCounted, counts_in}
-use Rattle.mc_mover.specs.Turning.{LacksMemory, Turns}
+use Rattle.mc_mover.specs.Telling.{RecordsAsCounted, counts_in}
+use Rattle.mc_mover.specs.Turning.{TurnLacksMemory, Turns}
 use Rattle.mc_mover.proofs.Chains.{answer_leaves, held_answer, ready_still, refs_kept}
 use Rattle.mc_mover.proofs.Grows.{turns_grow}
 use Rattle.mc_mover.proofs.HoldsSlabs.{held_for, held_holdings, lock_back, wait_holdings, wait_number}
@@ -22,7 +22,7 @@ use Rattle.mc_mover.proofs.turning.turn.Goals as goal
 pub turn_held-answer-requires-clause-one : goal.turn_held-answer-requires-clause-one
 turn_held-answer-requires-clause-one g c =
     let now = c.lock_slabs-held.new.hand in
-    no_stripes_there now.seat.me.0 now.locks now.noted.4 (ap has_no_stripe c.lock_slabs-held.ensures.locks ∙ none_with_slabs c.args.hand.now c.requires.ready.unlocked)
+    no_stripes_there now.seat.me.0 now.locks now.noted.4 (ap locks_have_no_stripe c.lock_slabs-held.ensures.locks ∙ none_with_slabs c.args.hand.now c.requires.ready.unlocked)
 
 pub turn_held-answer-requires-clause-fresh : goal.turn_held-answer-requires-clause-fresh
 turn_held-answer-requires-clause-fresh g c =
@@ -61,7 +61,7 @@ returns-clause-lacks g c =
     let now : View = c.give_slabs.new.hand.seat.me.0 in
     let number = wait_number hand held.new.hand found held.ensures.waits in
     on_err c.turn_held-answer.result
-    (λ does. held_for (LacksMemory hand.number) view taken last now found left held.ensures.waits (subst (λ n. LacksMemory n taken found last left) number does) c.give_slabs.ensures.left)
+    (λ does. held_for (TurnLacksMemory hand.number) view taken last now found left held.ensures.waits (subst (λ n. TurnLacksMemory n taken found last left) number does) c.give_slabs.ensures.left)
     c.turn_held-answer.ensures.lacks
 
 pub returns-clause-told : goal.returns-clause-told
@@ -69,7 +69,7 @@ returns-clause-told g c =
     let hand = c.args.hand.now in
     let view : View = hand.seat.me.0 in
     let now : View = c.give_slabs.new.hand.seat.me.0 in
-    if_ok (λ (turn : Turn). HoldsSlabs (Turns hand.number turn) view now) (λ (turn : Turn). TellsAsCounted hand.number (counts_in turn) view now) c.turn_held-answer.result
+    if_ok (λ (turn : Turn). HoldsSlabs (Turns hand.number turn) view now) (λ (turn : Turn). RecordsAsCounted hand.number (counts_in turn) view now) c.turn_held-answer.result
     (λ turn holds. turn_told hand.number turn view now c.requires.arena.lawful hand.noted.0 holds) (returns-clause-turns g c)
 
 pub returns-clause-told_before : goal.returns-clause-told_before

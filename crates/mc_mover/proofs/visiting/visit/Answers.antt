@@ -41,8 +41,8 @@ returns-then-is_linked-clause-lacks c =
     let seen : View = c.head-head.new.hand.seat.me.0 in
     on_err c.visit_linked.result
     (λ lacks. sees_linked c.args.hand.now.number c.args.class c.args.chunk view seen c.args.held.now.shared c.visit_linked.new.hand.seat.me.0 c.visit_linked.new.held.shared (decode c.head-head.result) (sym c.is_linked.ensures.linked ∙ c.if-is_linked.true)
-    c.head-head.ensures.happens c.head-head.ensures.seen (linked.LacksCall c.args.chunk)
-    (subst (λ (b : Bool). linked.LacksCall c.args.chunk b seen c.args.held.now.shared c.visit_linked.new.hand.seat.me.0 c.visit_linked.new.held.shared) c.is_unheld.ensures.unheld lacks))
+    c.head-head.ensures.happens c.head-head.ensures.seen (linked.LacksCallOnKey c.args.chunk)
+    (subst (λ (b : Bool). linked.LacksCallOnKey c.args.chunk b seen c.args.held.now.shared c.visit_linked.new.hand.seat.me.0 c.visit_linked.new.held.shared) c.is_unheld.ensures.unheld lacks))
     c.visit_linked.ensures.lacks
 
 pub returns-then-is_out-clause-clears : goal.returns-then-is_out-clause-clears

@@ -10,7 +10,7 @@ use Rattle.std.proofs.lemmas.Result.{err_from_is_err_and}
 use Rattle.clap.specs.declared.error.Error.{Error}
 use Rattle.clap.specs.declared.error.kind.ErrorKind.TheVariants.{OutOfMemory}
 use Rattle.mc_options.specs.CommandLine.{mcslab}
-use Rattle.mc_options.specs.Options.{IsCommandLine, IsNumber, factor_or, number_or, value_of}
+use Rattle.mc_options.specs.Options.{IsCommandLine, IsNumber, factor_or, number_or, option_value}
 use Rattle.mc_options.proofs.OptionCut.{IsName}
 use Rattle.mc_options.proofs.OptionParse.{HasValue, first_is, flag_is, no_fault, number_found, one_is, top}
 use Rattle.mc_options.proofs.OptionTaken.{no_refusal}
@@ -38,11 +38,11 @@ at_most most value (Some text) h e = rw e h.3
 
 -- and is what the words have
 number_is : (a : App) (words : List (List ℕ)) (m : ArgMatches) (id : List ℕ) (default value : ℕ) → a ≡ mcslab → HasMatchesOf a words m → (is_simple_and_free a ≡ true → fault_of a words ≡ []) → IsName id
-    → HasValue id → value ≡ number_or default (one_text (found_of m) id) → value ≡ number_or default (value_of id (drop 1 words))
+    → HasValue id → value ≡ number_or default (one_text (found_of m) id) → value ≡ number_or default (option_value id (drop 1 words))
 number_is a words m id default value is h kinds n takes e = e ∙ ap (number_or default) (one_is a words m id is h (no_fault a words is kinds) n takes)
 
 factor_is : (a : App) (words : List (List ℕ)) (m : ArgMatches) (id : List ℕ) (value : ℕ × ℕ) → a ≡ mcslab → HasMatchesOf a words m → (is_simple_and_free a ≡ true → fault_of a words ≡ []) → IsName id
-    → HasValue id → value ≡ factor_or (first_value (found_of m) id) → value ≡ factor_or (value_of id (drop 1 words))
+    → HasValue id → value ≡ factor_or (first_value (found_of m) id) → value ≡ factor_or (option_value id (drop 1 words))
 factor_is a words m id value is h kinds n takes e = e ∙ ap factor_or (first_is a words m id is h (no_fault a words is kinds) n takes)
 
 -- the flag's value is whether the words have it

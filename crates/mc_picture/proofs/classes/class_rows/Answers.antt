@@ -2,12 +2,12 @@ use Rattle.std.proofs.Common.{◌≡◌, ℕ, ◌+◌, List, [], ◌∷◌, ◌+
 use Rattle.std.proofs.lemmas.List.FromFn.{map-range_with_len_more}
 use Rattle.mc_classes.specs.Classes.{Classes}
 use Rattle.mc_picture.specs.declared.classes.ClassRow.{ClassRow}
-use Rattle.mc_picture.specs.Rows.{row_of, rows_of}
+use Rattle.mc_picture.specs.Rows.{row_of, class_table_rows}
 use Rattle.mc_picture.proofs.FewRows.{few_rows}
 use Rattle.mc_picture.proofs.classes.class_rows.Goals as goal
 
 -- one row behind those that are there
-next_row : (table : Classes) (place : ℕ) (rows new : List ClassRow) (row : ClassRow) → new ≡ rows ++ row ∷ [] → rows ≡ rows_of table place → row ≡ row_of table (place + 1) → new ≡ rows_of table (place + 1)
+next_row : (table : Classes) (place : ℕ) (rows new : List ClassRow) (row : ClassRow) → new ≡ rows ++ row ∷ [] → rows ≡ class_table_rows table place → row ≡ row_of table (place + 1) → new ≡ class_table_rows table (place + 1)
 next_row table place rows new row new_is rows_is row_is =
     new_is ∙ ap₂ (λ (xs : List ClassRow) (x : ClassRow). xs ++ x ∷ []) rows_is row_is
     ∙ sym (map-range_with_len_more (λ (k : ℕ). row_of table (k + 1)) 0 place place (omega arith))
@@ -19,5 +19,5 @@ loop-place-preserved c =
 
 pub returns-clause-few : goal.returns-clause-few
 returns-clause-few c =
-    let all : c.loop-place.rows.items ≡ rows_of c.args.table.now (length c.args.table.now.sizes) = search rules in
+    let all : c.loop-place.rows.items ≡ class_table_rows c.args.table.now (length c.args.table.now.sizes) = search rules in
     few_rows c.args.table.now c.loop-place.rows.items all c.count-place-end.ensures.sound

@@ -1,20 +1,20 @@
 use Rattle.std.proofs.Common.{refl}
 use Rattle.std.specs.Fmt.{char_count, digits, padded_integral}
 use lib.Utf8.{encode}
-use Rattle.mc_picture.specs.Maps.{bytes_text, chunks_text, end_text, heading_text, line_text, lines_text, owner_text, page_text, sizes_text, start_text, totals_text}
+use Rattle.mc_picture.specs.Maps.{bytes_text, chunk_counts_text, end_text, heading_text, line_text, lines_text, owner_text, map_page_text, sizes_text, start_text, page_totals_text}
 use Rattle.mc_picture.specs.Tables.{memory_text, row_text, table_note, waste_text}
 use Rattle.mc_picture.proofs.laws.worked_texts.Goals as goal
 
 pub returns-clause-heading : goal.returns-clause-heading
-unfolding heading_text totals_text digits
+unfolding heading_text page_totals_text digits
 returns-clause-heading c = refl
 
 pub returns-clause-pages : goal.returns-clause-pages
-unfolding page_text start_text owner_text end_text padded_integral digits char_count encode
+unfolding map_page_text start_text owner_text end_text padded_integral digits char_count encode
 returns-clause-pages c = refl
 
 pub returns-clause-line : goal.returns-clause-line
-unfolding line_text sizes_text chunks_text bytes_text padded_integral digits char_count encode
+unfolding line_text sizes_text chunk_counts_text bytes_text padded_integral digits char_count encode
 returns-clause-line c = refl
 
 pub returns-clause-no_lines : goal.returns-clause-no_lines

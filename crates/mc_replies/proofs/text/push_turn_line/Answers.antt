@@ -1,14 +1,14 @@
 use Rattle.std.proofs.Common.{◌≡◌, ◌∙◌, ◌++◌, [], ◌∷◌, ap, codes, List, ℕ}
-use Rattle.mc_serial_spec.specs.Texts.{spaced, turn_line, word_of}
+use Rattle.mc_serial_spec.specs.Texts.{spaced_words, turn_line, ending_word}
 use Rattle.mc_replies.proofs.Starts.{line_of_three, starts_append, starts_on}
 use Rattle.mc_replies.proofs.text.push_turn_line.Goals as goal
 
 pub returns-clause-line : goal.returns-clause-line
 returns-clause-line c =
     let counts = c.args.counts in
-    let numbers : List ℕ = spaced (counts.cleared ∷ counts.rescued ∷ counts.evicted ∷ counts.busy ∷ counts.locked ∷ []) in
-    let told : c.extend_from_slice-2.new.list.items ≡ c.extend_from_slice.new.list.items ++ word_of c.args.ending = c.in_ok-extend_from_slice-2.ensures.items ∙ ap (λ (word : List ℕ). c.extend_from_slice.new.list.items ++ word) c.word_of.ensures.word in
-    line_of_three c.args.text.now.items (codes "TURN ") (word_of c.args.ending) numbers (codes "\r\n") c.extend_from_slice.new.list.items c.extend_from_slice-2.new.list.items c.push_spaced.new.text.items c.extend_from_slice-3.new.list.items
+    let numbers : List ℕ = spaced_words (counts.cleared ∷ counts.rescued ∷ counts.evicted ∷ counts.busy ∷ counts.locked ∷ []) in
+    let told : c.extend_from_slice-2.new.list.items ≡ c.extend_from_slice.new.list.items ++ ending_word c.args.ending = c.in_ok-extend_from_slice-2.ensures.items ∙ ap (λ (word : List ℕ). c.extend_from_slice.new.list.items ++ word) c.word_of.ensures.word in
+    line_of_three c.args.text.now.items (codes "TURN ") (ending_word c.args.ending) numbers (codes "\r\n") c.extend_from_slice.new.list.items c.extend_from_slice-2.new.list.items c.push_spaced.new.text.items c.extend_from_slice-3.new.list.items
     c.in_ok-extend_from_slice.ensures.items told c.in_ok-push_spaced.ensures.numbers c.in_ok-extend_from_slice-3.ensures.items
 
 pub returns-clause-kept : goal.returns-clause-kept

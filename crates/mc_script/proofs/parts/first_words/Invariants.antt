@@ -1,5 +1,5 @@
 use Rattle.std.proofs.Common.{◌≡◌, ◌<◌, ◌++◌, length, map, take}
-use Rattle.mc_script.specs.Words.{words_of}
+use Rattle.mc_script.specs.Words.{line_words}
 use Rattle.mc_script.proofs.parts.first_words.Given as goal
 
 -- the words so far, before those that are left, are the line's
@@ -10,5 +10,5 @@ invariant-loop-word l =
       ends : (goal.iterator-loop-word).is_finite l.word-iterator;
       few : l.count < 6;
       long : length l.words ≡ 6;
-      told : map (λ word. word.now) (take l.count l.words) ++ words_of l.word-iterator.line.now ≡ words_of l.line;
+      told : map (λ word. word.now) (take l.count l.words) ++ line_words l.word-iterator.line.now ≡ line_words l.line;
     }

@@ -3,9 +3,9 @@ use Rattle.std.proofs.lemmas.List.{get_or_default}
 use Rattle.mc_words.specs.hand.Arenas.{view}
 use Rattle.mc_words.specs.hand.Views.{chunk_released}
 use Rattle.mc_items.specs.declared.refs.Ref.{Ref}
-use Rattle.mc_items.specs.ItemRefs.{AreKept, item_chunk, item_len, item_words}
+use Rattle.mc_items.specs.ItemRefs.{RefersToEach, item_chunk, item_len, item_words}
 use Rattle.mc_items.specs.Reading.{words_seen}
-use Rattle.mc_workers.specs.Kept.{IsLastAt, IsLastOf, IsToOther, hold_of, holds_of}
+use Rattle.mc_workers.specs.Kept.{IsLastAt, IsLastOf, IsToOther, hold_of, kept_references}
 use Rattle.mc_workers.proofs.LastKept.{last_held, none_held}
 use Rattle.mc_workers.proofs.KeptRefs.{holds_without, kept_without}
 use Rattle.mc_workers.proofs.keeping.drop_last.Goals as goal
@@ -20,7 +20,7 @@ returns-clause-stays c =
     record {
       hand_is = (c.release.ensures.arena, c.release.ensures.ready);
       number = c.release.ensures.number ∙ c.in-Ok.ensures.number;
-      keeps = subst (AreKept (view c.release.new.hand)) (sym c.remove-item.ensures.items)
+      keeps = subst (RefersToEach (view c.release.new.hand)) (sym c.remove-item.ensures.items)
           (kept_without (view c.args.hand.now) (view c.read.new.hand) (view c.release.new.hand) c.args.kept.now.items c.in-Some.place c.remove-item.result there.there c.remove-item.ensures.value
           c.requires.keeping.keeps c.in-Ok.ensures.keeps c.in-Ok.ensures.holdings c.release.ensures.keeps c.release.ensures.holdings);
     }
@@ -32,13 +32,13 @@ returns-clause-answers c =
     let item = c.remove-item.result in
     let there : IsLastAt c.args.key kept c.in-Some.place = subst (λ (l : List Ref). IsLastAt c.args.key l c.in-Some.place) c.deref.ensures.value c.in-Some.ensures.last in
     let index : c.index.result.now ≡ item = c.index.ensures ∙ (get_or_default kept c.in-Some.place c.index.result.now item there.there ∙ sym c.remove-item.ensures.value) in
-    let left = ap (holds_of (view c.release.new.hand)) c.remove-item.ensures.items
+    let left = ap (kept_references (view c.release.new.hand)) c.remove-item.ensures.items
     ∙ holds_without before (view c.read.new.hand) (view c.release.new.hand) kept c.in-Some.place item there.there c.remove-item.ensures.value
     c.requires.keeping.keeps c.in-Ok.ensures.keeps c.in-Ok.ensures.holdings c.release.ensures.keeps c.release.ensures.holdings in
     record {
       last = hold_of before item;
-      is = subst (IsLastOf c.args.key (holds_of before kept) (hold_of before item)) (sym left)
-          (subst (λ (r : Ref). IsLastOf c.args.key (holds_of before kept) (hold_of before r) (holds_of before (take c.in-Some.place kept ++ drop (suc c.in-Some.place) kept))) (sym c.remove-item.ensures.value)
+      is = subst (IsLastOf c.args.key (kept_references before kept) (hold_of before item)) (sym left)
+          (subst (λ (r : Ref). IsLastOf c.args.key (kept_references before kept) (hold_of before r) (kept_references before (take c.in-Some.place kept ++ drop (suc c.in-Some.place) kept))) (sym c.remove-item.ensures.value)
           (last_held c.args.key before kept c.in-Some.place item there));
       are = c.in-Ok.ensures.words ∙ ap (item_words before) index;
       released = c.release.ensures.dropped ∙ (ap (chunk_released (item_chunk item)) c.in-Ok.ensures.view ∙ ap (λ (r : Ref). chunk_released (item_chunk item) (words_seen (item_chunk r) 3 (item_len r) before)) index);

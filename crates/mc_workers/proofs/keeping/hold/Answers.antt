@@ -1,10 +1,10 @@
 use Rattle.std.proofs.Common.{◌≡◌, List, [], ◌∷◌, ◌++◌, Option, IfSome, ap, sym, subst, ◌∙◌}
 use Rattle.mc_words.specs.hand.Arenas.{setup_of, view}
 use Rattle.mc_items.specs.declared.refs.Ref.{Ref}
-use Rattle.mc_items.specs.ItemRefs.{AreKept, IsItemRef, item_key}
+use Rattle.mc_items.specs.ItemRefs.{RefersToEach, IsItemRef, item_key}
 use Rattle.mc_items.specs.Keeping.{HoldsToo}
-use Rattle.mc_workers.specs.Kept.{holds_of}
-use Rattle.mc_workers.specs.Serving.{Finds}
+use Rattle.mc_workers.specs.Kept.{kept_references}
+use Rattle.mc_workers.specs.Serving.{FindsForLine}
 use Rattle.mc_workers.proofs.KeptRefs.{as_often, holds_stay, holds_too, kept_stay, kept_too}
 use Rattle.mc_workers.proofs.keeping.hold.Goals as goal
 
@@ -19,7 +19,7 @@ returns-in-Ok-Some-clause-stays g c =
     record {
       hand_is = (c.get.ensures.arena, c.get.ensures.ready);
       number = c.get.ensures.number;
-      keeps = subst (AreKept now) (sym (c.push_reserved.ensures.items ∙ ap (λ (l : List Ref). l ++ item ∷ []) c.reserve.ensures.items))
+      keeps = subst (RefersToEach now) (sym (c.push_reserved.ensures.items ∙ ap (λ (l : List Ref). l ++ item ∷ []) c.reserve.ensures.items))
           (kept_too before now kept item c.requires.keeping.keeps c.get.ensures.keeps gained (subst (λ (o : Option Ref). IfSome o (λ item. IsItemRef now item × (item_key item ≡ c.args.key))) c.in-Ok-Some.field-0-is c.in-Ok-Some.ensures.item).0);
     }
 
@@ -31,8 +31,8 @@ returns-in-Ok-Some-clause-answers g c =
     let item = c.in-Ok-Some.item in
     record {
       item = item;
-      finds = subst (λ (o : Option Ref). Finds (setup_of c.args.arena.now) c.args.key o c.args.hand.now c.get.new.hand) c.in-Ok-Some.field-0-is (c.in-Ok-Some.ensures.gets, c.in-Ok-Some.ensures.calls);
-      left_is = ap (holds_of now) (c.push_reserved.ensures.items ∙ ap (λ (l : List Ref). l ++ item ∷ []) c.reserve.ensures.items) ∙ holds_too before now kept item c.requires.keeping.keeps c.get.ensures.keeps;
+      finds = subst (λ (o : Option Ref). FindsForLine (setup_of c.args.arena.now) c.args.key o c.args.hand.now c.get.new.hand) c.in-Ok-Some.field-0-is (c.in-Ok-Some.ensures.gets, c.in-Ok-Some.ensures.calls);
+      left_is = ap (kept_references now) (c.push_reserved.ensures.items ∙ ap (λ (l : List Ref). l ++ item ∷ []) c.reserve.ensures.items) ∙ holds_too before now kept item c.requires.keeping.keeps c.get.ensures.keeps;
     }
 
 -- nothing more is kept
@@ -44,15 +44,15 @@ returns-in-Ok-None-clause-stays g c =
     record {
       hand_is = (c.get.ensures.arena, c.get.ensures.ready);
       number = c.get.ensures.number;
-      keeps = subst (AreKept now) (sym c.reserve.ensures.items) (kept_stay before now c.args.kept.now.items c.requires.keeping.keeps c.get.ensures.keeps (as_often before now same));
+      keeps = subst (RefersToEach now) (sym c.reserve.ensures.items) (kept_stay before now c.args.kept.now.items c.requires.keeping.keeps c.get.ensures.keeps (as_often before now same));
     }
 
 pub returns-in-Ok-None-clause-answers : goal.returns-in-Ok-None-clause-answers
 returns-in-Ok-None-clause-answers g c =
     let before = view c.args.hand.now in
     let now = view c.get.new.hand in (
-      subst (λ (o : Option Ref). Finds (setup_of c.args.arena.now) c.args.key o c.args.hand.now c.get.new.hand) c.in-Ok-None.field-0-is (c.in-Ok-None.ensures.gets, c.in-Ok-None.ensures.calls),
-      ap (holds_of now) c.reserve.ensures.items ∙ holds_stay before now c.args.kept.now.items c.get.ensures.keeps c.requires.keeping.keeps.items,
+      subst (λ (o : Option Ref). FindsForLine (setup_of c.args.arena.now) c.args.key o c.args.hand.now c.get.new.hand) c.in-Ok-None.field-0-is (c.in-Ok-None.ensures.gets, c.in-Ok-None.ensures.calls),
+      ap (kept_references now) c.reserve.ensures.items ∙ holds_stay before now c.args.kept.now.items c.get.ensures.keeps c.requires.keeping.keeps.items,
     )
 
 pub returns-in-Err-NoMemory-clause-stays : goal.returns-in-Err-NoMemory-clause-stays
@@ -62,5 +62,5 @@ returns-in-Err-NoMemory-clause-stays g c =
     record {
       hand_is = (c.get.ensures.arena, c.get.ensures.ready);
       number = c.get.ensures.number;
-      keeps = subst (AreKept now) (sym c.reserve.ensures.items) (kept_stay before now c.args.kept.now.items c.requires.keeping.keeps c.get.ensures.keeps (as_often before now c.in-Err-NoMemory.ensures.no_more));
+      keeps = subst (RefersToEach now) (sym c.reserve.ensures.items) (kept_stay before now c.args.kept.now.items c.requires.keeping.keeps c.get.ensures.keeps (as_often before now c.in-Err-NoMemory.ensures.no_more));
     }

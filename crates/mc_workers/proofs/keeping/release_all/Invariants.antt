@@ -1,8 +1,8 @@
 use Rattle.std.proofs.Common.{◌≡◌, vec_len}
 use Rattle.mc_words.specs.hand.Arenas.{IsHandOf, view}
-use Rattle.mc_words.specs.hand.Observers.{number_of}
+use Rattle.mc_words.specs.hand.Observers.{hand_number}
 use Rattle.mc_words.specs.hand.Ready.{IsReady}
-use Rattle.mc_items.specs.ItemRefs.{AreKept}
+use Rattle.mc_items.specs.ItemRefs.{RefersToEach}
 use Rattle.mc_workers.specs.Lines.{all_released}
 use Rattle.mc_workers.proofs.keeping.release_all.Given as goal
 
@@ -11,8 +11,8 @@ abbrev pub invariant-loop-item : goal.invariant-loop-item
 invariant-loop-item l = record {
   arena : IsHandOf l.arena l.hand;
   ready : IsReady (view l.hand);
-  kept : AreKept (view l.hand) l.kept.items;
-  number : number_of l.hand ≡ number_of l.initial.hand;
+  kept : RefersToEach (view l.hand) l.kept.items;
+  number : hand_number l.hand ≡ hand_number l.initial.hand;
   released : all_released l.initial.kept.items (view l.initial.hand) ≡ all_released l.kept.items (view l.hand);
 }
 

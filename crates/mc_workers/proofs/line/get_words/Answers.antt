@@ -3,7 +3,7 @@ use Rattle.mc_words.specs.hand.Arenas.{setup_of, view}
 use Rattle.mc_words.specs.hand.Views.{chunk_released}
 use Rattle.mc_items.specs.declared.refs.Ref.{Ref}
 use Rattle.mc_items.specs.ItemRefs.{item_chunk}
-use Rattle.mc_workers.specs.Serving.{Finds}
+use Rattle.mc_workers.specs.Serving.{FindsForLine}
 use Rattle.mc_workers.proofs.KeptRefs.{as_often_again, gained, kept_again}
 use Rattle.mc_workers.proofs.line.get_words.Goals as goal
 
@@ -12,7 +12,7 @@ pub returns-in-Ok-clause-answers : goal.returns-in-Ok-clause-answers
 returns-in-Ok-clause-answers g c = record {
   item = c.in-Ok-Some.item;
   got = c.get.new.hand;
-  finds = subst (λ (o : Option Ref). Finds (setup_of c.args.arena.now) c.args.key o c.args.hand.now c.get.new.hand) c.in-Ok-Some.field-0-is (c.in-Ok-Some.ensures.gets, c.in-Ok-Some.ensures.calls);
+  finds = subst (λ (o : Option Ref). FindsForLine (setup_of c.args.arena.now) c.args.key o c.args.hand.now c.get.new.hand) c.in-Ok-Some.field-0-is (c.in-Ok-Some.ensures.gets, c.in-Ok-Some.ensures.calls);
   are = c.in-Ok.ensures.words;
   released = c.release.ensures.dropped ∙ ap (chunk_released (item_chunk c.in-Ok-Some.item)) c.in-Ok.ensures.view;
 }

@@ -1,9 +1,9 @@
 use Rattle.std.proofs.Common.{ℕ, List, ◌++◌, ap, sym, subst, ◌∙◌}
 use Rattle.mc_words.specs.hand.Arenas.{setup_of, view}
 use Rattle.mc_items.specs.declared.refs.Ref.{Ref}
-use Rattle.mc_workers.specs.Kept.{Hold, holds_of}
+use Rattle.mc_workers.specs.Kept.{KeptReference, kept_references}
 use Rattle.mc_workers.specs.Asking.{lines_of}
-use Rattle.mc_workers.specs.Lines.{ServesEach, all_released, replies_to}
+use Rattle.mc_workers.specs.Lines.{ServesEach, all_released, reply_texts}
 use Rattle.mc_workers.proofs.KeptRefs.{items_held}
 use Rattle.mc_workers.proofs.lines.serve_lines.Goals as goal
 
@@ -16,9 +16,9 @@ returns-clause-does g c =
     let left = c.serve_each.new.kept.items in
     record {
       replies = did.replies;
-      left = holds_of (view served) left;
+      left = kept_references (view served) left;
       served = served;
-      serves = subst (λ (held : List Hold). ServesEach setup lines did.replies held c.args.hand.now (holds_of (view served) left) served) (ap (holds_of (view c.args.hand.now)) c.new-kept.ensures.items) did.serves;
-      told = did.added ∙ ap (λ (l : List ℕ). l ++ replies_to lines did.replies) c.requires.empty;
+      serves = subst (λ (held : List KeptReference). ServesEach setup lines did.replies held c.args.hand.now (kept_references (view served) left) served) (ap (kept_references (view c.args.hand.now)) c.new-kept.ensures.items) did.serves;
+      told = did.added ∙ ap (λ (l : List ℕ). l ++ reply_texts lines did.replies) c.requires.empty;
       released = c.release_all.ensures.released ∙ ap (λ (l : List Ref). all_released l (view served)) (sym (items_held (view served) left));
     }

@@ -1,7 +1,7 @@
 use Rattle.std.proofs.Common.{◌≡◌, ℕ, ◌+◌, List, arith, length, subst}
 use Rattle.std.proofs.lemmas.Result.{err_from_is_err_and}
 use Rattle.mc_words.specs.declared.hand.Hand.{Hand}
-use Rattle.mc_workers.specs.Ends.{PassesAll, StopsSome}
+use Rattle.mc_workers.specs.Ends.{LetsAllOn, StopsSome}
 use Rattle.mc_workers.specs.Script.{IsOpened}
 use Rattle.mc_workers.proofs.script.serve_script.Goals as goal
 
@@ -22,7 +22,7 @@ returns g c =
         done = c.in_ok-joined.ensures.done;
         tells = c.in_ok-tell_all.ensures.tells;
       };
-      passed = subst (λ (count : ℕ). PassesAll (g.G.Gate.LetsOn c.args.gate.now) c.args.commands.now 1 count) (counted opened.hands.items c.greatest_worker-workers.result _ opened.ensures.opened.count c.greatest_worker-workers.ensures.greatest) c.in_ok-joined.ensures.passed;
+      passed = subst (λ (count : ℕ). LetsAllOn (g.G.Gate.LetsOn c.args.gate.now) c.args.commands.now 1 count) (counted opened.hands.items c.greatest_worker-workers.result _ opened.ensures.opened.count c.greatest_worker-workers.ensures.greatest) c.in_ok-joined.ensures.passed;
       stopped = λ is. absurd (cc);
     }
 

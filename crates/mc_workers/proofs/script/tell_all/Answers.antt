@@ -5,14 +5,14 @@ use Rattle.mc_words.specs.lock.Doing.{HoldsSlabs}
 use Rattle.mc_words.specs.hand.View.{Setup}
 use Rattle.mc_workers.specs.MoverReplies.{statistics_text}
 use Rattle.mc_workers.specs.Script.{SurveysWhole}
-use Rattle.mc_workers.specs.Surveyed.{AreTellable}
+use Rattle.mc_workers.specs.Surveyed.{ArePrintable}
 use Rattle.mc_workers.proofs.Tellable.{survey_told, survey_whole}
 use Rattle.mc_workers.proofs.script.tell_all.Goals as goal
 
 -- what was surveyed can be told
 pub push_statistics-requires : goal.push_statistics-requires
 push_statistics-requires g c = record {
-  tellable = subst (λ (table : Classes). AreTellable table c.in_ok-survey.survey) (sym c.classes.ensures.classes)
+  tellable = subst (λ (table : Classes). ArePrintable table c.in_ok-survey.survey) (sym c.classes.ensures.classes)
       (survey_told c.args.arena.now c.args.joined.hand c.survey.new.hand true c.in_ok-survey.survey c.requires.ready.0 c.in_ok-survey.ensures.surveys);
 }
 

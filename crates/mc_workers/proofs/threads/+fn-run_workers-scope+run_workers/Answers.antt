@@ -2,8 +2,8 @@ use Rattle.std.proofs.Common.{suc, ◌+◌, List, [], ◌∷◌, length, IfOk, O
 use Rattle.std.proofs.lemmas.Result.{IfOk-at_ok, IfOk-weaker, err_from_is_err_and, on_ok_weaker}
 use Rattle.mc_words.specs.declared.hand.Hand.{Hand}
 use Rattle.mc_workers.specs.declared.threads.DoneBy.{DoneBy}
-use Rattle.mc_workers.specs.Ends.{EndsServed, PassesAll, PassesLines, StopsSome}
-use Rattle.mc_workers.specs.Threads.{AreDone, IsMoved, IsServed, JoinsBoth}
+use Rattle.mc_workers.specs.Ends.{EndsServed, LetsAllOn, PassesLines, StopsSome}
+use Rattle.mc_workers.specs.Threads.{AreDone, IsMoved, LinesAreServed, JoinsBoth}
 use Rattle.mc_workers.proofs.DoneThreads.{all_done, moved_alone}
 use Rattle.mc_workers.proofs.EndedThreads.{passes_alone, passes_with, stops_alone, stops_both}
 use Rattle.mc_workers.proofs.threads.+fn-run_workers-scope+run_workers.Goals as goal
@@ -48,13 +48,13 @@ scope-returns-in_ok-own-in-Ok g n c =
     let ended : EndsServed lets_on stops arena worker commands c.captures.hand c.join-own.result =
     subst (λ (h : Hand). EndsServed lets_on stops arena worker commands h c.join-own.result) c.of.ensures
     (subst (λ (p : DoneBy g.row.G.Denot). EndsServed (g.G.Gate.LetsOn p.gate.now) (g.G.Gate.Stops p.gate.now) p.arena.now p.worker p.commands.now p.hand.value c.join-own.result) c.in-Ok.ensures.ok c.join-own.ensures) in
-    let served : IsServed arena worker commands c.captures.hand own = IfOk-at_ok (IsServed arena worker commands c.captures.hand) both.0 ended.served in
+    let served : LinesAreServed arena worker commands c.captures.hand own = IfOk-at_ok (LinesAreServed arena worker commands c.captures.hand) both.0 ended.served in
     let first : PassesLines lets_on commands worker = IfOk-at_ok (λ _. PassesLines lets_on commands worker) both.0 ended.passed in
-    let passed : PassesAll lets_on commands (worker + 1) count = IfOk-at_ok (λ _. PassesAll lets_on commands (worker + 1) count) both.1 c.run_workers-others.ensures.passed in
+    let passed : LetsAllOn lets_on commands (worker + 1) count = IfOk-at_ok (λ _. LetsAllOn lets_on commands (worker + 1) count) both.1 c.run_workers-others.ensures.passed in
     record {
       done = IfOk-weaker c.join_both.result (JoinsBoth arena own others) (AreDone arena worker commands (c.captures.hand ∷ c.captures.hands.items) c.captures.mover)
           (λ joined joins. all_done arena worker commands c.captures.hand c.captures.hands.items c.captures.mover own others joined served done joins) c.join_both.ensures.joins;
-      passed = IfOk-weaker c.join_both.result (JoinsBoth arena own others) (λ _. PassesAll lets_on commands worker (suc count))
+      passed = IfOk-weaker c.join_both.result (JoinsBoth arena own others) (λ _. LetsAllOn lets_on commands worker (suc count))
           (λ joined joins. passes_with lets_on stops commands worker count first passed) c.join_both.ensures.joins;
       stopped = λ is. absurd {A = StopsSome lets_on stops commands worker (suc count)} (c.join_both.ensures.unstopped is);
     }
@@ -70,7 +70,7 @@ returns-in_default g n c =
       done = subst (λ (hands : List Hand). IfOk c.move_alone.result (AreDone c.args.arena.now worker commands hands c.args.mover)) none
           (IfOk-weaker c.move_alone.result (IsMoved c.args.arena.now commands c.args.mover) (AreDone c.args.arena.now worker commands [] c.args.mover)
           (λ joined is. moved_alone c.args.arena.now worker commands c.args.mover joined is) c.move_alone.ensures.moved);
-      passed = subst (λ (hands : List Hand). OnOk c.move_alone.result (PassesAll lets_on commands worker (length hands))) none
+      passed = subst (λ (hands : List Hand). OnOk c.move_alone.result (LetsAllOn lets_on commands worker (length hands))) none
           (on_ok_weaker c.move_alone.result (passes_alone lets_on stops commands worker) c.move_alone.ensures.passed);
       stopped = λ is. subst (λ (hands : List Hand). StopsSome lets_on stops commands worker (length hands)) none (stops_alone lets_on stops commands worker (c.move_alone.ensures.stopped is));
     }
@@ -85,6 +85,6 @@ returns g n c =
     let ended = c.scoped.ensures.1 in
     record {
       done = subst (λ (hands : List Hand). IfOk c.scoped.result (AreDone c.args.arena.now worker commands hands c.args.mover)) all ended.done;
-      passed = subst (λ (hands : List Hand). OnOk c.scoped.result (PassesAll lets_on commands worker (length hands))) all ended.passed;
+      passed = subst (λ (hands : List Hand). OnOk c.scoped.result (LetsAllOn lets_on commands worker (length hands))) all ended.passed;
       stopped = λ is. subst (λ (hands : List Hand). StopsSome lets_on stops commands worker (length hands)) all (ended.stopped is);
     }

@@ -4,7 +4,7 @@ use Rattle.mc_serial_spec.specs.contracts.turn.Ending.{the_type}
 use Rattle.mc_serial_spec.specs.declared.turn.Ending.{Ending}
 use Rattle.mc_serial_spec.specs.declared.turn.Ending.TheVariants.{Idle, Went, Finished}
 use Rattle.mc_workers.specs.declared.mover.Mover.{Mover}
-use Rattle.mc_workers.specs.Moving.{DoesTurns, WentOn}
+use Rattle.mc_workers.specs.Moving.{DoesTurnsInRun, WentOn}
 use Rattle.mc_workers.proofs.TurnCounts.{turn_few}
 use Rattle.mc_workers.proofs.TurnsDone.{gone_all, gone_last, gone_more, gone_out}
 use Rattle.mc_workers.proofs.turns.do_turns.Goals as goal
@@ -29,7 +29,7 @@ returns-then-ne-clause-does g c =
     let turn = c.in-Ok.turn in
     let ended : WentOn turn → ⊥ = λ on. isnt_went c.ending_of-ending.result (sym c.ne.ensures ∙ c.if-ne.true) (c.ending_of-ending.ensures.ending ∙ on) in
     let left : Mover = record c.loop.mover { turns = c.loop.mover.turns + 1 } in
-    subst (λ (e : Ending). DoesTurns c.args.asked e c.add_counts.new.counts c.args.mover.now c.args.hand.now left c.turn.new.hand) (sym c.ending_of-ending.ensures.ending)
+    subst (λ (e : Ending). DoesTurnsInRun c.args.asked e c.add_counts.new.counts c.args.mover.now c.args.hand.now left c.turn.new.hand) (sym c.ending_of-ending.ensures.ending)
     (gone_last c.args.asked c.loop.counter c.loop.counts c.add_counts.new.counts turn c.args.mover.now c.args.hand.now c.loop.mover c.loop.hand left c.turn.new.hand
     c.loop.invariant.gone c.if-mover-ge-MAX_TURNS.false refl (c.in-Ok.ensures.turns, c.in-Ok.ensures.told) c.add_counts.ensures.added c.loop-test.true ended)
 

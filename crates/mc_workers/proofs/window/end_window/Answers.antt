@@ -1,7 +1,7 @@
 use Rattle.std.proofs.Common.{Option, inl, inr, refl, subst}
 use Rattle.std.proofs.lemmas.Result.{err_from_is_err_and}
 use Rattle.mc_watch.specs.declared.decider.Decision.{Decision}
-use Rattle.mc_workers.specs.Moving.{ActsOnDecision}
+use Rattle.mc_workers.specs.Moving.{ActsOnDecisionInRun}
 use Rattle.mc_workers.proofs.window.end_window.Goals as goal
 
 pub returns-clause-ends : goal.returns-clause-ends
@@ -12,7 +12,7 @@ returns-clause-ends g c = record {
     surveyed = c.survey.new.hand;
     surveys = c.in_ok-survey.ensures.surveys;
     feeds = λ k. record { decider = c.in_ok-decided.ensures.fed k; turns = c.in_ok-decided.ensures.turns k };
-    acts = subst (λ (d : Option Decision). ActsOnDecision d c.in_ok-acted.acted c.survey.new.hand c.act_on.new.hand) c.in_ok-decided.ensures.decided c.in_ok-acted.ensures.acts;
+    acts = subst (λ (d : Option Decision). ActsOnDecisionInRun d c.in_ok-acted.acted c.survey.new.hand c.act_on.new.hand) c.in_ok-decided.ensures.decided c.in_ok-acted.ensures.acts;
   };
   trims = c.trim_all-trimmed.ensures.trims;
 }

@@ -1,7 +1,7 @@
 //! A race step by step, on one thread: the mover's hand looks at an item, another hand has it again by a hint, and then the mover
 //! takes it away, or doesn't. In each order one of the two is refused.
 ghost use Rattle.std.specs.Prelude.{◌≡◌, ◌≤◌, ℕ, IfSome, Some, false, length, true};
-ghost use Rattle.mc_stripe.specs.StripeState.{place_of};
+ghost use Rattle.mc_stripe.specs.StripeState.{chunk_and_stamp};
 ghost use Rattle.mc_pages.specs.Pages.{is_on_the_move};
 ghost use Rattle.mc_pages.specs.SlabState.{class_of_page};
 ghost use Rattle.mc_core.specs.Evictions.{has_copy};
@@ -12,7 +12,7 @@ ghost use Rattle.mc_words.specs.hand.Idle.{has_no_stripes};
 ghost use Rattle.mc_words.specs.hand.Observers.{HasSlabs, fresh_chunk, fresh_room, slabs_lent, stripe_lent};
 ghost use Rattle.mc_words.specs.item.Fresh.{IsFreshOf};
 ghost use Rattle.mc_mover.specs.Acting.{HasBlankCopy, KnowsReason};
-ghost use Rattle.test_arena.specs.Locked.{LeadsTo, MayTakeAway};
+ghost use Rattle.test_arena.specs.Locked.{KeyLeadsTo, MayTakeAway};
 
 use mc_classes::ClassId;
 use mc_pages::ChunkId;
@@ -39,7 +39,7 @@ pub struct Locked {
 
 /// Whether the key leads to the chunk.
 fn leads_to(held: &StripeHeld, key: Key, chunk: ChunkId) -> bool
-    ensures leads { result ≡ true → (stamp : ℕ) × (place_of (stripe_lent held.now).state key ≡ Some (chunk, stamp)) }
+    ensures leads { result ≡ true → (stamp : ℕ) × (chunk_and_stamp (stripe_lent held.now).state key ≡ Some (chunk, stamp)) }
 {
     match held.stripe().find(key) {
         Some((found, _)) => found == chunk,
@@ -81,7 +81,7 @@ pub fn look_and_lock(
     requires one { has_no_stripes (view hand.old) ≡ true }
     ensures arena { IsHandOf arena.now hand.new }
     ensures held { IfSome result (λ item. HasSlabs hand.new held.now) }
-    ensures leads { IfSome result (λ item. LeadsTo arena.now hand.new item.stripe item.chunk) }
+    ensures leads { IfSome result (λ item. KeyLeadsTo arena.now hand.new item.stripe item.chunk) }
     ensures holdings { (view hand.new).row.holdings ≡ (view hand.old).row.holdings }
 {
     let head = arena.head(hand, chunk);
@@ -167,7 +167,7 @@ pub fn take_away<R: Abort>(
 ) -> Option<Fate>
     requires arena { IsHandOf arena.now hand.old }
     requires slabs { HasSlabs hand.old slabs.old }
-    requires leads { LeadsTo arena.now hand.old item.stripe item.chunk }
+    requires leads { KeyLeadsTo arena.now hand.old item.stripe item.chunk }
     requires fresh { has_fresh (view hand.old).row.holdings ≡ false }
     requires few { length (view hand.old).row.holdings ≤ 255 }
     ensures arena { IsHandOf arena.now hand.new }

@@ -1,10 +1,10 @@
 //! `Slabs` as the tests drive it: each call is tested here for what it requires, so that tests may try any.
 ghost use Rattle.std.specs.Prelude.{◌≡◌, ◌≤◌, true, false, IsTrue, ◌↔◌, IfSome, Some, None};
 ghost use Rattle.mc_pages.specs.declared.ids.Moving.{Moving};
-ghost use Rattle.mc_pages.specs.SlabState.{IsClass, class_at};
+ghost use Rattle.mc_pages.specs.SlabState.{HasClass, class_at};
 ghost use Rattle.mc_pages.specs.Accounted.{places_in};
 ghost use Rattle.mc_pages.specs.Moves.{CanPass, CanWrap, CanFinish, is_held_up, chunk_at_position};
-ghost use Rattle.test_pages.specs.Sized.{IsSized};
+ghost use Rattle.test_pages.specs.Sized.{HasSizesOf};
 
 use mc_classes::{ClassId, ClassTable, Config, PageId};
 use mc_pages::{
@@ -40,7 +40,7 @@ impl ChunkList {
 pub(super) struct Driven {
     slabs: Slabs,
     table: ClassTable,
-    ghost sized: { IsSized slabs.state table },
+    ghost sized: { HasSizesOf slabs.state table },
 }
 
 impl Driven {
@@ -55,14 +55,14 @@ impl Driven {
     }
 
     fn is_class(&self, class: ClassId) -> bool
-        ensures { IsTrue result ↔ IsClass self.now.slabs.state class }
+        ensures { IsTrue result ↔ HasClass self.now.slabs.state class }
     {
         class >= 1 && class <= self.table.count()
     }
 
     /// The class, where there is such a one.
     fn find_class(&self, class: ClassId) -> Option<ClassId>
-        ensures { IfSome result (λ found. IsClass self.now.slabs.state found) }
+        ensures { IfSome result (λ found. HasClass self.now.slabs.state found) }
     {
         if self.is_class(class) {
             Some(class)
@@ -185,7 +185,7 @@ impl Driven {
 
     /// Whether the chunk is in a list of the class. None where the lists are longer than the walk.
     fn is_listed(&self, class: ClassId, chunk: ChunkId) -> Option<bool>
-        requires { IsClass self.now.slabs.state class }
+        requires { HasClass self.now.slabs.state class }
         ensures listed { result ≡ Some true → 1 ≤ places_in self.now.slabs.state class chunk }
         ensures unlisted { result ≡ Some false → places_in self.now.slabs.state class chunk ≡ 0 }
     {

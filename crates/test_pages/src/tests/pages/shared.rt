@@ -1,9 +1,9 @@
 //! Slabs in their box: what is changed there is what the same calls make of slabs without one.
 ghost use Rattle.std.specs.Prelude.{◌≡◌, ◌≤◌, IsTrue, ◌↔◌};
 ghost use Rattle.mc_pages.specs.ClassState.{first_free};
-ghost use Rattle.mc_pages.specs.SlabState.{IsClass, class_at};
+ghost use Rattle.mc_pages.specs.SlabState.{HasClass, class_at};
 ghost use Rattle.mc_pages.specs.Changes.{after_pop};
-ghost use Rattle.test_pages.specs.Sized.{IsSized};
+ghost use Rattle.test_pages.specs.Sized.{HasSizesOf};
 
 use super::super::assert_equal;
 use super::driven::Driven;
@@ -19,7 +19,7 @@ use testlib_values::FOUR_CLASSES;
 struct Boxed<'a> {
     shared: SharedSlabs,
     table: &'a ClassTable,
-    ghost sized: { IsSized shared table.now },
+    ghost sized: { HasSizesOf shared table.now },
 }
 
 impl Boxed<'_> {
@@ -30,7 +30,7 @@ impl Boxed<'_> {
     }
 
     fn is_class(&self, class: ClassId) -> bool
-        ensures { IsTrue result ↔ IsClass self.now.shared class }
+        ensures { IsTrue result ↔ HasClass self.now.shared class }
     {
         class >= 1 && class <= self.table.count()
     }
@@ -64,7 +64,7 @@ impl Boxed<'_> {
 
 /// The state is exactly what the definition makes of the state before.
 fn hand_out(shared: &mut SharedSlabs, class: ClassId) -> Option<ChunkId>
-    requires { IsClass shared.old class }
+    requires { HasClass shared.old class }
     ensures chunk { result ≡ first_free (class_at shared.old class) }
     ensures popped { shared.new ≡ after_pop shared.old class }
 {

@@ -1,5 +1,5 @@
 use Rattle.std.proofs.Common.{false, refl, true, ℕ}
-use Rattle.mc_cache.specs.Shards.{ReadsOther, ReadsValue, SaysNoMore, TouchesNothing}
+use Rattle.mc_cache.specs.Shards.{ReadsOther, ReadsValue, StoresNoMore, TouchesNothing}
 use Rattle.mc_cache.proofs.Acts.{acted, answer_stays, idle_after, on_refusal, same_answer}
 use Rattle.mc_cache.proofs.cache.Worker.get.Goals as goal
 
@@ -13,7 +13,7 @@ pub returns-clause-none : goal.returns-clause-none
 returns-clause-none g c = λ is. acted c.args.cache.now c.args.key.now c.args.self.now.hands.items c.in-Some.at c.index-arena.result.now c.index_mut-hand.result.now c.get.new.hand (λ (hash : ℕ). ReadsOther hash c.args.key.now) c.requires c.in-Some.ensures.hash c.in-Some.ensures.shard c.in-Some.ensures.near c.index-arena.ensures c.index_mut-hand.ensures.value (c.get.ensures.other (same_answer _ c.get.result c.map_err.result false c.map_err.ensures.cases c.map_err.ensures.variant is), c.get.ensures.unsaid)
 
 pub returns-clause-refused : goal.returns-clause-refused
-returns-clause-refused g c = on_refusal c.map_err.result (λ is_key. acted c.args.cache.now c.args.key.now c.args.self.now.hands.items c.in-Some.at c.index-arena.result.now c.index_mut-hand.result.now c.get.new.hand (λ (hash : ℕ). SaysNoMore) c.requires c.in-Some.ensures.hash c.in-Some.ensures.shard c.in-Some.ensures.near c.index-arena.ensures c.index_mut-hand.ensures.value c.get.ensures.unsaid)
+returns-clause-refused g c = on_refusal c.map_err.result (λ is_key. acted c.args.cache.now c.args.key.now c.args.self.now.hands.items c.in-Some.at c.index-arena.result.now c.index_mut-hand.result.now c.get.new.hand (λ (hash : ℕ). StoresNoMore) c.requires c.in-Some.ensures.hash c.in-Some.ensures.shard c.in-Some.ensures.near c.index-arena.ensures c.index_mut-hand.ensures.value c.get.ensures.unsaid)
 
 pub returns-clause-kept : goal.returns-clause-kept
 returns-clause-kept g c = λ isnt. c.get.ensures.kept (λ is. isnt (answer_stays _ c.get.result c.map_err.result true c.map_err.ensures.cases is))

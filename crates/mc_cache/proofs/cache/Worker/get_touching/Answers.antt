@@ -1,6 +1,6 @@
 use Rattle.std.proofs.Common.{ℕ, Bool, Ok, ap, subst}
 use Rattle.mc_cache.specs.Recent.{is_due}
-use Rattle.mc_cache.specs.Shards.{ReadsOther, ReadsTouchingIf, SaysNoMore}
+use Rattle.mc_cache.specs.Shards.{ReadsOther, ReadsTouchingIf, StoresNoMore}
 use Rattle.mc_cache.proofs.Acts.{acted, idle_after, reads_touching_if}
 use Rattle.mc_cache.proofs.cache.Worker.get_touching.Goals as goal
 
@@ -25,4 +25,4 @@ pub returns-in-Ok-false-clause-none : goal.returns-in-Ok-false-clause-none
 returns-in-Ok-false-clause-none g c = λ is. acted c.args.cache.now c.args.key.now c.args.self.now.hands.items c.in-Some.at c.index-arena.result.now c.index_mut-hand.result.now c.get.new.hand (λ (hash : ℕ). ReadsOther hash c.args.key.now) c.requires c.in-Some.ensures.hash c.in-Some.ensures.shard c.in-Some.ensures.near c.index-arena.ensures c.index_mut-hand.ensures.value (c.in-Ok-false.ensures.other (ap Ok c.in-Ok-false.field-0-test), c.get.ensures.unsaid)
 
 pub returns-in-Err-clause-refused : goal.returns-in-Err-clause-refused
-returns-in-Err-clause-refused g c = λ is_key. acted c.args.cache.now c.args.key.now c.args.self.now.hands.items c.in-Some.at c.index-arena.result.now c.index_mut-hand.result.now c.get.new.hand (λ (hash : ℕ). SaysNoMore) c.requires c.in-Some.ensures.hash c.in-Some.ensures.shard c.in-Some.ensures.near c.index-arena.ensures c.index_mut-hand.ensures.value c.get.ensures.unsaid
+returns-in-Err-clause-refused g c = λ is_key. acted c.args.cache.now c.args.key.now c.args.self.now.hands.items c.in-Some.at c.index-arena.result.now c.index_mut-hand.result.now c.get.new.hand (λ (hash : ℕ). StoresNoMore) c.requires c.in-Some.ensures.hash c.in-Some.ensures.shard c.in-Some.ensures.near c.index-arena.ensures c.index_mut-hand.ensures.value c.get.ensures.unsaid

@@ -1,5 +1,5 @@
 use Rattle.std.proofs.Common.{ℕ, Err, Ok, ap, false, true}
-use Rattle.mc_cache.specs.Shards.{FindsHeld, ReadsOther, ReadsValue, SaysNoMore, TouchesNothing}
+use Rattle.mc_cache.specs.Shards.{FindsStripeLocked, ReadsOther, ReadsValue, StoresNoMore, TouchesNothing}
 use Rattle.mc_cache.proofs.Acts.{acted, idle_after, same_ok}
 use Rattle.mc_cache.proofs.cache.Worker.try_get.Goals as goal
 
@@ -19,13 +19,13 @@ pub returns-in-Ok-clause-none : goal.returns-in-Ok-clause-none
 returns-in-Ok-clause-none c = λ is. acted c.args.cache.now c.args.key.now c.args.self.now.hands.items c.in-Some.at c.index-arena.result.now c.index_mut-hand.result.now c.try_get.new.hand (λ (hash : ℕ). ReadsOther hash c.args.key.now) c.requires c.in-Some.ensures.hash c.in-Some.ensures.shard c.in-Some.ensures.near c.index-arena.ensures c.index_mut-hand.ensures.value (c.in-Ok.ensures.other (ap Ok (same_ok c.in-Ok.found false is)), c.try_get.ensures.unsaid)
 
 pub returns-in-Err-NoMemory-clause-refused : goal.returns-in-Err-NoMemory-clause-refused
-returns-in-Err-NoMemory-clause-refused c = λ is_key. acted c.args.cache.now c.args.key.now c.args.self.now.hands.items c.in-Some.at c.index-arena.result.now c.index_mut-hand.result.now c.try_get.new.hand (λ (hash : ℕ). SaysNoMore) c.requires c.in-Some.ensures.hash c.in-Some.ensures.shard c.in-Some.ensures.near c.index-arena.ensures c.index_mut-hand.ensures.value c.try_get.ensures.unsaid
+returns-in-Err-NoMemory-clause-refused c = λ is_key. acted c.args.cache.now c.args.key.now c.args.self.now.hands.items c.in-Some.at c.index-arena.result.now c.index_mut-hand.result.now c.try_get.new.hand (λ (hash : ℕ). StoresNoMore) c.requires c.in-Some.ensures.hash c.in-Some.ensures.shard c.in-Some.ensures.near c.index-arena.ensures c.index_mut-hand.ensures.value c.try_get.ensures.unsaid
 
 pub returns-in-Err-Held-clause-refused : goal.returns-in-Err-Held-clause-refused
-returns-in-Err-Held-clause-refused c = λ is_key. acted c.args.cache.now c.args.key.now c.args.self.now.hands.items c.in-Some.at c.index-arena.result.now c.index_mut-hand.result.now c.try_get.new.hand (λ (hash : ℕ). SaysNoMore) c.requires c.in-Some.ensures.hash c.in-Some.ensures.shard c.in-Some.ensures.near c.index-arena.ensures c.index_mut-hand.ensures.value c.try_get.ensures.unsaid
+returns-in-Err-Held-clause-refused c = λ is_key. acted c.args.cache.now c.args.key.now c.args.self.now.hands.items c.in-Some.at c.index-arena.result.now c.index_mut-hand.result.now c.try_get.new.hand (λ (hash : ℕ). StoresNoMore) c.requires c.in-Some.ensures.hash c.in-Some.ensures.shard c.in-Some.ensures.near c.index-arena.ensures c.index_mut-hand.ensures.value c.try_get.ensures.unsaid
 
 pub returns-in-Err-Held-clause-held : goal.returns-in-Err-Held-clause-held
-returns-in-Err-Held-clause-held c = λ is. acted c.args.cache.now c.args.key.now c.args.self.now.hands.items c.in-Some.at c.index-arena.result.now c.index_mut-hand.result.now c.try_get.new.hand (λ (hash : ℕ). FindsHeld hash) c.requires c.in-Some.ensures.hash c.in-Some.ensures.shard c.in-Some.ensures.near c.index-arena.ensures c.index_mut-hand.ensures.value (c.in-Err-Held.ensures.held (ap Err c.in-Err-Held.field-0-is))
+returns-in-Err-Held-clause-held c = λ is. acted c.args.cache.now c.args.key.now c.args.self.now.hands.items c.in-Some.at c.index-arena.result.now c.index_mut-hand.result.now c.try_get.new.hand (λ (hash : ℕ). FindsStripeLocked hash) c.requires c.in-Some.ensures.hash c.in-Some.ensures.shard c.in-Some.ensures.near c.index-arena.ensures c.index_mut-hand.ensures.value (c.in-Err-Held.ensures.held (ap Err c.in-Err-Held.field-0-is))
 
 pub returns-in-Ok-clause-kept : goal.returns-in-Ok-clause-kept
 returns-in-Ok-clause-kept c = λ isnt. c.in-Ok.ensures.kept (λ is. isnt (ap Ok (same_ok c.in-Ok.found true is)))

@@ -1,6 +1,6 @@
 use Rattle.std.proofs.Common.{◌≡◌, ◌+◌, ◌-◌, List, ◌++◌, ap, arith, drop, length, length-drop, replicate, subst, take, ◌∙◌, ℕ, IsOk}
 use Rattle.std.proofs.lemmas.List.{length-take}
-use Rattle.mc_packing.specs.Packing.{AreWords, bytes_of}
+use Rattle.mc_packing.specs.Packing.{AreWords, bytes_of_words}
 use Rattle.mc_words.specs.hand.Arenas.{view}
 use Rattle.mc_items.specs.ItemRefs.{item_words}
 use Rattle.mc_cache.proofs.Shards.Appended.{appended, front_kept, is_first}
@@ -25,7 +25,7 @@ returns-in-Ok-clause-value c = λ is.
     ap (λ (l : List ℕ). take begin l) (c.as_mut_slice.ensures.value ∙ filled)
     ∙ front_kept items (replicate (begin + count - c.reserve.new.list.len) 0) begin (begin + count) here (omega arith) in
     let room : length (take (length s - begin) (drop begin s)) ≡ count = omega (arith, length-take (length s - begin) (drop begin s), length-drop begin s) in
-    let bytes : c.write_value.new.room ≡ bytes_of count (drop place ws) = c.write_value.ensures.bytes ∙ (λ i. bytes_of (room i) (drop place (same i))) in
+    let bytes : c.write_value.new.room ≡ bytes_of_words count (drop place ws) = c.write_value.ensures.bytes ∙ (λ i. bytes_of_words (room i) (drop place (same i))) in
     let written : length c.write_value.new.room ≡ count = c.write_value.auto.room ∙ room in
     let fits : AreWords (drop place ws) = subst (λ (l : List ℕ). AreWords (drop place l)) same c.write_value.ensures.words in
     puts_value c.args.key.now ws count place c.value_place.ensures.place c.in-Some.ensures.looks fits c.args.into.now.items _

@@ -1,5 +1,5 @@
 use Rattle.std.proofs.Common.{◌≡◌, ◌+◌, ◌-◌, ◌*◌, ◌/◌, ◌^◌, ◌<◌, ◌≤◌, List, [], arith, drop, get_or, length, refl, subst, take, ◌∙◌, ℕ}
-use Rattle.mc_packing.specs.Packing.{words_for}
+use Rattle.mc_packing.specs.Packing.{word_count_for}
 use Rattle.mc_packing.proofs.Loops.{ArePut}
 use Rattle.mc_words.specs.hand.Arenas.{view}
 use Rattle.mc_items.specs.ItemRefs.{item_words}
@@ -26,7 +26,7 @@ loop-place-preserved c =
     let ws : List ℕ = item_words (view c.args.hand.now) c.args.item.now in
     let at : ℕ = c.args.begin + c.loop-place.place in
     let count : ℕ = length c.args.room.now in
-    let len : length ws ≡ c.args.begin + words_for count = words_len (view c.args.hand.now) c.args.item.now c.requires.item.refers ∙ c.requires.len in
+    let len : length ws ≡ c.args.begin + word_count_for count = words_len (view c.args.hand.now) c.args.item.now c.requires.item.refers ∙ c.requires.len in
     let word = word_still c.args.arena.now c.args.item.now c.args.hand.now c.loop-place.hand at c.read_word-word.result c.loop-place.invariant.reads c.read_word-word.ensures.word in
     record {
       reads = reads_on c.args.arena.now c.args.item.now c.args.hand.now c.loop-place.hand c.read_word-word.new.hand c.loop-place.invariant.reads c.read_word-word.ensures.reads;
@@ -39,7 +39,7 @@ returns-then-full-room-clause-bytes c =
     let ws : List ℕ = item_words (view c.args.hand.now) c.args.item.now in
     let count : ℕ = length c.args.room.now in
     let full : ℕ = count / 8 in
-    let len : length ws ≡ c.args.begin + words_for count = words_len (view c.args.hand.now) c.args.item.now c.requires.item.refers ∙ c.requires.len in
+    let len : length ws ≡ c.args.begin + word_count_for count = words_len (view c.args.hand.now) c.args.item.now c.requires.item.refers ∙ c.requires.len in
     let same : c.loop-place.place ≡ full = omega (arith, c.loop-place-test.false, c.loop-place.auto.place-end) in
     let put = subst (λ (p : ℕ). ArePut [] count (drop c.args.begin ws) (take (8 * p) c.loop-place.room) (count - 8 * p) p) same c.loop-place.invariant.put in
     let word = word_still c.args.arena.now c.args.item.now c.args.hand.now c.loop-place.hand (c.args.begin + full) c.read_word-last.result c.loop-place.invariant.reads c.read_word-last.ensures.word in
@@ -50,7 +50,7 @@ returns-then-full-room-clause-words c =
     let ws : List ℕ = item_words (view c.args.hand.now) c.args.item.now in
     let count : ℕ = length c.args.room.now in
     let full : ℕ = count / 8 in
-    let len : length ws ≡ c.args.begin + words_for count = words_len (view c.args.hand.now) c.args.item.now c.requires.item.refers ∙ c.requires.len in
+    let len : length ws ≡ c.args.begin + word_count_for count = words_len (view c.args.hand.now) c.args.item.now c.requires.item.refers ∙ c.requires.len in
     let same : c.loop-place.place ≡ full = omega (arith, c.loop-place-test.false, c.loop-place.auto.place-end) in
     let fit = subst (λ (p : ℕ). (k : ℕ) → k < p → get_or (drop c.args.begin ws) k 0 < 2 ^ 64) same c.loop-place.invariant.fit in
     let word = word_still c.args.arena.now c.args.item.now c.args.hand.now c.loop-place.hand (c.args.begin + full) c.read_word-last.result c.loop-place.invariant.reads c.read_word-last.ensures.word in
@@ -60,7 +60,7 @@ pub returns-else-full-room-clause-bytes : goal.returns-else-full-room-clause-byt
 returns-else-full-room-clause-bytes c =
     let ws : List ℕ = item_words (view c.args.hand.now) c.args.item.now in
     let count : ℕ = length c.args.room.now in
-    let len : length ws ≡ c.args.begin + words_for count = words_len (view c.args.hand.now) c.args.item.now c.requires.item.refers ∙ c.requires.len in
+    let len : length ws ≡ c.args.begin + word_count_for count = words_len (view c.args.hand.now) c.args.item.now c.requires.item.refers ∙ c.requires.len in
     let same : c.loop-place.place ≡ count / 8 = omega (arith, c.loop-place-test.false, c.loop-place.auto.place-end) in
     write_all c.args.begin ws count c.loop-place.room c.loop-place.place len c.loop-place.auto.room same (omega (arith, c.if-full-room.false, c.loop-place.auto.room)) c.loop-place.invariant.put
 
@@ -68,7 +68,7 @@ pub returns-else-full-room-clause-words : goal.returns-else-full-room-clause-wor
 returns-else-full-room-clause-words c =
     let ws : List ℕ = item_words (view c.args.hand.now) c.args.item.now in
     let count : ℕ = length c.args.room.now in
-    let len : length ws ≡ c.args.begin + words_for count = words_len (view c.args.hand.now) c.args.item.now c.requires.item.refers ∙ c.requires.len in
+    let len : length ws ≡ c.args.begin + word_count_for count = words_len (view c.args.hand.now) c.args.item.now c.requires.item.refers ∙ c.requires.len in
     let same : c.loop-place.place ≡ count / 8 = omega (arith, c.loop-place-test.false, c.loop-place.auto.place-end) in
     let none : count ≤ 8 * c.loop-place.place = omega (arith, c.if-full-room.false, c.loop-place.auto.room) in
     all_fit c.args.begin ws c.loop-place.place (omega arith) c.loop-place.invariant.fit

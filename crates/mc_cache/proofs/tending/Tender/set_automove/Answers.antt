@@ -2,7 +2,7 @@ use Rattle.std.proofs.Common.{◌<◌, arith, length}
 use Rattle.std.proofs.lemmas.List.{length-set}
 use Rattle.mc_cache.specs.shard.Hands.{IsIdleHandOf}
 use Rattle.mc_cache.specs.Stats.{SetsShardsMode}
-use Rattle.mc_cache.specs.Tending.{hands_of}
+use Rattle.mc_cache.specs.Tending.{tender_hands}
 use Rattle.mc_cache.proofs.Acts.{idle_after, idle_at}
 use Rattle.mc_cache.proofs.EachShard.{one_does}
 use Rattle.mc_cache.proofs.Opened.{stays_idle}
@@ -22,8 +22,8 @@ loop-shard-preserved g c =
         hands = idle_after c.args.cache.now.arenas.items c.loop-shard.self.worker.hands.items c.loop-shard.shard c.index-arena.result.now c.set_mode.new.hand near c.index-arena.ensures now inv.tender.hands;
         deciders = inv.tender.deciders;
       };
-      unsaid = still_unsaid (hands_of c.args.self.now) c.loop-shard.self.worker.hands.items c.loop-shard.shard c.index_mut-hand.result.now c.set_mode.new.hand inv.count near_hand c.index_mut-hand.ensures.value c.set_mode.ensures.unsaid inv.unsaid;
+      unsaid = still_unsaid (tender_hands c.args.self.now) c.loop-shard.self.worker.hands.items c.loop-shard.shard c.index_mut-hand.result.now c.set_mode.new.hand inv.count near_hand c.index_mut-hand.ensures.value c.set_mode.ensures.unsaid inv.unsaid;
       count = omega (arith, inv.count, length-set c.loop-shard.self.worker.hands.items c.loop-shard.shard c.set_mode.new.hand);
       deciders = inv.deciders;
-      done = one_does (SetsShardsMode c.args.mode) c.loop-shard.shard (hands_of c.args.self.now) c.loop-shard.self.worker.hands.items c.index_mut-hand.result.now c.set_mode.new.hand near_hand c.index_mut-hand.ensures.value c.set_mode.ensures.sets inv.done;
+      done = one_does (SetsShardsMode c.args.mode) c.loop-shard.shard (tender_hands c.args.self.now) c.loop-shard.self.worker.hands.items c.index_mut-hand.result.now c.set_mode.new.hand near_hand c.index_mut-hand.ensures.value c.set_mode.ensures.sets inv.done;
     }

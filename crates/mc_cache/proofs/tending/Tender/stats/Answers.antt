@@ -1,6 +1,6 @@
 use Rattle.std.proofs.Common.{◌<◌, ◌++◌, ◌∷◌, [], arith, length}
 use Rattle.std.proofs.lemmas.List.{length-set}
-use Rattle.mc_cache.specs.Tending.{hands_of}
+use Rattle.mc_cache.specs.Tending.{tender_hands}
 use Rattle.mc_cache.proofs.Acts.{idle_after}
 use Rattle.mc_cache.proofs.EachShard.{one_surveyed}
 use Rattle.mc_cache.proofs.Tendings.{still_unsaid}
@@ -17,7 +17,7 @@ returns-in_err-count_shard-clause-belongs g c =
 pub returns-in_err-count_shard-clause-unsaid : goal.returns-in_err-count_shard-clause-unsaid
 returns-in_err-count_shard-clause-unsaid g c =
     let near : c.loop-shard.shard < length c.loop-shard.self.worker.hands.items = omega (arith, c.loop-shard-test.true, c.loop-shard.invariant.tender.hands.count) in
-    still_unsaid (hands_of c.args.self.now) c.loop-shard.self.worker.hands.items c.loop-shard.shard c.index_mut-hand.result.now c.count_shard.new.hand c.loop-shard.invariant.count near c.index_mut-hand.ensures.value c.count_shard.ensures.unsaid c.loop-shard.invariant.unsaid
+    still_unsaid (tender_hands c.args.self.now) c.loop-shard.self.worker.hands.items c.loop-shard.shard c.index_mut-hand.result.now c.count_shard.new.hand c.loop-shard.invariant.count near c.index_mut-hand.ensures.value c.count_shard.ensures.unsaid c.loop-shard.invariant.unsaid
 
 pub loop-shard-preserved : goal.loop-shard-preserved
 loop-shard-preserved g c =
@@ -30,12 +30,12 @@ loop-shard-preserved g c =
         hands = idle_after c.args.cache.now.arenas.items c.loop-shard.self.worker.hands.items c.loop-shard.shard c.index-arena.result.now c.count_shard.new.hand near c.index-arena.ensures c.count_shard.ensures.idle inv.tender.hands;
         deciders = inv.tender.deciders;
       };
-      unsaid = still_unsaid (hands_of c.args.self.now) c.loop-shard.self.worker.hands.items c.loop-shard.shard c.index_mut-hand.result.now c.count_shard.new.hand inv.count near_hand c.index_mut-hand.ensures.value c.count_shard.ensures.unsaid inv.unsaid;
+      unsaid = still_unsaid (tender_hands c.args.self.now) c.loop-shard.self.worker.hands.items c.loop-shard.shard c.index_mut-hand.result.now c.count_shard.new.hand inv.count near_hand c.index_mut-hand.ensures.value c.count_shard.ensures.unsaid inv.unsaid;
       count = omega (arith, inv.count, length-set c.loop-shard.self.worker.hands.items c.loop-shard.shard c.count_shard.new.hand);
       deciders = inv.deciders;
       done = (
         inv.done.0 ++ counts.survey ∷ [],
-        one_surveyed c.loop-shard.shard (hands_of c.args.self.now) c.loop-shard.self.worker.hands.items inv.done.0 counts.survey c.index_mut-hand.result.now c.count_shard.new.hand near_hand c.index_mut-hand.ensures.value counts.surveys inv.done.1,
+        one_surveyed c.loop-shard.shard (tender_hands c.args.self.now) c.loop-shard.self.worker.hands.items inv.done.0 counts.survey c.index_mut-hand.result.now c.count_shard.new.hand near_hand c.index_mut-hand.ensures.value counts.surveys inv.done.1,
         counts.adds inv.done.0 inv.done.2,
       );
     }

@@ -1,15 +1,15 @@
 use Rattle.std.proofs.Common.{◌≡◌, List, length}
 use Rattle.mc_mover.specs.declared.numbers.Survey.{Survey}
 use Rattle.mc_cache.specs.Stats.{SumsSurveys}
-use Rattle.mc_cache.specs.Tending.{IsTenderOf, SayNothing, deciders_of, hands_of}
+use Rattle.mc_cache.specs.Tending.{IsTenderOf, SayNothing, deciders_of, tender_hands}
 use Rattle.mc_cache.proofs.EachShard.{AreSurveyed}
 use Rattle.mc_cache.proofs.tending.Tender.stats.Given as goal
 
 abbrev pub invariant-loop-shard : goal.invariant-loop-shard
 invariant-loop-shard g l = record {
   tender : IsTenderOf l.cache l.self;
-  unsaid : SayNothing (hands_of l.fn.self) (hands_of l.self);
-  count : length (hands_of l.fn.self) ≡ length (hands_of l.self);
+  unsaid : SayNothing (tender_hands l.fn.self) (tender_hands l.self);
+  count : length (tender_hands l.fn.self) ≡ length (tender_hands l.self);
   deciders : deciders_of l.self ≡ deciders_of l.fn.self;
-  done : (surveys : List Survey) × AreSurveyed l.shard (hands_of l.fn.self) (hands_of l.self) surveys × SumsSurveys surveys l.stats;
+  done : (surveys : List Survey) × AreSurveyed l.shard (tender_hands l.fn.self) (tender_hands l.self) surveys × SumsSurveys surveys l.stats;
 }

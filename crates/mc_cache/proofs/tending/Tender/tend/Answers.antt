@@ -1,6 +1,6 @@
 use Rattle.std.proofs.Common.{◌<◌, ◌∙◌, arith, length, refl}
 use Rattle.std.proofs.lemmas.List.{length-set}
-use Rattle.mc_cache.specs.Tending.{deciders_of, hands_of}
+use Rattle.mc_cache.specs.Tending.{deciders_of, tender_hands}
 use Rattle.mc_cache.proofs.Acts.{idle_after}
 use Rattle.mc_cache.proofs.Tendings.{none_said, none_tended, one_tended, still_unsaid}
 use Rattle.mc_cache.proofs.tending.Tender.tend.Goals as goal
@@ -8,9 +8,9 @@ use Rattle.mc_cache.proofs.tending.Tender.tend.Goals as goal
 pub loop-shard-init : goal.loop-shard-init
 loop-shard-init g c = record {
   tender = c.requires;
-  unsaid = none_said (hands_of c.args.self.now);
+  unsaid = none_said (tender_hands c.args.self.now);
   count = refl;
-  done = none_tended (hands_of c.args.self.now) (deciders_of c.args.self.now) c.new-done.result c.new-done.ensures.none;
+  done = none_tended (tender_hands c.args.self.now) (deciders_of c.args.self.now) c.new-done.result c.new-done.ensures.none;
 }
 
 pub returns-in_err-share-clause-belongs : goal.returns-in_err-share-clause-belongs
@@ -24,7 +24,7 @@ returns-in_err-share-clause-belongs g c =
 pub returns-in_err-share-clause-unsaid : goal.returns-in_err-share-clause-unsaid
 returns-in_err-share-clause-unsaid g c =
     let near : c.loop-shard.shard < length c.loop-shard.self.worker.hands.items = omega (arith, c.loop-shard-test.true, c.loop-shard.invariant.tender.hands.count) in
-    still_unsaid (hands_of c.args.self.now) c.loop-shard.self.worker.hands.items c.loop-shard.shard c.index_mut-hand.result.now c.tend_shard.new.hand c.loop-shard.invariant.count near c.index_mut-hand.ensures.value c.tend_shard.ensures.unsaid c.loop-shard.invariant.unsaid
+    still_unsaid (tender_hands c.args.self.now) c.loop-shard.self.worker.hands.items c.loop-shard.shard c.index_mut-hand.result.now c.tend_shard.new.hand c.loop-shard.invariant.count near c.index_mut-hand.ensures.value c.tend_shard.ensures.unsaid c.loop-shard.invariant.unsaid
 
 pub loop-shard-preserved : goal.loop-shard-preserved
 loop-shard-preserved g c =
@@ -37,8 +37,8 @@ loop-shard-preserved g c =
         hands = idle_after c.args.cache.now.arenas.items c.loop-shard.self.worker.hands.items c.loop-shard.shard c.index-arena.result.now c.tend_shard.new.hand near c.index-arena.ensures c.tend_shard.ensures.idle inv.tender.hands;
         deciders = length-set c.loop-shard.self.deciders.items c.loop-shard.shard c.tend_shard.new.decider ∙ inv.tender.deciders;
       };
-      unsaid = still_unsaid (hands_of c.args.self.now) c.loop-shard.self.worker.hands.items c.loop-shard.shard c.index_mut-hand.result.now c.tend_shard.new.hand inv.count near_hand c.index_mut-hand.ensures.value c.tend_shard.ensures.unsaid inv.unsaid;
+      unsaid = still_unsaid (tender_hands c.args.self.now) c.loop-shard.self.worker.hands.items c.loop-shard.shard c.index_mut-hand.result.now c.tend_shard.new.hand inv.count near_hand c.index_mut-hand.ensures.value c.tend_shard.ensures.unsaid inv.unsaid;
       count = omega (arith, inv.count, length-set c.loop-shard.self.worker.hands.items c.loop-shard.shard c.tend_shard.new.hand);
-      done = one_tended c.loop-shard.shard (hands_of c.args.self.now) (deciders_of c.args.self.now) c.loop-shard.self.worker.hands.items c.loop-shard.self.deciders.items c.loop-shard.done c.add.new.self c.in_ok-share.share c.index_mut-hand.result.now c.tend_shard.new.hand c.index_mut-decider.result.now c.tend_shard.new.decider
+      done = one_tended c.loop-shard.shard (tender_hands c.args.self.now) (deciders_of c.args.self.now) c.loop-shard.self.worker.hands.items c.loop-shard.self.deciders.items c.loop-shard.done c.add.new.self c.in_ok-share.share c.index_mut-hand.result.now c.tend_shard.new.hand c.index_mut-decider.result.now c.tend_shard.new.decider
           near_hand near_decider c.index_mut-hand.ensures.value c.index_mut-decider.ensures.value c.in_ok-share.ensures.tends c.add.ensures.added inv.done;
     }

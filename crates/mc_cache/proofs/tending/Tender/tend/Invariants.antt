@@ -1,12 +1,12 @@
 use Rattle.std.proofs.Common.{◌≡◌, length}
-use Rattle.mc_cache.specs.Tending.{IsTenderOf, SayNothing, deciders_of, hands_of}
+use Rattle.mc_cache.specs.Tending.{IsTenderOf, SayNothing, deciders_of, tender_hands}
 use Rattle.mc_cache.proofs.Tendings.{AreTended}
 use Rattle.mc_cache.proofs.tending.Tender.tend.Given as goal
 
 abbrev pub invariant-loop-shard : goal.invariant-loop-shard
 invariant-loop-shard g l = record {
   tender : IsTenderOf l.cache l.self;
-  unsaid : SayNothing (hands_of l.fn.self) (hands_of l.self);
-  count : length (hands_of l.fn.self) ≡ length (hands_of l.self);
-  done : AreTended l.shard (hands_of l.fn.self) (deciders_of l.fn.self) (hands_of l.self) (deciders_of l.self) l.done;
+  unsaid : SayNothing (tender_hands l.fn.self) (tender_hands l.self);
+  count : length (tender_hands l.fn.self) ≡ length (tender_hands l.self);
+  done : AreTended l.shard (tender_hands l.fn.self) (deciders_of l.fn.self) (tender_hands l.self) (deciders_of l.self) l.done;
 }

@@ -1,5 +1,5 @@
 use Rattle.std.proofs.Common.{◌≡◌, true, sym, subst}
-use Rattle.mc_core.specs.InOrder.{state_of}
+use Rattle.mc_core.specs.InOrder.{callers_state}
 use Rattle.mc_core.specs.State.{State}
 use Rattle.mc_core.specs.Silent.{is_handed_out}
 use Rattle.mc_core.proofs.OfTable.{back_shape}
@@ -12,4 +12,4 @@ back-requires c =
     Contains_from_among _ c.args.chunk (subst (λ (state : State). is_handed_out state.slabs c.args.chunk ≡ true) (sym c.self.view_is) c.requires)
 
 pub invariant_of-self : goal.invariant_of-self
-invariant_of-self c = changed (state_of c.self.inside) c.back.new.self.state _ c.self.invariant c.back.ensures.back (back_shape c.self.inside.slabs.state c.args.chunk) c.back.ensures.accounted
+invariant_of-self c = changed (callers_state c.self.inside) c.back.new.self.state _ c.self.invariant c.back.ensures.back (back_shape c.self.inside.slabs.state c.args.chunk) c.back.ensures.accounted

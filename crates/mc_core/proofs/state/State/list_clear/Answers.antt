@@ -1,7 +1,7 @@
 use Rattle.std.proofs.Common.{◌≡◌, true, sym, subst}
 use Rattle.mc_pages.specs.Pages.{is_on_the_move}
 use Rattle.mc_pages.specs.SlabState.{class_of_page}
-use Rattle.mc_core.specs.InOrder.{state_of}
+use Rattle.mc_core.specs.InOrder.{callers_state}
 use Rattle.mc_core.specs.State.{State}
 use Rattle.mc_core.specs.Silent.{is_listed}
 use Rattle.mc_core.proofs.OfTable.{clear_shape}
@@ -20,4 +20,4 @@ clear-requires-clause-listed c =
     (subst (λ (state : State). is_listed state.slabs (class_of_page state.slabs c.args.chunk.page) c.args.chunk ≡ true) (sym c.self.view_is) c.requires.listed)
 
 pub invariant_of-self : goal.invariant_of-self
-invariant_of-self c = changed (state_of c.self.inside) c.clear.new.self.state _ c.self.invariant c.clear.ensures.cleared (clear_shape c.self.inside.slabs.state c.args.chunk) c.clear.ensures.accounted
+invariant_of-self c = changed (callers_state c.self.inside) c.clear.new.self.state _ c.self.invariant c.clear.ensures.cleared (clear_shape c.self.inside.slabs.state c.args.chunk) c.clear.ensures.accounted

@@ -1,6 +1,6 @@
 use Rattle.std.proofs.Common.{◌≡◌, true, sym, ap, ◌∙◌, subst}
 use Rattle.mc_pages.specs.Changes.{after_cut}
-use Rattle.mc_core.specs.InOrder.{state_of}
+use Rattle.mc_core.specs.InOrder.{callers_state}
 use Rattle.mc_core.specs.State.{State, with_slabs}
 use Rattle.mc_core.specs.Chunks.{is_next_uncut}
 use Rattle.mc_core.proofs.OfTable.{cut_shape}
@@ -14,8 +14,8 @@ cut-requires c =
     (subst (λ (state : State). is_next_uncut state.slabs c.args.chunk ≡ true) (sym c.self.view_is) c.requires)
 
 pub invariant_of-self : goal.invariant_of-self
-invariant_of-self c = changed (state_of c.self.inside) c.cut.new.self.state _ c.self.invariant c.cut.ensures.cut (cut_shape c.self.inside.slabs.state c.args.chunk) c.cut.ensures.accounted
+invariant_of-self c = changed (callers_state c.self.inside) c.cut.new.self.state _ c.self.invariant c.cut.ensures.cut (cut_shape c.self.inside.slabs.state c.args.chunk) c.cut.ensures.accounted
 
 pub returns : goal.returns
 returns c =
-    ap (with_slabs (state_of c.self.inside)) c.cut.ensures.cut ∙ ap (λ (state : State). with_slabs state (after_cut state.slabs c.args.chunk)) c.self.view_is
+    ap (with_slabs (callers_state c.self.inside)) c.cut.ensures.cut ∙ ap (λ (state : State). with_slabs state (after_cut state.slabs c.args.chunk)) c.self.view_is

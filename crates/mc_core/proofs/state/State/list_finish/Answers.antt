@@ -1,5 +1,5 @@
 use Rattle.std.proofs.Common.{◌≡◌, true, refl, sym, subst}
-use Rattle.mc_core.specs.InOrder.{state_of}
+use Rattle.mc_core.specs.InOrder.{callers_state}
 use Rattle.mc_core.specs.State.{State}
 use Rattle.mc_core.specs.Silent.{can_finish}
 use Rattle.mc_core.proofs.OfTable.{finish_shape}
@@ -14,4 +14,4 @@ pub finish_move-requires-clause-cleared : goal.finish_move-requires-clause-clear
 finish_move-requires-clause-cleared c = (finish_asked c.self.inside.table c.self.inside.slabs.state c.self.inside.slabs.state.moving c.self.invariant.slabs refl (subst (λ (state : State). can_finish state.slabs state.slabs.moving ≡ true) (sym c.self.view_is) c.requires)).1
 
 pub invariant_of-self : goal.invariant_of-self
-invariant_of-self c = changed (state_of c.self.inside) c.finish_move.new.self.state _ c.self.invariant c.finish_move.ensures.finished (finish_shape c.self.inside.slabs.state c.self.inside.slabs.state.moving) c.finish_move.ensures.accounted
+invariant_of-self c = changed (callers_state c.self.inside) c.finish_move.new.self.state _ c.self.invariant c.finish_move.ensures.finished (finish_shape c.self.inside.slabs.state c.self.inside.slabs.state.moving) c.finish_move.ensures.accounted

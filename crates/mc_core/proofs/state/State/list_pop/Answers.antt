@@ -1,5 +1,5 @@
 use Rattle.std.proofs.Common.{◌≡◌, true, sym, subst}
-use Rattle.mc_core.specs.InOrder.{state_of}
+use Rattle.mc_core.specs.InOrder.{callers_state}
 use Rattle.mc_core.specs.State.{State, is_class}
 use Rattle.mc_core.proofs.OfTable.{pop_shape}
 use Rattle.mc_core.proofs.Listed.{IsClass_from}
@@ -12,4 +12,4 @@ pop-requires c =
     (subst (λ (state : State). is_class state.table c.args.class ≡ true) (sym c.self.view_is) c.requires)
 
 pub invariant_of-self : goal.invariant_of-self
-invariant_of-self c = changed (state_of c.self.inside) c.pop.new.self.state _ c.self.invariant c.pop.ensures.popped (pop_shape c.self.inside.slabs.state c.args.class) c.pop.ensures.accounted
+invariant_of-self c = changed (callers_state c.self.inside) c.pop.new.self.state _ c.self.invariant c.pop.ensures.popped (pop_shape c.self.inside.slabs.state c.args.class) c.pop.ensures.accounted

@@ -1,6 +1,6 @@
 use Rattle.std.proofs.Common.{◌≡◌, true, sym, subst}
 use Rattle.mc_pages.specs.SlabState.{class_of_chunk}
-use Rattle.mc_core.specs.InOrder.{state_of}
+use Rattle.mc_core.specs.InOrder.{callers_state}
 use Rattle.mc_core.specs.State.{State}
 use Rattle.mc_core.specs.Silent.{is_among, is_handed_out}
 use Rattle.mc_core.proofs.OfTable.{replace_shape}
@@ -19,5 +19,5 @@ replace-requires-clause-handed_out c =
 
 pub invariant_of-self : goal.invariant_of-self
 invariant_of-self c =
-    changed (state_of c.self.inside) c.replace.new.self.state _ c.self.invariant c.replace.ensures.replaced (replace_shape c.self.inside.slabs.state c.args.chunk c.args.old)
+    changed (callers_state c.self.inside) c.replace.new.self.state _ c.self.invariant c.replace.ensures.replaced (replace_shape c.self.inside.slabs.state c.args.chunk c.args.old)
     c.replace.ensures.accounted

@@ -1,5 +1,5 @@
 use Rattle.std.proofs.Common.{◌≡◌, true, refl, sym, subst}
-use Rattle.mc_core.specs.InOrder.{state_of}
+use Rattle.mc_core.specs.InOrder.{callers_state}
 use Rattle.mc_core.specs.State.{State}
 use Rattle.mc_core.specs.Silent.{can_wrap, run_of}
 use Rattle.mc_core.proofs.OfTable.{wrap_shape}
@@ -11,4 +11,4 @@ pub wrap-requires : goal.wrap-requires
 wrap-requires c = (wrap_asked c.self.inside.table c.self.inside.slabs.state c.self.inside.slabs.state.moving c.self.invariant.slabs refl (subst (λ (state : State). can_wrap (run_of state.table state.slabs.moving) ≡ true) (sym c.self.view_is) c.requires))
 
 pub invariant_of-self : goal.invariant_of-self
-invariant_of-self c = changed (state_of c.self.inside) c.wrap.new.self.state _ c.self.invariant c.wrap.ensures.wrapped (wrap_shape c.self.inside.slabs.state) c.wrap.ensures.accounted
+invariant_of-self c = changed (callers_state c.self.inside) c.wrap.new.self.state _ c.self.invariant c.wrap.ensures.wrapped (wrap_shape c.self.inside.slabs.state) c.wrap.ensures.accounted

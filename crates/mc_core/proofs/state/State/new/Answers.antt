@@ -3,7 +3,7 @@ use Rattle.mc_classes.specs.Classes.{arena_pages_of}
 use Rattle.mc_pages.specs.SlabState.{SlabState}
 use Rattle.mc_pages.specs.Accounted.{IsAccounted}
 use Rattle.mc_core.specs.State.{State, new_state, page_words}
-use Rattle.mc_core.specs.InOrder.{IsInOrder, state_of}
+use Rattle.mc_core.specs.InOrder.{IsStateInOrder, callers_state}
 use Rattle.mc_core.proofs.Made.{new_in_order}
 use Rattle.mc_core.proofs.state.State.new.Goals as goal
 
@@ -17,7 +17,7 @@ invariant_of-result c =
     let words : c.in_ok-heads.words.items ≡ replicate (arena_pages_of c.args.table * page_words c.args.table) 0 =
     chunks.words ∙ ap₂ (λ (n m : ℕ). replicate (n * (m / 8)) 0) pages bytes in
     let all = subst (λ (s : SlabState). IsAccounted s) chunks.slabs.0 chunks.slabs.1 in
-    let whole : state_of (record {
+    let whole : callers_state (record {
       alloc = c.args.alloc;
       table = c.args.table;
       heads = c.in_ok-heads.heads;
@@ -41,4 +41,4 @@ invariant_of-result c =
       holdings = hands.holdings i;
       looks = hands.looks i;
     } in
-    subst (λ (s : State). IsInOrder s) (sym whole) (new_in_order c.args.table c.args.stripes c.args.hands c.args.start c.arena_pages.ensures.sound c.requires.stripes.0 c.requires.start all)
+    subst (λ (s : State). IsStateInOrder s) (sym whole) (new_in_order c.args.table c.args.stripes c.args.hands c.args.start c.arena_pages.ensures.sound c.requires.stripes.0 c.requires.start all)

@@ -1,18 +1,18 @@
 use Rattle.std.proofs.Common.{◌≡◌, Some, refl, codes}
 use Rattle.mc_serial_spec.specs.Texts.{turn_line}
 use Rattle.mc_serial_spec.specs.declared.turn.Ending.TheVariants.{Idle}
-use Rattle.mc_serial_spec.specs.Mover.{Turned, after_turns, no_counts}
+use Rattle.mc_serial_spec.specs.Mover.{TurnsOfMover, after_turns, zero_counts}
 use Rattle.mc_pages.specs.Answer.{answer_of}
 use Rattle.mc_watch.specs.Texts.{line}
 use Rattle.mc_serial_spec.specs.Machine.{all_swept, with_mode}
-use Rattle.mc_serial_spec.specs.Lines.{slabs_text_of, general_text_of, reassigned}
+use Rattle.mc_serial_spec.specs.Lines.{slabs_text_of, general_text_of, reassign_outcome}
 use Rattle.mc_keeper.proofs.StageSteps.{on_err, turns_done}
 use Rattle.mc_keeper.proofs.keeper.Keeper.answer.Goals as goal
 
 pub returns-in_ok-push_turn_line-in-Turn-clause-served :
     goal.returns-in_ok-push_turn_line-in-Turn-clause-served
 returns-in_ok-push_turn_line-in-Turn-clause-served c =
-    let turned : Turned = record { machine = c.turns.new.self; counts = c.in_ok-ending-in-Turn.counts; ending = c.in_ok-ending-in-Turn.ending } in
+    let turned : TurnsOfMover = record { machine = c.turns.new.self; counts = c.in_ok-ending-in-Turn.counts; ending = c.in_ok-ending-in-Turn.ending } in
     let done : after_turns c.args.self.now c.in-Turn.turns ≡ Some turned = c.in_ok-ending-in-Turn.ensures.done in
     record {
       served = record { reply = turn_line c.in_ok-ending-in-Turn.ending c.in_ok-ending-in-Turn.counts; machine = c.turns.new.self };
@@ -42,7 +42,7 @@ returns-in_ok-serve_classes-in-StatsSlabs-clause-served c = record {
 pub returns-in_ok-serve_reassign-in-Reassign-clause-served :
     goal.returns-in_ok-serve_reassign-in-Reassign-clause-served
 returns-in_ok-serve_reassign-in-Reassign-clause-served c = record {
-  served = reassigned c.args.self.now c.in-Reassign.src c.in-Reassign.dst (answer_of c.args.self.now.slabs c.in-Reassign.src c.in-Reassign.dst);
+  served = reassign_outcome c.args.self.now c.in-Reassign.src c.in-Reassign.dst (answer_of c.args.self.now.slabs c.in-Reassign.src c.in-Reassign.dst);
   is = rw c.in-Reassign.is refl;
   reply = c.in_ok-serve_reassign-in-Reassign.ensures.reply;
   after = c.in_ok-serve_reassign-in-Reassign.ensures.after;
@@ -61,7 +61,7 @@ returns-in_ok-serve_automove-in-Automove-clause-served c = record {
 pub returns-in_err-push_turn_line-in-Turn-clause-left :
     goal.returns-in_err-push_turn_line-in-Turn-clause-left
 returns-in_err-push_turn_line-in-Turn-clause-left c =
-    let first : Turned = record { machine = c.args.self.now; counts = no_counts; ending = Idle } in
-    let turned : Turned = record { machine = c.turns.new.self; counts = c.in_ok-ending-in-Turn.counts; ending = c.in_ok-ending-in-Turn.ending } in
+    let first : TurnsOfMover = record { machine = c.args.self.now; counts = zero_counts; ending = Idle } in
+    let turned : TurnsOfMover = record { machine = c.turns.new.self; counts = c.in_ok-ending-in-Turn.counts; ending = c.in_ok-ending-in-Turn.ending } in
     on_err _ c.from_residual-in_err-push_turn_line-in-Turn.result
     (rw c.in-Turn.is (turns_done c.in-Turn.turns first turned c.in_ok-ending-in-Turn.ensures.done))

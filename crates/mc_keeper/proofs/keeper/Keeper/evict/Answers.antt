@@ -4,10 +4,10 @@ use Rattle.std.proofs.lemmas.Option.{same_Some}
 use Rattle.mc_serial_spec.specs.Item.{Item}
 use Rattle.std.proofs.lemmas.Bool.{and_parts}
 use Rattle.std.proofs.lemmas.List.{length-set}
-use Rattle.mc_pages.specs.SlabState.{IsClass, class_at}
+use Rattle.mc_pages.specs.SlabState.{HasClass, class_at}
 use Rattle.mc_pages.specs.Changes.{after_back}
 use Rattle.mc_pages.proofs.HandedOut.{class_of_handed_out}
-use Rattle.mc_serial_spec.specs.Items.{is_linked}
+use Rattle.mc_serial_spec.specs.Items.{has_linked_item}
 use Rattle.mc_serial_spec.specs.Machine.{Machine}
 use Rattle.mc_serial_spec.proofs.KeptEvict.{kept_evict, linked_item}
 use Rattle.mc_keeper.proofs.Watched.{watched-back, watched-evicted}
@@ -17,15 +17,15 @@ use Rattle.mc_keeper.proofs.keeper.Keeper.evict.Goals as goal
 
 pub back-requires : goal.back-requires
 back-requires c =
-    let valid : IsClass c.self.inside.slabs.state c.args.class = rw (ap (λ (m : Machine). m.slabs) c.self.view_is) c.requires.class in
+    let valid : HasClass c.self.inside.slabs.state c.args.class = rw (ap (λ (m : Machine). m.slabs) c.self.view_is) c.requires.class in
     let listed : Contains (class_at c.self.inside.slabs.state c.args.class).order c.args.chunk = rw (ap (λ (m : Machine). m.slabs) c.self.view_is) c.requires.listed in
     subst (λ (n : ℕ). Contains (class_at c.self.inside.slabs.state n).order c.args.chunk)
     (sym (class_of_handed_out c.self.inside.slabs.state c.args.class c.args.chunk c.self.invariant.kept.accounted valid listed)) listed
 
 pub invariant_of-self : goal.invariant_of-self
 invariant_of-self c =
-    let valid : IsClass c.self.inside.slabs.state c.args.class = rw (ap (λ (m : Machine). m.slabs) c.self.view_is) c.requires.class in
-    let idle : is_linked c.self.inside.items c.args.chunk ≡ true = rw (ap (λ (m : Machine). m.items) c.self.view_is) (and_parts _ _ c.requires.unheld).0 in
+    let valid : HasClass c.self.inside.slabs.state c.args.class = rw (ap (λ (m : Machine). m.slabs) c.self.view_is) c.requires.class in
+    let idle : has_linked_item c.self.inside.items c.args.chunk ≡ true = rw (ap (λ (m : Machine). m.items) c.self.view_is) (and_parts _ _ c.requires.unheld).0 in
     let found = linked_item c.self.inside.items c.args.chunk idle in
     let key : c.in-Some.key ≡ found.0.key
     = same_Some c.in-Some.key found.0.key (c.in-Some.ensures.key ∙ ap (λ (o : Option Item). option_map (λ (item : Item). item.key) o) found.1) in
@@ -47,6 +47,6 @@ invariant_of-self c =
 -- the chunk has an item
 pub invariant_of-self-in_default : goal.invariant_of-self-in_default
 invariant_of-self-in_default c =
-    let idle : is_linked c.self.inside.items c.args.chunk ≡ true = rw (ap (λ (m : Machine). m.items) c.self.view_is) (and_parts _ _ c.requires.unheld).0 in
+    let idle : has_linked_item c.self.inside.items c.args.chunk ≡ true = rw (ap (λ (m : Machine). m.items) c.self.view_is) (and_parts _ _ c.requires.unheld).0 in
     let found = linked_item c.self.inside.items c.args.chunk idle in
     absurd (c.in_default.not-Some found.0.key (c.remove.ensures.key ∙ ap (λ (o : Option Item). option_map (λ (item : Item). item.key) o) found.1))

@@ -5,7 +5,7 @@ use Rattle.std.proofs.lemmas.Option.{same_Some}
 use Rattle.mc_pages.specs.declared.ids.ChunkId.{ChunkId}
 use Rattle.mc_pages.specs.ClassState.{is_chunk}
 use Rattle.mc_serial_spec.specs.Item.{Item}
-use Rattle.mc_serial_spec.specs.Items.{item_at}
+use Rattle.mc_serial_spec.specs.Items.{item_in_chunk}
 use Rattle.mc_serial_spec.specs.Holds.{held_by}
 use Rattle.mc_serial_spec.specs.Machine.{Machine}
 use Rattle.mc_serial_spec.proofs.KeptChanges.{place_once}
@@ -27,17 +27,17 @@ found_item None linked is = cc
 
 pub count_unheld-requires-clause-class : goal.count_unheld-requires-clause-class
 count_unheld-requires-clause-class c =
-    let found = found_item (item_at c.self.inside.items c.args.chunk) c.args.is_linked (rw (ap (λ (m : Machine). m.items) c.self.view_is) c.requires.item) in
+    let found = found_item (item_in_chunk c.self.inside.items c.args.chunk) c.args.is_linked (rw (ap (λ (m : Machine). m.items) c.self.view_is) c.requires.item) in
     class_of_item _ _ _ c.args.chunk found.item c.self.invariant.kept found.there
 
 pub note_unheld-requires : goal.note_unheld-requires
 note_unheld-requires c =
-    let found = found_item (item_at c.self.inside.items c.args.chunk) c.args.is_linked (rw (ap (λ (m : Machine). m.items) c.self.view_is) c.requires.item) in
+    let found = found_item (item_in_chunk c.self.inside.items c.args.chunk) c.args.is_linked (rw (ap (λ (m : Machine). m.items) c.self.view_is) c.requires.item) in
     class_of_item _ _ _ c.args.chunk found.item c.self.invariant.kept found.there
 
 pub count_unheld-requires-clause-few : goal.count_unheld-requires-clause-few
 count_unheld-requires-clause-few c =
-    let found = found_item (item_at c.self.inside.items c.args.chunk) c.args.is_linked (rw (ap (λ (m : Machine). m.items) c.self.view_is) c.requires.item) in
+    let found = found_item (item_in_chunk c.self.inside.items c.args.chunk) c.args.is_linked (rw (ap (λ (m : Machine). m.items) c.self.view_is) c.requires.item) in
     few_counted (machine_of c.self.inside) _ _ c.self.invariant.kept
     (class_of_item _ _ _ c.args.chunk found.item c.self.invariant.kept found.there) c.self.invariant.counted
 
@@ -46,7 +46,7 @@ invariant_of-self c =
     let first : position (λ (x : ChunkId). is_chunk x c.args.chunk) (held_by c.self.inside.holds c.args.worker) ≡ Some c.args.place
     = rw (ap (λ (m : Machine). m.holds) c.self.view_is) c.requires.first in
     let held : Contains (held_by c.self.inside.holds c.args.worker) c.args.chunk = found_held c.args.chunk (held_by c.self.inside.holds c.args.worker) c.args.place first in
-    let found = found_item (item_at c.self.inside.items c.args.chunk) c.args.is_linked (rw (ap (λ (m : Machine). m.items) c.self.view_is) c.requires.item) in
+    let found = found_item (item_in_chunk c.self.inside.items c.args.chunk) c.args.is_linked (rw (ap (λ (m : Machine). m.items) c.self.view_is) c.requires.item) in
     let dead : found.item.linked ≡ false = grind (arith, nat_tests, found.tells, c.if-not-is_linked.true) in
     let class = class_of_item _ _ _ c.args.chunk found.item c.self.invariant.kept found.there in
     record {
@@ -64,7 +64,7 @@ invariant_of-self-else-not-is_linked c =
     let first : position (λ (x : ChunkId). is_chunk x c.args.chunk) (held_by c.self.inside.holds c.args.worker) ≡ Some c.args.place
     = rw (ap (λ (m : Machine). m.holds) c.self.view_is) c.requires.first in
     let held : Contains (held_by c.self.inside.holds c.args.worker) c.args.chunk = found_held c.args.chunk (held_by c.self.inside.holds c.args.worker) c.args.place first in
-    let found = found_item (item_at c.self.inside.items c.args.chunk) c.args.is_linked (rw (ap (λ (m : Machine). m.items) c.self.view_is) c.requires.item) in
+    let found = found_item (item_in_chunk c.self.inside.items c.args.chunk) c.args.is_linked (rw (ap (λ (m : Machine). m.items) c.self.view_is) c.requires.item) in
     let linked : found.item.linked ≡ true = grind (arith, nat_tests, found.tells, c.if-not-is_linked.false) in
     record {
       kept = c.self.invariant.kept;

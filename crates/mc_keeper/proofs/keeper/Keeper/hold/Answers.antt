@@ -4,7 +4,7 @@ use Rattle.std.proofs.lemmas.Bool.Decides.{nat_tests}
 use Rattle.mc_serial_spec.proofs.KeptChanges.{place_once}
 use Rattle.mc_serial_spec.specs.Holds.{Holds, with_hold}
 use Rattle.mc_serial_spec.specs.Items.{linked_chunk}
-use Rattle.mc_keeper.specs.Kept.{AreCounted}
+use Rattle.mc_keeper.specs.Kept.{DeadAreCounted}
 use Rattle.mc_keeper.proofs.Counted.{counted_taken, leads_linked}
 use Rattle.mc_keeper.proofs.keeper.Keeper.hold.Goals as goal
 
@@ -22,7 +22,7 @@ invariant_of-self c =
       kept = c.self.invariant.kept;
       watched = c.self.invariant.watched;
       counted = either_holds c.take.result
-          (λ (holds : Holds). AreCounted (length c.self.inside.slabs.state.classes) c.self.inside.slabs.state.owners holds c.self.inside.items c.self.inside.dead)
+          (λ (holds : Holds). DeadAreCounted (length c.self.inside.slabs.state.classes) c.self.inside.slabs.state.owners holds c.self.inside.items c.self.inside.dead)
           c.take.new.self (with_hold c.self.inside.holds c.args.worker c.in-Some.chunk) c.self.inside.holds c.take.ensures.ok c.take.ensures.err
           (counted_taken _ _ _ _ _ c.args.worker c.in-Some.chunk leads.item c.self.invariant.counted leads.there linked
           (place_once _ _ _ c.in-Some.chunk c.self.invariant.kept))

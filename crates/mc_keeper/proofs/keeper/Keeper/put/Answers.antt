@@ -2,13 +2,13 @@ use Rattle.std.proofs.Common.{◌≡◌, ℕ, ◌≤◌, List, length, Some, Non
 use Rattle.std.proofs.lemmas.List.{length-set}
 use Rattle.mc_pages.specs.declared.ids.ChunkId.{ChunkId}
 use Rattle.mc_pages.specs.ClassState.{first_free}
-use Rattle.mc_pages.specs.SlabState.{IsClass, class_at}
+use Rattle.mc_pages.specs.SlabState.{HasClass, class_at}
 use Rattle.mc_serial_spec.specs.Item.{Item, new_item}
-use Rattle.mc_serial_parts.specs.NewWords.{words_in}
+use Rattle.mc_serial_parts.specs.NewWords.{words_of_new}
 use Rattle.mc_pages.specs.Changes.{after_pop}
-use Rattle.mc_serial_spec.specs.Items.{Items, item_at, linked_chunk, unlinked_in, unlinked_items, with_item, without_item}
+use Rattle.mc_serial_spec.specs.Items.{Items, item_in_chunk, linked_chunk, unlinked_in, unlinked_items, with_item, without_item}
 use Rattle.mc_serial_spec.specs.Consistent.{IsConsistent}
-use Rattle.mc_keeper.specs.Kept.{AreCounted, IsWatched}
+use Rattle.mc_keeper.specs.Kept.{DeadAreCounted, IsWatched}
 use Rattle.mc_serial_spec.specs.Machine.{Machine}
 use Rattle.mc_keeper.proofs.Counted.{counted_come, counted_unlinked, few_counted, leads_linked}
 use Rattle.mc_serial_spec.proofs.KeptChanges.{kept_unlink, unlinks_found, unlinks_none}
@@ -28,9 +28,9 @@ record IsReady (old now : Inside) (new_index : List (ℕ × ChunkId)) (class key
   leads : now.index ≡ new_index
   watched : IsWatched now.slabs.state now.decider
   kept : IsConsistent now.table now.slabs.state (unlinked_items old.items key)
-  counted : AreCounted (length now.slabs.state.classes) now.slabs.state.owners now.holds (unlinked_items old.items key) now.dead
+  counted : DeadAreCounted (length now.slabs.state.classes) now.slabs.state.owners now.holds (unlinked_items old.items key) now.dead
   bulk : now.bulk ≤ 256
-  valid : IsClass now.slabs.state class
+  valid : HasClass now.slabs.state class
   head : first_free (class_at now.slabs.state class) ≡ Some chunk
   items : now.items ≡ with_item (unlinked_items old.items key) chunk item
 
@@ -56,10 +56,10 @@ count_unheld-requires-clause-few c =
 -- the chunk is empty again, and the index as before
 pub invariant_of-self-in-Err : goal.invariant_of-self-in-Err
 invariant_of-self-in-Err c =
-    let valid : IsClass c.self.inside.slabs.state c.args.class = rw (ap (λ (m : Machine). m.slabs) c.self.view_is) c.requires.class in
+    let valid : HasClass c.self.inside.slabs.state c.args.class = rw (ap (λ (m : Machine). m.slabs) c.self.view_is) c.requires.class in
     let head : first_free (class_at c.self.inside.slabs.state c.args.class) ≡ Some c.args.chunk = rw (ap (λ (m : Machine). m.slabs) c.self.view_is) c.requires.free in
     let empty = (is_next _ _ _ c.args.class c.args.chunk c.self.invariant.kept valid head).empty in
-    let item : Item = new_item c.args.key (words_in c.args.words) in
+    let item : Item = new_item c.args.key (words_of_new c.args.words) in
     let back : c.remove.new.self ≡ c.self.inside.items
     = c.remove.ensures.entries ∙ ap (λ (items : Items). without_item items c.args.chunk) c.in_ok-store.ensures.entries
     ∙ without_item-with_item c.args.chunk item c.self.inside.items empty in
@@ -73,10 +73,10 @@ invariant_of-self-in-Err c =
 
 pub returns-in-Err-clause-refused : goal.returns-in-Err-clause-refused
 returns-in-Err-clause-refused c =
-    let valid : IsClass c.self.inside.slabs.state c.args.class = rw (ap (λ (m : Machine). m.slabs) c.self.view_is) c.requires.class in
+    let valid : HasClass c.self.inside.slabs.state c.args.class = rw (ap (λ (m : Machine). m.slabs) c.self.view_is) c.requires.class in
     let head : first_free (class_at c.self.inside.slabs.state c.args.class) ≡ Some c.args.chunk = rw (ap (λ (m : Machine). m.slabs) c.self.view_is) c.requires.free in
     let empty = (is_next _ _ _ c.args.class c.args.chunk c.self.invariant.kept valid head).empty in
-    let item : Item = new_item c.args.key (words_in c.args.words) in
+    let item : Item = new_item c.args.key (words_of_new c.args.words) in
     let back : c.remove.new.self ≡ c.self.inside.items
     = c.remove.ensures.entries ∙ ap (λ (items : Items). without_item items c.args.chunk) c.in_ok-store.ensures.entries
     ∙ without_item-with_item c.args.chunk item c.self.inside.items empty in
@@ -84,10 +84,10 @@ returns-in-Err-clause-refused c =
 
 pub invariant_of-self-2 : goal.invariant_of-self-2
 invariant_of-self-2 c =
-    let valid : IsClass c.self.inside.slabs.state c.args.class = rw (ap (λ (m : Machine). m.slabs) c.self.view_is) c.requires.class in
+    let valid : HasClass c.self.inside.slabs.state c.args.class = rw (ap (λ (m : Machine). m.slabs) c.self.view_is) c.requires.class in
     let head : first_free (class_at c.self.inside.slabs.state c.args.class) ≡ Some c.args.chunk = rw (ap (λ (m : Machine). m.slabs) c.self.view_is) c.requires.free in
     let empty = (is_next _ _ _ c.args.class c.args.chunk c.self.invariant.kept valid head).empty in
-    let words = words_in c.args.words in
+    let words = words_of_new c.args.words in
     let item : Item = new_item c.args.key words in
     let ready : IsReady c.self.inside c.match-before.self-inside c.insert.new.self c.args.class c.args.key c.args.chunk item = elim c.match-before.branch [
       | in-Some w ↦
@@ -95,7 +95,7 @@ invariant_of-self-2 c =
           let there = leads_linked _ _ _ c.args.key w.in-Some.old c.self.invariant.kept found in
           let stored : w.unlink.new.self ≡ with_item (unlinked_items c.self.inside.items c.args.key) c.args.chunk item
           = w.unlink.ensures.unlinked
-          ∙ ap (λ (items : Items). unlinked_in items w.in-Some.old (item_at items w.in-Some.old)) c.in_ok-store.ensures.entries
+          ∙ ap (λ (items : Items). unlinked_in items w.in-Some.old (item_in_chunk items w.in-Some.old)) c.in_ok-store.ensures.entries
           ∙ unlinked_in-beside w.in-Some.old c.args.chunk item there.0.item c.self.inside.items there.0.there empty
           ∙ ap (λ (items : Items). with_item items c.args.chunk item) (unlinks_found _ _ _ c.args.key w.in-Some.old c.self.invariant.kept found) in
           rw w.self-inside-is (record {
@@ -139,10 +139,10 @@ invariant_of-self-2 c =
 
 pub returns-clause-put : goal.returns-clause-put
 returns-clause-put c =
-    let valid : IsClass c.self.inside.slabs.state c.args.class = rw (ap (λ (m : Machine). m.slabs) c.self.view_is) c.requires.class in
+    let valid : HasClass c.self.inside.slabs.state c.args.class = rw (ap (λ (m : Machine). m.slabs) c.self.view_is) c.requires.class in
     let head : first_free (class_at c.self.inside.slabs.state c.args.class) ≡ Some c.args.chunk = rw (ap (λ (m : Machine). m.slabs) c.self.view_is) c.requires.free in
     let empty = (is_next _ _ _ c.args.class c.args.chunk c.self.invariant.kept valid head).empty in
-    let item : Item = new_item c.args.key (words_in c.args.words) in
+    let item : Item = new_item c.args.key (words_of_new c.args.words) in
     let with_items : Items → Machine = λ items. record (machine_of c.self.inside) { items = items } in
     let popped : Machine → Machine = λ m. record m { slabs = after_pop m.slabs c.args.class } in
     let stored : Machine → Machine = λ m. record m { items = with_item (unlinked_items m.items c.args.key) c.args.chunk item } in
@@ -151,7 +151,7 @@ returns-clause-put c =
           let found : linked_chunk c.self.inside.items c.args.key ≡ Some w.in-Some.old = sym (c.self.invariant.indexed c.args.key) ∙ sym c.in-Ok.ensures.before ∙ w.in-Some.is in
           let there = leads_linked _ _ _ c.args.key w.in-Some.old c.self.invariant.kept found in
           rw w.self-inside-is (ap with_items (w.unlink.ensures.unlinked
-          ∙ ap (λ (items : Items). unlinked_in items w.in-Some.old (item_at items w.in-Some.old)) c.in_ok-store.ensures.entries
+          ∙ ap (λ (items : Items). unlinked_in items w.in-Some.old (item_in_chunk items w.in-Some.old)) c.in_ok-store.ensures.entries
           ∙ unlinked_in-beside w.in-Some.old c.args.chunk item there.0.item c.self.inside.items there.0.there empty
           ∙ ap (λ (items : Items). with_item items c.args.chunk item) (unlinks_found _ _ _ c.args.key w.in-Some.old c.self.invariant.kept found)))
       | in_default w ↦

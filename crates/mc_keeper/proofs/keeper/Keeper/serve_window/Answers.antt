@@ -3,14 +3,14 @@ use Rattle.std.specs.Prelude.{OnOk}
 use Rattle.mc_watch.specs.declared.decider.Decision.{Decision}
 use Rattle.mc_watch.specs.Texts.{line}
 use Rattle.mc_serial_spec.specs.Automove.{decision, with_window}
-use Rattle.mc_serial_spec.specs.Lines.{acted}
+use Rattle.mc_serial_spec.specs.Lines.{decision_outcome}
 use Rattle.mc_serial_spec.specs.Machine.{Machine, all_swept}
 use Rattle.mc_keeper.specs.Calls.{acted_answer}
 use Rattle.mc_keeper.proofs.StageSteps.{on_err}
 use Rattle.mc_keeper.proofs.keeper.Keeper.serve_window.Goals as goal
 
 -- where nothing became of a decision there was none
-none_acted : (m : Machine) (found : Option Decision) → None ≡ acted_answer m found → line (codes "WINDOW none") ≡ (acted m found).reply
+none_acted : (m : Machine) (found : Option Decision) → None ≡ acted_answer m found → line (codes "WINDOW none") ≡ (decision_outcome m found).reply
 none_acted m None is = refl
 none_acted m (Some d) is = cc
 

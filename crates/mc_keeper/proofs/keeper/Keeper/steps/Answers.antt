@@ -1,7 +1,7 @@
 use Rattle.std.proofs.Common.{◌≡◌, ◌*◌, ◌+◌, ◌-◌, suc, Contains, subst, Ok, arith, sym, ap, ap₂, ◌∙◌}
 use Rattle.mc_serial_spec.specs.declared.turn.Counts.{Counts}
 use Rattle.mc_serial_spec.specs.Machine.{Machine}
-use Rattle.mc_serial_spec.specs.Mover.{Counted}
+use Rattle.mc_serial_spec.specs.Mover.{MoverCount}
 use Rattle.mc_serial_spec.proofs.MoverTurns.{at_most_more, chunks_done, chunks_more, counts_now}
 use Rattle.std.proofs.lemmas.Result.{err_from_is_err_and}
 use Rattle.mc_keeper.specs.Stages.{look_stages}
@@ -18,7 +18,7 @@ loop-preserved c = chunks_more c.loop.counter _ _ _ c.loop.invariant c.in_ok-ste
 -- nothing is left to look at
 pub returns-then-not-branch-clause-done : goal.returns-then-not-branch-clause-done
 returns-then-not-branch-clause-done c =
-    let counted : Machine → Counts → Counted = λ machine counts. record { machine = machine; counts = counts } in
+    let counted : Machine → Counts → MoverCount = λ machine counts. record { machine = machine; counts = counts } in
     let nothing = c.in_ok-step.ensures.nothing (ap Ok c.if-not-branch.true) in
     let same : counted c.step.new.self c.step.new.counts ≡ counted c.loop.self c.loop.counts = ap₂ counted nothing.0 nothing.1 in
     chunks_done c.args.self.now.bulk c.loop.counter _ (counted c.loop.self c.loop.counts) (omega (arith, c.loop-test.true, ap (λ (m : Machine). m.bulk) c.self.view_is)) c.loop.invariant

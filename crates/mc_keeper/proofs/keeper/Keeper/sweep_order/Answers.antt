@@ -3,8 +3,8 @@ use Rattle.std.specs.Prelude.{slice_get}
 use Rattle.std.proofs.lemmas.List.{length-set}
 use Rattle.std.proofs.lemmas.Option.{slice_get_within, get_or_from_slice_get}
 use Rattle.mc_pages.specs.declared.ids.ChunkId.{ChunkId}
-use Rattle.mc_pages.specs.ClassState.{times, behind}
-use Rattle.mc_pages.specs.SlabState.{IsClass, class_at, class_of_chunk, class_of_page}
+use Rattle.mc_pages.specs.ClassState.{times_in, behind}
+use Rattle.mc_pages.specs.SlabState.{HasClass, class_at, class_of_chunk, class_of_page}
 use Rattle.mc_serial_spec.specs.Consistent.{IsConsistent}
 use Rattle.mc_serial_spec.specs.Machine.{Machine, after_reclaim}
 use Rattle.mc_serial_spec.proofs.Bounds.{listed_own, listed_once}
@@ -18,12 +18,12 @@ record AtPlace (m : Machine) (class place : ℕ) (x : ChunkId) : Type 0 where
   pub inside : place < length (class_at m.slabs class).order
   pub own : class_of_page m.slabs x.page ≡ class
   pub listed : Contains (class_of_chunk m.slabs x).order x
-  pub once : (y : ChunkId) → times y (class_at m.slabs class).order ≤ 1
+  pub once : (y : ChunkId) → times_in y (class_at m.slabs class).order ≤ 1
   -- and the chunk behind it is at the next
   pub next : behind x (class_of_chunk m.slabs x).order ≡ slice_get (class_at m.slabs class).order (place + 1)
 
 at_place : (m now : Machine) (class place : ℕ) (x : ChunkId) → IsConsistent m.table m.slabs m.items → m ≡ now
-    → IsClass now.slabs class → slice_get (class_at now.slabs class).order place ≡ Some x → AtPlace now class place x
+    → HasClass now.slabs class → slice_get (class_at now.slabs class).order place ≡ Some x → AtPlace now class place x
 at_place m now class place x kept same valid at =
     let kept_now : IsConsistent now.table now.slabs now.items = rw same at kept in
     let own : class_of_page now.slabs x.page ≡ class = listed_own now.table now.slabs now.items class kept_now valid place x at in

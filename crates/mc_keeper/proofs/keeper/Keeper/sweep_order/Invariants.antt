@@ -1,7 +1,7 @@
 use Rattle.std.proofs.Common.{◌≡◌, ℕ, ◌≤◌, [], length, take}
 use Rattle.std.specs.Prelude.{filter, slice_get}
-use Rattle.mc_pages.specs.SlabState.{IsClass, class_at}
-use Rattle.mc_serial_spec.specs.Machine.{is_dead, swept}
+use Rattle.mc_pages.specs.SlabState.{HasClass, class_at}
+use Rattle.mc_serial_spec.specs.Machine.{is_dead_in, machine_after_sweep}
 use Rattle.mc_pages.proofs.RestOfList.{rest_from}
 use Rattle.mc_keeper.proofs.keeper.Keeper.sweep_order.Given as goal
 
@@ -10,10 +10,10 @@ abbrev pub invariant-loop-next : goal.invariant-loop-next
 invariant-loop-next l = record {
   place : ℕ;
   at : l.next ≡ slice_get (class_at l.self.slabs l.class).order place;
-  class : IsClass l.self.slabs l.class;
+  class : HasClass l.self.slabs l.class;
   within : place ≤ length (class_at l.self.slabs l.class).order;
-  none : filter (is_dead l.self) (take place (class_at l.self.slabs l.class).order) ≡ [];
-  rest : swept l.self l.class ≡ swept l.initial.self l.class;
+  none : filter (is_dead_in l.self) (take place (class_at l.self.slabs l.class).order) ≡ [];
+  rest : machine_after_sweep l.self l.class ≡ machine_after_sweep l.initial.self l.class;
 }
 
 abbrev pub decreases-loop-next : goal.decreases-loop-next

@@ -5,7 +5,7 @@ use Rattle.mc_serial_spec.specs.contracts.turn.Ending.{the_type}
 use Rattle.mc_serial_spec.specs.declared.turn.Ending.{Ending}
 use Rattle.mc_serial_spec.specs.declared.turn.Ending.TheVariants.{Idle, Went, Finished}
 use Rattle.mc_serial_spec.specs.Machine.{Machine}
-use Rattle.mc_serial_spec.specs.Mover.{Turned, is_went}
+use Rattle.mc_serial_spec.specs.Mover.{TurnsOfMover, is_went}
 use Rattle.mc_serial_spec.proofs.MoverTurns.{at_most_more, most_turned, turns_end, turns_on, turns_out}
 use Rattle.std.proofs.lemmas.Result.{err_from_is_err_and}
 use Rattle.mc_keeper.proofs.StageSteps.{turn_behind, turn_ends, turn_waits}
@@ -40,7 +40,7 @@ loop-preserved c =
           (record { machine = c.turn_on.new.self; counts = c.turn_on.new.counts; ending = c.in_ok-ending.ending }) _ c.loop-test.true left c.in_ok-ending.ensures.done went
           c.loop.invariant.rest;
       most = at_most_more (256 * c.loop.counter + 256) (256 * (c.loop.counter + 1)) c.turn_on.new.counts
-          (rw (← ap (λ (t : Turned). t.counts) c.in_ok-ending.ensures.done) (most_turned c.loop.self c.loop.counts (256 * c.loop.counter) few c.loop.invariant.most))
+          (rw (← ap (λ (t : TurnsOfMover). t.counts) c.in_ok-ending.ensures.done) (most_turned c.loop.self c.loop.counts (256 * c.loop.counter) few c.loop.invariant.most))
           (omega arith);
       stages = λ m there. c.loop.invariant.stages m
           (turn_behind c.args.count c.loop.counter (record { machine = c.loop.self; counts = c.loop.counts; ending = c.loop.ending })

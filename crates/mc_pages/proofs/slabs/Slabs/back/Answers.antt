@@ -1,7 +1,7 @@
 use Rattle.std.proofs.Common.{ℕ, ◌-◌, List, Contains, refl, sym, ap, ◌∙◌, subst}
 use Rattle.mc_pages.specs.declared.ids.ChunkId.{ChunkId}
 use Rattle.mc_pages.specs.ClassState.{put_back}
-use Rattle.mc_pages.specs.SlabState.{SlabState, IsClass, class_of_page, class_of_chunk}
+use Rattle.mc_pages.specs.SlabState.{SlabState, HasClass, class_of_page, class_of_chunk}
 use Rattle.mc_pages.specs.Changes.{after_back}
 use Rattle.mc_pages.specs.InOrder.{slabs_of}
 use Rattle.mc_pages.proofs.HandedOut.{IsClass-handed_out}
@@ -22,7 +22,7 @@ place_in chunk slabs = class_of_page slabs chunk.page - 1
 pub class_place-place-requires : goal.class_place-place-requires
 class_place-place-requires c =
     let handed = subst (IsHandedOut c.args.chunk) (sym (same_state c.self.view_is)) c.requires in
-    subst (λ (slabs : SlabState). IsClass slabs (class_of_page slabs c.args.chunk.page)) (same_state c.self.view_is)
+    subst (λ (slabs : SlabState). HasClass slabs (class_of_page slabs c.args.chunk.page)) (same_state c.self.view_is)
     (IsClass-handed_out (slabs_of c.self.inside) c.args.chunk c.self.invariant.order.accounted handed)
 
 pub back-requires-clause-class : goal.back-requires-clause-class

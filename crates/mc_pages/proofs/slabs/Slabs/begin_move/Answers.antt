@@ -6,12 +6,12 @@ use Rattle.mc_pages.specs.declared.ledger.Entry.{Entry}
 use Rattle.mc_pages.specs.declared.ledger.Entry.TheVariants.{Began}
 use Rattle.mc_pages.specs.declared.slabs.Slabs.TheInside.{Inside}
 use Rattle.mc_pages.specs.ClassState.{ClassState}
-use Rattle.mc_pages.specs.SlabState.{SlabState, IsClass, class_at}
+use Rattle.mc_pages.specs.SlabState.{SlabState, HasClass, class_at}
 use Rattle.mc_pages.specs.Answer.{answer_of, cursor_after}
 use Rattle.mc_pages.specs.Moves.{first_page, after_begin}
 use Rattle.mc_pages.specs.Linked.{sizes_of}
-use Rattle.mc_pages.specs.Room.{states}
-use Rattle.mc_pages.specs.InOrder.{IsInOrder, HasRows, AreKept, slabs_of}
+use Rattle.mc_pages.specs.Room.{class_states}
+use Rattle.mc_pages.specs.InOrder.{AreSlabsInOrder, HasRows, IsStoredInOrder, slabs_of}
 use Rattle.mc_pages.specs.Base.{Entries}
 use Rattle.mc_pages.specs.Ledger.{ordinary_count}
 use Rattle.mc_pages.proofs.Grace.{add_zero, ordinary_count-push}
@@ -31,7 +31,7 @@ answer_is : (c : After-reserve) → answer_of (slabs_of c.self.inside) c.args.sr
 answer_is c = ap (λ (s : SlabState). answer_of s c.args.src c.args.dst) (same_state c.self.view_is) ∙ sym c.in_ok-source.ensures
 
 -- a destination that isn't the pool is one of the classes
-is_class : (c : After-reserve) → c.args.dst ≢ 0 → IsClass (slabs_of c.self.inside) c.args.dst
+is_class : (c : After-reserve) → c.args.dst ≢ 0 → HasClass (slabs_of c.self.inside) c.args.dst
 is_class c some = (omega arith, (source_is (slabs_of c.self.inside) c.args.src c.in_ok-source.source c.args.dst (answer_is c)).2)
 
 pub index_mut-slab-requires : goal.index_mut-slab-requires
@@ -57,7 +57,7 @@ pub make_room-requires : goal.make_room-requires
 make_room-requires c = omega (arith, few (goal.at.make_room-requires c).After-page_count)
 
 -- what was reserved changes nothing that callers see
-refused_is : (c : goal.After-from_residual-in_err-make_room) → record (slabs_of c.self.inside) { classes = states c.self.inside.rows (set c.self.inside.classes.items (c.args.dst - 1) c.make_room.new.self); ledger = c.reserve.new.self.all; trimmed = c.reserve.new.self.trimmed } ≡ slabs_of c.self.inside
+refused_is : (c : goal.After-from_residual-in_err-make_room) → record (slabs_of c.self.inside) { classes = class_states c.self.inside.rows (set c.self.inside.classes.items (c.args.dst - 1) c.make_room.new.self); ledger = c.reserve.new.self.all; trimmed = c.reserve.new.self.trimmed } ≡ slabs_of c.self.inside
 refused_is c =
     let is = is_class (goal.at.invariant_of-self-in_err-make_room c).After-reserve c.if-dst-eq0.false in
     ap₂ (λ (classes : List ClassState) (entries : Entries). record (slabs_of c.self.inside) { classes = classes; ledger = entries.all; trimmed = entries.trimmed })
@@ -68,7 +68,7 @@ pub invariant_of-self-in_err-make_room : goal.invariant_of-self-in_err-make_room
 invariant_of-self-in_err-make_room c =
     let is = is_class (goal.at.invariant_of-self-in_err-make_room c).After-reserve c.if-dst-eq0.false in
     record {
-      order = subst (λ (s : SlabState). IsInOrder s c.self.inside.granted) (sym (refused_is c)) c.self.invariant.order;
+      order = subst (λ (s : SlabState). AreSlabsInOrder s c.self.inside.granted) (sym (refused_is c)) c.self.invariant.order;
       ledger = omega (arith, c.self.invariant.ledger, c.in_ok-reserve.ensures.kept);
       base = ap (λ (entries : Entries). entries.pages) c.in_ok-reserve.ensures.same ∙ c.self.invariant.base;
       pool = c.self.invariant.pool;
@@ -145,11 +145,11 @@ invariant_of-self-2 c =
     let slabs = slabs_of c.self.inside in
     let here = (goal.at.invariant_of-self-2 c).After-reserve in
     let order = IsInOrder-after_begin slabs c.self.inside.granted c.args.src c.in_ok-source.source c.args.dst c.self.invariant.order (answer_is here) in
-    let kept : Inside → Type 0 = λ i. AreKept (begun c i) in
+    let kept : Inside → Type 0 = λ i. IsStoredInOrder (begun c i) in
     elim c.if-dst-eq0.branch [
       | then-dst-eq0+in_ok-reserve-2 w ↦
           subst kept (sym w.self-inside-is) (record {
-            order = subst (λ (s : SlabState). IsInOrder s c.self.inside.granted) (sym (began_is c _ w.self-inside-is c.in_ok-reserve.ensures.same _ _ refl w.in_ok-reserve-2.ensures.items)) order;
+            order = subst (λ (s : SlabState). AreSlabsInOrder s c.self.inside.granted) (sym (began_is c _ w.self-inside-is c.in_ok-reserve.ensures.same _ _ refl w.in_ok-reserve-2.ensures.items)) order;
             ledger = ledger_fits c _ w.self-inside-is c.in_ok-reserve.ensures.same;
             base = pages_told c _ w.self-inside-is c.in_ok-reserve.ensures.same;
             pool = omega (arith, w.in_ok-reserve-2.ensures.ok, truth_le (c.args.dst == 0));
@@ -163,7 +163,7 @@ invariant_of-self-2 c =
           let is = is_class here w.if-dst-eq0.false in
           let read = read_state c.self.inside c.args.dst _ _ is refl w.index_mut-slab.ensures.value in
           subst kept (sym w.self-inside-is) (record {
-            order = subst (λ (s : SlabState). IsInOrder s c.self.inside.granted)
+            order = subst (λ (s : SlabState). AreSlabsInOrder s c.self.inside.granted)
                 (sym (began_is c _ w.self-inside-is c.in_ok-reserve.ensures.same _ _ (states_roomier c.self.inside c.args.dst _ w.make_room.new.self is w.index_mut-slab.ensures.value w.in_ok-make_room.ensures.state) refl)) order;
             ledger = ledger_fits c _ w.self-inside-is c.in_ok-reserve.ensures.same;
             base = pages_told c _ w.self-inside-is c.in_ok-reserve.ensures.same;

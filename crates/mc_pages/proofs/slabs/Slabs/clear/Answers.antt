@@ -1,8 +1,8 @@
 use Rattle.std.proofs.Common.{◌≡◌, ℕ, ◌-◌, ◌≤◌, Some, refl, sym, ap, ◌∙◌, subst, arith}
 use Rattle.std.specs.Option.{option_map}
 use Rattle.mc_pages.specs.declared.ids.ChunkId.{ChunkId}
-use Rattle.mc_pages.specs.ClassState.{times, cleared}
-use Rattle.mc_pages.specs.SlabState.{SlabState, IsClass, class_of_page}
+use Rattle.mc_pages.specs.ClassState.{times_in, class_after_clear}
+use Rattle.mc_pages.specs.SlabState.{SlabState, HasClass, class_of_page}
 use Rattle.mc_pages.specs.Changes.{after_clear}
 use Rattle.mc_pages.specs.Accounted.{places_in}
 use Rattle.mc_pages.specs.InOrder.{slabs_of}
@@ -24,7 +24,7 @@ place_in chunk slabs = class_of_page slabs chunk.page - 1
 pub class_place-place-requires : goal.class_place-place-requires
 class_place-place-requires c =
     let listed = subst (IsListed c.args.chunk) (sym (same_state c.self.view_is)) c.requires.listed in
-    subst (λ (slabs : SlabState). IsClass slabs (class_of_page slabs c.args.chunk.page)) (same_state c.self.view_is)
+    subst (λ (slabs : SlabState). HasClass slabs (class_of_page slabs c.args.chunk.page)) (same_state c.self.view_is)
     (IsClass-placed (slabs_of c.self.inside) c.args.chunk c.self.invariant.order.accounted listed)
 
 pub clear-requires-clause-class : goal.clear-requires-clause-class
@@ -42,7 +42,7 @@ clear-requires-clause-listed c =
     let is = IsClass-placed slabs c.args.chunk c.self.invariant.order.accounted listed in
     let at = c.class_place-place.ensures ∙ ap (place_in c.args.chunk) (sym (same_state c.self.view_is)) in
     let lists = lists_at c.self.inside (class_of_page slabs c.args.chunk.page) _ is at in
-    omega (arith, listed, ap (times c.args.chunk) lists.0, ap (times c.args.chunk) lists.1)
+    omega (arith, listed, ap (times_in c.args.chunk) lists.0, ap (times_in c.args.chunk) lists.1)
 
 pub invariant_of-self : goal.invariant_of-self
 invariant_of-self c =
@@ -51,7 +51,7 @@ invariant_of-self c =
     let is = IsClass-placed slabs c.args.chunk c.self.invariant.order.accounted listed in
     let at = c.class_place-place.ensures ∙ ap (place_in c.args.chunk) (sym (same_state c.self.view_is)) in
     let moves = subst (λ (s : SlabState). option_map (λ move. move.page) s.moving ≡ Some c.args.chunk.page) (sym (same_state c.self.view_is)) c.requires.moving in
-    AreKept-became c.self.inside _ c.self.inside.ages (class_of_page slabs c.args.chunk.page) _ (λ class. cleared class c.args.chunk) c.self.invariant is at c.clear.ensures.cleared refl
+    AreKept-became c.self.inside _ c.self.inside.ages (class_of_page slabs c.args.chunk.page) _ (λ class. class_after_clear class c.args.chunk) c.self.invariant is at c.clear.ensures.cleared refl
     (IsInOrder-after_clear slabs c.self.inside.granted c.args.chunk c.self.invariant.order moves listed)
     (HasAges-cleared c.self.inside.rows _ c.self.inside.ages _ c.args.chunk c.clear.ensures.cleared c.self.invariant.aged)
 
@@ -61,7 +61,7 @@ returns-clause-cleared c =
     let listed = subst (IsListed c.args.chunk) (sym (same_state c.self.view_is)) c.requires.listed in
     let is = IsClass-placed slabs c.args.chunk c.self.invariant.order.accounted listed in
     let at = c.class_place-place.ensures ∙ ap (place_in c.args.chunk) (sym (same_state c.self.view_is)) in
-    slabs_of-became c.self.inside _ (class_of_page slabs c.args.chunk.page) _ (λ class. cleared class c.args.chunk) is at c.clear.ensures.cleared
+    slabs_of-became c.self.inside _ (class_of_page slabs c.args.chunk.page) _ (λ class. class_after_clear class c.args.chunk) is at c.clear.ensures.cleared
     ∙ ap (λ (s : SlabState). after_clear s c.args.chunk) (same_state c.self.view_is)
 
 pub returns-clause-accounted : goal.returns-clause-accounted

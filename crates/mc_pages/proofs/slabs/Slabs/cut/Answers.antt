@@ -1,9 +1,9 @@
 use Rattle.std.proofs.Common.{◌≡◌, ℕ, ◌-◌, Option, Some, refl, arith, sym, ap, ap₂, ◌∙◌, subst}
 use Rattle.mc_pages.specs.declared.ids.ChunkId.{ChunkId}
 use Rattle.mc_pages.specs.ClassState.{ClassState, with_cut}
-use Rattle.mc_pages.specs.SlabState.{SlabState, IsClass, class_of_page}
+use Rattle.mc_pages.specs.SlabState.{SlabState, HasClass, class_of_page}
 use Rattle.mc_pages.specs.Changes.{next_uncut, after_cut}
-use Rattle.mc_pages.specs.InOrder.{IsInOrder, slabs_of}
+use Rattle.mc_pages.specs.InOrder.{AreSlabsInOrder, slabs_of}
 use Rattle.mc_pages.proofs.Kept.{IsInOrder-after_cut}
 use Rattle.mc_pages.proofs.KeptAges.{HasAges-cut}
 use Rattle.mc_pages.proofs.RoomySlabs.{length-classes, read_state, IsPlace-class, lengths_below, unlisted_uncut, IsRow-uncut, slabs_of-became, AreKept-lists, with_rows}
@@ -22,7 +22,7 @@ pub class_place-place-requires : goal.class_place-place-requires
 class_place-place-requires c =
     let chunk : ChunkId = record { page = c.args.page; index = c.args.index } in
     let first = subst (IsLowest chunk) (sym (same_state c.self.view_is)) c.requires in
-    subst (λ (slabs : SlabState). IsClass slabs (class_of_page slabs c.args.page)) (same_state c.self.view_is) (c.self.invariant.order.uncut chunk first).owned
+    subst (λ (slabs : SlabState). HasClass slabs (class_of_page slabs c.args.page)) (same_state c.self.view_is) (c.self.invariant.order.uncut chunk first).owned
 
 -- the lowest uncut chunk of what was opened
 lowest : (chunk : ChunkId) (before now : SlabState) → before ≡ now → now.uncut ≡ Some chunk → before.uncut ≡ Some chunk
@@ -86,7 +86,7 @@ invariant_of-self c =
     let at = c.class_place-place.ensures ∙ ap (place_in chunk) (sym (same_state c.self.view_is)) in
     let kept = AreKept-lists c.self.inside c.cut.new.self (class_of_page (slabs_of c.self.inside) c.args.page) _ (λ class. with_cut class chunk) c.self.invariant is at c.cut.ensures.cut refl in
     record {
-      order = subst (λ (s : SlabState). IsInOrder s c.self.inside.granted) (sym (cut_is c)) (IsInOrder-after_cut (slabs_of c.self.inside) c.self.inside.granted chunk c.self.invariant.order first);
+      order = subst (λ (s : SlabState). AreSlabsInOrder s c.self.inside.granted) (sym (cut_is c)) (IsInOrder-after_cut (slabs_of c.self.inside) c.self.inside.granted chunk c.self.invariant.order first);
       ledger = c.self.invariant.ledger;
       base = c.self.invariant.base;
       pool = c.self.invariant.pool;

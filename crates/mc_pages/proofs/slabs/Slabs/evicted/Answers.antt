@@ -1,6 +1,6 @@
 use Rattle.std.proofs.Common.{refl, sym, ap, ◌∙◌, subst, arith}
-use Rattle.mc_pages.specs.ClassState.{evicted}
-use Rattle.mc_pages.specs.SlabState.{SlabState, IsClass}
+use Rattle.mc_pages.specs.ClassState.{class_after_eviction}
+use Rattle.mc_pages.specs.SlabState.{SlabState, HasClass}
 use Rattle.mc_pages.specs.Changes.{after_evicted}
 use Rattle.mc_pages.specs.InOrder.{slabs_of}
 use Rattle.mc_pages.proofs.Kept.{IsInOrder-after_evicted}
@@ -10,14 +10,14 @@ use Rattle.mc_pages.proofs.slabs.Slabs.evicted.Goals as goal
 
 pub invariant_of-self : goal.invariant_of-self
 invariant_of-self c =
-    let is = subst (λ (s : SlabState). IsClass s c.args.class) (sym (same_state c.self.view_is)) c.requires in
-    AreKept-changed c.self.inside c.args.class _ _ _ evicted c.self.invariant is refl c.index_mut.ensures.value c.count_eviction.ensures refl refl refl
+    let is = subst (λ (s : SlabState). HasClass s c.args.class) (sym (same_state c.self.view_is)) c.requires in
+    AreKept-changed c.self.inside c.args.class _ _ _ class_after_eviction c.self.invariant is refl c.index_mut.ensures.value c.count_eviction.ensures refl refl refl
     (IsInOrder-after_evicted (slabs_of c.self.inside) c.self.inside.granted c.args.class c.self.invariant.order is)
 
 pub returns-clause-evicted : goal.returns-clause-evicted
 returns-clause-evicted c =
-    let is = subst (λ (s : SlabState). IsClass s c.args.class) (sym (same_state c.self.view_is)) c.requires in
-    slabs_of-changed c.self.inside c.args.class _ _ _ evicted is refl c.index_mut.ensures.value c.count_eviction.ensures refl
+    let is = subst (λ (s : SlabState). HasClass s c.args.class) (sym (same_state c.self.view_is)) c.requires in
+    slabs_of-changed c.self.inside c.args.class _ _ _ class_after_eviction is refl c.index_mut.ensures.value c.count_eviction.ensures refl
     ∙ ap (λ (s : SlabState). after_evicted s c.args.class) (same_state c.self.view_is)
 
 pub returns-clause-accounted : goal.returns-clause-accounted
@@ -25,5 +25,5 @@ returns-clause-accounted c = (invariant_of-self c).order.accounted
 
 pub index_mut-requires : goal.index_mut-requires
 index_mut-requires c =
-    let is = subst (λ (s : SlabState). IsClass s c.args.class) (sym (same_state c.self.view_is)) c.requires in
+    let is = subst (λ (s : SlabState). HasClass s c.args.class) (sym (same_state c.self.view_is)) c.requires in
     omega (arith, is.0, length-classes c.self.inside c.args.class is)

@@ -3,11 +3,11 @@ use Rattle.mc_pages.specs.declared.ids.Moving.{Moving}
 use Rattle.mc_pages.specs.declared.ledger.Owner.TheVariants.{Pool, Class}
 use Rattle.mc_pages.specs.declared.ledger.Entry.TheVariants.{Ended}
 use Rattle.mc_pages.specs.Linked.{sizes_of}
-use Rattle.mc_pages.specs.Room.{states}
-use Rattle.mc_pages.specs.SlabState.{SlabState, IsClass}
+use Rattle.mc_pages.specs.Room.{class_states}
+use Rattle.mc_pages.specs.SlabState.{SlabState, HasClass}
 use Rattle.mc_pages.specs.Accounted.{IsMove}
-use Rattle.mc_pages.specs.Moves.{finished, after_finish, CanFinish}
-use Rattle.mc_pages.specs.InOrder.{IsInOrder, slabs_of}
+use Rattle.mc_pages.specs.Moves.{after_move_end, after_finish, CanFinish}
+use Rattle.mc_pages.specs.InOrder.{AreSlabsInOrder, slabs_of}
 use Rattle.mc_pages.specs.Base.{Entries}
 use Rattle.mc_pages.specs.Ledger.{ordinary_count}
 use Rattle.mc_pages.proofs.Grace.{add_zero, ordinary_count-push}
@@ -36,7 +36,7 @@ is_move : (c : After-index_mut) → IsMove (slabs_of c.self.inside) c.in-Some.mo
 is_move c = c.self.invariant.order.accounted.move c.in-Some.moving c.in-Some.is
 
 -- a destination that isn't the pool is one of the classes
-is_class : (c : After-index_mut) → c.in-Some.moving.dst ≢ 0 → IsClass (slabs_of c.self.inside) c.in-Some.moving.dst
+is_class : (c : After-index_mut) → c.in-Some.moving.dst ≢ 0 → HasClass (slabs_of c.self.inside) c.in-Some.moving.dst
 is_class c some = (omega arith, (is_move c).dst)
 
 pub overflow_sub-src : goal.overflow_sub-src
@@ -66,15 +66,15 @@ pages_told : (c : After-saturating_add-self-inside) → c.tell.new.self.pages �
 pages_told c = ap (λ (entries : Entries). entries.pages) (told c) ∙ c.self.invariant.base
 
 -- all is in order
-in_order : (c : After-index_mut) → IsInOrder (finished (slabs_of c.self.inside) c.in-Some.moving) c.self.inside.granted
+in_order : (c : After-index_mut) → AreSlabsInOrder (after_move_end (slabs_of c.self.inside) c.in-Some.moving) c.self.inside.granted
 in_order c = IsInOrder-finished (slabs_of c.self.inside) c.self.inside.granted c.in-Some.moving c.self.invariant.order (whole c) (can_finish c)
 
 -- what callers see of the move that ended
-seen : (c : After-index_mut) → finished (slabs_of c.self.inside) c.in-Some.moving ≡ after_finish c.args.self.now.state c.args.self.now.state.moving
+seen : (c : After-index_mut) → after_move_end (slabs_of c.self.inside) c.in-Some.moving ≡ after_finish c.args.self.now.state c.args.self.now.state.moving
 seen c = ap (after_finish (slabs_of c.self.inside)) (sym c.in-Some.is) ∙ ap (λ (s : SlabState). after_finish s s.moving) (same_state c.self.view_is)
 
 -- the whole where the page went into the pool
-pooled : (c : goal.After-self-then-dst-eq0-1) → ended_with (slabs_of c.self.inside) (states c.self.inside.rows (set c.self.inside.classes.items (c.in-Some.moving.src - 1) c.remove_page.new.self)) (set c.self.inside.owners.items c.in-Some.moving.page Pool) c.push.new.self.items c.tell.new.self c.saturating_add-self-inside.result ≡ finished (slabs_of c.self.inside) c.in-Some.moving
+pooled : (c : goal.After-self-then-dst-eq0-1) → ended_with (slabs_of c.self.inside) (class_states c.self.inside.rows (set c.self.inside.classes.items (c.in-Some.moving.src - 1) c.remove_page.new.self)) (set c.self.inside.owners.items c.in-Some.moving.page Pool) c.push.new.self.items c.tell.new.self c.saturating_add-self-inside.result ≡ after_move_end (slabs_of c.self.inside) c.in-Some.moving
 pooled c =
     let pool = c.push.ensures.items ∙ if_ok c.push.result _ _ _ c.unwrap.ensures in
     pooled_is c.self.inside c.in-Some.moving _ _ _ _ _ _ (is_move (goal.at.invariant_of-self c).After-index_mut).src c.index_mut.ensures.value c.remove_page.ensures
@@ -86,7 +86,7 @@ invariant_of-self c =
     let move = c.in-Some.moving in
     let is = (is_move here).src in
     record {
-      order = subst (λ (s : SlabState). IsInOrder s c.self.inside.granted) (sym (pooled c)) (in_order here);
+      order = subst (λ (s : SlabState). AreSlabsInOrder s c.self.inside.granted) (sym (pooled c)) (in_order here);
       ledger = omega arith;
       base = pages_told (goal.at.invariant_of-self c).After-saturating_add-self-inside;
       pool = omega (arith, c.push.new.self.ok.1);
@@ -109,7 +109,7 @@ add_page-requires c =
     dst_has_room c.self.inside c.in-Some.moving _ _ c.self.invariant c.in-Some.is (is_move here).src (is_class here c.if-dst-eq0.false) (is_move here).apart c.index_mut-else-dst-eq0.ensures.value
 
 -- the whole where the page has joined its destination
-joined : (c : goal.After-self-else-dst-eq0-3-1) → joined_with (slabs_of c.self.inside) c.in-Some.moving (states c.self.inside.rows (set (set c.self.inside.classes.items (c.in-Some.moving.src - 1) c.remove_page.new.self) (c.in-Some.moving.dst - 1) c.add_page.new.self)) (set c.self.inside.owners.items c.in-Some.moving.page (Class c.in-Some.moving.dst)) c.tell.new.self c.saturating_add-self-inside.result ≡ finished (slabs_of c.self.inside) c.in-Some.moving
+joined : (c : goal.After-self-else-dst-eq0-3-1) → joined_with (slabs_of c.self.inside) c.in-Some.moving (class_states c.self.inside.rows (set (set c.self.inside.classes.items (c.in-Some.moving.src - 1) c.remove_page.new.self) (c.in-Some.moving.dst - 1) c.add_page.new.self)) (set c.self.inside.owners.items c.in-Some.moving.page (Class c.in-Some.moving.dst)) c.tell.new.self c.saturating_add-self-inside.result ≡ after_move_end (slabs_of c.self.inside) c.in-Some.moving
 joined c =
     let here = (goal.at.invariant_of-self-else-dst-eq0 c).After-index_mut in
     joined_is c.self.inside c.in-Some.moving _ _ _ _ _ _ _ (is_move here).src (is_class here c.if-dst-eq0.false) c.index_mut.ensures.value c.remove_page.ensures c.index_mut-else-dst-eq0.ensures.value c.add_page.ensures
@@ -122,7 +122,7 @@ invariant_of-self-else-dst-eq0 c =
     let is = is_move here in
     let to = is_class here c.if-dst-eq0.false in
     record {
-      order = subst (λ (s : SlabState). IsInOrder s c.self.inside.granted) (sym (joined c)) (in_order here);
+      order = subst (λ (s : SlabState). AreSlabsInOrder s c.self.inside.granted) (sym (joined c)) (in_order here);
       ledger = omega arith;
       base = pages_told (goal.at.invariant_of-self-else-dst-eq0 c).After-saturating_add-self-inside;
       pool = omega (arith, c.self.inside.pool.ok.1);

@@ -6,14 +6,14 @@ use Rattle.mc_pages.specs.declared.ledger.Entry.{Entry}
 use Rattle.mc_pages.specs.declared.ledger.Entry.TheVariants.{Granted, Taken}
 use Rattle.mc_pages.specs.declared.slabs.Slabs.TheInside.{Inside}
 use Rattle.mc_pages.specs.ClassState.{ClassState, with_page}
-use Rattle.mc_pages.specs.SlabState.{SlabState, IsClass, class_at}
+use Rattle.mc_pages.specs.SlabState.{SlabState, HasClass, class_at}
 use Rattle.mc_pages.specs.Base.{Entries}
 use Rattle.mc_pages.specs.Ledger.{ordinary_count}
 use Rattle.mc_pages.specs.Changes.{HasNoPageFor, has_ordinary_page, next_page, after_grow, after_take, after_grant}
 use Rattle.mc_pages.specs.Accounted.{truth}
 use Rattle.mc_pages.specs.Linked.{sizes_of}
-use Rattle.mc_pages.specs.Room.{states}
-use Rattle.mc_pages.specs.InOrder.{IsInOrder, HasRows, AreKept, slabs_of, is_awaited}
+use Rattle.mc_pages.specs.Room.{class_states}
+use Rattle.mc_pages.specs.InOrder.{AreSlabsInOrder, HasRows, IsStoredInOrder, slabs_of, is_awaited}
 use Rattle.mc_pages.proofs.Grace.{add_zero, ordinary_count-push}
 use Rattle.mc_pages.proofs.Kept.{pages_below}
 use Rattle.mc_pages.proofs.KeptPages.{IsInOrder-after_take, IsInOrder-after_grant}
@@ -25,8 +25,8 @@ use Rattle.mc_pages.proofs.slabs.Slabs.grow.Goals as goal
 use Rattle.mc_pages.proofs.slabs.Slabs.grow.Goals.{After-page_count, in-Some, in-None}
 
 -- the class that gets a page is one of the classes
-is_class : (c : After-page_count) → IsClass (slabs_of c.self.inside) c.args.class
-is_class c = subst (λ (s : SlabState). IsClass s c.args.class) (sym (same_state c.self.view_is)) c.requires.class
+is_class : (c : After-page_count) → HasClass (slabs_of c.self.inside) c.args.class
+is_class c = subst (λ (s : SlabState). HasClass s c.args.class) (sym (same_state c.self.view_is)) c.requires.class
 
 -- 1 where a page is on the move to it
 awaited : (c : After-page_count) → c.from-awaited.result ≡ truth (is_awaited c.self.inside.moving c.args.class)
@@ -62,7 +62,7 @@ is_grace : (c : After-page_count) → not c.has_ordinary_page-grace.result ≡ n
 is_grace c = ap not (c.has_ordinary_page-grace.ensures ∙ ap has_ordinary_page (sym (same_state c.self.view_is)))
 
 -- what was reserved changes nothing that callers see
-refused_is : (c : goal.After-from_residual-in_err-make_room) → record (slabs_of c.self.inside) { classes = states c.self.inside.rows (set c.self.inside.classes.items (c.args.class - 1) c.make_room.new.self); ledger = c.reserve.new.self.all; trimmed = c.reserve.new.self.trimmed } ≡ slabs_of c.self.inside
+refused_is : (c : goal.After-from_residual-in_err-make_room) → record (slabs_of c.self.inside) { classes = class_states c.self.inside.rows (set c.self.inside.classes.items (c.args.class - 1) c.make_room.new.self); ledger = c.reserve.new.self.all; trimmed = c.reserve.new.self.trimmed } ≡ slabs_of c.self.inside
 refused_is c =
     let is = is_class (goal.at.invariant_of-self-in_err-make_room c).After-page_count in
     ap₂ (λ (classes : List ClassState) (entries : Entries). record (slabs_of c.self.inside) { classes = classes; ledger = entries.all; trimmed = entries.trimmed })
@@ -73,7 +73,7 @@ pub invariant_of-self-in_err-make_room : goal.invariant_of-self-in_err-make_room
 invariant_of-self-in_err-make_room c =
     let is = is_class (goal.at.invariant_of-self-in_err-make_room c).After-page_count in
     record {
-      order = subst (λ (s : SlabState). IsInOrder s c.self.inside.granted) (sym (refused_is c)) c.self.invariant.order;
+      order = subst (λ (s : SlabState). AreSlabsInOrder s c.self.inside.granted) (sym (refused_is c)) c.self.invariant.order;
       ledger = omega (arith, c.self.invariant.ledger, c.in_ok-reserve.ensures.kept);
       base = ap (λ (entries : Entries). entries.pages) c.in_ok-reserve.ensures.same ∙ c.self.invariant.base;
       pool = c.self.invariant.pool;
@@ -139,7 +139,7 @@ pages_told : (c : goal.After-self-4-1) (entry : Entry) → c.tell.new.self ≡ t
 pages_told c entry is = ap (λ (all : Entries). all.pages) is ∙ c.self.invariant.base
 
 -- each class keeps its room
-all_fit : (c : goal.After-self-4-1) (other : ℕ) → IsClass (slabs_of (with_roomy c.self.inside (c.args.class - 1) c.add_page.new.self)) other → Fits c.self.inside.rows (set c.self.inside.classes.items (c.args.class - 1) c.add_page.new.self) (truth (is_awaited c.self.inside.moving other)) other
+all_fit : (c : goal.After-self-4-1) (other : ℕ) → HasClass (slabs_of (with_roomy c.self.inside (c.args.class - 1) c.add_page.new.self)) other → Fits c.self.inside.rows (set c.self.inside.classes.items (c.args.class - 1) c.add_page.new.self) (truth (is_awaited c.self.inside.moving other)) other
 all_fit c =
     let here = (goal.at.invariant_of-self-3 c).After-page_count in
     fits-given c.self.inside c.args.class c.in_ok-page.page _ c.make_room.new.self _ c.self.invariant (is_class here) c.index_mut-slab.ensures.value c.in_ok-make_room.ensures.state c.add_page.ensures
@@ -157,13 +157,13 @@ taken_is c is entry =
     take_is c.self.inside c.args.class c.in_ok-page.page _ c.make_room.new.self _ _ _ _ (is_class (goal.at.invariant_of-self-3 c).After-page_count) c.index_mut-slab.ensures.value c.in_ok-make_room.ensures.state c.add_page.ensures
     pool (told c (taken_inside c) _ is entry c.in_ok-reserve.ensures.same)
 
-taken_kept : (c : goal.After-self-4-1) → c.match-pop.self-inside ≡ taken_inside c → c.match-pop.entry ≡ Taken c.in_ok-page.page c.args.class → 0 < length c.self.inside.pool.items → AreKept (given c (taken_inside c))
+taken_kept : (c : goal.After-self-4-1) → c.match-pop.self-inside ≡ taken_inside c → c.match-pop.entry ≡ Taken c.in_ok-page.page c.args.class → 0 < length c.self.inside.pool.items → IsStoredInOrder (given c (taken_inside c))
 taken_kept c is entry some =
     let slabs = slabs_of c.self.inside in
     let here = (goal.at.invariant_of-self-3 c).After-page_count in
     let whole = subst (λ (s : SlabState). s.uncut ≡ None) (sym (same_state c.self.view_is)) c.requires.whole in
     record {
-      order = subst (λ (s : SlabState). IsInOrder s c.self.inside.granted) (sym (taken_is c is entry))
+      order = subst (λ (s : SlabState). AreSlabsInOrder s c.self.inside.granted) (sym (taken_is c is entry))
           (IsInOrder-after_take slabs c.self.inside.granted c.args.class c.in_ok-page.page c.self.invariant.order (is_class here) whole (next_pooled slabs c.args.class c.in_ok-page.page some (is_next here)));
       ledger = ledger_fits c _ is c.in_ok-reserve.ensures.same;
       base = pages_told c _ (told c _ _ is entry c.in_ok-reserve.ensures.same);
@@ -188,7 +188,7 @@ granted_is c is entry none =
     grant_is c.self.inside c.args.class c.in_ok-page.page _ c.make_room.new.self _ _ _ _ (is_class (goal.at.invariant_of-self-3 c).After-page_count) c.index_mut-slab.ensures.value c.in_ok-make_room.ensures.state c.add_page.ensures
     pool (granted_told c is entry)
 
-granted_kept : (c : goal.After-self-4-1) → c.match-pop.self-inside ≡ granted_inside c → c.match-pop.entry ≡ Granted c.in_ok-page.page c.args.class (not c.has_ordinary_page-grace.result) → length c.self.inside.pool.items ≡ 0 → AreKept (given c (granted_inside c))
+granted_kept : (c : goal.After-self-4-1) → c.match-pop.self-inside ≡ granted_inside c → c.match-pop.entry ≡ Granted c.in_ok-page.page c.args.class (not c.has_ordinary_page-grace.result) → length c.self.inside.pool.items ≡ 0 → IsStoredInOrder (given c (granted_inside c))
 granted_kept c is entry none =
     let slabs = slabs_of c.self.inside in
     let here = (goal.at.invariant_of-self-3 c).After-page_count in
@@ -197,7 +197,7 @@ granted_kept c is entry none =
     let ordinary = ap (λ (b : Bool). bool_byte (not b)) (is_grace here) ∙ truth_byte (not (not (has_ordinary_page slabs))) in
     let granted = granted_is c is entry none ∙ ap (after_grant slabs c.args.class) next.0 in
     record {
-      order = subst (λ (s : SlabState). IsInOrder s (c.self.inside.granted + 1)) (sym granted)
+      order = subst (λ (s : SlabState). AreSlabsInOrder s (c.self.inside.granted + 1)) (sym granted)
           (IsInOrder-after_grant slabs c.self.inside.granted c.args.class c.self.invariant.order (is_class here) whole next.1 next.2);
       ledger = ledger_fits c _ is c.in_ok-reserve.ensures.same;
       base = pages_told c _ (granted_told c is entry);
@@ -211,7 +211,7 @@ granted_kept c is entry none =
 
 pub invariant_of-self-3 : goal.invariant_of-self-3
 invariant_of-self-3 c =
-    let kept : Inside → Type 0 = λ i. AreKept (given c i) in
+    let kept : Inside → Type 0 = λ i. IsStoredInOrder (given c i) in
     elim c.match-pop.branch [
       | in-Some w ↦ subst kept (sym w.self-inside-is) (taken_kept c w.self-inside-is w.entry-is (omega (arith, w.in-Some.ensures.cases)))
       | in-None w ↦ subst kept (sym (w.self-inside-is ∙ ap (counted_inside c) w.from.ensures)) (granted_kept c (w.self-inside-is ∙ ap (counted_inside c) w.from.ensures) w.entry-is (omega (arith, w.in-None.ensures.cases)))
@@ -241,13 +241,13 @@ returns-clause-accounted c = (invariant_of-self-3 c).order.accounted
 
 pub index_mut-slab-requires : goal.index_mut-slab-requires
 index_mut-slab-requires c =
-    let is = subst (λ (s : SlabState). IsClass s c.args.class) (sym (same_state c.self.view_is)) c.requires.class in
+    let is = subst (λ (s : SlabState). HasClass s c.args.class) (sym (same_state c.self.view_is)) c.requires.class in
     omega (arith, is.0, length-classes c.self.inside c.args.class is)
 
 -- where there is no page, the limit is used up and the class has one
 pub returns-in_err-page-clause-full : goal.returns-in_err-page-clause-full
 returns-in_err-page-clause-full c refused =
-    let is = subst (λ (s : SlabState). IsClass s c.args.class) (sym (same_state c.self.view_is)) c.requires.class in
+    let is = subst (λ (s : SlabState). HasClass s c.args.class) (sym (same_state c.self.view_is)) c.requires.class in
     let none = ap (λ (s : SlabState). next_page s c.args.class) (same_state c.self.view_is) ∙ (sym c.next_page.ensures.page ∙ c.in_err-page.ensures.ok_part) in
     let full = next_none (slabs_of c.self.inside) c.self.inside.granted c.args.class c.self.invariant.order is none in
     subst (λ (s : SlabState). HasNoPageFor s c.args.class) (same_state c.self.view_is) (record { pool = full.0; limit = full.1; page = full.2 })

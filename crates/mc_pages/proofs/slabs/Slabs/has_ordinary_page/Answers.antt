@@ -1,14 +1,14 @@
 use Rattle.std.proofs.Common.{◌≡◌, ℕ, ◌+◌, ◌-◌, ◌/◌, length, nat_lt, ap, ap₂, ◌∙◌, arith}
 use Rattle.mc_pages.specs.declared.slabs.Slabs.TheInside.{Inside}
 use Rattle.mc_pages.specs.Changes.{has_ordinary_page}
-use Rattle.mc_pages.specs.InOrder.{AreKept, slabs_of}
+use Rattle.mc_pages.specs.InOrder.{IsStoredInOrder, slabs_of}
 use Rattle.mc_pages.proofs.GrantedPage.{length-owners}
 use Rattle.mc_pages.proofs.States.{length-states}
 use Rattle.mc_pages.proofs.Roomy.{same_state}
 use Rattle.mc_pages.proofs.slabs.Slabs.has_ordinary_page.Goals as goal
 
 -- there are as many pages as the limit has room for, and one for each class
-pages : (slabs : Inside) → AreKept slabs → length slabs.owners.items ≡ slabs.limit / slabs.page + length slabs.classes.items
+pages : (slabs : Inside) → IsStoredInOrder slabs → length slabs.owners.items ≡ slabs.limit / slabs.page + length slabs.classes.items
 pages slabs kept = length-owners (slabs_of slabs) kept.order.accounted ∙ ap (λ (n : ℕ). slabs.limit / slabs.page + n) (length-states slabs.rows slabs.classes.items)
 
 pub overflow_sub-result : goal.overflow_sub-result

@@ -1,7 +1,7 @@
 use Rattle.std.proofs.Common.{ℕ, ◌-◌, List, Contains, sym, ap, ◌∙◌, subst, arith}
 use Rattle.mc_pages.specs.declared.ids.ChunkId.{ChunkId}
 use Rattle.mc_pages.specs.ClassState.{behind}
-use Rattle.mc_pages.specs.SlabState.{SlabState, IsClass, class_of_page, class_of_chunk}
+use Rattle.mc_pages.specs.SlabState.{SlabState, HasClass, class_of_page, class_of_chunk}
 use Rattle.mc_pages.specs.Accounted.{IsAccounted}
 use Rattle.mc_pages.specs.InOrder.{slabs_of}
 use Rattle.mc_pages.proofs.Chunks.{times_from_Contains}
@@ -19,13 +19,13 @@ abbrev place_in : ChunkId → SlabState → ℕ
 place_in chunk slabs = class_of_page slabs chunk.page - 1
 
 -- its class is one of the classes
-is_class : (slabs : SlabState) (chunk : ChunkId) → IsAccounted slabs → IsThere chunk slabs → IsClass slabs (class_of_page slabs chunk.page)
+is_class : (slabs : SlabState) (chunk : ChunkId) → IsAccounted slabs → IsThere chunk slabs → HasClass slabs (class_of_page slabs chunk.page)
 is_class slabs chunk all there = IsClass-placed slabs chunk all (omega (arith, times_from_Contains chunk (class_of_chunk slabs chunk).order there))
 
 pub class_place-requires : goal.class_place-requires
 class_place-requires c =
     let there = subst (IsThere c.args.chunk) (sym (same_state c.self.view_is)) c.requires in
-    subst (λ (slabs : SlabState). IsClass slabs (class_of_page slabs c.args.chunk.page)) (same_state c.self.view_is)
+    subst (λ (slabs : SlabState). HasClass slabs (class_of_page slabs c.args.chunk.page)) (same_state c.self.view_is)
     (is_class (slabs_of c.self.inside) c.args.chunk c.self.invariant.order.accounted there)
 
 pub next-requires-clause-there : goal.next-requires-clause-there

@@ -1,5 +1,5 @@
 use Rattle.std.proofs.Common.{◌≡◌, ℕ, ◌-◌, true, ◌||◌, List, length, slice_get, None, sym, ap, ◌∙◌, subst}
-use Rattle.mc_pages.specs.SlabState.{SlabState, IsClass}
+use Rattle.mc_pages.specs.SlabState.{SlabState, HasClass}
 use Rattle.mc_pages.specs.Changes.{pooled_page, has_ordinary_page, is_without_page, next_page}
 use Rattle.mc_pages.specs.InOrder.{slabs_of}
 use Rattle.mc_pages.proofs.KeptPages.{may_be_granted}
@@ -12,7 +12,7 @@ pub returns-then-has_ordinary_page-clause-page : goal.returns-then-has_ordinary_
 returns-then-has_ordinary_page-clause-page c =
     let slabs = slabs_of c.self.inside in
     let state = same_state c.self.view_is in
-    let is = subst (λ (s : SlabState). IsClass s c.args.class) (sym state) c.requires in
+    let is = subst (λ (s : SlabState). HasClass s c.args.class) (sym state) c.requires in
     let pooled : pooled_page slabs ≡ None = sym (c.in_default.ensures.value ∙ ap (λ (pages : List ℕ). slice_get pages (length pages - 1)) c.deref.ensures.value) in
     let ordinary = c.has_ordinary_page.ensures ∙ ap has_ordinary_page (sym state) in
     let may : may_be_granted slabs c.args.class ≡ true =

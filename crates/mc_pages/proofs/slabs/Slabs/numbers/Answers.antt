@@ -2,7 +2,7 @@ use Rattle.std.proofs.Common.{ℕ, ◌-◌, length, refl, sym, ap, ap₂, ◌∙
 use Rattle.mc_pages.specs.declared.numbers.Numbers.{Numbers}
 use Rattle.mc_pages.specs.declared.rows.ListName.TheVariants.{Free}
 use Rattle.mc_pages.specs.ClassState.{ClassState, numbers_of}
-use Rattle.mc_pages.specs.SlabState.{SlabState, IsClass, class_at}
+use Rattle.mc_pages.specs.SlabState.{SlabState, HasClass, class_at}
 use Rattle.mc_pages.specs.InOrder.{slabs_of}
 use Rattle.mc_pages.proofs.RoomySlabs.{length-classes, IsPlace-class, lists_at, read_state}
 use Rattle.mc_pages.proofs.Roomy.{same_state, accounted_there}
@@ -10,17 +10,17 @@ use Rattle.mc_pages.proofs.slabs.Slabs.numbers.Goals as goal
 
 pub index-slab-requires : goal.index-slab-requires
 index-slab-requires c =
-    let is = subst (λ (s : SlabState). IsClass s c.args.class) (sym (same_state c.self.view_is)) c.requires in
+    let is = subst (λ (s : SlabState). HasClass s c.args.class) (sym (same_state c.self.view_is)) c.requires in
     omega (arith, is.0, length-classes c.self.inside c.args.class is)
 
 pub length-requires : goal.length-requires
 length-requires c =
-    let is = subst (λ (s : SlabState). IsClass s c.args.class) (sym (same_state c.self.view_is)) c.requires in
+    let is = subst (λ (s : SlabState). HasClass s c.args.class) (sym (same_state c.self.view_is)) c.requires in
     (IsPlace-class c.self.inside c.args.class _ c.self.invariant is refl).0
 
 pub returns-clause-numbers : goal.returns-clause-numbers
 returns-clause-numbers c =
-    let is = subst (λ (s : SlabState). IsClass s c.args.class) (sym (same_state c.self.view_is)) c.requires in
+    let is = subst (λ (s : SlabState). HasClass s c.args.class) (sym (same_state c.self.view_is)) c.requires in
     let read = read_state c.self.inside c.args.class _ _ is refl c.index-slab.ensures in
     let pages = c.page_count.ensures ∙ ap (λ (class : ClassState). length class.pages) read in
     let free = c.length.ensures ∙ (c.self.invariant.linked.long (Free (c.args.class - 1)) ∙ ap length (lists_at c.self.inside c.args.class _ is refl).0) in

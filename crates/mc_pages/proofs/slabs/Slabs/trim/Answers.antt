@@ -2,7 +2,7 @@ use Rattle.std.proofs.Common.{sym, ap, ◌∙◌, subst, arith}
 use Rattle.mc_pages.specs.Base.{Entries}
 use Rattle.mc_pages.specs.Ledger.{ordinary_count}
 use Rattle.mc_pages.specs.SlabState.{SlabState}
-use Rattle.mc_pages.specs.InOrder.{IsInOrder, slabs_of}
+use Rattle.mc_pages.specs.InOrder.{AreSlabsInOrder, slabs_of}
 use Rattle.mc_pages.proofs.KeptMoves.{IsInOrder-after_trim}
 use Rattle.mc_pages.proofs.slabs.Slabs.trim.Goals as goal
 
@@ -10,7 +10,7 @@ pub invariant_of-self : goal.invariant_of-self
 invariant_of-self c =
     let now = ap (λ (entries : Entries). record (slabs_of c.self.inside) { ledger = entries.all; trimmed = entries.trimmed }) c.trim.ensures.trimmed in
     record {
-      order = subst (λ (s : SlabState). IsInOrder s c.self.inside.granted) (sym now) (IsInOrder-after_trim (slabs_of c.self.inside) c.self.inside.granted c.self.invariant.order);
+      order = subst (λ (s : SlabState). AreSlabsInOrder s c.self.inside.granted) (sym now) (IsInOrder-after_trim (slabs_of c.self.inside) c.self.inside.granted c.self.invariant.order);
       ledger = omega (arith, c.self.invariant.ledger, c.trim.ensures.kept);
       base = ap (λ (entries : Entries). entries.pages) c.trim.ensures.trimmed ∙ c.self.invariant.base;
       pool = c.self.invariant.pool;

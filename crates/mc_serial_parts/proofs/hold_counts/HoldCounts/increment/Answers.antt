@@ -1,17 +1,17 @@
 use Rattle.std.proofs.Common.{◌+◌, ◌∙◌, ap, refl, ℕ}
 use Rattle.std.specs.Vec.{with_item}
-use Rattle.mc_serial_parts.specs.CountsByPlace.{counts_of, IsReached}
+use Rattle.mc_serial_parts.specs.CountsByPlace.{counts_by_page, IsReached}
 use Rattle.mc_serial_parts.proofs.CountPlaces.{count_written, count_other, count_was, counted_more}
 use Rattle.mc_serial_parts.proofs.hold_counts.HoldCounts.increment.Goals as goal
 
 pub returns : goal.returns
 returns c =
     let pages = c.self.inside.pages.items in
-    let there : IsReached (counts_of pages) c.args.chunk = rw c.self.view_is c.requires.there in
+    let there : IsReached (counts_by_page pages) c.args.chunk = rw c.self.view_is c.requires.there in
     let new = with_item c.index_mut.result.now c.args.chunk.index (c.index_mut-2.result.now + 1) in
     let was = count_was pages c.args.chunk c.index_mut.result.now new (c.index_mut-2.result.now + 1) there c.index_mut.ensures.value refl c.index_mut-2.result.now c.index_mut-2.ensures.value in
     rw (← c.self.view_is) (record {
-      incremented = counted_more (counts_of pages) (counts_of (with_item c.self.inside.pages c.args.chunk.page new).items) c.args.chunk
+      incremented = counted_more (counts_by_page pages) (counts_by_page (with_item c.self.inside.pages c.args.chunk.page new).items) c.args.chunk
           (count_other pages c.args.chunk c.index_mut.result.now new (c.index_mut-2.result.now + 1) there c.index_mut.ensures.value refl)
           (count_written pages c.args.chunk c.index_mut.result.now new (c.index_mut-2.result.now + 1) there c.index_mut.ensures.value refl ∙ ap (λ (n : ℕ). n + 1) was);
     })

@@ -6,7 +6,7 @@ use Rattle.mc_pages.specs.Accounted.{truth}
 use Rattle.mc_pages.specs.ClassState.{is_chunk, without}
 use Rattle.mc_pages.proofs.Chunks.{is_chunk-same}
 use Rattle.mc_serial_spec.specs.Holds.{held_by, without_hold}
-use Rattle.mc_serial_parts.specs.HoldsKept.{holds_of}
+use Rattle.mc_serial_parts.specs.HoldsKept.{stored_holds}
 use Rattle.mc_serial_parts.proofs.CountedHolds.{counted_without, few_without}
 use Rattle.mc_serial_parts.proofs.FoundHolds.{found_held, position_is, remove-found}
 use Rattle.mc_serial_parts.proofs.HoldLists.{held_now, view_set}
@@ -28,31 +28,31 @@ take_out-requires c =
 pub decrement-requires : goal.decrement-requires
 decrement-requires c =
     let inside : c.args.worker < length c.self.inside.by_worker.items = omega (arith, c.self.invariant.of_each, c.requires.worker) in
-    let within : c.args.worker < length (holds_of c.self.inside) = omega (arith, inside, length-map c.self.inside.by_worker.items (λ (v : Vec ChunkId Global). reverse v.items)) in
-    let held : Contains (held_by (holds_of c.self.inside) c.args.worker) c.args.chunk = found_held c.args.chunk (held_by (holds_of c.self.inside) c.args.worker) c.args.place (rw c.self.view_is c.requires.first) in
-    omega (arith, c.self.invariant.counted c.args.chunk, counted_without (holds_of c.self.inside) c.args.worker c.args.chunk within held c.args.chunk, ap truth (is_chunk-same c.args.chunk))
+    let within : c.args.worker < length (stored_holds c.self.inside) = omega (arith, inside, length-map c.self.inside.by_worker.items (λ (v : Vec ChunkId Global). reverse v.items)) in
+    let held : Contains (held_by (stored_holds c.self.inside) c.args.worker) c.args.chunk = found_held c.args.chunk (held_by (stored_holds c.self.inside) c.args.worker) c.args.place (rw c.self.view_is c.requires.first) in
+    omega (arith, c.self.invariant.counted c.args.chunk, counted_without (stored_holds c.self.inside) c.args.worker c.args.chunk within held c.args.chunk, ap truth (is_chunk-same c.args.chunk))
 
 pub invariant_of-self : goal.invariant_of-self
 invariant_of-self c =
     let inside : c.args.worker < length c.self.inside.by_worker.items = omega (arith, c.self.invariant.of_each, c.requires.worker) in
-    let within : c.args.worker < length (holds_of c.self.inside) = omega (arith, inside, length-map c.self.inside.by_worker.items (λ (v : Vec ChunkId Global). reverse v.items)) in
-    let held : Contains (held_by (holds_of c.self.inside) c.args.worker) c.args.chunk = found_held c.args.chunk (held_by (holds_of c.self.inside) c.args.worker) c.args.place (rw c.self.view_is c.requires.first) in
+    let within : c.args.worker < length (stored_holds c.self.inside) = omega (arith, inside, length-map c.self.inside.by_worker.items (λ (v : Vec ChunkId Global). reverse v.items)) in
+    let held : Contains (held_by (stored_holds c.self.inside) c.args.worker) c.args.chunk = found_held c.args.chunk (held_by (stored_holds c.self.inside) c.args.worker) c.args.place (rw c.self.view_is c.requires.first) in
     let found = stands c.self.inside.by_worker.items c.args.worker c.index_mut.result.now c.args.chunk c.args.place inside c.index_mut.ensures.value (rw c.self.view_is c.requires.first) in
     let taken : reverse c.take_out.new.chunks.items ≡ without c.args.chunk (reverse c.index_mut.result.now.items)
     = c.take_out.ensures.removed ∙ remove-found c.args.chunk (reverse c.index_mut.result.now.items) c.args.place found in
-    let new : holds_of (record { by_worker = with_item c.self.inside.by_worker c.args.worker c.take_out.new.chunks; counts = c.decrement.new.self })
-    ≡ without_hold (holds_of c.self.inside) c.args.worker c.args.chunk
+    let new : stored_holds (record { by_worker = with_item c.self.inside.by_worker c.args.worker c.take_out.new.chunks; counts = c.decrement.new.self })
+    ≡ without_hold (stored_holds c.self.inside) c.args.worker c.args.chunk
     = view_set (λ (v : Vec ChunkId Global). reverse v.items) c.self.inside.by_worker.items c.args.worker c.index_mut.result.now c.take_out.new.chunks inside
     c.index_mut.ensures.value (λ (l : List ChunkId). without c.args.chunk l) taken in
     record {
       of_each = length-set c.self.inside.by_worker.items c.args.worker c.take_out.new.chunks ∙ c.self.invariant.of_each;
-      few = rw new (few_without (holds_of c.self.inside) c.args.worker c.args.chunk within held c.self.invariant.few);
+      few = rw new (few_without (stored_holds c.self.inside) c.args.worker c.args.chunk within held c.self.invariant.few);
       counted = λ chunk.
           rw new (omega (
             arith,
             c.decrement.ensures.decremented chunk,
             c.self.invariant.counted chunk,
-            counted_without (holds_of c.self.inside) c.args.worker c.args.chunk within held chunk,
+            counted_without (stored_holds c.self.inside) c.args.worker c.args.chunk within held chunk,
           ));
     }
 

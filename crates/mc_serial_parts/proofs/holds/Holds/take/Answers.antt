@@ -4,7 +4,7 @@ use Rattle.std.proofs.lemmas.Result.{err_from_is_err_and}
 use Rattle.std.specs.Vec.{with_item}
 use Rattle.mc_pages.specs.declared.ids.ChunkId.{ChunkId}
 use Rattle.mc_serial_spec.specs.Holds.{is_full, with_hold}
-use Rattle.mc_serial_parts.specs.HoldsKept.{holds_of}
+use Rattle.mc_serial_parts.specs.HoldsKept.{stored_holds}
 use Rattle.mc_serial_parts.proofs.CountedHolds.{counted_with, few_with, holds_few}
 use Rattle.mc_serial_parts.proofs.HoldLists.{view_set, view_same, reverse-push}
 use Rattle.mc_serial_parts.proofs.holds.Holds.take.Goals as goal
@@ -19,7 +19,7 @@ returns-in_err-push-clause-err c =
 pub invariant_of-self-in_err-push : goal.invariant_of-self-in_err-push
 invariant_of-self-in_err-push c =
     let inside : c.args.worker < length c.self.inside.by_worker.items = omega (arith, c.self.invariant.of_each, c.requires.worker) in
-    let same : holds_of (record { by_worker = with_item c.self.inside.by_worker c.args.worker c.push.new.list; counts = c.reach.new.self }) ≡ holds_of c.self.inside
+    let same : stored_holds (record { by_worker = with_item c.self.inside.by_worker c.args.worker c.push.new.list; counts = c.reach.new.self }) ≡ stored_holds c.self.inside
     = view_same (λ (v : Vec ChunkId Global). reverse v.items) c.self.inside.by_worker.items c.args.worker c.index_mut.result.now c.push.new.list inside
     c.index_mut.ensures.value (ap (λ (l : List ChunkId). reverse l) c.in_err-push.ensures.items) in
     record {
@@ -30,28 +30,28 @@ invariant_of-self-in_err-push c =
 
 pub increment-requires-clause-few : goal.increment-requires-clause-few
 increment-requires-clause-few c =
-    let of_each : length (holds_of c.self.inside) ≡ 64 = length-map c.self.inside.by_worker.items (λ (v : Vec ChunkId Global). reverse v.items) ∙ c.self.invariant.of_each in
-    omega (arith, c.reach.ensures.same c.args.chunk, c.self.invariant.counted c.args.chunk, holds_few (holds_of c.self.inside) c.args.chunk of_each c.self.invariant.few)
+    let of_each : length (stored_holds c.self.inside) ≡ 64 = length-map c.self.inside.by_worker.items (λ (v : Vec ChunkId Global). reverse v.items) ∙ c.self.invariant.of_each in
+    omega (arith, c.reach.ensures.same c.args.chunk, c.self.invariant.counted c.args.chunk, holds_few (stored_holds c.self.inside) c.args.chunk of_each c.self.invariant.few)
 
 pub invariant_of-self-2 : goal.invariant_of-self-2
 invariant_of-self-2 c =
     let inside : c.args.worker < length c.self.inside.by_worker.items = omega (arith, c.self.invariant.of_each, c.requires.worker) in
-    let within : c.args.worker < length (holds_of c.self.inside) = omega (arith, inside, length-map c.self.inside.by_worker.items (λ (v : Vec ChunkId Global). reverse v.items)) in
-    let room : is_full (holds_of c.self.inside) c.args.worker ≡ false = rw c.self.view_is c.requires.room in
-    let new : holds_of (record { by_worker = with_item c.self.inside.by_worker c.args.worker c.push.new.list; counts = c.increment.new.self }) ≡ with_hold (holds_of c.self.inside) c.args.worker c.args.chunk
+    let within : c.args.worker < length (stored_holds c.self.inside) = omega (arith, inside, length-map c.self.inside.by_worker.items (λ (v : Vec ChunkId Global). reverse v.items)) in
+    let room : is_full (stored_holds c.self.inside) c.args.worker ≡ false = rw c.self.view_is c.requires.room in
+    let new : stored_holds (record { by_worker = with_item c.self.inside.by_worker c.args.worker c.push.new.list; counts = c.increment.new.self }) ≡ with_hold (stored_holds c.self.inside) c.args.worker c.args.chunk
     = view_set (λ (v : Vec ChunkId Global). reverse v.items) c.self.inside.by_worker.items c.args.worker c.index_mut.result.now c.push.new.list inside
     c.index_mut.ensures.value (λ (l : List ChunkId). c.args.chunk ∷ l)
     (ap (λ (l : List ChunkId). reverse l) c.in_ok-push.ensures.items ∙ reverse-push c.index_mut.result.now.items c.args.chunk) in
     record {
       of_each = length-set c.self.inside.by_worker.items c.args.worker c.push.new.list ∙ c.self.invariant.of_each;
-      few = rw new (few_with (holds_of c.self.inside) c.args.worker c.args.chunk within room c.self.invariant.few);
+      few = rw new (few_with (stored_holds c.self.inside) c.args.worker c.args.chunk within room c.self.invariant.few);
       counted = λ chunk.
           rw new (omega (
             arith,
             c.increment.ensures.incremented chunk,
             c.reach.ensures.same chunk,
             c.self.invariant.counted chunk,
-            counted_with (holds_of c.self.inside) c.args.worker c.args.chunk within chunk,
+            counted_with (stored_holds c.self.inside) c.args.worker c.args.chunk within chunk,
           ));
     }
 

@@ -1,18 +1,18 @@
 use Rattle.std.proofs.Common.{◌≡◌, ◌≢◌, IfSome, refl, sym, ap, ◌∙◌, subst}
 use Rattle.std.specs.Option.{option_map}
 use Rattle.mc_stripe.specs.declared.history.Call.TheVariants.{Get}
-use Rattle.mc_stripe.specs.StripeState.{ReadyStripe, key_aside, place_of}
+use Rattle.mc_stripe.specs.StripeState.{ReadyStripe, key_aside, chunk_and_stamp}
 use Rattle.mc_stripe.specs.Changes.{after_got}
-use Rattle.mc_stripe.specs.InOrder.{state_of}
+use Rattle.mc_stripe.specs.InOrder.{callers_stripe}
 use Rattle.mc_stripe.proofs.Kept.{IsLegal-after_got}
 use Rattle.mc_stripe.proofs.Fields.{ends_by, IsLegal-fields}
 use Rattle.mc_stripe.proofs.stripe.Stripe.got.Goals as goal
 
 pub invariant_of-self : goal.invariant_of-self
 invariant_of-self c =
-    let stripe = state_of c.self.inside in
+    let stripe = callers_stripe c.self.inside in
     let apart = subst (λ (s : ReadyStripe). IfSome (key_aside s.state) (λ other. other ≢ c.args.key)) (sym c.self.view_is) c.requires.aside in
-    let found = subst (λ (s : ReadyStripe). c.args.found ≡ place_of s.state c.args.key) (sym c.self.view_is) c.requires.found in
+    let found = subst (λ (s : ReadyStripe). c.args.found ≡ chunk_and_stamp s.state c.args.key) (sym c.self.view_is) c.requires.found in
     let stamp = c.stamp_of-stamp.ensures ∙ ap (option_map (λ place. place.1)) found in
     let told = ends_by stripe.history _ _ _ c.tell.ensures.all (ap (Get c.args.hand c.args.key) stamp) in
     record {

@@ -4,7 +4,7 @@ use Rattle.mc_pages.specs.declared.ids.ChunkId.{ChunkId}
 use Rattle.mc_stripe.specs.Entries.{with_entry}
 use Rattle.mc_stripe.specs.StripeState.{Index, ReadyStripe, key_aside}
 use Rattle.mc_stripe.specs.Changes.{after_rescue}
-use Rattle.mc_stripe.specs.InOrder.{state_of}
+use Rattle.mc_stripe.specs.InOrder.{callers_stripe}
 use Rattle.mc_stripe.proofs.Kept.{IsLegal-after_rescue}
 use Rattle.mc_stripe.proofs.Stamps.{Place}
 use Rattle.mc_stripe.proofs.Fields.{IsLegal-fields}
@@ -16,7 +16,7 @@ chunk_put index aside entry key chunk is = ap (λ (a : Option (ℕ × Place)). w
 
 pub invariant_of-self : goal.invariant_of-self
 invariant_of-self c =
-    let stripe = state_of c.self.inside in
+    let stripe = callers_stripe c.self.inside in
     let is = subst (λ (s : ReadyStripe). key_aside s.state ≡ Some c.args.key) (sym c.self.view_is) c.requires.aside in
     record {
       legal = IsLegal-fields (after_rescue stripe c.args.hand c.args.key c.args.chunk) _ _ _ _ (c.put.ensures ∙ chunk_put stripe.index _ _ c.args.key c.args.chunk c.in-Some.is) refl c.tell.ensures.all c.tell.ensures.from (IsLegal-after_rescue stripe c.args.hand c.args.key c.args.chunk c.self.invariant.legal is);

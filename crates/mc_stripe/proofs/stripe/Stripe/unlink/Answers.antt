@@ -2,14 +2,14 @@ use Rattle.std.proofs.Common.{◌≢◌, is_some, IfSome, arith, refl, sym, ap, 
 use Rattle.mc_stripe.specs.declared.history.Call.TheVariants.{Delete}
 use Rattle.mc_stripe.specs.StripeState.{ReadyStripe, key_aside}
 use Rattle.mc_stripe.specs.Changes.{after_unlink}
-use Rattle.mc_stripe.specs.InOrder.{state_of}
+use Rattle.mc_stripe.specs.InOrder.{callers_stripe}
 use Rattle.mc_stripe.proofs.Kept.{IsLegal-after_unlink}
 use Rattle.mc_stripe.proofs.Fields.{ends_by, IsLegal-fields}
 use Rattle.mc_stripe.proofs.stripe.Stripe.unlink.Goals as goal
 
 pub invariant_of-self : goal.invariant_of-self
 invariant_of-self c =
-    let stripe = state_of c.self.inside in
+    let stripe = callers_stripe c.self.inside in
     let apart = subst (λ (s : ReadyStripe). IfSome (key_aside s.state) (λ other. other ≢ c.args.key)) (sym c.self.view_is) c.requires.aside in
     let was_there = c.is_some-was_there.ensures ∙ ap is_some c.take.ensures.place in
     let told = ends_by stripe.history _ _ _ c.tell.ensures.all (ap (Delete c.args.hand c.args.key) was_there) in

@@ -1,5 +1,5 @@
-use Rattle.mc_words.specs.rule.Told.{TellsEvent}
+use Rattle.mc_words.specs.rule.Told.{HappensAs}
 use Rattle.mc_words.proofs.arena.Arena.add.Given as goal
 
 abbrev pub ghosts-fetch_add : goal.ghosts-fetch_add
-ghosts-fetch_add g a = record { then = TellsEvent g.told }
+ghosts-fetch_add g a = record { then = HappensAs g.told }

@@ -8,7 +8,7 @@ use Rattle.mc_core.specs.State.{most_of}
 use Rattle.mc_core.specs.declared.look.Look.{Look}
 use Rattle.mc_core.specs.declared.look.Look.TheVariants.{Saw}
 use Rattle.mc_words.specs.hand.Arenas.{setup_of, view}
-use Rattle.mc_words.specs.chunk.Dead.{IsJudged}
+use Rattle.mc_words.specs.chunk.Dead.{IsAliveOrNoted}
 use Rattle.mc_words.specs.chunk.Sweeps.{LooksAlong}
 use Rattle.mc_words.proofs.Chunks.Judging.{after_slabs, odd_alive}
 use Rattle.mc_words.proofs.Chunks.Sweeps.{chunk_alive}
@@ -52,7 +52,7 @@ loop-offset-preserved c =
             | inl same ↦ subst (λ (n : ℕ). is_found_alive (was.row.looks ++ Saw chunk head ∷ []) (chunk_at page n) ≡ true) (sym same) (chunk_alive was.row.looks chunk head alive)
             | inr apart ↦ alive_still was.row.looks chunk head alive (chunk_at page index) (inv.alive both.0 index past (omega (arith, within, apart)))
           ]);
-      kept = λ dead other outside judged. subst (λ (looks : List Look). IsJudged looks dead other) (sym more)
+      kept = λ dead other outside judged. subst (λ (looks : List Look). IsAliveOrNoted looks dead other) (sym more)
           (other_kept was.row.looks chunk head dead other (λ same. not_outside page from (from + 4) other chunk same refl (omega arith) (omega (arith, below)) outside) (inv.kept dead other outside judged));
     }
 

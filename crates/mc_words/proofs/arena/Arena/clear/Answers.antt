@@ -3,7 +3,7 @@ use Rattle.mc_pages.specs.Accounted.{places_in}
 use Rattle.mc_pages.specs.Changes.{after_clear}
 use Rattle.mc_pages.specs.Pages.{is_on_the_move}
 use Rattle.mc_pages.specs.SlabState.{SlabState, class_of_page}
-use Rattle.mc_core.specs.Codes.{minus}
+use Rattle.mc_core.specs.Codes.{word_minus}
 use Rattle.mc_core.specs.Head.{decode}
 use Rattle.mc_core.specs.State.{has_chunk}
 use Rattle.mc_core.specs.declared.event.Step.TheVariants as core
@@ -33,7 +33,7 @@ subtract-requires c =
     let last = after_last view seen seen slabs chunk (decode word) c.requires.held is looks in
     let unused = sym c.is_unused.ensures.unused ∙ c.if-not-is_unused.false in
     let place : c.head_word-word.result ≡ head_word seen.setup chunk = c.head_word-word.ensures.word ∙ ap (λ (s : Setup). head_word s chunk) (sym arena.setup) in
-    (refl, (refl, (c.head_word-word.ensures.near, (arena, subst (λ (n : ℕ). MayWrite seen (core.Clear chunk) n (minus (word / 65536 % 4 * 65536))) (sym place) (may_clear seen slabs chunk word mine near c.requires.moving last unused)))))
+    (refl, (refl, (c.head_word-word.ensures.near, (arena, subst (λ (n : ℕ). MayWrite seen (core.Clear chunk) n (word_minus (word / 65536 % 4 * 65536))) (sym place) (may_clear seen slabs chunk word mine near c.requires.moving last unused)))))
 
 pub invariant_of-hand : goal.invariant_of-hand
 invariant_of-hand c =

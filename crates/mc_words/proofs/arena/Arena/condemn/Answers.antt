@@ -1,8 +1,8 @@
 use Rattle.std.proofs.Common.{◌≡◌, ◌-◌, ◌<◌, ℕ, [], length, Option, refl, ap, sym, subst, ◌∙◌, arith}
 use Rattle.std.specs.Option.{IsSome}
-use Rattle.mc_stripe.specs.StripeState.{ReadyStripe, place_of}
+use Rattle.mc_stripe.specs.StripeState.{ReadyStripe, chunk_and_stamp}
 use Rattle.mc_stripe.specs.Changes.{after_evict, used_up}
-use Rattle.mc_core.specs.Codes.{minus}
+use Rattle.mc_core.specs.Codes.{word_minus}
 use Rattle.mc_core.specs.State.{room_in}
 use Rattle.mc_core.specs.declared.event.Step.TheVariants as core
 use Rattle.mc_pages.specs.declared.ids.ChunkId.{ChunkId}
@@ -79,7 +79,7 @@ exchange-found-requires c =
     let still = has_still view read seen slabs stripe value chunk key word has read_is seen_is in
     let reason = reason_still view read seen slabs stripe value chunk key word has read_is seen_is unheld ask.reason in
     let none = none_still view read seen slabs stripe value chunk key word has read_is seen_is c.requires.no_copy in
-    let less : minus 65537 word ≡ word - 65537 = word_condemned word (omega arith) c.if-head-ne-UNHELD.false in
+    let less : word_minus 65537 word ≡ word - 65537 = word_condemned word (omega arith) c.if-head-ne-UNHELD.false in
     let may = may_condemn seen slabs stripe value chunk key still ask.ready none reason word unheld in (
       refl,
       (
@@ -208,7 +208,7 @@ evict-requires-clause-there c =
     let now = c.exchange-found.new.seat.me.0 in
     let hit : HappensAt (head_word seen.setup chunk) word seen [] (core.Condemn chunk) now = subst (λ (p : ℕ × ℕ). HappensAt p.0 p.1 seen [] (core.Condemn chunk) now) (λ k. (place k, c.if-found-head.false k)) (c.exchange-found.ensures.happens c.if-found-head.false) in
     let unheld = word_unheld word c.if-head-ne-UNHELD.false in
-    subst (λ (o : Option (ChunkId × ℕ)). IsSome o) (sym (ap (λ (v : ReadyStripe). place_of v.state key) c.stripe_mut.ensures.stripe ∙ led_there view read seen slabs stripe value chunk key word has read_is seen_is unheld now hit)) refl
+    subst (λ (o : Option (ChunkId × ℕ)). IsSome o) (sym (ap (λ (v : ReadyStripe). chunk_and_stamp v.state key) c.stripe_mut.ensures.stripe ∙ led_there view read seen slabs stripe value chunk key word has read_is seen_is unheld now hit)) refl
 
 pub returns-clause-stripe : goal.returns-clause-stripe
 returns-clause-stripe c =

@@ -1,6 +1,6 @@
 use Rattle.std.proofs.Common.{◌≡◌, ℕ, refl, ap, sym, subst, ◌∙◌, length, true}
 use Rattle.mc_pages.specs.declared.ids.ChunkId.{ChunkId}
-use Rattle.mc_core.specs.Codes.{plus}
+use Rattle.mc_core.specs.Codes.{word_plus}
 use Rattle.mc_core.specs.State.{has_chunk}
 use Rattle.mc_core.specs.declared.event.Step.TheVariants as core
 use Rattle.mc_words.specs.hand.View.{View, Setup}
@@ -26,7 +26,7 @@ add-requires c =
     let slabs = c.args.held.now.shared in
     let near = uncut_near view arena.lawful slabs chunk c.requires.held c.requires.next in
     let place : c.head_word-word.result ≡ head_word view.setup chunk = c.head_word-word.ensures.word ∙ ap (λ (s : Setup). head_word s chunk) (sym arena.setup) in
-    (refl, (refl, (c.head_word-word.ensures.near, (arena, subst (λ (n : ℕ). MayWrite view (core.Cut c.args.page c.args.index) n (plus 65536)) (sym place) (may_cut view slabs c.args.page c.args.index c.requires.held near c.requires.next)))))
+    (refl, (refl, (c.head_word-word.ensures.near, (arena, subst (λ (n : ℕ). MayWrite view (core.Cut c.args.page c.args.index) n (word_plus 65536)) (sym place) (may_cut view slabs c.args.page c.args.index c.requires.held near c.requires.next)))))
 
 pub invariant_of-hand : goal.invariant_of-hand
 invariant_of-hand c =

@@ -1,6 +1,6 @@
 use Rattle.std.proofs.Common.{◌≡◌, ◌-◌, ℕ, true, refl, ap, sym, subst, arith, length, ◌∙◌}
 use Rattle.mc_pages.specs.Accounted.{truth}
-use Rattle.mc_core.specs.Codes.{minus}
+use Rattle.mc_core.specs.Codes.{word_minus}
 use Rattle.mc_core.specs.State.{has_chunk}
 use Rattle.mc_core.specs.declared.event.Step.TheVariants as core
 use Rattle.mc_words.specs.hand.View.{View, Setup}
@@ -26,7 +26,7 @@ subtract-found-requires c =
     let view = c.args.hand.now.seat.me.0 in
     let near = holding_near view arena.lawful c.args.fresh.chunk fresh.holding fresh.found fresh.fresh in
     let place : c.head_word-word.result ≡ head_word view.setup c.args.fresh.chunk = c.head_word-word.ensures.word ∙ ap (λ (s : Setup). head_word s c.args.fresh.chunk) (sym arena.setup) in
-    (refl, (refl, (c.head_word-word.ensures.near, (arena, subst (λ (n : ℕ). MayWrite view (core.Discard c.args.fresh.chunk) n (minus 1)) (sym place) (may_discard view c.args.fresh.chunk fresh.holding near fresh.found fresh.fresh)))))
+    (refl, (refl, (c.head_word-word.ensures.near, (arena, subst (λ (n : ℕ). MayWrite view (core.Discard c.args.fresh.chunk) n (word_minus 1)) (sym place) (may_discard view c.args.fresh.chunk fresh.holding near fresh.found fresh.fresh)))))
 
 pub invariant_of-hand : goal.invariant_of-hand
 invariant_of-hand c =

@@ -1,7 +1,7 @@
 use Rattle.std.proofs.Common.{◌≡◌, true, refl, ap, sym, subst, ◌∙◌, length, arith}
 use Rattle.mc_core.specs.State.{is_class}
 use Rattle.mc_words.proofs.Chunks.Judging.{class_of_slabs}
-use Rattle.mc_pages.specs.SlabState.{SlabState, IsClass}
+use Rattle.mc_pages.specs.SlabState.{SlabState, HasClass}
 use Rattle.mc_core.specs.declared.event.Change.TheVariants.{Evicted}
 use Rattle.mc_words.specs.hand.View.{View, Setup}
 use Rattle.mc_words.proofs.Pages.PageWords.{may_evicted}
@@ -13,7 +13,7 @@ use Rattle.mc_words.proofs.arena.Arena.evicted.Goals as goal
 pub evicted-requires : goal.evicted-requires
 evicted-requires c =
     let is = subst (λ (s : Setup). is_class s.table c.args.class ≡ true) (sym c.requires.arena.setup) c.requires.class in
-    subst (λ (x : SlabState). IsClass x c.args.class) (sym c.slabs_mut.ensures.slabs) (class_of_slabs c.args.hand.now.seat.me.0 c.requires.arena.lawful c.args.held.now.shared c.args.class c.requires.held is)
+    subst (λ (x : SlabState). HasClass x c.args.class) (sym c.slabs_mut.ensures.slabs) (class_of_slabs c.args.hand.now.seat.me.0 c.requires.arena.lawful c.args.held.now.shared c.args.class c.requires.held is)
 
 pub tell-requires : goal.tell-requires
 tell-requires c =

@@ -1,4 +1,4 @@
-use Rattle.mc_core.specs.Codes.{plus}
+use Rattle.mc_core.specs.Codes.{word_plus}
 use Rattle.mc_words.proofs.Rules.Quiet.{finds, has_number}
 use Rattle.mc_words.proofs.arena.Arena.fetch_add.Goals as goal
 
@@ -7,5 +7,5 @@ fetch_add-requires g c =
     let (is, (still, (near, (seat, may)))) = c.requires in (
       seat.same_table,
       near,
-      finds c.args.self.now.table.shared.key _ _ c.args.seat.now.me (has_number _ seat.lawful) seat.setup g.told still c.args.word (plus c.args.more) may c.args.more 0,
+      finds c.args.self.now.table.shared.key _ _ c.args.seat.now.me (has_number _ seat.lawful) seat.setup g.told still c.args.word (word_plus c.args.more) may c.args.more 0,
     )

@@ -1,6 +1,6 @@
 use Rattle.std.proofs.Common.{◌≡◌, ◌<◌, ℕ, refl, ap, sym, subst, length, ◌∙◌}
 use Rattle.mc_pages.specs.declared.ids.ChunkId.{ChunkId}
-use Rattle.mc_core.specs.Holdings.{words_of}
+use Rattle.mc_core.specs.Holdings.{holding_words}
 use Rattle.mc_core.specs.declared.event.Step.TheVariants as core
 use Rattle.mc_words.specs.hand.View.{View, Setup}
 use Rattle.mc_words.specs.rule.Layout.{data_word, config_from}
@@ -30,7 +30,7 @@ write-requires c =
     let view = c.args.hand.now.seat.me.0 in
     let chunk = c.args.fresh.now.chunk in
     let near = subst (λ (n : ℕ). c.args.place < n) (sym fresh.room_is) c.requires.near in
-    let place : c.data_word-at.result ≡ data_word view.setup (length (words_of fresh.holding)) chunk c.args.place =
+    let place : c.data_word-at.result ≡ data_word view.setup (length (holding_words fresh.holding)) chunk c.args.place =
     c.data_word-at.ensures.word ∙ (λ k. data_word (sym arena.setup k) (sym fresh.room_is k) chunk c.args.place) in
     (refl, (refl, (c.data_word-at.ensures.near, (arena, subst (λ (n : ℕ). MayWrite view (core.Fill chunk c.args.place c.args.word) n (λ found. c.args.word)) (sym place) (may_fill view chunk fresh.holding c.args.place c.args.word fresh.found fresh.fresh near)))))
 

@@ -1,7 +1,7 @@
 use Rattle.std.proofs.Common.{◌≡◌, ◌++◌, ◌<◌, ◌≤◌, ℕ, true, List, [], ◌∷◌, length, slice_get, sym, ap, subst, ◌∙◌, append-nil, append_assoc, arith}
 use Rattle.std.specs.Prelude.{Contains}
 use Rattle.mc_pages.specs.declared.ids.ChunkId.{ChunkId}
-use Rattle.mc_pages.specs.ClassState.{behind, times}
+use Rattle.mc_pages.specs.ClassState.{behind, times_in}
 use Rattle.mc_pages.specs.SlabState.{SlabState, class_at, class_of_chunk}
 use Rattle.mc_pages.proofs.RestOfList.{rest_from}
 use Rattle.mc_core.specs.State.{has_chunk, is_class}
@@ -72,7 +72,7 @@ loop-next-preserved c =
     let (more, rest_is) = begins_with inv.rest chunk (sym c.in-Some.is ∙ inv.at) in
     let stands : (class_at slabs class).free ≡ inv.before ++ chunk ∷ more = inv.split ∙ ap (λ (rest : List ChunkId). inv.before ++ rest) rest_is in
     let free = stands_free view inv.arena.lawful slabs inv.held class is chunk inv.before more stands in
-    let none = (elsewhere chunk more inv.before (subst (λ (cs : List ChunkId). times chunk cs ≤ 1) stands (once chunk))).0 in
+    let none = (elsewhere chunk more inv.before (subst (λ (cs : List ChunkId). times_in chunk cs ≤ 1) stands (once chunk))).0 in
     let at : c.next_free-next.result ≡ slice_get more 0 =
     c.next_free-next.ensures.chunk
     ∙ (ap (λ (x : SlabState). behind chunk (class_of_chunk x chunk).free) c.slabs-in-Some.ensures.slabs
@@ -100,16 +100,16 @@ loop-next-smaller c =
     let (more, rest_is) = begins_with inv.rest chunk (sym c.in-Some.is ∙ inv.at) in
     let stands : (class_at slabs class).free ≡ inv.before ++ chunk ∷ more = inv.split ∙ ap (λ (rest : List ChunkId). inv.before ++ rest) rest_is in
     let free = stands_free view inv.arena.lawful slabs inv.held class is chunk inv.before more stands in
-    let none = (elsewhere chunk more inv.before (subst (λ (cs : List ChunkId). times chunk cs ≤ 1) stands (once chunk))).0 in
+    let none = (elsewhere chunk more inv.before (subst (λ (cs : List ChunkId). times_in chunk cs ≤ 1) stands (once chunk))).0 in
     let at : c.next_free-next.result ≡ slice_get more 0 =
     c.next_free-next.ensures.chunk
     ∙ (ap (λ (x : SlabState). behind chunk (class_of_chunk x chunk).free) c.slabs-in-Some.ensures.slabs
     ∙ (ap (λ (n : ℕ). behind chunk (class_at slabs n).free) free.own ∙ (ap (behind chunk) stands ∙ behind_is chunk more inv.before none))) in
     let split : (class_at slabs class).free ≡ (inv.before ++ chunk ∷ []) ++ more = stands ∙ sym (append_assoc inv.before (chunk ∷ []) more) in
     let long : rest_from c.loop-next.next (class_at slabs class).free ≡ inv.rest =
-    ap (rest_from c.loop-next.next) inv.split ∙ left_is c.loop-next.next inv.before inv.rest inv.at (λ other. subst (λ (cs : List ChunkId). times other cs ≤ 1) inv.split (once other)) in
+    ap (rest_from c.loop-next.next) inv.split ∙ left_is c.loop-next.next inv.before inv.rest inv.at (λ other. subst (λ (cs : List ChunkId). times_in other cs ≤ 1) inv.split (once other)) in
     let short : rest_from c.next_free-next.result (class_at slabs class).free ≡ more =
-    ap (rest_from c.next_free-next.result) split ∙ left_is c.next_free-next.result (inv.before ++ chunk ∷ []) more at (λ other. subst (λ (cs : List ChunkId). times other cs ≤ 1) split (once other)) in
+    ap (rest_from c.next_free-next.result) split ∙ left_is c.next_free-next.result (inv.before ++ chunk ∷ []) more at (λ other. subst (λ (cs : List ChunkId). times_in other cs ≤ 1) split (once other)) in
     let one = ap length long in
     let two = ap length short in
     let whole = ap length rest_is in

@@ -11,7 +11,7 @@ use Rattle.mc_words.proofs.Locks.Locked.{noted_same}
 use Rattle.mc_words.proofs.Hands.Tallies.{tallied_same}
 use Rattle.mc_words.proofs.arena.Arena.finish_move.Goals as goal
 use Rattle.mc_core.specs.declared.event.Step.TheVariants as core
-use Rattle.mc_words.specs.rule.Happens.{MayTell}
+use Rattle.mc_words.specs.rule.Happens.{AllowsStep}
 use Rattle.mc_words.specs.rule.Layout.{page_word}
 
 pub page_word-word-requires : goal.page_word-word-requires
@@ -34,7 +34,7 @@ tell_page-requires c =
     let runs = sym c.moving.ensures.moving ∙ c.in-Some.is in
     let near = move_near view c.requires.arena.lawful slabs move c.requires.held runs in
     let place : c.page_word-word.result ≡ page_word view.setup move.page = c.page_word-word.ensures.word ∙ ap (λ (s : Setup). page_word s move.page) (sym c.requires.arena.setup) in
-    (refl, (refl, (c.page_word-word.ensures.near, (c.requires.arena, subst (λ (n : ℕ). MayTell view FinishMove core.MissSlabs n (λ found. move.dst)) (sym place) (may_finish view slabs move c.requires.held runs (can_finish_from slabs c.requires.cleared.0 (of_table_here view c.requires.arena.lawful slabs c.requires.held).accounted c.requires.whole c.requires.cleared.1) near.0 near.1)))))
+    (refl, (refl, (c.page_word-word.ensures.near, (c.requires.arena, subst (λ (n : ℕ). AllowsStep view FinishMove core.MissSlabs n (λ found. move.dst)) (sym place) (may_finish view slabs move c.requires.held runs (can_finish_from slabs c.requires.cleared.0 (of_table_here view c.requires.arena.lawful slabs c.requires.held).accounted c.requires.whole c.requires.cleared.1) near.0 near.1)))))
 
 pub invariant_of-hand : goal.invariant_of-hand
 invariant_of-hand c =

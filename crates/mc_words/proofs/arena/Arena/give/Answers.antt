@@ -4,8 +4,8 @@ use Rattle.mc_words.specs.hand.View.{Setup}
 use Rattle.mc_words.specs.rule.Joins.{Rule}
 use Rattle.mc_words.specs.rule.Told.{Sits}
 use Rattle.mc_words.specs.declared.lock.locks.Lock.{Lock}
-use Rattle.mc_words.specs.rule.Layout.{lock_word}
-use Rattle.mc_words.specs.lock.Slots.{number_of, slot_of}
+use Rattle.mc_words.specs.rule.Layout.{lock_address}
+use Rattle.mc_words.specs.lock.Slots.{lock_number, slot_of}
 use Rattle.mc_words.specs.lock.Tries.{GivesValue}
 use Rattle.mc_words.proofs.Rules.Quiet.{has_number}
 use Rattle.mc_words.proofs.Locks.OutFirst.{few_locks, first_slot}
@@ -37,7 +37,7 @@ store-requires g c =
     let (is, (near, (seat, (last, (value, whole))))) = c.requires in
     let a = c.args.self.now in
     let i_is : c.slot-slot.result ≡ slot_of g.told.0 = c.slot-slot.ensures.slot ∙ ap slot_of (ap (λ t. t.0) (sym is)) in
-    let word_is : c.word-word.result ≡ lock_word (number_of g.told.0) = c.word-word.ensures.word ∙ ap (λ (l : Lock). lock_word (number_of l)) (ap (λ t. t.0) (sym is)) in
+    let word_is : c.word-word.result ≡ lock_address (lock_number g.told.0) = c.word-word.ensures.word ∙ ap (λ (l : Lock). lock_address (lock_number l)) (ap (λ t. t.0) (sym is)) in
     let value_is : c.args.value ≡ g.told.1 = ap (λ t. t.1) (sym is) in
     let me : Sits = (c.args.seat.now.me.0, (slot_of g.told.0, g.told.1) ∷ rest c.args.seat.now.me.1) in
     let me_is : me ≡ c.exchange.new.seat.me = sym (c.exchange.ensures.3 ∙ (λ k. (c.args.seat.now.me.0, (i_is k, value_is k) ∷ rest c.args.seat.now.me.1))) in

@@ -1,14 +1,14 @@
 use Rattle.std.proofs.Common.{◌≡◌, ◌<◌, ℕ, true, Some, refl, ap, sym, subst, ◌∙◌, length}
 use Rattle.mc_classes.specs.Classes.{arena_pages_of}
-use Rattle.mc_pages.specs.SlabState.{SlabState, IsClass}
+use Rattle.mc_pages.specs.SlabState.{SlabState, HasClass}
 use Rattle.mc_pages.specs.Changes.{after_grow, next_page}
-use Rattle.mc_core.specs.Silent.{grown}
+use Rattle.mc_core.specs.Silent.{after_growth}
 use Rattle.mc_core.specs.State.{is_class}
 use Rattle.mc_core.specs.declared.event.Change.TheVariants.{Grow}
 use Rattle.mc_core.specs.declared.event.Step.TheVariants as core
 use Rattle.mc_words.specs.hand.View.{View, Setup}
 use Rattle.mc_words.specs.rule.Layout.{page_word}
-use Rattle.mc_words.specs.rule.Happens.{MayTell}
+use Rattle.mc_words.specs.rule.Happens.{AllowsStep}
 use Rattle.mc_words.proofs.Chunks.Judging.{class_of_slabs}
 use Rattle.mc_words.proofs.Pages.PageWords.{may_grow, next_near, can_grow_here}
 use Rattle.mc_words.proofs.Locks.ChangeViews.{changed_slabs}
@@ -24,7 +24,7 @@ grow-requires c =
     let arena = c.requires.arena in
     let class_is = subst (λ (s : Setup). is_class s.table class ≡ true) (sym arena.setup) c.requires.class in
     record {
-      class = subst (λ (x : SlabState). IsClass x class) (sym c.slabs_mut.ensures.slabs) (class_of_slabs view arena.lawful slabs class c.requires.held class_is);
+      class = subst (λ (x : SlabState). HasClass x class) (sym c.slabs_mut.ensures.slabs) (class_of_slabs view arena.lawful slabs class c.requires.held class_is);
       whole = ap (λ (x : SlabState). x.uncut) c.slabs_mut.ensures.slabs ∙ c.requires.whole;
     }
 
@@ -52,7 +52,7 @@ tell_page-requires c =
     let near = next_near view arena.lawful slabs class page c.requires.held next in
     let place : c.page_word-word.result ≡ page_word view.setup page = c.page_word-word.ensures.word ∙ ap (λ (s : Setup). page_word s page) (sym arena.setup) in
     let can = can_grow_here view.setup.table slabs class page class_is c.requires.whole next in
-    (refl, (refl, (c.page_word-word.ensures.near, (arena, subst (λ (n : ℕ). MayTell view (Grow class) core.MissSlabs n (λ found. class)) (sym place) (may_grow view slabs class page c.requires.held can next near.0 near.1)))))
+    (refl, (refl, (c.page_word-word.ensures.near, (arena, subst (λ (n : ℕ). AllowsStep view (Grow class) core.MissSlabs n (λ found. class)) (sym place) (may_grow view slabs class page c.requires.held can next near.0 near.1)))))
 
 pub invariant_of-hand : goal.invariant_of-hand
 invariant_of-hand c =
@@ -69,4 +69,4 @@ returns-clause-held c =
     let class = c.args.class in
     let next : next_page slabs class ≡ Some c.in_ok-page.page = ap (λ (x : SlabState). next_page x class) (sym c.slabs_mut.ensures.slabs) ∙ c.in_ok-page.ensures.given.0 in
     let is = changed_slabs c.args.hand.now.seat.me.0 c.tell_page.new.seat.me.0 slabs (Grow class) c.args.hand.now.number (λ s hand. refl) c.requires.held c.args.hand.now.noted.0 c.tell_page.ensures.happens in
-    ap (λ (v : View). v.slabs) is ∙ ap Some (ap (grown slabs class) next ∙ (ap (λ (x : SlabState). after_grow x class c.in_ok-page.page) (sym c.slabs_mut.ensures.slabs) ∙ sym c.in_ok-page.ensures.given.1))
+    ap (λ (v : View). v.slabs) is ∙ ap Some (ap (after_growth slabs class) next ∙ (ap (λ (x : SlabState). after_grow x class c.in_ok-page.page) (sym c.slabs_mut.ensures.slabs) ∙ sym c.in_ok-page.ensures.given.1))

@@ -7,7 +7,7 @@ use Rattle.mc_core.specs.declared.event.Step.TheVariants as core
 use Rattle.mc_words.specs.hand.View.{View, Setup}
 use Rattle.mc_words.specs.rule.Layout.{head_word}
 use Rattle.mc_words.specs.rule.Happens.{MayWrite, HappensAt}
-use Rattle.mc_words.specs.hand.Views.{saw}
+use Rattle.mc_words.specs.hand.Views.{view_after_sight}
 use Rattle.mc_words.proofs.Chunks.Heads.{may_look}
 use Rattle.mc_words.proofs.Locks.Locked.{noted_same}
 use Rattle.mc_words.proofs.Locks.LockViews.{seen_head, look_holds}
@@ -31,7 +31,7 @@ invariant_of-hand c =
     let place : c.args.word ≡ head_word view.setup c.args.chunk = c.requires.word ∙ ap (λ (s : Setup). head_word s c.args.chunk) (sym arena.setup) in
     let at = subst (λ (n : ℕ). HappensAt n c.look.result view [] (core.Head c.args.chunk) c.look.new.seat.me.0) place c.look.ensures.happens in
     let is = seen_head view c.look.new.seat.me.0 c.args.chunk c.look.result near at in
-    let held = ap (λ (v : View). v.row.holdings) is ∙ look_holds (Saw c.args.chunk (decode c.look.result)) (saw (header c.args.chunk (decode c.look.result)) view) in
+    let held = ap (λ (v : View). v.row.holdings) is ∙ look_holds (Saw c.args.chunk (decode c.look.result)) (view_after_sight (header c.args.chunk (decode c.look.result)) view) in
     record { noted = noted_same a.seat.me c.look.new.seat.me a.number a.chunks a.chunks a.locks a.noted c.look.ensures.out c.look.ensures.hand (a.noted.2 ∙ ap length (sym held)); tallied = tallied_same a.seat.me c.look.new.seat.me a.stamps a.fresh a.tallied (ap (λ (v : View). v.row.ids) is) (ap (λ (v : View). v.row.holdings) is) }
 
 pub returns-clause-happens : goal.returns-clause-happens

@@ -7,7 +7,7 @@ use Rattle.mc_core.specs.State.{has_chunk}
 use Rattle.mc_core.specs.declared.event.Step.TheVariants as core
 use Rattle.mc_core.specs.declared.look.Look.{Look}
 use Rattle.mc_words.specs.hand.Arenas.{setup_of}
-use Rattle.mc_words.specs.chunk.Dead.{IsJudged}
+use Rattle.mc_words.specs.chunk.Dead.{IsAliveOrNoted}
 use Rattle.mc_words.specs.rule.Happens.{Happens, LawfulView}
 use Rattle.mc_words.specs.hand.View.{View, Setup}
 use Rattle.mc_words.specs.hand.Views.{head_seen}
@@ -34,7 +34,7 @@ returns-then-head-eq-DEAD-clause-judged c =
     let chunk = c.args.chunk in
     let now = c.note.new.self in
     let is = looks_more view c.head_at-head.new.hand.seat.me.0 chunk c.head_at-head.result c.args.held.now.shared c.requires.held c.head_at-head.ensures.seen in
-    subst (λ (looks : List Look). IsJudged looks now chunk) (sym is) (noted_judged view.row.looks chunk (decode c.head_at-head.result) c.args.dead.now now c.note.ensures.notes)
+    subst (λ (looks : List Look). IsAliveOrNoted looks now chunk) (sym is) (noted_judged view.row.looks chunk (decode c.head_at-head.result) c.args.dead.now now c.note.ensures.notes)
 
 pub returns-then-head-eq-DEAD-clause-kept : goal.returns-then-head-eq-DEAD-clause-kept
 returns-then-head-eq-DEAD-clause-kept c other judged =
@@ -42,18 +42,18 @@ returns-then-head-eq-DEAD-clause-kept c other judged =
     let chunk = c.args.chunk in
     let now = c.note.new.self in
     let is = looks_more view c.head_at-head.new.hand.seat.me.0 chunk c.head_at-head.result c.args.held.now.shared c.requires.held c.head_at-head.ensures.seen in
-    subst (λ (looks : List Look). IsJudged looks now other) (sym is) (noted_kept view.row.looks chunk (decode c.head_at-head.result) c.args.dead.now now c.note.ensures.notes other judged)
+    subst (λ (looks : List Look). IsAliveOrNoted looks now other) (sym is) (noted_kept view.row.looks chunk (decode c.head_at-head.result) c.args.dead.now now c.note.ensures.notes other judged)
 
 pub returns-else-head-eq-DEAD-clause-judged : goal.returns-else-head-eq-DEAD-clause-judged
 returns-else-head-eq-DEAD-clause-judged c =
     let view = c.args.hand.now.seat.me.0 in
     let chunk = c.args.chunk in
     let is = looks_more view c.head_at-head.new.hand.seat.me.0 chunk c.head_at-head.result c.args.held.now.shared c.requires.held c.head_at-head.ensures.seen in
-    subst (λ (looks : List Look). IsJudged looks c.args.dead.now chunk) (sym is) (alive_judged view.row.looks chunk (decode c.head_at-head.result) c.args.dead.now (word_alive c.head_at-head.result c.if-head-eq-DEAD.false))
+    subst (λ (looks : List Look). IsAliveOrNoted looks c.args.dead.now chunk) (sym is) (alive_judged view.row.looks chunk (decode c.head_at-head.result) c.args.dead.now (word_alive c.head_at-head.result c.if-head-eq-DEAD.false))
 
 pub returns-else-head-eq-DEAD-clause-kept : goal.returns-else-head-eq-DEAD-clause-kept
 returns-else-head-eq-DEAD-clause-kept c other judged =
     let view = c.args.hand.now.seat.me.0 in
     let chunk = c.args.chunk in
     let is = looks_more view c.head_at-head.new.hand.seat.me.0 chunk c.head_at-head.result c.args.held.now.shared c.requires.held c.head_at-head.ensures.seen in
-    subst (λ (looks : List Look). IsJudged looks c.args.dead.now other) (sym is) (alive_kept view.row.looks chunk (decode c.head_at-head.result) c.args.dead.now (word_alive c.head_at-head.result c.if-head-eq-DEAD.false) other judged)
+    subst (λ (looks : List Look). IsAliveOrNoted looks c.args.dead.now other) (sym is) (alive_kept view.row.looks chunk (decode c.head_at-head.result) c.args.dead.now (word_alive c.head_at-head.result c.if-head-eq-DEAD.false) other judged)

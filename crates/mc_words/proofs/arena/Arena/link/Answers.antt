@@ -3,15 +3,15 @@ use Rattle.std.specs.Option.{option_map_or}
 use Rattle.mc_pages.specs.Accounted.{truth}
 use Rattle.mc_stripe.specs.StripeState.{ReadyStripe, key_aside}
 use Rattle.mc_stripe.specs.Changes.{after_link, used_up}
-use Rattle.mc_core.specs.Codes.{plus}
-use Rattle.mc_core.specs.Holdings.{is_of, item_in, lose, numbers, words_of}
+use Rattle.mc_core.specs.Codes.{word_plus}
+use Rattle.mc_core.specs.Holdings.{is_of_chunk, words_of_item, without_first, numbers_of_known, holding_words}
 use Rattle.mc_core.specs.State.{has_chunk}
 use Rattle.mc_core.specs.declared.holding.Holding.{Holding}
 use Rattle.mc_core.specs.declared.event.Step.TheVariants as core
 use Rattle.mc_words.specs.hand.View.{View, Setup}
 use Rattle.mc_words.specs.rule.Layout.{head_word}
 use Rattle.mc_words.specs.rule.Happens.{MayWrite, HappensAt}
-use Rattle.mc_words.specs.item.Items.{issue_in, words_in}
+use Rattle.mc_words.specs.item.Items.{issue_in, known_words_in}
 use Rattle.mc_words.specs.item.Links.{item_linked, own_item}
 use Rattle.mc_words.specs.item.References.{reference_to}
 use Rattle.mc_words.specs.item.Refs.{IsRefOf}
@@ -28,7 +28,7 @@ head_word-word-requires c =
     let arena = c.requires.arena in
     let view = c.args.hand.now.seat.me.0 in
     let chunk = c.args.fresh.chunk in
-    record { near = subst (λ (s : Setup). has_chunk s.table chunk ≡ true) arena.setup (holding_near view arena.lawful chunk (own_item chunk (issue_in view chunk) (words_in view chunk)) c.requires.item.found refl) }
+    record { near = subst (λ (s : Setup). has_chunk s.table chunk ≡ true) arena.setup (holding_near view arena.lawful chunk (own_item chunk (issue_in view chunk) (known_words_in view chunk)) c.requires.item.found refl) }
 
 pub fetch_add-head-requires : goal.fetch_add-head-requires
 fetch_add-head-requires c =
@@ -38,10 +38,10 @@ fetch_add-head-requires c =
     let value = c.args.held.now.stripe in
     let chunk = c.args.fresh.chunk in
     let issue = issue_in view chunk in
-    let words = words_in view chunk in
+    let words = known_words_in view chunk in
     let may : MayStore view c.args.held.now.number value c.args.fresh.key = record { mine = c.requires.held; of_key = ap (λ (s : Setup). c.args.fresh.key % s.config.stripes) arena.setup ∙ c.requires.stripe; room = c.requires.room; new = c.requires.new; alone = c.requires.aside } in
     let place : c.head_word-word.result ≡ head_word view.setup chunk = c.head_word-word.ensures.word ∙ ap (λ (s : Setup). head_word s chunk) (sym arena.setup) in
-    (refl, (refl, (c.head_word-word.ensures.near, (arena, subst (λ (n : ℕ). MayWrite view (core.Link chunk) n (plus 65537)) (sym place) (may_link view c.args.held.now.number value c.args.fresh.key c.args.fresh.stamp a.number chunk issue words may c.requires.item a.noted.0 c.requires.stamp)))))
+    (refl, (refl, (c.head_word-word.ensures.near, (arena, subst (λ (n : ℕ). MayWrite view (core.Link chunk) n (word_plus 65537)) (sym place) (may_link view c.args.held.now.number value c.args.fresh.key c.args.fresh.stamp a.number chunk issue words may c.requires.item a.noted.0 c.requires.stamp)))))
 
 pub overflow_sub-hand : goal.overflow_sub-hand
 overflow_sub-hand c =
@@ -59,16 +59,16 @@ invariant_of-hand c =
     let value = c.args.held.now.stripe in
     let chunk = c.args.fresh.chunk in
     let issue = issue_in view chunk in
-    let words = words_in view chunk in
+    let words = known_words_in view chunk in
     let may : MayStore view c.args.held.now.number value c.args.fresh.key = record { mine = c.requires.held; of_key = ap (λ (s : Setup). c.args.fresh.key % s.config.stripes) arena.setup ∙ c.requires.stripe; room = c.requires.room; new = c.requires.new; alone = c.requires.aside } in
     let now = c.fetch_add-head.new.seat.me.0 in
     let h = c.fetch_add-head.ensures.happens.0 in
     let is = linked_view view c.args.held.now.number value c.args.fresh.key c.args.fresh.stamp a.number chunk issue words may c.requires.item a.noted.0 now h in
     let room : linked_room view c.args.held.now.number value c.args.fresh.key c.args.fresh.stamp a.number chunk issue words may c.requires.item a.noted.0 now h ≡ c.args.fresh.room =
     linked_room_is view c.args.held.now.number value c.args.fresh.key c.args.fresh.stamp a.number chunk issue words may c.requires.item a.noted.0 now h
-    ∙ (ap (λ (o : Option Holding). length (option_map_or words_of o [])) (sym (sym c.requires.fresh.found)) ∙ c.requires.fresh.room_is) in
-    let left = lose (is_of chunk) view.row.holdings in
-    let one = reference_to chunk issue (numbers (item_in words)) in
+    ∙ (ap (λ (o : Option Holding). length (option_map_or holding_words o [])) (sym (sym c.requires.fresh.found)) ∙ c.requires.fresh.room_is) in
+    let left = without_first (is_of_chunk chunk) view.row.holdings in
+    let one = reference_to chunk issue (numbers_of_known (words_of_item words)) in
     let less = one_less chunk view.row.holdings (own_item chunk issue words) c.requires.item.found in
     let more = length-append left (one ∷ []) in
     let count = a.noted.2 in
@@ -93,14 +93,14 @@ returns-clause-held c =
     let value = c.args.held.now.stripe in
     let chunk = c.args.fresh.chunk in
     let issue = issue_in view chunk in
-    let words = words_in view chunk in
+    let words = known_words_in view chunk in
     let may : MayStore view c.args.held.now.number value c.args.fresh.key = record { mine = c.requires.held; of_key = ap (λ (s : Setup). c.args.fresh.key % s.config.stripes) arena.setup ∙ c.requires.stripe; room = c.requires.room; new = c.requires.new; alone = c.requires.aside } in
     let now = c.fetch_add-head.new.seat.me.0 in
     let h = c.fetch_add-head.ensures.happens.0 in
     let is = linked_view view c.args.held.now.number value c.args.fresh.key c.args.fresh.stamp a.number chunk issue words may c.requires.item a.noted.0 now h in
     let room : linked_room view c.args.held.now.number value c.args.fresh.key c.args.fresh.stamp a.number chunk issue words may c.requires.item a.noted.0 now h ≡ c.args.fresh.room =
     linked_room_is view c.args.held.now.number value c.args.fresh.key c.args.fresh.stamp a.number chunk issue words may c.requires.item a.noted.0 now h
-    ∙ (ap (λ (o : Option Holding). length (option_map_or words_of o [])) (sym (sym c.requires.fresh.found)) ∙ c.requires.fresh.room_is) in
+    ∙ (ap (λ (o : Option Holding). length (option_map_or holding_words o [])) (sym (sym c.requires.fresh.found)) ∙ c.requires.fresh.room_is) in
     ap (λ (v : View). slice_index_or v.stripes c.args.held.now.number None) is
     ∙ (set_found view.stripes c.args.held.now.number value (used_up (after_link value.state a.number c.args.fresh.key chunk c.args.fresh.stamp)) c.requires.held
     ∙ ap Some (sym (c.link.ensures.linked ∙ ap (λ (v : ReadyStripe). used_up (after_link v.state a.number c.args.fresh.key chunk c.args.fresh.stamp)) c.stripe_mut.ensures.stripe)))
@@ -113,14 +113,14 @@ returns-clause-linked c =
     let value = c.args.held.now.stripe in
     let chunk = c.args.fresh.chunk in
     let issue = issue_in view chunk in
-    let words = words_in view chunk in
+    let words = known_words_in view chunk in
     let may : MayStore view c.args.held.now.number value c.args.fresh.key = record { mine = c.requires.held; of_key = ap (λ (s : Setup). c.args.fresh.key % s.config.stripes) arena.setup ∙ c.requires.stripe; room = c.requires.room; new = c.requires.new; alone = c.requires.aside } in
     let now = c.fetch_add-head.new.seat.me.0 in
     let h = c.fetch_add-head.ensures.happens.0 in
     let is = linked_view view c.args.held.now.number value c.args.fresh.key c.args.fresh.stamp a.number chunk issue words may c.requires.item a.noted.0 now h in
     let room : linked_room view c.args.held.now.number value c.args.fresh.key c.args.fresh.stamp a.number chunk issue words may c.requires.item a.noted.0 now h ≡ c.args.fresh.room =
     linked_room_is view c.args.held.now.number value c.args.fresh.key c.args.fresh.stamp a.number chunk issue words may c.requires.item a.noted.0 now h
-    ∙ (ap (λ (o : Option Holding). length (option_map_or words_of o [])) (sym (sym c.requires.fresh.found)) ∙ c.requires.fresh.room_is) in
+    ∙ (ap (λ (o : Option Holding). length (option_map_or holding_words o [])) (sym (sym c.requires.fresh.found)) ∙ c.requires.fresh.room_is) in
     is ∙ ap (λ n. item_linked a.number c.args.held.now.number value c.args.fresh.key c.args.fresh.stamp chunk issue words n view) room
 
 pub returns-clause-same : goal.returns-clause-same
@@ -131,7 +131,7 @@ returns-clause-same c =
     let value = c.args.held.now.stripe in
     let chunk = c.args.fresh.chunk in
     let issue = issue_in view chunk in
-    let words = words_in view chunk in
+    let words = known_words_in view chunk in
     let may : MayStore view c.args.held.now.number value c.args.fresh.key = record { mine = c.requires.held; of_key = ap (λ (s : Setup). c.args.fresh.key % s.config.stripes) arena.setup ∙ c.requires.stripe; room = c.requires.room; new = c.requires.new; alone = c.requires.aside } in
     let now = c.fetch_add-head.new.seat.me.0 in
     let h = c.fetch_add-head.ensures.happens.0 in
@@ -147,12 +147,12 @@ returns-clause-reference c =
     let value = c.args.held.now.stripe in
     let chunk = c.args.fresh.chunk in
     let issue = issue_in view chunk in
-    let words = words_in view chunk in
+    let words = known_words_in view chunk in
     let may : MayStore view c.args.held.now.number value c.args.fresh.key = record { mine = c.requires.held; of_key = ap (λ (s : Setup). c.args.fresh.key % s.config.stripes) arena.setup ∙ c.requires.stripe; room = c.requires.room; new = c.requires.new; alone = c.requires.aside } in
     let now = c.fetch_add-head.new.seat.me.0 in
     let h = c.fetch_add-head.ensures.happens.0 in
     let is = linked_view view c.args.held.now.number value c.args.fresh.key c.args.fresh.stamp a.number chunk issue words may c.requires.item a.noted.0 now h in
     let room : linked_room view c.args.held.now.number value c.args.fresh.key c.args.fresh.stamp a.number chunk issue words may c.requires.item a.noted.0 now h ≡ c.args.fresh.room =
     linked_room_is view c.args.held.now.number value c.args.fresh.key c.args.fresh.stamp a.number chunk issue words may c.requires.item a.noted.0 now h
-    ∙ (ap (λ (o : Option Holding). length (option_map_or words_of o [])) (sym (sym c.requires.fresh.found)) ∙ c.requires.fresh.room_is) in
+    ∙ (ap (λ (o : Option Holding). length (option_map_or holding_words o [])) (sym (sym c.requires.fresh.found)) ∙ c.requires.fresh.room_is) in
     subst (IsRefOf now chunk) room (linked_ref view c.args.held.now.number value c.args.fresh.key c.args.fresh.stamp a.number chunk issue words may c.requires.item a.noted.0 now h c.fetch_add-head.ensures.seat.lawful)

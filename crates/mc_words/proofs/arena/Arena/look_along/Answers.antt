@@ -3,7 +3,7 @@ use Rattle.std.proofs.Math.Nat.{div-add-mod}
 use Rattle.std.proofs.lemmas.Bool.{cases_lt}
 use Rattle.mc_pages.proofs.Cuts.{chunk_at}
 use Rattle.mc_words.specs.hand.Arenas.{view}
-use Rattle.mc_words.specs.chunk.Dead.{IsJudged}
+use Rattle.mc_words.specs.chunk.Dead.{IsAliveOrNoted}
 use Rattle.mc_words.specs.chunk.Sweeps.{LooksAlong}
 use Rattle.mc_words.proofs.Pages.Judged.{in_or_out, of_page}
 use Rattle.mc_words.proofs.Pages.LookedOver.{looks_behind, looks_fewer, looks_further}
@@ -31,7 +31,7 @@ loop-four-preserved-then-are_linked_or_free c =
         | inr past ↦ λ few. inl (first.alive is index past (omega (arith, below)))
       ];
       kept = λ other judged. elim (in_or_out page (4 * four) (4 * four + 4) other) [
-        | inl inside ↦ of_page (IsJudged now.row.looks dead) page other inside.0 (λ few. inl (first.alive is other.index inside.1 inside.2))
+        | inl inside ↦ of_page (IsAliveOrNoted now.row.looks dead) page other inside.0 (λ few. inl (first.alive is other.index inside.1 inside.2))
         | inr outside ↦ first.kept dead other outside (inv.kept other judged)
       ];
     }
@@ -61,7 +61,7 @@ loop-four-preserved c =
         | inr past ↦ again.judged index past (omega (arith, below))
       ];
       kept = λ other judged. elim (in_or_out page (4 * four) (4 * four + 4) other) [
-        | inl inside ↦ of_page (IsJudged now.row.looks c.look_from.new.dead) page other inside.0 (again.judged other.index inside.1 inside.2)
+        | inl inside ↦ of_page (IsAliveOrNoted now.row.looks c.look_from.new.dead) page other inside.0 (again.judged other.index inside.1 inside.2)
         | inr outside ↦ again.kept other (first.kept dead other outside (inv.kept other judged))
       ];
     }

@@ -2,7 +2,7 @@ use Rattle.std.proofs.Common.{◌≡◌, List, Some}
 use Rattle.mc_pages.specs.declared.ids.ChunkId.{ChunkId}
 use Rattle.mc_pages.specs.SlabState.{class_of_page}
 use Rattle.mc_words.specs.hand.Arenas.{IsHandOf, setup_of, view}
-use Rattle.mc_words.specs.chunk.Dead.{AreHandedOut, AreJudged, IsJudged}
+use Rattle.mc_words.specs.chunk.Dead.{AreHandedOut, AreJudged, IsAliveOrNoted}
 use Rattle.mc_words.specs.chunk.Sweeps.{SeesHeaders}
 use Rattle.mc_words.proofs.arena.Arena.look_at_each.Given as goal
 
@@ -16,5 +16,5 @@ invariant-loop l = record {
   looked : List ChunkId;
   sees : SeesHeaders looked (view l.fn.hand) (view l.hand);
   judged : AreJudged looked (view l.hand).row.looks l.dead;
-  kept : (other : ChunkId) → IsJudged (view l.fn.hand).row.looks l.fn.dead other → IsJudged (view l.hand).row.looks l.dead other;
+  kept : (other : ChunkId) → IsAliveOrNoted (view l.fn.hand).row.looks l.fn.dead other → IsAliveOrNoted (view l.hand).row.looks l.dead other;
 }

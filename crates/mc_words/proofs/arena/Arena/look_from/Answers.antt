@@ -3,7 +3,7 @@ use Rattle.std.proofs.lemmas.Bool.{and_from, cases_eq}
 use Rattle.mc_classes.specs.Classes.{arena_pages_of}
 use Rattle.mc_core.specs.State.{most_of}
 use Rattle.mc_words.specs.hand.Arenas.{setup_of, view}
-use Rattle.mc_words.specs.chunk.Dead.{IsJudged}
+use Rattle.mc_words.specs.chunk.Dead.{IsAliveOrNoted}
 use Rattle.mc_words.specs.chunk.Sweeps.{LooksAlong}
 use Rattle.mc_words.proofs.Pages.LookedOver.{looks_next}
 use Rattle.mc_words.proofs.arena.Arena.look_from.Goals as goal
@@ -33,7 +33,7 @@ loop-offset-preserved c =
       sees = subst (λ (n : ℕ). LooksAlong page from n (view c.args.hand.now) (view c.judge.new.hand)) (omega arith)
           (looks_next page from (from + offset) (view c.args.hand.now) (view c.loop-offset.hand) (view c.judge.new.hand) inv.sees c.judge.ensures.sees);
       judged = λ other past below. elim (cases_eq other (from + offset)) [
-        | inl same ↦ subst (λ (n : ℕ). IsJudged next.row.looks c.judge.new.dead (record { page = page; index = n })) (sym same) c.judge.ensures.judged
+        | inl same ↦ subst (λ (n : ℕ). IsAliveOrNoted next.row.looks c.judge.new.dead (record { page = page; index = n })) (sym same) c.judge.ensures.judged
         | inr apart ↦ c.judge.ensures.kept (record { page = page; index = other }) (inv.judged other past (omega (arith, below, apart)))
       ];
       kept = λ other judged. c.judge.ensures.kept other (inv.kept other judged);

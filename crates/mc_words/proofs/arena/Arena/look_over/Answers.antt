@@ -7,7 +7,7 @@ use Rattle.mc_pages.specs.SlabState.{SlabState, class_at, class_of_owner, class_
 use Rattle.mc_core.specs.Silent.{is_among}
 use Rattle.mc_core.specs.State.{is_class, most_of}
 use Rattle.mc_words.specs.hand.Arenas.{setup_of}
-use Rattle.mc_words.specs.chunk.Dead.{AreHandedOut, IsJudged}
+use Rattle.mc_words.specs.chunk.Dead.{AreHandedOut, IsAliveOrNoted}
 use Rattle.mc_words.specs.hand.View.{Setup, View}
 use Rattle.mc_words.specs.rule.Happens.{LawfulView}
 use Rattle.mc_words.proofs.Pages.Judged.{of_page}
@@ -55,7 +55,7 @@ loop-page-preserved c =
         | inl same ↦
             let within' : chunk.index < per_page = subst (λ (n : ℕ). chunk.index < n) (sym chunks) within in (
               among_behind inv.looked more chunk (of_page (λ c. is_among more c ≡ true) page chunk same (among chunk.index (omega arith) within')),
-              subst (λ (n : ℕ). IsJudged next.row.looks c.look_along.new.dead (record { page = n; index = chunk.index })) (sym same) (along.judged chunk.index within'),
+              subst (λ (n : ℕ). IsAliveOrNoted next.row.looks c.look_along.new.dead (record { page = n; index = chunk.index })) (sym same) (along.judged chunk.index within'),
             )
         | inr apart ↦
             let before = inv.judged chunk of (omega (arith, below, apart)) within in (

@@ -3,7 +3,7 @@ use Rattle.mc_pages.specs.declared.ids.ChunkId.{ChunkId}
 use Rattle.mc_pages.specs.SlabState.{class_at, class_of_page}
 use Rattle.mc_core.specs.Silent.{is_among}
 use Rattle.mc_words.specs.hand.Arenas.{IsHandOf, setup_of, view}
-use Rattle.mc_words.specs.chunk.Dead.{AreHandedOut, IsJudged}
+use Rattle.mc_words.specs.chunk.Dead.{AreHandedOut, IsAliveOrNoted}
 use Rattle.mc_words.specs.chunk.Sweeps.{SeesHeaders}
 use Rattle.mc_words.proofs.arena.Arena.look_over.Given as goal
 
@@ -17,5 +17,5 @@ invariant-loop-page l = record {
   looked : List ChunkId;
   sees : SeesHeaders looked (view l.fn.hand) (view l.hand);
   judged : (chunk : ChunkId) → class_of_page l.held.shared chunk.page ≡ l.class → chunk.page < l.page → chunk.index < (class_at l.held.shared l.class).per_page
-      → (is_among looked chunk ≡ true) × IsJudged (view l.hand).row.looks l.dead chunk;
+      → (is_among looked chunk ≡ true) × IsAliveOrNoted (view l.hand).row.looks l.dead chunk;
 }

@@ -1,9 +1,9 @@
 use Rattle.std.proofs.Common.{◌≡◌, ◌+◌, ◌≤◌, ◌<◌, ◌/◌, ℕ, true, [], ◌∷◌, Some, refl, ap, sym, subst, ◌∙◌, length, length-append, arith}
 use Rattle.mc_classes.specs.Classes.{Classes}
 use Rattle.mc_pages.specs.ClassState.{first_free}
-use Rattle.mc_pages.specs.SlabState.{SlabState, IsClass, class_at}
+use Rattle.mc_pages.specs.SlabState.{SlabState, HasClass, class_at}
 use Rattle.mc_pages.specs.Changes.{after_pop}
-use Rattle.mc_core.specs.Codes.{plus}
+use Rattle.mc_core.specs.Codes.{word_plus}
 use Rattle.mc_core.specs.Head.{decode}
 use Rattle.mc_core.specs.State.{has_chunk, is_class, room_in}
 use Rattle.mc_core.specs.declared.event.Step.TheVariants as core
@@ -51,7 +51,7 @@ add-requires c =
     let mine = after_slabs view seen seen slabs chunk head c.requires.held is looks in
     let last = after_last view seen seen slabs chunk head c.requires.held is looks in
     let few : length seen.row.holdings < most_holdings = let few = c.requires.room in let same = ap length (after_holds view seen seen slabs chunk head c.requires.held is looks) in omega arith in
-    (refl, (refl, (c.head_word-word.ensures.near, (arena, subst (λ (n : ℕ). MayWrite seen (core.Pop class) n (plus 327681)) (sym place) (may_pop seen slabs class chunk head mine seen_class first near few last (issue_left c.head-head.result c.if-head-ge-MOST_ISSUE.false))))))
+    (refl, (refl, (c.head_word-word.ensures.near, (arena, subst (λ (n : ℕ). MayWrite seen (core.Pop class) n (word_plus 327681)) (sym place) (may_pop seen slabs class chunk head mine seen_class first near few last (issue_left c.head-head.result c.if-head-ge-MOST_ISSUE.false))))))
 
 pub invariant_of-hand : goal.invariant_of-hand
 invariant_of-hand c =
@@ -110,7 +110,7 @@ pop-requires c =
     let looks = c.head-head.ensures.happens in
     let is = c.head-head.ensures.seen in
     let seen_class = subst (λ (s : Setup). is_class s.table class ≡ true) (sym arena.setup) c.requires.class in
-    subst (λ (x : SlabState). IsClass x class) (sym c.slabs_mut.ensures.slabs) (class_of_slabs view was slabs class c.requires.held class_is)
+    subst (λ (x : SlabState). HasClass x class) (sym c.slabs_mut.ensures.slabs) (class_of_slabs view was slabs class c.requires.held class_is)
 
 pub size-room-requires : goal.size-room-requires
 size-room-requires c =

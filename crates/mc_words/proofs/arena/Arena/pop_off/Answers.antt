@@ -4,7 +4,7 @@ use Rattle.mc_classes.specs.Classes.{Classes, size_of}
 use Rattle.mc_pages.specs.declared.ids.ChunkId.{ChunkId}
 use Rattle.mc_pages.specs.SlabState.{SlabState, class_at, class_of_chunk, class_of_owner, class_of_page}
 use Rattle.mc_pages.specs.Changes.{after_replace}
-use Rattle.mc_core.specs.Codes.{plus}
+use Rattle.mc_core.specs.Codes.{word_plus}
 use Rattle.mc_core.specs.State.{has_chunk, is_class, room_in}
 use Rattle.mc_core.specs.declared.event.Step.TheVariants as core
 use Rattle.mc_core.proofs.Listed.{Contains_from_among}
@@ -100,7 +100,7 @@ add-requires c =
     let holds : seen.row.holdings ≡ view.row.holdings = ap (λ (v : View). v.row.holdings) finds.fit.is ∙ passed_holds old.page finds.before view finds.passed finds.passes in
     let place : c.head_word-word.result ≡ head_word seen.setup chunk = c.head_word-word.ensures.word ∙ ap (λ (s : Setup). head_word s chunk) (sym arena.setup) in
     let few : length seen.row.holdings < most_holdings = let few = c.requires.room in let same = ap length holds in omega arith in
-    (refl, (refl, (c.head_word-word.ensures.near, (arena, subst (λ (n : ℕ). MayWrite seen (core.PopOff old) n (plus 327681)) (sym place) (may_pop_off seen slabs old chunk mine c.requires.moving sees c.requires.out few)))))
+    (refl, (refl, (c.head_word-word.ensures.near, (arena, subst (λ (n : ℕ). MayWrite seen (core.PopOff old) n (word_plus 327681)) (sym place) (may_pop_off seen slabs old chunk mine c.requires.moving sees c.requires.out few)))))
 
 pub overflow_add-hand : goal.overflow_add-hand
 overflow_add-hand c =

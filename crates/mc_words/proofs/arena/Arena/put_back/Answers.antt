@@ -2,7 +2,7 @@ use Rattle.std.proofs.Common.{◌≡◌, ℕ, true, false, Some, refl, ap, sym, 
 use Rattle.std.specs.Prelude.{Contains}
 use Rattle.mc_pages.specs.Changes.{after_back}
 use Rattle.mc_pages.specs.SlabState.{SlabState, class_of_chunk}
-use Rattle.mc_core.specs.Codes.{minus}
+use Rattle.mc_core.specs.Codes.{word_minus}
 use Rattle.mc_core.specs.Head.{decode}
 use Rattle.mc_core.specs.State.{has_chunk}
 use Rattle.mc_core.specs.declared.event.Step.TheVariants as core
@@ -28,7 +28,7 @@ subtract-requires c =
     let place : c.head_word-word.result ≡ head_word seen.setup chunk = c.head_word-word.ensures.word ∙ ap (λ (s : Setup). head_word s chunk) (sym arena.setup) in
     let mine = after_slabs view seen seen slabs chunk head c.requires.held c.head-head.ensures.seen c.head-head.ensures.happens in
     let last = after_last view seen seen slabs chunk head c.requires.held c.head-head.ensures.seen c.head-head.ensures.happens in
-    (refl, (refl, (c.head_word-word.ensures.near, (arena, subst (λ (n : ℕ). MayWrite seen (core.PutBack chunk) n (minus 65536)) (sym place) (may_put_back seen slabs chunk head mine near last (word_dead c.head-head.result c.if-head-ne-DEAD.false))))))
+    (refl, (refl, (c.head_word-word.ensures.near, (arena, subst (λ (n : ℕ). MayWrite seen (core.PutBack chunk) n (word_minus 65536)) (sym place) (may_put_back seen slabs chunk head mine near last (word_dead c.head-head.result c.if-head-ne-DEAD.false))))))
 
 pub invariant_of-hand : goal.invariant_of-hand
 invariant_of-hand c =

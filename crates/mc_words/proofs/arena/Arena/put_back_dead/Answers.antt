@@ -8,7 +8,7 @@ use Rattle.mc_core.specs.Looks.{is_found_alive}
 use Rattle.mc_core.specs.State.{is_class}
 use Rattle.mc_words.specs.hand.Arenas.{setup_of}
 use Rattle.mc_words.specs.chunk.Dead.{ShareAnOrder}
-use Rattle.mc_words.specs.chunk.Sweeps.{SweepsEach, follows}
+use Rattle.mc_words.specs.chunk.Sweeps.{SweepsEach, is_in_sequence}
 use Rattle.mc_words.specs.hand.View.{Setup}
 use Rattle.mc_words.proofs.Chunks.DeadOrders.{in_order_of}
 use Rattle.mc_words.proofs.Chunks.FewDead.{IsAliveBut, contains_from_times, each_alive, follows_all, is_alive, passes_one}
@@ -33,7 +33,7 @@ returns-then-put_in_order-clause-each c =
     let slabs = c.args.held.now.shared in
     let now = c.put_in_order.new.self.chunks in
     let oldest_first = in_order_of (setup_of c.args.self.now).table slabs c.args.class c.args.dead.now now c.requires.out c.put_in_order.ensures.same
-    (subst (λ (x : SlabState). (chunk : ChunkId) → Contains now chunk → follows (class_of_chunk x chunk).order now ≡ true) c.slabs.ensures.slabs (c.put_in_order.ensures.in_order c.if-put_in_order.true)) in
+    (subst (λ (x : SlabState). (chunk : ChunkId) → Contains now chunk → is_in_sequence (class_of_chunk x chunk).order now ≡ true) c.slabs.ensures.slabs (c.put_in_order.ensures.in_order c.if-put_in_order.true)) in
     let each = subst (λ (cs : List ChunkId). SweepsEach cs c.args.hand.now.seat.me.0 slabs c.put_back_each.new.hand.seat.me.0 c.put_back_each.new.held.shared) c.as_slice.ensures.chunks c.put_back_each.ensures.each in
     (now, oldest_first, each)
 

@@ -1,5 +1,5 @@
 use Rattle.std.proofs.Common.{◌≡◌, ℕ, ◌+◌, ◌/◌, ◌%◌, true, [], ◌∷◌, refl, ap, sym, subst, ◌∙◌, length, length-append, arith}
-use Rattle.mc_core.specs.Codes.{plus}
+use Rattle.mc_core.specs.Codes.{word_plus}
 use Rattle.mc_core.specs.State.{has_chunk}
 use Rattle.mc_core.specs.declared.event.Step.TheVariants as core
 use Rattle.mc_words.specs.hand.View.{View, Setup}
@@ -34,7 +34,7 @@ fetch_add-found-requires c =
     let of_key = ap (λ (s : Setup). c.args.key % s.config.stripes) arena.setup ∙ c.requires.of_key in
     let to : LeadsTo view stripe value c.args.key chunk c.requires.leads.0 = record { mine = c.requires.held; of_key = of_key; leads = c.requires.leads.1 } in
     let place : c.head_word-word.result ≡ head_word view.setup chunk = c.head_word-word.ensures.word ∙ ap (λ (s : Setup). head_word s chunk) (sym arena.setup) in
-    (refl, (refl, (c.head_word-word.ensures.near, (arena, subst (λ (n : ℕ). MayWrite view (core.Refer c.args.key) n (plus 1)) (sym place) (may_refer view stripe value c.args.key chunk c.requires.leads.0 to c.requires.ready c.requires.inside c.requires.few)))))
+    (refl, (refl, (c.head_word-word.ensures.near, (arena, subst (λ (n : ℕ). MayWrite view (core.Refer c.args.key) n (word_plus 1)) (sym place) (may_refer view stripe value c.args.key chunk c.requires.leads.0 to c.requires.ready c.requires.inside c.requires.few)))))
 
 pub invariant_of-hand : goal.invariant_of-hand
 invariant_of-hand c =

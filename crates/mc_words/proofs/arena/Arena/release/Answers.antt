@@ -1,6 +1,6 @@
 use Rattle.std.proofs.Common.{◌≡◌, ◌-◌, ℕ, true, refl, ap, sym, subst, arith, length, ◌∙◌}
 use Rattle.mc_pages.specs.Accounted.{truth}
-use Rattle.mc_core.specs.Codes.{minus}
+use Rattle.mc_core.specs.Codes.{word_minus}
 use Rattle.mc_core.specs.State.{has_chunk}
 use Rattle.mc_core.specs.declared.event.Step.TheVariants as core
 use Rattle.mc_words.specs.hand.View.{View, Setup}
@@ -26,7 +26,7 @@ subtract-found-requires c =
     let view = c.args.hand.now.seat.me.0 in
     let near = held_is_near view arena.lawful c.args.reference.chunk ref.holding ref.found in
     let place : c.head_word-word.result ≡ head_word view.setup c.args.reference.chunk = c.head_word-word.ensures.word ∙ ap (λ (s : Setup). head_word s c.args.reference.chunk) (sym arena.setup) in
-    (refl, (refl, (c.head_word-word.ensures.near, (arena, subst (λ (n : ℕ). MayWrite view (core.Release c.args.reference.chunk) n (minus 1)) (sym place) (may_release view c.args.reference.chunk ref.holding near ref.found ref.linked)))))
+    (refl, (refl, (c.head_word-word.ensures.near, (arena, subst (λ (n : ℕ). MayWrite view (core.Release c.args.reference.chunk) n (word_minus 1)) (sym place) (may_release view c.args.reference.chunk ref.holding near ref.found ref.linked)))))
 
 pub invariant_of-hand : goal.invariant_of-hand
 invariant_of-hand c =

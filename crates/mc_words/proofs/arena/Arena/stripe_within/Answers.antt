@@ -1,7 +1,7 @@
 use Rattle.std.proofs.Common.{◌≢◌, List, [], ◌∷◌, ◌++◌, length, length-append, ap, ◌∙◌, slice_get, arith}
 use Rattle.std.proofs.lemmas.List.Elements.{All-append, All-cons}
 use Rattle.mc_stripe.specs.declared.history.Call.{Call}
-use Rattle.mc_words.specs.lock.Out.{has_no_stripe}
+use Rattle.mc_words.specs.lock.Out.{locks_have_no_stripe}
 use Rattle.mc_words.proofs.Locks.Unlocked.{unlocked_from, no_stripe_unlocked, no_stripes_there}
 use Rattle.mc_words.proofs.Locks.Waits.{missed_stripe_again, misses_seen}
 use Rattle.mc_words.proofs.arena.Arena.stripe_within.Goals as goal
@@ -10,7 +10,7 @@ pub try_stripe-requires : goal.try_stripe-requires
 try_stripe-requires c =
     let a = c.args.hand.now in
     let b = c.loop-missed.hand in
-    record { arena = c.loop-missed.invariant.0; near = c.requires.near; one = no_stripes_there b.seat.me.0 b.locks b.noted.4 (ap has_no_stripe c.loop-missed.invariant.1 ∙ no_stripe_unlocked a.locks (unlocked_from a.seat.me.0 a.locks a.noted.4 ∙ c.requires.unlocked)) }
+    record { arena = c.loop-missed.invariant.0; near = c.requires.near; one = no_stripes_there b.seat.me.0 b.locks b.noted.4 (ap locks_have_no_stripe c.loop-missed.invariant.1 ∙ no_stripe_unlocked a.locks (unlocked_from a.seat.me.0 a.locks a.noted.4 ∙ c.requires.unlocked)) }
 
 pub loop-missed-preserved : goal.loop-missed-preserved
 loop-missed-preserved c =

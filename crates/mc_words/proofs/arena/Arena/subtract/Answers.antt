@@ -1,4 +1,4 @@
-use Rattle.mc_core.specs.Codes.{minus}
+use Rattle.mc_core.specs.Codes.{word_minus}
 use Rattle.mc_words.proofs.Rules.Quiet.{changes, has_number}
 use Rattle.mc_words.proofs.arena.Arena.subtract.Goals as goal
 
@@ -7,5 +7,5 @@ fetch_sub-requires g c =
     let (is, (still, (near, (seat, may)))) = c.requires in (
       seat.same_table,
       near,
-      changes c.args.self.now.table.shared.key _ _ c.args.seat.now.me (has_number _ seat.lawful) seat.setup g.told still c.args.word (minus c.args.less) may c.args.less 0,
+      changes c.args.self.now.table.shared.key _ _ c.args.seat.now.me (has_number _ seat.lawful) seat.setup g.told still c.args.word (word_minus c.args.less) may c.args.less 0,
     )

@@ -6,8 +6,8 @@ use Rattle.mc_words.specs.hand.View.{Setup, View}
 use Rattle.mc_words.specs.rule.Joins.{Rule}
 use Rattle.mc_words.specs.rule.Happens.{Happens, HappensAt}
 use Rattle.mc_words.specs.declared.lock.locks.Lock.{Lock}
-use Rattle.mc_words.specs.rule.Layout.{lock_word}
-use Rattle.mc_words.specs.lock.Slots.{number_of}
+use Rattle.mc_words.specs.rule.Layout.{lock_address}
+use Rattle.mc_words.specs.lock.Slots.{lock_number}
 use Rattle.mc_words.specs.lock.Tries.{take_of, miss_of, Takes}
 use Rattle.mc_words.proofs.Rules.Quiet.{has_number}
 use Rattle.mc_words.proofs.Locks.OutFirst.{few_locks}
@@ -31,7 +31,7 @@ compare_exchange-found-requires g c =
     let (is, (near, (seat, number))) = c.requires in
     let a = c.args.self.now in
     let me = c.args.seat.now.me in
-    let i_is : c.word-word.result ≡ lock_word (number_of g.told) = c.word-word.ensures.word ∙ ap (λ (l : Lock). lock_word (number_of l)) (sym is) in
+    let i_is : c.word-word.result ≡ lock_address (lock_number g.told) = c.word-word.ensures.word ∙ ap (λ (l : Lock). lock_address (lock_number l)) (sym is) in
     let count = a.words in
     let stripes : a.table.shared.key.config.stripes ≡ a.plan.config.stripes = ap (λ (s : Setup). s.config.stripes) a.planned in (
       seat.same_table,
@@ -42,7 +42,7 @@ compare_exchange-found-requires g c =
 
 pub returns-then-found-ne0-clause-missed : goal.returns-then-found-ne0-clause-missed
 returns-then-found-ne0-clause-missed g c none_ =
-    let i_is : c.word-word.result ≡ lock_word (number_of g.told) = c.word-word.ensures.word ∙ ap (λ (l : Lock). lock_word (number_of l)) (sym c.requires.0) in
+    let i_is : c.word-word.result ≡ lock_address (lock_number g.told) = c.word-word.ensures.word ∙ ap (λ (l : Lock). lock_address (lock_number l)) (sym c.requires.0) in
     let missed = c.compare_exchange-found.ensures.2.1 c.if-found-ne0.true in (
       c.compare_exchange-found.result,
       c.if-found-ne0.true,

@@ -2,8 +2,8 @@ use Rattle.std.proofs.Common.{◌≡◌, ℕ, suc, ◌%◌, refl, ap, sym, subst
 use Rattle.mc_core.specs.declared.event.Change.{Change}
 use Rattle.mc_core.specs.declared.event.Step.TheVariants as core
 use Rattle.mc_words.specs.hand.View.{View, Setup}
-use Rattle.mc_words.specs.rule.Layout.{lock_word}
-use Rattle.mc_words.specs.rule.Happens.{Happens, MayTell}
+use Rattle.mc_words.specs.rule.Layout.{lock_address}
+use Rattle.mc_words.specs.rule.Happens.{Happens, AllowsStep}
 use Rattle.mc_words.proofs.Hands.Tallies.{tallied_same}
 use Rattle.mc_words.proofs.Locks.Locked.{noted_same}
 use Rattle.mc_words.proofs.Items.NoneTold.{LeadsNowhere, may_tell_none, none_told, told_keeps}
@@ -45,8 +45,8 @@ tell-requires g c =
       none = none;
     } in
     let count = a.words in
-    let place : c.word-word.result ≡ lock_word (suc number) = c.word-word.ensures.word in
-    (refl, (refl, ((omega arith), (arena, subst (λ (n : ℕ). MayTell view c.args.change (core.MissStripe number) n (λ found. found)) (sym place) (subst (λ (change : Change). MayTell view change (core.MissStripe number) (lock_word (suc number)) (λ found. found)) (sym same) (may_tell_none view hand.number number value key nowhere g.deletes))))))
+    let place : c.word-word.result ≡ lock_address (suc number) = c.word-word.ensures.word in
+    (refl, (refl, ((omega arith), (arena, subst (λ (n : ℕ). AllowsStep view c.args.change (core.MissStripe number) n (λ found. found)) (sym place) (subst (λ (change : Change). AllowsStep view change (core.MissStripe number) (lock_address (suc number)) (λ found. found)) (sym same) (may_tell_none view hand.number number value key nowhere g.deletes))))))
 
 pub invariant_of-hand : goal.invariant_of-hand
 invariant_of-hand g c =

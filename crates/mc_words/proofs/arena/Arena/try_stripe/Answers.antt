@@ -3,7 +3,7 @@ use Rattle.mc_words.specs.declared.lock.locks.Lock.TheVariants.{StripeLock}
 use Rattle.mc_core.specs.declared.look.Look.TheVariants.{SawStripe}
 use Rattle.mc_core.specs.Past.{stripe_word}
 use Rattle.mc_words.specs.hand.View.{View, Setup}
-use Rattle.mc_words.specs.hand.Views.{saw}
+use Rattle.mc_words.specs.hand.Views.{view_after_sight}
 use Rattle.mc_words.specs.lock.Out.{IsNoted}
 use Rattle.mc_words.specs.lock.Tries.{HasValue}
 use Rattle.mc_words.proofs.Locks.Lent.{begins_with_seen, lent_stripe}
@@ -31,7 +31,7 @@ invariant_of-hand-in-None c =
     let near : c.args.stripe < a.seat.me.0.setup.config.stripes = let same = ap (λ (s : Setup). s.config.stripes) c.requires.arena.setup in let near = c.requires.near in omega arith in
     let (word, busy, at) = c.in-None.ensures.missed refl in
     let is = missed_stripe a.seat.me.0 c.take.new.seat.me.0 c.args.stripe word near at in
-    record { noted = noted_same a.seat.me c.take.new.seat.me a.number a.chunks a.chunks a.locks a.noted stays.0 stays.1 (a.noted.2 ∙ ap length (sym (ap (λ (v : View). v.row.holdings) is ∙ look_holds (SawStripe c.args.stripe word) (saw (stripe_word c.args.stripe word) a.seat.me.0)))); tallied = tallied_same a.seat.me c.take.new.seat.me a.stamps a.fresh a.tallied (ap (λ (v : View). v.row.ids) is) (ap (λ (v : View). v.row.holdings) is) }
+    record { noted = noted_same a.seat.me c.take.new.seat.me a.number a.chunks a.chunks a.locks a.noted stays.0 stays.1 (a.noted.2 ∙ ap length (sym (ap (λ (v : View). v.row.holdings) is ∙ look_holds (SawStripe c.args.stripe word) (view_after_sight (stripe_word c.args.stripe word) a.seat.me.0)))); tallied = tallied_same a.seat.me c.take.new.seat.me a.stamps a.fresh a.tallied (ap (λ (v : View). v.row.ids) is) (ap (λ (v : View). v.row.holdings) is) }
 
 pub returns-in-Some-OfStripe-clause-lent : goal.returns-in-Some-OfStripe-clause-lent
 returns-in-Some-OfStripe-clause-lent c =

@@ -2,7 +2,7 @@ use Rattle.std.proofs.Common.{◌≡◌, ◌≢◌, ℕ, List, [], ◌∷◌, �
 use Rattle.mc_stripe.specs.declared.history.Call.{Call}
 use Rattle.mc_words.specs.declared.hand.Hand.{Hand}
 use Rattle.mc_words.specs.hand.Arenas.{IsHandOf}
-use Rattle.mc_words.specs.lock.Out.{has_no_stripe}
+use Rattle.mc_words.specs.lock.Out.{locks_have_no_stripe}
 use Rattle.mc_words.specs.lock.Wait.{MissesStripe}
 use Rattle.mc_words.proofs.Locks.Unlocked.{unlocked_from, no_stripe_unlocked, no_stripes_there}
 use Rattle.mc_words.proofs.Locks.Waits.{last_or, last_added, missed_stripe_again, misses_seen, not_free}
@@ -13,7 +13,7 @@ pub try_stripe-requires : goal.try_stripe-requires
 try_stripe-requires g c =
     let a = c.args.hand.now in
     let b = c.loop.hand in
-    record { arena = c.loop.invariant.0; near = c.requires.near; one = no_stripes_there b.seat.me.0 b.locks b.noted.4 (ap has_no_stripe c.loop.invariant.1 ∙ no_stripe_unlocked a.locks (unlocked_from a.seat.me.0 a.locks a.noted.4 ∙ c.requires.unlocked)) }
+    record { arena = c.loop.invariant.0; near = c.requires.near; one = no_stripes_there b.seat.me.0 b.locks b.noted.4 (ap locks_have_no_stripe c.loop.invariant.1 ∙ no_stripe_unlocked a.locks (unlocked_from a.seat.me.0 a.locks a.noted.4 ∙ c.requires.unlocked)) }
 
 pub returns-in-Ok-clause-waits : goal.returns-in-Ok-clause-waits
 returns-in-Ok-clause-waits g c =

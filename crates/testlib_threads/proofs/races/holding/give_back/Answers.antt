@@ -1,7 +1,7 @@
 use Rattle.std.proofs.Common.{◌<◌, length, rules, sym, subst}
 use Rattle.std.proofs.lemmas.List.Elements.{All-get_or}
 use Rattle.mc_words.specs.hand.Arenas.{view}
-use Rattle.mc_items.specs.ItemRefs.{AreKept, IsItemRef}
+use Rattle.mc_items.specs.ItemRefs.{RefersToEach, IsItemRef}
 use Rattle.testlib_threads.proofs.KeptRefs.{kept_without}
 use Rattle.testlib_threads.proofs.races.holding.give_back.Goals as goal
 
@@ -20,4 +20,4 @@ returns c =
     let now = view c.release.new.hand in
     let kept = c.args.kept.now.items in
     let within : c.args.place < length kept = search rules in
-    record { keeper = ((c.release.ensures.arena, c.release.ensures.ready), subst (AreKept now) (sym c.remove-item.ensures.items) (kept_without before now kept c.args.place c.remove-item.result within c.remove-item.ensures.value c.requires.keeper.1 c.release.ensures.keeps c.release.ensures.holdings)) }
+    record { keeper = ((c.release.ensures.arena, c.release.ensures.ready), subst (RefersToEach now) (sym c.remove-item.ensures.items) (kept_without before now kept c.args.place c.remove-item.result within c.remove-item.ensures.value c.requires.keeper.1 c.release.ensures.keeps c.release.ensures.holdings)) }

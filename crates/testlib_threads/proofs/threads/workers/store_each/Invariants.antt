@@ -1,5 +1,5 @@
-use Rattle.testlib_hands.specs.Hands.{IsIdleHandOf}
+use Rattle.testlib_hands.specs.Hands.{IsEmptyHandOf}
 use Rattle.testlib_threads.proofs.threads.workers.store_each.Given as goal
 
 abbrev pub invariant-loop-key : goal.invariant-loop-key
-invariant-loop-key g l = IsIdleHandOf l.arena l.hand
+invariant-loop-key g l = IsEmptyHandOf l.arena l.hand

@@ -1,7 +1,7 @@
 use Rattle.std.proofs.Common.{◌≤◌, ◌∷◌, refl, arith}
 use Rattle.mc_pages.specs.declared.rows.ListName.TheVariants.{Free, HandedOut}
-use Rattle.mc_pages.specs.ClassState.{times, without, put_back}
-use Rattle.mc_pages.specs.Linked.{chunks_of}
+use Rattle.mc_pages.specs.ClassState.{times_in, without, put_back}
+use Rattle.mc_pages.specs.Linked.{list_chunks}
 use Rattle.mc_pages.proofs.Chunks.{times_from_Contains}
 use Rattle.mc_pages.proofs.RowFields.{IsRow-sizes}
 use Rattle.mc_pages.proofs.ClassRows.{free≢handed_out, unlisted, length-kept, became_free, became_handed_out, became_then}
@@ -9,8 +9,8 @@ use Rattle.mc_pages.proofs.rows.fields.Rows.back.Goals as goal
 use Rattle.mc_pages.proofs.rows.fields.Rows.back.Goals.{Start}
 
 -- the chunk is handed out
-handed : (c : Start) → 1 ≤ times c.args.chunk (chunks_of c.args.self.now (HandedOut c.args.class))
-handed c = times_from_Contains c.args.chunk (chunks_of c.args.self.now (HandedOut c.args.class)) c.requires.handed_out
+handed : (c : Start) → 1 ≤ times_in c.args.chunk (list_chunks c.args.self.now (HandedOut c.args.class))
+handed c = times_from_Contains c.args.chunk (list_chunks c.args.self.now (HandedOut c.args.class)) c.requires.handed_out
 
 pub put_first-requires-clause-row : goal.put_first-requires-clause-row
 put_first-requires-clause-row c =

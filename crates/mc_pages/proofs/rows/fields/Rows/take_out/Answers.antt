@@ -1,6 +1,6 @@
 use Rattle.std.proofs.Common.{sym, ap, ◌∙◌, subst}
 use Rattle.mc_pages.specs.Rows.{RowsState, IsRow}
-use Rattle.mc_pages.specs.Linked.{AreLinked, IsUnlisted, chunks_of}
+use Rattle.mc_pages.specs.Linked.{AreLinked, IsUnlisted, list_chunks}
 use Rattle.mc_pages.proofs.RowFields.{IsRow-sizes}
 use Rattle.mc_pages.proofs.Linked.{chunks_are, are_linked, marked_linked}
 use Rattle.mc_pages.proofs.ClassRows.{unlisted}
@@ -18,11 +18,11 @@ has_row c = IsRow-sizes c.args.self.now c.unlink.new.self c.args.chunk c.unlink.
 pub returns-clause-linked : goal.returns-clause-linked
 returns-clause-linked c =
     let here = (goal.at.returns-clause-linked c).After-unlink in
-    subst AreLinked (sym c.put.ensures) (are_linked _ _ (marked_linked c.unlink.new.self (chunks_of c.unlink.new.self) c.args.chunk c.unlink.ensures.linked (has_row here) (absent here)))
+    subst AreLinked (sym c.put.ensures) (are_linked _ _ (marked_linked c.unlink.new.self (list_chunks c.unlink.new.self) c.args.chunk c.unlink.ensures.linked (has_row here) (absent here)))
 
 pub returns-clause-lists : goal.returns-clause-lists
 returns-clause-lists c =
     let here = (goal.at.returns-clause-lists c).After-unlink in
-    λ other. ap (λ (rows : RowsState). chunks_of rows other) c.put.ensures
-    ∙ (chunks_are _ _ (marked_linked c.unlink.new.self (chunks_of c.unlink.new.self) c.args.chunk c.unlink.ensures.linked (has_row here) (absent here)) other
+    λ other. ap (λ (rows : RowsState). list_chunks rows other) c.put.ensures
+    ∙ (chunks_are _ _ (marked_linked c.unlink.new.self (list_chunks c.unlink.new.self) c.args.chunk c.unlink.ensures.linked (has_row here) (absent here)) other
     ∙ c.unlink.ensures.lists other)

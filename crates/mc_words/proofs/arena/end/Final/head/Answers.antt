@@ -3,7 +3,7 @@ use Rattle.std.specs.Slots.{slots_counts, slots_items}
 use Rattle.mc_core.specs.State.{has_chunk, head_place}
 use Rattle.mc_words.specs.hand.View.{Setup}
 use Rattle.mc_words.specs.rule.Layout.{head_word}
-use Rattle.mc_words.specs.rule.End.{Left}
+use Rattle.mc_words.specs.rule.End.{ArenaEnd}
 use Rattle.mc_words.proofs.Chunks.Heads.{head_word_near}
 use Rattle.mc_words.proofs.Rules.Ends.{head_told}
 use Rattle.mc_words.proofs.arena.end.Final.head.Goals as goal
@@ -13,7 +13,7 @@ overflow_add-word-2 c =
     let f = c.self.inside in
     let plan : Setup = f.plan in
     let left = c.self.invariant.2 in
-    let near = subst (λ (l : Left). has_chunk l.setup.table c.args.chunk ≡ true) (sym c.self.view_is) c.requires.near in
+    let near = subst (λ (l : ArenaEnd). has_chunk l.setup.table c.args.chunk ≡ true) (sym c.self.view_is) c.requires.near in
     let below = head_word_near plan c.args.chunk near in
     let first = c.self.invariant.3 in
     let most = ap (λ (n : ℕ). c.args.chunk.page * n) c.self.invariant.4 in
@@ -25,7 +25,7 @@ word-requires c =
     let f = c.self.inside in
     let plan : Setup = f.plan in
     let left = c.self.invariant.2 in
-    let near = subst (λ (l : Left). has_chunk l.setup.table c.args.chunk ≡ true) (sym c.self.view_is) c.requires.near in
+    let near = subst (λ (l : ArenaEnd). has_chunk l.setup.table c.args.chunk ≡ true) (sym c.self.view_is) c.requires.near in
     let below = head_word_near plan c.args.chunk near in
     let first = c.self.invariant.3 in
     let most = ap (λ (n : ℕ). c.args.chunk.page * n) c.self.invariant.4 in
@@ -38,10 +38,10 @@ returns c =
     let f = c.self.inside in
     let plan : Setup = f.plan in
     let left = c.self.invariant.2 in
-    let near = subst (λ (l : Left). has_chunk l.setup.table c.args.chunk ≡ true) (sym c.self.view_is) c.requires.near in
+    let near = subst (λ (l : ArenaEnd). has_chunk l.setup.table c.args.chunk ≡ true) (sym c.self.view_is) c.requires.near in
     let place : f.first_head + c.args.chunk.page * f.most + c.args.chunk.index ≡ head_word plan c.args.chunk =
     let first = c.self.invariant.3 in let most = ap (λ (n : ℕ). c.args.chunk.page * n) c.self.invariant.4 in omega arith in
     record {
       word = head_told plan (slots_items f.closed.words) (slots_items f.closed.slots) left c.args.chunk _ c.word.result near place c.word.ensures
-          ∙ ap (λ (l : Left). slice_index l.heads (head_place l.setup.table c.args.chunk)) c.self.view_is;
+          ∙ ap (λ (l : ArenaEnd). slice_index l.heads (head_place l.setup.table c.args.chunk)) c.self.view_is;
     }

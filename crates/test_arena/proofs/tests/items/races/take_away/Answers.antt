@@ -2,7 +2,7 @@ use Rattle.std.proofs.Common.{◌≡◌, ◌+◌, ◌≤◌, ◌&&◌, ◌||◌,
 use Rattle.std.specs.List.{list_all}
 use Rattle.std.proofs.lemmas.Bool.{and_from, or_left, or_right}
 use Rattle.mc_pages.specs.declared.ids.ChunkId.{ChunkId}
-use Rattle.mc_pages.specs.ClassState.{times}
+use Rattle.mc_pages.specs.ClassState.{times_in}
 use Rattle.mc_pages.specs.Pages.{is_on_the_move}
 use Rattle.mc_pages.specs.SlabState.{SlabState, class_at, class_of_page}
 use Rattle.mc_core.specs.declared.holding.Holding.{Holding}
@@ -168,7 +168,7 @@ evict-requires-clause-reason g c =
     let is : is_class swept.setup.table c.in_ok-class.class ≡ true = ap (λ (x : Setup). is_class x.table c.in_ok-class.class) c.sweep.ensures.arena.setup ∙ c.in_ok-class.ensures.class in
     let valid = class_of_slabs swept c.sweep.ensures.arena.lawful kept c.in_ok-class.class c.sweep.ensures.held is in
     let alive : list_all (is_found_alive swept.row.looks) (class_at kept own).order ≡ true = ap (λ n. list_all (is_found_alive swept.row.looks) (class_at kept n).order) owned ∙ c.sweep.ensures.alive in
-    let apart : (other : ChunkId) → 1 ≤ times other (class_at kept own).free → times other (class_at kept own).order ≡ 0 = λ other there. free_apart swept c.sweep.ensures.arena.lawful kept c.sweep.ensures.held own (subst (λ n. Rattle.mc_pages.specs.SlabState.IsClass kept n) (sym owned) valid) other there in
+    let apart : (other : ChunkId) → 1 ≤ times_in other (class_at kept own).free → times_in other (class_at kept own).order ≡ 0 = λ other there. free_apart swept c.sweep.ensures.arena.lawful kept c.sweep.ensures.held own (subst (λ n. Rattle.mc_pages.specs.SlabState.HasClass kept n) (sym owned) valid) other there in
     let none = alive_passed chunk.page kept (class_at kept own).order (class_at kept own).free swept passed c.sweep.ensures.held apart alive passes in
     let target : sees_no_target kept passed.row.looks chunk.page ≡ true = c.in-None.ensures.no_target refl in
     ap (λ (x : SlabState). Rattle.mc_words.specs.item.Removal.knows_reason x passed.row.looks passed.row.holdings chunk) same

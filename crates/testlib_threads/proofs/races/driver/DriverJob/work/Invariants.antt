@@ -1,5 +1,5 @@
-use Rattle.testlib_hands.specs.Hands.{IsIdleHandOf}
+use Rattle.testlib_hands.specs.Hands.{IsEmptyHandOf}
 use Rattle.testlib_threads.proofs.races.driver.DriverJob.work.Given as goal
 
 abbrev pub invariant-loop-round : goal.invariant-loop-round
-invariant-loop-round g l = IsIdleHandOf l.arena l.mover.hand
+invariant-loop-round g l = IsEmptyHandOf l.arena l.mover.hand

@@ -1,5 +1,5 @@
-use Rattle.testlib_hands.specs.Hands.{IsIdleHandOf}
+use Rattle.testlib_hands.specs.Hands.{IsEmptyHandOf}
 use Rattle.testlib_threads.proofs.threads.driver.MoverJob.work.Given as goal
 
 abbrev pub invariant-loop-round : goal.invariant-loop-round
-invariant-loop-round g l = IsIdleHandOf l.arena l.hand
+invariant-loop-round g l = IsEmptyHandOf l.arena l.hand

@@ -1,5 +1,5 @@
-use Rattle.testlib_hands.specs.Hands.{IsIdleHandOf}
+use Rattle.testlib_hands.specs.Hands.{IsEmptyHandOf}
 use Rattle.testlib_threads.proofs.threads.gets.SearcherJob.work.Given as goal
 
 abbrev pub invariant-loop-time : goal.invariant-loop-time
-invariant-loop-time g l = IsIdleHandOf l.arena l.hand
+invariant-loop-time g l = IsEmptyHandOf l.arena l.hand
