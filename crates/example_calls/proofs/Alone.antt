@@ -121,21 +121,21 @@ one_more events event all is = list_all-append is_prepare_event events (event �
 
 -- a chunk's header before the hand handed a chunk out
 pub issue_here : (view : View) (was : LawfulView view) → view.setup.hands ≡ 1 → has_prepared view ≡ true → (chunk : ChunkId) → has_chunk view.setup.table chunk ≡ true → (head_at was.moment.state chunk).issue ≡ view.setup.start
-issue_here view was one all chunk near =
+issue_here view was one all chunk in_range =
     let s : State = was.moment.state in
     let begin : Moment = beginning_of view.setup in
     let table : Classes = view.setup.table in
     let place : ℕ = head_place table chunk in
     let count : ℕ = arena_pages_of table * most_of table in
-    let many : length begin.state.ids ≡ 1 = length-map-range_with_len _ 0 view.setup.hands ∙ one in
+    let at_limit : length begin.state.ids ≡ 1 = length-map-range_with_len _ 0 view.setup.hands ∙ one in
     let there = hand_there s was.hand was.there in
     let hands = was.hands in
     let mine : was.hand ≡ 0 = omega (arith, there, hands, one) in
     let did : list_all is_prepare_event (events_of 0 was.run) ≡ true =
     ap (λ (n : ℕ). list_all is_prepare_event (events_of n was.run)) (sym mine) ∙ (ap (λ (v : View). list_all is_prepare_event v.events) (sym was.is) ∙ all) in
-    let calm = calm_run begin was.run was.reached.is_run many did in
+    let calm = calm_run begin was.run was.reached.is_run at_limit did in
     let long : length begin.state.heads ≡ count = length-replicate count (uncut_from view.setup.start) in
-    let within = head_place_within table begin.state.heads chunk long near in
+    let within = head_place_within table begin.state.heads chunk long in_range in
     ap (λ (t : Classes). (slice_index_or s.heads (head_place t chunk) never_cut).issue) was.same_table
     ∙ (ap (λ (m : Moment). issue_at m.state place) (sym was.reached.end)
     ∙ (calm.0 place ∙ ap (λ (h : Head). h.issue) (get_or-replicate count place (uncut_from view.setup.start) never_cut (omega (arith, within, long)))))

@@ -39,12 +39,12 @@ no_run m (event ∷ run) is one none =
 pub begun : (view : View) (was : LawfulView view) → view.setup.hands ≡ 1 → view.events ≡ [] → was.moment ≡ beginning_of view.setup
 begun view was one none =
     let begin : Moment = beginning_of view.setup in
-    let many : length begin.state.ids ≡ 1 = length-map-range_with_len _ 0 view.setup.hands ∙ one in
+    let at_limit : length begin.state.ids ≡ 1 = length-map-range_with_len _ 0 view.setup.hands ∙ one in
     let there = hand_there was.moment.state was.hand was.there in
     let hands = was.hands in
     let mine : was.hand ≡ 0 = omega (arith, there, hands, one) in
     let did : events_of 0 was.run ≡ [] = ap (λ (n : ℕ). events_of n was.run) (sym mine) ∙ (ap (λ (v : View). v.events) (sym was.is) ∙ none) in
-    sym was.reached.end ∙ ap (moment_at_end begin) (no_run begin was.run was.reached.is_run many did)
+    sym was.reached.end ∙ ap (moment_at_end begin) (no_run begin was.run was.reached.is_run at_limit did)
 
 -- pages and lists are untouched
 pub taken_fresh : (view now : View) (slabs : SlabState) → view.setup.hands ≡ 1 → view.events ≡ [] → Happens view [] step.TakeSlabs now → now.slabs ≡ Some slabs → slabs ≡ fresh_slabs view.setup.table
@@ -72,7 +72,7 @@ pub lock_free : (view now : View) (word : ℕ) → view.setup.hands ≡ 1 → vi
 lock_free view now word one none h is =
     let m : Moment = h.was.moment in
     let knows = knows_after m h.was.hand step.MissSlabs refl (may_step h) refl in
-    let saws : view.row.knows.saw ++ slabs_word m.state.slabs_lock ∷ [] ≡ view.row.knows.saw ++ slabs_word word ∷ [] =
-    sym (ap (λ (k : Knowledge). k.saw) knows ∙ ap (λ (k : Knowledge). k.saw ++ slabs_word m.state.slabs_lock ∷ []) (knew view view h.was))
-    ∙ (ap (λ (v : View). v.row.knows.saw) (sym h.is) ∙ ap (λ (v : View). v.row.knows.saw) is) in
-    sym (same_word view.row.knows.saw m.state.slabs_lock word saws) ∙ ap (λ (m : Moment). m.state.slabs_lock) (begun view h.was one none)
+    let saws : view.row.knows.seen_words ++ slabs_word m.state.slabs_lock ∷ [] ≡ view.row.knows.seen_words ++ slabs_word word ∷ [] =
+    sym (ap (λ (k : Knowledge). k.seen_words) knows ∙ ap (λ (k : Knowledge). k.seen_words ++ slabs_word m.state.slabs_lock ∷ []) (knew view view h.was))
+    ∙ (ap (λ (v : View). v.row.knows.seen_words) (sym h.is) ∙ ap (λ (v : View). v.row.knows.seen_words) is) in
+    sym (same_word view.row.knows.seen_words m.state.slabs_lock word saws) ∙ ap (λ (m : Moment). m.state.slabs_lock) (begun view h.was one none)

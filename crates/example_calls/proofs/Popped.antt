@@ -31,7 +31,7 @@ use Rattle.example_calls.proofs.Alone.{issue_here}
 -- the header of a chunk that this hand alone holds, and fills
 fresh_header : (view seen : View) (chunk : ChunkId) (issue room word : ℕ) → has_chunk view.setup.table chunk ≡ true → holding_of chunk view.row.holdings ≡ Some (fresh_holding chunk issue room) → Happens view [] (step.Head chunk) seen → seen ≡ head_seen chunk (decode word) view
     → word ≡ code (record { issue = issue; tag = Unlinked; count = 1 })
-fresh_header view seen chunk issue room word near found h is =
+fresh_header view seen chunk issue room word in_range found h is =
     let s : State = h.was.moment.state in
     let lawful = h.was.lawful in
     let holding : Holding = fresh_holding chunk issue room in
@@ -40,18 +40,18 @@ fresh_header view seen chunk issue room word near found h is =
     let alone : ((head_at s chunk).tag ≡ Unlinked) × (holder_count chunk s.holdings ≡ 1) =
     found_each (λ (o : Holding). is_fresh o ≡ true → ((head_in s.table s.heads o.chunk).tag ≡ Unlinked) × (holder_count o.chunk s.holdings ≡ 1)) s.holdings h.was.hand (is_of_chunk chunk) holding here lawful.held.alone refl in
     let count : (head_at s chunk).count ≡ 1 =
-    lawful.counted.counted chunk (near_here view chunk near h.was) ∙ (λ k. link_count (alone.0 k) + alone.1 k) in
+    lawful.counted.counted chunk (near_here view chunk in_range h.was) ∙ (λ k. link_count (alone.0 k) + alone.1 k) in
     let head : head_at s chunk ≡ record { issue = issue; tag = Unlinked; count = 1 } = λ k. record { issue = sym issue_is k; tag = alone.0 k; count = count k } in
     sym (are_one_word.again word) ∙ ap code (sym (seen_is view seen chunk (decode word) h is) ∙ head)
 
 -- the first chunk, where the hand only prepared before
 module _ (view now : View) (slabs : SlabState) (class : ℕ) (chunk : ChunkId) (was : LawfulView view) (mine : view.slabs ≡ Some slabs) (is : is_class view.setup.table class ≡ true) (one : view.setup.hands ≡ 1) (all : has_prepared view ≡ true) (pops : PopsFirst view slabs class chunk now) where
-  near : has_chunk view.setup.table chunk ≡ true
-  near = first_near view was slabs class chunk mine is pops.first
+  in_range : has_chunk view.setup.table chunk ≡ true
+  in_range = first_near view was slabs class chunk mine is pops.first
 
   issue_is : pops.head.issue ≡ view.setup.start
   issue_is =
-      ap (λ (h : Head). h.issue) (sym (seen_is view (head_seen chunk pops.head view) chunk pops.head pops.looks refl)) ∙ issue_here view pops.looks.was one all chunk near
+      ap (λ (h : Head). h.issue) (sym (seen_is view (head_seen chunk pops.head view) chunk pops.head pops.looks refl)) ∙ issue_here view pops.looks.was one all chunk in_range
 
   -- it isn't used up
   pub start_left : view.setup.start < most_issue
@@ -62,12 +62,12 @@ module _ (view now : View) (slabs : SlabState) (class : ℕ) (chunk : ChunkId) (
       let holding : Holding = fresh_holding chunk (pops.head.issue + 1) (room_in view.setup.table class) in
       ap (λ (v : View). holding_of chunk v.row.holdings) pops.is
       ∙ (find-append (is_of_chunk chunk) view.row.holdings (holding ∷ [])
-      ∙ (ap (λ (o : Option Holding). option_or o (holding_of chunk (holding ∷ []))) (not_held view now slabs mine class chunk pops.head is pops.first was near) ∙ ap (λ (b : Bool). if b then Some holding else None) (is_chunk-same chunk)))
+      ∙ (ap (λ (o : Option Holding). option_or o (holding_of chunk (holding ∷ []))) (not_held view now slabs mine class chunk pops.head is pops.first was in_range) ∙ ap (λ (b : Bool). if b then Some holding else None) (is_chunk-same chunk)))
 
   -- its header as it is read then
   pub header_is : (seen : View) (word : ℕ) → Happens now [] (step.Head chunk) seen → seen ≡ head_seen chunk (decode word) now → word ≡ code (first_out view.setup.start)
   header_is seen word h seen_so =
-      fresh_header now seen chunk (pops.head.issue + 1) (room_in view.setup.table class) word (ap (λ (v : View). has_chunk v.setup.table chunk) pops.is ∙ near) held_now h seen_so
+      fresh_header now seen chunk (pops.head.issue + 1) (room_in view.setup.table class) word (ap (λ (v : View). has_chunk v.setup.table chunk) pops.is ∙ in_range) held_now h seen_so
       ∙ ap (λ n. code (record { issue = n + 1; tag = Unlinked; count = 1 })) issue_is
 
 -- where the first chunk was found to be used up, it was so from the beginning

@@ -120,14 +120,14 @@ rises_run m (event ∷ run) =
 
 -- no header's issue number is below the first one, whatever any hand did
 pub never_below : (view : View) (was : LawfulView view) (chunk : ChunkId) → has_chunk view.setup.table chunk ≡ true → view.setup.start ≤ (head_at was.moment.state chunk).issue
-never_below view was chunk near =
+never_below view was chunk in_range =
     let s : State = was.moment.state in
     let begin : Moment = beginning_of view.setup in
     let table : Classes = view.setup.table in
     let place : ℕ = head_place table chunk in
     let count : ℕ = arena_pages_of table * most_of table in
     let long : length begin.state.heads ≡ count = length-replicate count (uncut_from view.setup.start) in
-    let within = head_place_within table begin.state.heads chunk long near in
+    let within = head_place_within table begin.state.heads chunk long in_range in
     let first : issue_at begin.state place ≡ view.setup.start = ap (λ (h : Head). h.issue) (get_or-replicate count place (uncut_from view.setup.start) never_cut (omega (arith, within, long))) in
     let now : issue_at (moment_at_end begin was.run).state place ≡ (head_at s chunk).issue =
     ap (λ (m : Moment). issue_at m.state place) was.reached.end ∙ ap (λ (t : Classes). (slice_index_or s.heads (head_place t chunk) never_cut).issue) (sym was.same_table) in

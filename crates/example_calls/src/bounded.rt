@@ -19,7 +19,7 @@ pub fn granted_within(arena: &Arena, hand: &mut Hand, tries: u64) -> Result<u64,
     requires { IsReadyHandOf arena.now hand.old }
     ensures ready { IsReadyHandOf arena.now hand.new }
     ensures granted { IfOk result (λ granted. granted ≡ granted_as_given hand.new) }
-    ensures few { IfOk result (λ granted. MakesAtMost (tries + 1) hand.old hand.new) }
+    ensures within_limit { IfOk result (λ granted. MakesAtMost (tries + 1) hand.old hand.new) }
     ensures missed { OnErr result (Makes tries hand.old hand.new) }
 {
     let Ok(held) = arena.slabs_within(hand, tries) else {
@@ -41,7 +41,7 @@ pub fn stamp_within(
     requires { IsReadyHandOf arena.now hand.old }
     ensures ready { IsReadyHandOf arena.now hand.new }
     ensures stamp { IfOk result (FindsStamp arena.now key hand.old hand.new) }
-    ensures few { IfOk result (λ stamp. MakesAtMost (tries + 1) hand.old hand.new) }
+    ensures within_limit { IfOk result (λ stamp. MakesAtMost (tries + 1) hand.old hand.new) }
     ensures missed { OnErr result (Makes tries hand.old hand.new) }
 {
     let stripe = key % arena.config().stripes;
@@ -72,7 +72,7 @@ pub fn set_at_second_try(
     requires { IsReadyHandOf arena.now hand.old }
     ensures ready { IsReadyHandOf arena.now hand.new }
     ensures stamp { IfOk result (IsNextStamp hand.old) }
-    ensures said { IfOk result (StoresKeyAndWords key words.now hand.old hand.new) }
+    ensures stores_words { IfOk result (StoresKeyAndWords key words.now hand.old hand.new) }
     ensures unused { OnErr result (GivesNoStamp hand.old hand.new) }
     ensures keeps { KeepsRefs (view hand.old) (view hand.new) }
 {

@@ -29,8 +29,8 @@ pub fn join_behind_a_trim<R: Wait>(
     requires none { ((view hand).row.holdings ≡ []) × ((view other).row.holdings ≡ []) }
     ensures arena { IsHandOf arena.now result }
     ensures agree { KnowledgeAgrees (view result).row.knows }
-    ensures first { (saying : StoredItem) → Contains (view hand).row.knows.said saying → Contains (view result).row.knows.said saying }
-    ensures second { (saying : StoredItem) → Contains (view other).row.knows.said saying → Contains (view result).row.knows.said saying }
+    ensures first { (saying : StoredItem) → Contains (view hand).row.knows.stored saying → Contains (view result).row.knows.stored saying }
+    ensures second { (saying : StoredItem) → Contains (view other).row.knows.stored saying → Contains (view result).row.knows.stored saying }
 {
     let mut hand = hand;
     let mut other = other;

@@ -15,17 +15,17 @@ use Rattle.mc_cache.proofs.Pairs.{pair_set}
 
 -- the hand of a shard is idle
 pub idle_at : (arenas : List Arena) (hands : List Hand) (shard : ℕ) (arena : Arena) (hand : Hand) → AreIdleHands arenas hands → shard < length arenas → IsIdleHandOf (get_or arenas shard arena) (get_or hands shard hand)
-idle_at arenas hands shard arena hand are near = are.each shard arena hand near
+idle_at arenas hands shard arena hand are in_range = are.each shard arena hand in_range
 
 -- with another in its place all are idle still
 pub idle_after : (arenas : List Arena) (hands : List Hand) (shard : ℕ) (arena : Arena) (after : Hand) → shard < length arenas → arena ≡ get_or arenas shard arena → IsIdleHandOf arena after → AreIdleHands arenas hands → AreIdleHands arenas (set hands shard after)
-idle_after arenas hands shard arena after near is idle are = pair_set IsIdleHandOf arenas hands shard arena after near is idle are
+idle_after arenas hands shard arena after in_range is idle are = pair_set IsIdleHandOf arenas hands shard arena after in_range is idle are
 
 pub acts : (arenas : List Arena) (hands : List Hand) (shard : ℕ) (arena : Arena) (hand after : Hand) (Does : Arena → Hand → Hand → Type 0) → shard < length arenas → length hands ≡ length arenas
     → arena ≡ get_or arenas shard arena → hand ≡ get_or hands shard hand → Does arena hand after → ActsOnShard arenas shard Does hands (set hands shard after)
-acts arenas hands shard arena hand after Does near count is_arena is_hand does = record {
+acts arenas hands shard arena hand after Does in_range count is_arena is_hand does = record {
   arena = arena;
-  is_arena = slice_get_read arenas (length arenas) shard arena refl near is_arena;
+  is_arena = slice_get_read arenas (length arenas) shard arena refl in_range is_arena;
   hand = hand;
   is_hand = slice_get_read hands (length hands) shard hand refl (omega arith) is_hand;
   after = after;
@@ -61,16 +61,16 @@ on_refusal (Err e) p = p
 pub acted : (cache : Cache) (key : List ℕ) (hands : List Hand) (at : Place) (arena : Arena) (hand after : Hand) (Does : ℕ → Arena → Hand → Hand → Type 0) → AreIdleHands cache.arenas.items hands → at.hash ≡ hash_in cache key
     → at.shard ≡ shard_in cache key → at.shard < length cache.arenas.items → arena ≡ get_or cache.arenas.items at.shard arena → hand ≡ get_or hands at.shard hand → Does at.hash arena hand after
     → ActsOnShard cache.arenas.items (shard_in cache key) (Does (hash_in cache key)) hands (set hands at.shard after)
-acted cache key hands at arena hand after Does are is_hash is_shard near is_arena is_hand does =
+acted cache key hands at arena hand after Does are is_hash is_shard in_range is_arena is_hand does =
     let done : Does (hash_in cache key) arena hand after = subst (λ (h : ℕ). Does h arena hand after) is_hash does in
     subst (λ (s : ℕ). ActsOnShard cache.arenas.items s (Does (hash_in cache key)) hands (set hands at.shard after)) is_shard
-    (acts cache.arenas.items hands at.shard arena hand after (Does (hash_in cache key)) near are.count is_arena is_hand done)
+    (acts cache.arenas.items hands at.shard arena hand after (Does (hash_in cache key)) in_range are.count is_arena is_hand done)
 
 -- what a get gave, which said nothing
 pub reads_touching_if : (touches : Bool) (arena : Arena) (hash : ℕ) (key : List ℕ) (before now : Hand) (old new : List ℕ) → GivesTouchedIf touches (setup_of arena) hash key before now old new → StoresNothing (view before) (view now)
     → (value : List ℕ) × ReadsTouchingIf touches hash key value arena before now × (new ≡ old ++ value)
-reads_touching_if true arena hash key before now old new gives unsaid = (gives.0, (gives.1, unsaid), gives.2)
-reads_touching_if false arena hash key before now old new gives unsaid = (gives.0, (gives.1, unsaid), gives.2)
+reads_touching_if true arena hash key before now old new gives stores_nothing = (gives.0, (gives.1, stores_nothing), gives.2)
+reads_touching_if false arena hash key before now old new gives stores_nothing = (gives.0, (gives.1, stores_nothing), gives.2)
 
 -- a place that was found is one
 pub no_none : {T : Type 0} (x : T) → Some x ≡ None → ⊥

@@ -14,15 +14,15 @@ module _ (Does : Hand → Hand → Type 0) where
     pub left : (shard : ℕ) (hand : Hand) → count ≤ shard → get_or hands_now shard hand ≡ get_or hands shard hand
 
   pub none_do : (hands : List Hand) → FirstDo 0 hands hands
-  none_do hands = record { each = λ shard hand now near. absurd (omega arith); left = λ shard hand from. refl }
+  none_do hands = record { each = λ shard hand now in_range. absurd (omega arith); left = λ shard hand from. refl }
 
   pub one_does : (count : ℕ) (hands hands_now : List Hand) (hand now : Hand) → count < length hands_now → hand ≡ get_or hands_now count hand → Does hand now → FirstDo count hands hands_now → FirstDo (count + 1) hands (set hands_now count now)
-  one_does count hands hands_now hand now near is does h = record {
+  one_does count hands hands_now hand now in_range is does h = record {
     each = λ k a b less.
         ⊎_elim
         (λ (same : k ≡ count).
-        let e1 : get_or hands k a ≡ hand = was_there hands_now hands count k hand a same near is h.left in
-        let e2 : get_or (set hands_now count now) k b ≡ now = at_place hands_now count k now b same near in
+        let e1 : get_or hands k a ≡ hand = was_there hands_now hands count k hand a same in_range is h.left in
+        let e2 : get_or (set hands_now count now) k b ≡ now = at_place hands_now count k now b same in_range in
         rw (e1, e2) does)
         (λ (other : k ≡ count → ⊥).
         let e2 : get_or (set hands_now count now) k b ≡ get_or hands_now k b = get_or-set_other hands_now count k now b other in
@@ -37,19 +37,19 @@ pub record AreSurveyed (count : ℕ) (hands hands_now : List Hand) (surveys : Li
   pub left : (shard : ℕ) (hand : Hand) → count ≤ shard → get_or hands_now shard hand ≡ get_or hands shard hand
 
 pub none_surveyed : (hands : List Hand) → AreSurveyed 0 hands hands []
-none_surveyed hands = record { first = record { surveyed = refl; each = λ shard survey hand now near. absurd (omega arith) }; left = λ shard hand from. refl }
+none_surveyed hands = record { first = record { surveyed = refl; each = λ shard survey hand now in_range. absurd (omega arith) }; left = λ shard hand from. refl }
 
 pub one_surveyed : (count : ℕ) (hands hands_now : List Hand) (surveys : List Survey) (survey : Survey) (hand now : Hand) → count < length hands_now → hand ≡ get_or hands_now count hand → SurveysShard survey hand now
     → AreSurveyed count hands hands_now surveys → AreSurveyed (count + 1) hands (set hands_now count now) (surveys ++ survey ∷ [])
-one_surveyed count hands hands_now surveys survey hand now near is shows h = record {
+one_surveyed count hands hands_now surveys survey hand now in_range is shows h = record {
   first = record {
     surveyed = omega (arith, length-append surveys (survey ∷ []), h.first.surveyed);
     each = λ k s a b less.
         ⊎_elim
         (λ (same : k ≡ count).
         let e1 : get_or (surveys ++ survey ∷ []) k s ≡ survey = get_or_at surveys survey [] s k (h.first.surveyed ∙ sym same) in
-        let e2 : get_or hands k a ≡ hand = was_there hands_now hands count k hand a same near is h.left in
-        let e3 : get_or (set hands_now count now) k b ≡ now = at_place hands_now count k now b same near in
+        let e2 : get_or hands k a ≡ hand = was_there hands_now hands count k hand a same in_range is h.left in
+        let e3 : get_or (set hands_now count now) k b ≡ now = at_place hands_now count k now b same in_range in
         rw (e1, e2, e3) shows)
         (λ (other : k ≡ count → ⊥).
         let before : k < count = omega arith in

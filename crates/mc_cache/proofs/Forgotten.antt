@@ -8,7 +8,7 @@ use Rattle.mc_cache.specs.Recent.{is_due, marks_found}
 
 -- after so many asks no marks are found
 pub none_found : (recent : Recent) (marks : List ℕ) → most_asks ≤ recent.asks → marks ≡ no_marks → marks ≡ marks_found recent
-none_found recent marks many none = grind (arith, nat_tests)
+none_found recent marks at_limit none = grind (arith, nat_tests)
 
 no_mark : (n : ℕ) → (0 == n + 1) ≡ false
 no_mark n = grind (arith, nat_tests)
@@ -18,4 +18,4 @@ none_noted hash = ap (λ (n : ℕ). n == noted_mark hash) (get_or-replicate mark
 
 -- so each hash is due
 pub due_then : (recent : Recent) (hash : ℕ) → most_asks ≤ recent.asks → true ≡ is_due recent hash
-due_then recent hash many = sym (ap not (none_noted hash)) ∙ ap (λ (marks : List ℕ). not (is_noted marks hash)) (none_found recent no_marks many refl)
+due_then recent hash at_limit = sym (ap not (none_noted hash)) ∙ ap (λ (marks : List ℕ). not (is_noted marks hash)) (none_found recent no_marks at_limit refl)

@@ -16,12 +16,12 @@ use Rattle.mc_cache.specs.Shards.{AreIdleHands, AreIdleHandsOf}
 use Rattle.mc_cache.proofs.Dealt.{each_push}
 
 idle_in : (arena : Arena) (number : ℕ) (hands : List Hand) (place : ℕ) (hand : Hand) → AreHandsFrom arena number hands → place < length hands → IsIdleHandOf arena (get_or hands place hand)
-idle_in arena number [] place hand are near = absurd (omega arith)
-idle_in arena number (first ∷ hands) zero hand are near = record { of_arena = are.0.of_arena; ready = are.0.ready; none = ap (λ (v : View). v.row.holdings) are.0.new }
-idle_in arena number (first ∷ hands) (suc place) hand are near = idle_in arena (1 + number) hands place hand are.1 (omega arith)
+idle_in arena number [] place hand are in_range = absurd (omega arith)
+idle_in arena number (first ∷ hands) zero hand are in_range = record { of_arena = are.0.of_arena; ready = are.0.ready; none = ap (λ (v : View). v.row.holdings) are.0.new }
+idle_in arena number (first ∷ hands) (suc place) hand are in_range = idle_in arena (1 + number) hands place hand are.1 (omega arith)
 
 pub new_hands_are_idle : (arena : Arena) (hands : List Hand) → AreNewHands arena hands → AreIdleHandsOf arena hands
-new_hands_are_idle arena hands are = λ place hand near. idle_in arena 0 hands place hand are.1 near
+new_hands_are_idle arena hands are = λ place hand in_range. idle_in arena 0 hands place hand are.1 in_range
 
 pub first_is_new : (arena : Arena) (hands : List Hand) (hand : Hand) → AreNewHands arena hands → 0 < length hands → IsNewHand arena 0 (get_or hands 0 hand)
 first_is_new arena [] hand are some = absurd (omega arith)
@@ -32,7 +32,7 @@ pub stays_idle : (arena : Arena) (hand after : Hand) → IsIdleHandOf arena hand
 stays_idle arena hand after idle of ready same = record { of_arena = of; ready = ready; none = same ∙ idle.none }
 
 without_hands : (worker : Worker) → worker.hands.items ≡ [] → AreIdleHands [] worker.hands.items
-without_hands worker none = record { count = ap length none; each = λ place arena hand near. absurd (omega arith) }
+without_hands worker none = record { count = ap length none; each = λ place arena hand in_range. absurd (omega arith) }
 
 -- one worker more, who has no hands, as there are no arenas
 pub one_worker_more : (workers : List Worker) (worker : Worker) → worker.hands.items ≡ [] → HaveIdleHands [] workers → HaveIdleHands [] (workers ++ worker ∷ [])
@@ -59,4 +59,4 @@ one_arena_more config (Ok value) arenas all arena is own none = subst (All (IsNe
 one_arena_more config (Err error) arenas all arena is own none = tt
 
 pub no_arenas : (config : CacheConfig) (arenas : List Arena) → arenas ≡ [] → All (IsNewShard config) arenas
-no_arenas config arenas none = λ place arena near. absurd (omega (arith, ap length none))
+no_arenas config arenas none = λ place arena in_range. absurd (omega (arith, ap length none))

@@ -62,10 +62,10 @@ classes_behind config raws sizes comes (suc more) place within all =
 -- while a raw size is below the greatest size, there is one class more
 pub more_classes : (config : Config) (count raw : ℕ) → 1 ≤ count → count < 63 → is_below_max config raw ≡ true → classes_from (63 - count) config raw + (count - 1) ≡ classes_from (63 - (count + 1)) config (rounded_up raw * config.num / config.den) + count
 unfolding classes_from
-more_classes config count raw some few below =
+more_classes config count raw some within_limit below =
     let more = 63 - (count + 1) in
     let next = rounded_up raw * config.num / config.den in
-    let at : 63 - count ≡ suc more = omega (arith, few) in
+    let at : 63 - count ≡ suc more = omega (arith, within_limit) in
     ap (λ (n : ℕ). classes_from n config raw + (count - 1)) at
     ∙ (ap (λ (b : Bool). cond b (classes_from more config next + 1) 1 + (count - 1)) below ∙ omega (arith, some))
 
@@ -114,7 +114,7 @@ words_of_all [] words all =
     rw none (omega arith)
 words_of_all (arena ∷ arenas) words all =
     let first : word_count (setup_of arena) ≡ words = all 0 arena (omega arith) in
-    let rest : words_of_arenas arenas ≡ length arenas * words = words_of_all arenas words (λ place a near. all (suc place) a (omega arith)) in
+    let rest : words_of_arenas arenas ≡ length arenas * words = words_of_all arenas words (λ place a in_range. all (suc place) a (omega arith)) in
     let more : words_of_arenas (arena ∷ arenas) ≡ word_count (setup_of arena) + words_of_arenas arenas = refl in
     rw (more, first, rest) (omega arith)
 
@@ -136,5 +136,5 @@ arena_accepted config h =
 pub bytes_are : (config : CacheConfig) (arenas : List Arena) → config_refusal config.arena ≡ None → length arenas ≡ config.shards → All (IsNewShard config) arenas → 8 * words_of_arenas arenas ≡ cache_bytes config
 bytes_are config arenas none count new =
     let all : words_of_arenas arenas ≡ length arenas * words_an_arena config.arena =
-    words_of_all arenas (words_an_arena config.arena) (λ place arena near. words_are config.arena (config.workers + 1) (setup_of (get_or arenas place arena)) none (new place arena near).made) in
+    words_of_all arenas (words_an_arena config.arena) (λ place arena in_range. words_are config.arena (config.workers + 1) (setup_of (get_or arenas place arena)) none (new place arena in_range).made) in
     rw (all, count) (omega arith)

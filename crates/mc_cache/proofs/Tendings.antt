@@ -13,10 +13,10 @@ use Rattle.mc_cache.specs.Windows.{TendsShard, nothing_tended}
 
 -- what has another in one place, where it is this and that it was
 pub at_place : {A : Type 0} (xs : List A) (place k : ℕ) (y d : A) → k ≡ place → place < length xs → get_or (set xs place y) k d ≡ y
-at_place xs place k y d same near = ap (λ (n : ℕ). get_or (set xs place y) n d) same ∙ get_or-set_same xs place y d near
+at_place xs place k y d same in_range = ap (λ (n : ℕ). get_or (set xs place y) n d) same ∙ get_or-set_same xs place y d in_range
 
 pub was_there : {A : Type 0} (xs ys : List A) (place k : ℕ) (x d : A) → k ≡ place → place < length xs → x ≡ get_or xs place x → ((shard : ℕ) (e : A) → place ≤ shard → get_or xs shard e ≡ get_or ys shard e) → get_or ys k d ≡ x
-was_there xs ys place k x d same near is rest = sym (rest k d (omega arith)) ∙ ap (λ (n : ℕ). get_or xs n d) same ∙ sym (is ∙ get_or_default xs place x d near)
+was_there xs ys place k x d same in_range is rest = sym (rest k d (omega arith)) ∙ ap (λ (n : ℕ). get_or xs n d) same ∙ sym (is ∙ get_or_default xs place x d in_range)
 
 -- up to a shard windows were done, and from there on all is as it was
 pub record AreTended (count : ℕ) (hands : List Hand) (deciders : List DeciderState) (hands_now : List Hand) (deciders_now : List DeciderState) (done : Tended) : Type 0 where
@@ -29,7 +29,7 @@ pub record AreTended (count : ℕ) (hands : List Hand) (deciders : List DeciderS
 pub none_tended : (hands : List Hand) (deciders : List DeciderState) (done : Tended) → done ≡ nothing_tended → AreTended 0 hands deciders hands deciders done
 none_tended hands deciders done is = record {
   shares = [];
-  first = record { shared = refl; each = λ shard share hand now decider left near. absurd (omega arith) };
+  first = record { shared = refl; each = λ shard share hand now decider left in_range. absurd (omega arith) };
   counted = is;
   hands_left = λ shard hand from. refl;
   deciders_left = λ shard decider from. refl;
@@ -38,7 +38,7 @@ none_tended hands deciders done is = record {
 pub one_tended : (count : ℕ) (hands : List Hand) (deciders : List DeciderState) (hands_now : List Hand) (deciders_now : List DeciderState) (done after share : Tended) (hand now : Hand) (decider left : DeciderState)
     → count < length hands_now → count < length deciders_now → hand ≡ get_or hands_now count hand → decider ≡ get_or deciders_now count decider → TendsShard share decider hand left now → after ≡ tended_with done share
     → AreTended count hands deciders hands_now deciders_now done → AreTended (count + 1) hands deciders (set hands_now count now) (set deciders_now count left) after
-one_tended count hands deciders hands_now deciders_now done after share hand now decider left near near_decider is_hand is_decider tends is h = record {
+one_tended count hands deciders hands_now deciders_now done after share hand now decider left in_range near_decider is_hand is_decider tends is h = record {
   shares = h.shares ++ share ∷ [];
   first = record {
     shared = omega (arith, length-append h.shares (share ∷ []), h.first.shared);
@@ -47,9 +47,9 @@ one_tended count hands deciders hands_now deciders_now done after share hand now
         (λ (same : k ≡ count).
         let e1 : get_or (h.shares ++ share ∷ []) k sh ≡ share = get_or_at h.shares share [] sh k (h.first.shared ∙ sym same) in
         let e2 : get_or deciders k d ≡ decider = was_there deciders_now deciders count k decider d same near_decider is_decider h.deciders_left in
-        let e3 : get_or hands k a ≡ hand = was_there hands_now hands count k hand a same near is_hand h.hands_left in
+        let e3 : get_or hands k a ≡ hand = was_there hands_now hands count k hand a same in_range is_hand h.hands_left in
         let e4 : get_or (set deciders_now count left) k e ≡ left = at_place deciders_now count k left e same near_decider in
-        let e5 : get_or (set hands_now count now) k b ≡ now = at_place hands_now count k now b same near in
+        let e5 : get_or (set hands_now count now) k b ≡ now = at_place hands_now count k now b same in_range in
         rw (e1, e2, e3, e4, e5) tends)
         (λ (other : k ≡ count → ⊥).
         let before : k < count = omega arith in
@@ -65,15 +65,15 @@ one_tended count hands deciders hands_now deciders_now done after share hand now
 }
 
 pub none_said : (hands : List Hand) → SayNothing hands hands
-none_said hands shard hand after near = ap (λ (h : Hand). (view h).row.knows.said) (get_or_default hands shard after hand near)
+none_said hands shard hand after in_range = ap (λ (h : Hand). (view h).row.knows.stored) (get_or_default hands shard after hand in_range)
 
 -- one hand more was used, and said nothing
 pub still_unsaid : (hands hands_now : List Hand) (count : ℕ) (hand now : Hand) → length hands ≡ length hands_now → count < length hands_now → hand ≡ get_or hands_now count hand → StoresNothing (view hand) (view now) → SayNothing hands hands_now → SayNothing hands (set hands_now count now)
-still_unsaid hands hands_now count hand now len near is unsaid h = λ k a b less.
+still_unsaid hands hands_now count hand now len in_range is stores_nothing h = λ k a b less.
     ⊎_elim
     (λ (same : k ≡ count).
-    let e5 : get_or (set hands_now count now) k b ≡ now = at_place hands_now count k now b same near in
+    let e5 : get_or (set hands_now count now) k b ≡ now = at_place hands_now count k now b same in_range in
     let was : get_or hands_now k hand ≡ hand = ap (λ (n : ℕ). get_or hands_now n hand) same ∙ sym is in
-    ap (λ (x : Hand). (view x).row.knows.said) e5 ∙ unsaid ∙ ap (λ (x : Hand). (view x).row.knows.said) (sym was) ∙ h k a hand less)
-    (λ (other : k ≡ count → ⊥). ap (λ (x : Hand). (view x).row.knows.said) (get_or-set_other hands_now count k now b other) ∙ h k a b less)
+    ap (λ (x : Hand). (view x).row.knows.stored) e5 ∙ stores_nothing ∙ ap (λ (x : Hand). (view x).row.knows.stored) (sym was) ∙ h k a hand less)
+    (λ (other : k ≡ count → ⊥). ap (λ (x : Hand). (view x).row.knows.stored) (get_or-set_other hands_now count k now b other) ∙ h k a b less)
     (cases_eq k count)

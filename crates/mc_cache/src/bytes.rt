@@ -35,7 +35,7 @@ fn first_size(config: &Config) -> u64
 fn class_count(config: &Config) -> u64
     requires accepted { config_refusal config.now ≡ None }
     ensures count { result ≡ class_count config.now }
-    ensures few { result ≤ 63 }
+    ensures within_limit { result ≤ 63 }
 {
     let mut count = 1;
     let mut raw = config.first;
@@ -50,7 +50,7 @@ fn class_count(config: &Config) -> u64
 fn words_a_page(config: &Config) -> u64
     requires accepted { config_refusal config.now ≡ None }
     ensures words { result ≡ words_a_page config.now }
-    ensures few { result ≤ 2305 }
+    ensures within_limit { result ≤ 2305 }
 {
     1 + config.page / first_size(config) + config.page / 8
 }
@@ -59,7 +59,7 @@ fn words_a_page(config: &Config) -> u64
 fn words_an_arena(config: &Config) -> u64
     requires accepted { config_refusal config.now ≡ None }
     ensures words { result ≡ words_an_arena config.now }
-    ensures few { result ≤ 2 ^ 19 }
+    ensures within_limit { result ≤ 2 ^ 19 }
 {
     let pages = config.limit / config.page + class_count(config);
     WORDS_APART * (2 + config.stripes) + pages * words_a_page(config) + CONFIG_WORDS

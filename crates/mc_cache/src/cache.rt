@@ -15,7 +15,7 @@ pub struct Cache {
     /// Where items were found last.
     pub(crate) hints: HintTable,
     ghost some: { 1 ≤ length arenas.items },
-    ghost few: { length arenas.items ≤ 4096 },
+    ghost within_limit: { length arenas.items ≤ 4096 },
 }
 
 /// What one thread acts with: a hand of each shard, room for the words of the item that it sets, and which keys it touched lately.

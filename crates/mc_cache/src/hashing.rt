@@ -61,9 +61,9 @@ impl KeyedHasher {
 /// The shard, of n, that has the keys of this hash. The hash's upper half chooses it, as the remainder chooses a stripe.
 pub(crate) fn choose_shard(shards: usize, hash: u64) -> usize
     requires some { 1 ≤ shards }
-    requires few { shards ≤ 4096 }
+    requires within_limit { shards ≤ 4096 }
     ensures shard { result ≡ shard_of shards hash }
-    ensures near { result < shards }
+    ensures in_range { result < shards }
 {
     ((hash >> 32) * shards as u64 >> 32) as usize
 }

@@ -24,7 +24,7 @@ impl Cache {
         ensures key { (result ≡ None) ↔ ¬ IsKey key.now }
         ensures hash { IfSome result (λ place. place.hash ≡ hash_in self.now key.now) }
         ensures shard { IfSome result (λ place. place.shard ≡ shard_in self.now key.now) }
-        ensures near { IfSome result (λ place. place.shard < length self.now.arenas.items) }
+        ensures in_range { IfSome result (λ place. place.shard < length self.now.arenas.items) }
     {
         if key.is_empty() || key.len() > MOST_KEY_BYTES {
             return None;

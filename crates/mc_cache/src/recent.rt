@@ -19,7 +19,7 @@ pub(crate) struct Recent {
     /// How often the marks were asked since all were forgotten.
     asks: u64,
     ghost long: { length marks.items ≡ mark_count },
-    ghost few: { asks ≤ most_asks },
+    ghost within_limit: { asks ≤ most_asks },
 }
 
 // Where a hash is noted.

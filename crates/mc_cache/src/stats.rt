@@ -110,7 +110,7 @@ pub(crate) fn count_shard<R: Wait>(
 ) -> Result<(), Refused>
     requires { IsIdleHandOf arena.now hand.old }
     ensures idle { IsIdleHandOf arena.now hand.new }
-    ensures unsaid { StoresNothing (view hand.old) (view hand.new) }
+    ensures stores_nothing { StoresNothing (view hand.old) (view hand.new) }
     ensures counts { OnOk result (CountsShard stats.old hand.old stats.new hand.new) }
 {
     let survey = survey(rt, alloc, arena, hand, false)?;

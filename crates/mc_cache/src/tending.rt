@@ -32,7 +32,7 @@ impl Tender {
     pub fn tend<R: Wait>(&mut self, rt: &R, cache: &Cache) -> Result<Tended, Refused>
         requires { IsTenderOf cache.now self.old }
         ensures belongs { IsTenderOf cache.now self.new }
-        ensures unsaid { SayNothing (tender_hands self.old) (tender_hands self.new) }
+        ensures stores_nothing { SayNothing (tender_hands self.old) (tender_hands self.new) }
         ensures tends { IfOk result (λ done. TendsCache cache.now done self.old self.new) }
     {
         let alloc = self.alloc;
@@ -53,7 +53,7 @@ impl Tender {
     pub fn stats<R: Wait>(&mut self, rt: &R, cache: &Cache) -> Result<CacheStats, Refused>
         requires { IsTenderOf cache.now self.old }
         ensures belongs { IsTenderOf cache.now self.new }
-        ensures unsaid { SayNothing (tender_hands self.old) (tender_hands self.new) }
+        ensures stores_nothing { SayNothing (tender_hands self.old) (tender_hands self.new) }
         ensures deciders { deciders_of self.new ≡ deciders_of self.old }
         ensures counts { IfOk result (λ stats. CountsCache cache.now stats self.old self.new) }
     {
@@ -74,7 +74,7 @@ impl Tender {
         requires tender { IsTenderOf cache.now self.old }
         requires mode { mode ≤ 2 }
         ensures belongs { IsTenderOf cache.now self.new }
-        ensures unsaid { SayNothing (tender_hands self.old) (tender_hands self.new) }
+        ensures stores_nothing { SayNothing (tender_hands self.old) (tender_hands self.new) }
         ensures deciders { deciders_of self.new ≡ deciders_of self.old }
         ensures sets { SetsModes mode self.old self.new }
     {

@@ -28,7 +28,7 @@ pub(crate) fn tend_shard<R: Wait>(
 ) -> Result<Tended, Refused>
     requires { IsIdleHandOf arena.now hand.old }
     ensures idle { IsIdleHandOf arena.now hand.new }
-    ensures unsaid { StoresNothing (view hand.old) (view hand.new) }
+    ensures stores_nothing { StoresNothing (view hand.old) (view hand.new) }
     ensures tends { IfOk result (λ done. TendsShard done decider.old hand.old decider.new hand.new) }
 {
     let answer = end_window(rt, alloc, arena, hand, decider)?;
@@ -49,7 +49,7 @@ fn end_window<R: Wait>(
 ) -> Result<Option<Result<(), Reassign>>, Refused>
     requires { IsIdleHandOf arena.now hand.old }
     ensures idle { IsIdleHandOf arena.now hand.new }
-    ensures unsaid { StoresNothing (view hand.old) (view hand.new) }
+    ensures stores_nothing { StoresNothing (view hand.old) (view hand.new) }
     ensures ends { IfOk result (λ answer. EndsWindow answer decider.old hand.old decider.new hand.new) }
 {
     let survey = survey(rt, alloc, arena, hand, true)?;
@@ -83,7 +83,7 @@ fn decide(
 fn do_turns<R: Wait>(rt: &R, arena: &Arena, hand: &mut Hand) -> Result<Tended, Refused>
     requires { IsIdleHandOf arena.now hand.old }
     ensures idle { IsIdleHandOf arena.now hand.new }
-    ensures unsaid { StoresNothing (view hand.old) (view hand.new) }
+    ensures stores_nothing { StoresNothing (view hand.old) (view hand.new) }
     ensures does { IfOk result (λ done. DoesWindowTurns done hand.old hand.new) }
 {
     let mut done = Tended::new();

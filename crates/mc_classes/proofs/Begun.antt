@@ -76,7 +76,7 @@ begun_more config raws sizes raw size next b s =
     }
 
 pub begun_all : (config : Config) (raws sizes : List ℕ) (raw : ℕ) → IsBegun config raws sizes raw → length sizes ≤ 62 → (length sizes < 62 → config.max * config.den ≤ raw * config.num) → ComesFrom config raws (sizes ++ config.max ∷ [])
-begun_all config raws sizes raw b few done =
+begun_all config raws sizes raw b within_limit done =
     let len = length_push sizes config.max in
     let paired = b.paired in
     let all = sizes ++ config.max ∷ [] in

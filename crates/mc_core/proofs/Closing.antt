@@ -20,21 +20,21 @@ use Rattle.mc_core.proofs.Tallied.{IsTallied}
 
 module _ (m : Moment) (l : IsLawful m) (hand : ℕ) where
   -- a header without count and link gets another tag without a link
-  module _ (next : SlabState) (same : (page : ℕ) → class_of_page next page ≡ class_of_page m.state.slabs page) (chunk : ChunkId) (head : Head) (near : has_chunk m.state.table chunk ≡ true)
+  module _ (next : SlabState) (same : (page : ℕ) → class_of_page next page ≡ class_of_page m.state.slabs page) (chunk : ChunkId) (head : Head) (in_range : has_chunk m.state.table chunk ≡ true)
       (none : (head_at m.state chunk).count ≡ 0) (still : head.count ≡ (head_at m.state chunk).count) (issue : head.issue ≡ (head_at m.state chunk).issue) (no_link : link_count head.tag ≡ 0) where
     abbrev rows : List (List Holding)
     rows = m.state.holdings
 
     nobody : holder_count chunk rows ≡ 0
-    nobody = let count = l.counted.counted chunk near in omega arith
+    nobody = let count = l.counted.counted chunk in_range in omega arith
 
     turn : Turn m.state.table m.state.heads rows rows chunk head
     turn =
-        let count = l.counted.counted chunk near in
-        let before = l.counted.issued chunk near in
+        let count = l.counted.counted chunk in_range in
+        let before = l.counted.issued chunk in_range in
         record {
           long = l.sized.headers;
-          near = near;
+          in_range = in_range;
           others = λ other isnt. refl;
           sum = omega arith;
           shut = λ shut. still ∙ none;
@@ -59,24 +59,24 @@ module _ (m : Moment) (l : IsLawful m) (hand : ℕ) where
   put_back_tallied chunk can =
       let out = and_parts _ (is_handed_out m.state.slabs chunk) can in
       let dead = and_parts _ (is_dead (head_at m.state chunk)) out.0 in
-      let near = and_parts (has_slabs m.state hand) (has_chunk m.state.table chunk) dead.0 in
-      closed_tallied (slabs_changes.after_back m.state.slabs chunk) (λ page. refl) chunk (with_tag_free (head_at m.state chunk)) near.1 (dead_none chunk dead.1) refl refl refl
+      let in_range = and_parts (has_slabs m.state hand) (has_chunk m.state.table chunk) dead.0 in
+      closed_tallied (slabs_changes.after_back m.state.slabs chunk) (λ page. refl) chunk (with_tag_free (head_at m.state chunk)) in_range.1 (dead_none chunk dead.1) refl refl refl
 
   pub clear_tallied : (chunk : ChunkId) → can_clear m.state hand chunk ≡ true → IsTallied (state_after_clear m.state hand chunk)
   clear_tallied chunk can =
       let listed = and_parts _ (is_listed m.state.slabs (class_of_page m.state.slabs chunk.page) chunk) can in
       let closed = and_parts _ (is_free (head_at m.state chunk).tag || is_dead (head_at m.state chunk)) listed.0 in
       let moving = and_parts _ (is_on_the_move m.state.slabs chunk.page) closed.0 in
-      let near = and_parts (has_slabs m.state hand) (has_chunk m.state.table chunk) moving.0 in
+      let in_range = and_parts (has_slabs m.state hand) (has_chunk m.state.table chunk) moving.0 in
       let none : (head_at m.state chunk).count ≡ 0 = elim (or_cases (is_free (head_at m.state chunk).tag) (is_dead (head_at m.state chunk)) closed.1) [
-        | inl free ↦ l.counted.shut chunk near.1 (inl free)
+        | inl free ↦ l.counted.shut chunk in_range.1 (inl free)
         | inr dead ↦ dead_none chunk dead
       ] in
-      closed_tallied (slabs_changes.after_clear m.state.slabs chunk) (λ page. refl) chunk (with_tag_out (head_at m.state chunk)) near.1 none refl refl refl
+      closed_tallied (slabs_changes.after_clear m.state.slabs chunk) (λ page. refl) chunk (with_tag_out (head_at m.state chunk)) in_range.1 none refl refl refl
 
   pub cut_tallied : (chunk : ChunkId) → can_cut m.state hand chunk ≡ true → IsTallied (state_after_cut m.state hand chunk)
   cut_tallied chunk can =
       let out = and_parts _ (is_out (head_at m.state chunk).tag) can in
       let next = and_parts _ (is_next_uncut m.state.slabs chunk) out.0 in
-      let near = and_parts (has_slabs m.state hand) (has_chunk m.state.table chunk) next.0 in
-      closed_tallied (slabs_changes.after_cut m.state.slabs chunk) (λ page. refl) chunk (with_tag_free (head_at m.state chunk)) near.1 (l.counted.shut chunk near.1 (inr out.1)) refl refl refl
+      let in_range = and_parts (has_slabs m.state hand) (has_chunk m.state.table chunk) next.0 in
+      closed_tallied (slabs_changes.after_cut m.state.slabs chunk) (λ page. refl) chunk (with_tag_free (head_at m.state chunk)) in_range.1 (l.counted.shut chunk in_range.1 (inr out.1)) refl refl refl

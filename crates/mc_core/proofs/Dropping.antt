@@ -52,20 +52,20 @@ module _ (m : Moment) (l : IsLawful m) (hand : ℕ) (there : is_hand m.state han
     is : holding.chunk ≡ chunk
     is = same_from_is_chunk holding.chunk chunk (found_passes (is_of_chunk chunk) (holdings_at m.state hand) holding found)
 
-    near : has_chunk m.state.table chunk ≡ true
-    near = subst (λ c. has_chunk m.state.table c ≡ true) is (found_each (λ h. has_chunk m.state.table h.chunk ≡ true) rows hand (is_of_chunk chunk) holding found l.held.inside)
+    in_range : has_chunk m.state.table chunk ≡ true
+    in_range = subst (λ c. has_chunk m.state.table c ≡ true) is (found_each (λ h. has_chunk m.state.table h.chunk ≡ true) rows hand (is_of_chunk chunk) holding found l.held.inside)
 
     turn : Turn m.state.table m.state.heads rows left chunk (head_after_release old)
     turn =
         let less = less_here rows hand within chunk (is_of_chunk chunk) holding found is in
-        let count = l.counted.counted chunk near in
+        let count = l.counted.counted chunk in_range in
         record {
           long = l.sized.headers;
-          near = near;
+          in_range = in_range;
           others = λ other isnt. less_other rows hand within chunk other (is_of_chunk chunk) holding found is isnt;
           sum = omega arith;
-          shut = λ shut. let none = l.counted.shut chunk near shut in absurd (omega arith);
-          issued = l.counted.issued chunk near;
+          shut = λ shut. let none = l.counted.shut chunk in_range shut in absurd (omega arith);
+          issued = l.counted.issued chunk in_range;
         }
 
     pub less_tallied : IsTallied (after_drop m.state hand chunk)
@@ -86,18 +86,18 @@ module _ (m : Moment) (l : IsLawful m) (hand : ℕ) (there : is_hand m.state han
       ] refl can
 
   -- a key leads nowhere any more
-  module _ (chunk : ChunkId) (near : has_chunk m.state.table chunk ≡ true) (linked : (head_at m.state chunk).tag ≡ Linked) where
+  module _ (chunk : ChunkId) (in_range : has_chunk m.state.table chunk ≡ true) (linked : (head_at m.state chunk).tag ≡ Linked) where
     unlinked_turn : Turn m.state.table m.state.heads rows rows chunk (head_after_unlink (head_at m.state chunk))
     unlinked_turn = record {
       long = l.sized.headers;
-      near = near;
+      in_range = in_range;
       others = λ other isnt. refl;
       sum =
-          let count = l.counted.counted chunk near in
+          let count = l.counted.counted chunk in_range in
           let link : link_count (head_at m.state chunk).tag ≡ 1 = ap link_count linked in
           let no_link : link_count Unlinked ≡ 0 = refl in omega arith;
       shut = λ shut. absurd (neither shut);
-      issued = l.counted.issued chunk near;
+      issued = l.counted.issued chunk in_range;
     }
       where
         neither : (false ≡ true) ⊎ (false ≡ true) → ⊥
@@ -122,21 +122,21 @@ module _ (m : Moment) (l : IsLawful m) (hand : ℕ) (there : is_hand m.state han
       told stripes (Some place) found may = let entry = entry_of m l key place found in unlinked_tallied place.0 entry.inside entry.linked
 
   -- an item is taken away
-  module _ (chunk : ChunkId) (near : has_chunk m.state.table chunk ≡ true) (linked : (head_at m.state chunk).tag ≡ Linked) (one : (head_at m.state chunk).count ≡ 1) where
+  module _ (chunk : ChunkId) (in_range : has_chunk m.state.table chunk ≡ true) (linked : (head_at m.state chunk).tag ≡ Linked) (one : (head_at m.state chunk).count ≡ 1) where
     nobody : holder_count chunk rows ≡ 0
-    nobody = let count = l.counted.counted chunk near in let link : link_count (head_at m.state chunk).tag ≡ 1 = ap link_count linked in omega arith
+    nobody = let count = l.counted.counted chunk in_range in let link : link_count (head_at m.state chunk).tag ≡ 1 = ap link_count linked in omega arith
 
     -- each chunk is held as often as before
     condemned_turn : (now : List (List Holding)) → ((other : ChunkId) → holder_count other now ≡ holder_count other rows) → Turn m.state.table m.state.heads rows now chunk (head_after_condemn (head_at m.state chunk))
     condemned_turn now same = record {
       long = l.sized.headers;
-      near = near;
+      in_range = in_range;
       others = λ other isnt. same other;
       sum =
           let link : link_count (head_at m.state chunk).tag ≡ 1 = ap link_count linked in
           let no_link : link_count Unlinked ≡ 0 = refl in let held = same chunk in omega arith;
       shut = λ shut. refl;
-      issued = l.counted.issued chunk near;
+      issued = l.counted.issued chunk in_range;
     }
 
     abbrev heads_condemned : List Head
@@ -191,6 +191,6 @@ module _ (m : Moment) (l : IsLawful m) (hand : ℕ) (there : is_hand m.state han
       let take = and_parts _ (can_lose_entry stripe key (has_copy (holdings_at m.state hand) chunk)) reason.0 in
       let has = and_parts _ (has_stripe m.state hand (stripe_of m.state key)) take.0 in
       let idle = and_parts _ (is_linked_unheld (head_at m.state chunk)) has.0 in
-      let near = and_parts (has_slabs m.state hand) (has_chunk m.state.table chunk) idle.0 in
+      let in_range = and_parts (has_slabs m.state hand) (has_chunk m.state.table chunk) idle.0 in
       let both = and_parts (is_linked (head_at m.state chunk).tag) ((head_at m.state chunk).count == 1) idle.1 in
-      bound_tallied chunk near.1 (tag_linked (head_at m.state chunk).tag both.0) (eqb-true (head_at m.state chunk).count 1 both.1) (item_at m.state chunk)
+      bound_tallied chunk in_range.1 (tag_linked (head_at m.state chunk).tag both.0) (eqb-true (head_at m.state chunk).count 1 both.1) (item_at m.state chunk)

@@ -51,5 +51,5 @@ module _ (m : Moment) (l : IsLawful m) where
   -- a linked chunk is where its first word leads
   pub entry_linked : (chunk : ChunkId) → has_chunk m.state.table chunk ≡ true → (head_in m.state.table m.state.heads chunk).tag ≡ Linked →
       IsEntry m.state.table m.state.slabs m.state.heads m.state.words (slice_index m.state.words (place_in m.state.table m.state.slabs chunk 0)) (slice_index m.state.words (place_in m.state.table m.state.slabs chunk 1)) chunk
-  entry_linked chunk near linked =
-      entry_of (slice_index m.state.words (place_in m.state.table m.state.slabs chunk 0)) (chunk, slice_index m.state.words (place_in m.state.table m.state.slabs chunk 1)) (l.indexed.linked chunk near linked)
+  entry_linked chunk in_range linked =
+      entry_of (slice_index m.state.words (place_in m.state.table m.state.slabs chunk 0)) (chunk, slice_index m.state.words (place_in m.state.table m.state.slabs chunk 1)) (l.indexed.linked chunk in_range linked)

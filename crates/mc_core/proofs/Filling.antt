@@ -71,7 +71,7 @@ module _ (m : Moment) (l : IsLawful m) where
 
   pub word_written : (chunk : ChunkId) (place word : ℕ) → has_chunk m.state.table chunk ≡ true → IsPlaced m.state.slabs chunk → place < room_in m.state.table (class_of_page m.state.slabs chunk.page) →
       slice_index (slice_set m.state.words (place_in m.state.table m.state.slabs chunk place) word) (place_in m.state.table m.state.slabs chunk place) ≡ word
-  word_written chunk place word near is within = get_or-set_same m.state.words (place_in m.state.table m.state.slabs chunk place) word 0 (word_within m l chunk place near is within)
+  word_written chunk place word in_range is within = get_or-set_same m.state.words (place_in m.state.table m.state.slabs chunk place) word 0 (word_within m l chunk place in_range is within)
 
   module _ (hand : ℕ) (there : is_hand m.state hand ≡ true) (chunk : ChunkId) (place word : ℕ) (holding : Holding) (found : holding_of chunk (holdings_at m.state hand) ≡ Some holding)
       (fresh : is_fresh holding ≡ true) (inside : place < length (holding_words holding)) where
@@ -111,7 +111,7 @@ module _ (m : Moment) (l : IsLawful m) where
 
     counted : AreCounted m.state.table m.state.heads now
     counted = record {
-      counted = λ other near. l.counted.counted other near ∙ ap (λ n. link_count (head_in m.state.table m.state.heads other).tag + n) (sym (same other));
+      counted = λ other in_range. l.counted.counted other in_range ∙ ap (λ n. link_count (head_in m.state.table m.state.heads other).tag + n) (sym (same other));
       shut = l.counted.shut;
       issued = l.counted.issued;
     }
@@ -164,7 +164,7 @@ module _ (m : Moment) (l : IsLawful m) where
         let outs = each_less rows hand (IsOut m l) (is_of_chunk chunk) out_each in
         let apart = nobodys holding.chunk left left_none in
         let once = fresh_once m l hand (is_of_chunk chunk) holding found fresh in
-        let few = holds-le-holders holding.chunk rows hand in
+        let within_limit = holds-le-holders holding.chunk rows hand in
         let alone : count_of_holdings chunk (holdings_at m.state hand) ≤ 1 = subst (λ c. count_of_holdings c (holdings_at m.state hand) ≤ 1) filled_is (omega arith) in (
           counted,
           held_from_so m.state.table m.state.slabs m.state.heads words' now

@@ -31,7 +31,7 @@ are_kept m l hand =
 
 -- a word of a whole item that a chunk shows
 shown_word : (m : Moment) (chunk : ChunkId) (words : Words) → IsWhole words → Shows m.state.table m.state.slabs m.state.words chunk words → (place : ℕ) → place < 3 → slice_index m.state.words (place_in m.state.table m.state.slabs chunk place) ≡ word_in words place
-shown_word m chunk words whole shows place few = let long = whole.long in shows.known_words place (word_in words place) (whole_word words place whole (omega arith))
+shown_word m chunk words whole shows place within_limit = let long = whole.long in shows.known_words place (word_in words place) (whole_word words place whole (omega arith))
 
 pub are_said_items : LinkedItemsAreStored
 are_said_items m l chunk inside linked =
@@ -39,7 +39,7 @@ are_said_items m l chunk inside linked =
     let k : KnownItem = known.1 in
     let Still = IsTrueStill m.state.table m.state.slabs m.state.heads m.state.words m.state.holdings in
     let still = each_contained Still m.past.known known.0 k l.known.still known.2 in
-    let said = each_contained (λ (x : KnownItem). WasStored m.past.said (stamp_in_words x.words) x.words) m.past.known known.0 k l.known.said_by_some known.2 in
+    let said = each_contained (λ (x : KnownItem). WasStored m.past.stored (stamp_in_words x.words) x.words) m.past.known known.0 k l.known.said_by_some known.2 in
     let out : IsHandedOut (head_in m.state.table m.state.heads chunk) k.issue = (inr linked, sym known.3.1) in
     let shows : Shows m.state.table m.state.slabs m.state.words chunk (all_known k.words) =
     subst (λ (c : ChunkId). Shows m.state.table m.state.slabs m.state.words c (all_known k.words)) known.3.0
@@ -51,6 +51,6 @@ are_said_items m l chunk inside linked =
       words = k.words;
       whole = still.whole;
       shows = shows;
-      said = said;
+      stored = said;
       entry = ap (λ n. chunk_and_stamp (stripe_for m.state.stripes n).state n) (sym key) ∙ l.indexed.linked chunk inside linked ∙ ap (λ n. Some (chunk, n)) stamp;
     }

@@ -155,12 +155,12 @@ module _ (m : Moment) (id : ℕ) where
       holdings = slice_index_or m.state.holdings other [];
       looks = get_or-set_other m.state.looks spent other [] [] second k;
       knows = record {
-        saw = get_or-set_other m.past.saw spent other [] [] second k;
+        seen_words = get_or-set_other m.past.seen_words spent other [] [] second k;
         hold = get_or-set_other m.past.holds spent other no_hold no_hold second k;
         mine = (get_or-set_other (with_more m.past.mine kept (row_of m.past.mine spent)) spent other [] [] second ∙ get_or-set_other m.past.mine kept other (row_of m.past.mine kept ++ row_of m.past.mine spent) [] first) k;
         seen = (get_or-set_other (slice_set m.past.seen kept (longer_each (row_of m.past.seen kept) (row_of m.past.seen spent))) spent other [] [] second
             ∙ get_or-set_other m.past.seen kept other (longer_each (row_of m.past.seen kept) (row_of m.past.seen spent)) [] first) k;
-        said = (get_or-set_other (with_more m.past.said kept (row_of m.past.said spent)) spent other [] [] second ∙ get_or-set_other m.past.said kept other (row_of m.past.said kept ++ row_of m.past.said spent) [] first) k;
+        stored = (get_or-set_other (with_more m.past.stored kept (row_of m.past.stored spent)) spent other [] [] second ∙ get_or-set_other m.past.stored kept other (row_of m.past.stored kept ++ row_of m.past.stored spent) [] first) k;
         known = (get_or-set_other (with_more m.past.known kept (row_of m.past.known spent)) spent other [] [] second ∙ get_or-set_other m.past.known kept other (row_of m.past.known kept ++ row_of m.past.known spent) [] first) k;
       };
     };

@@ -80,11 +80,11 @@ row_alone m now hand other next apart same = λ k. record {
   holdings = same.holdings k;
   looks = same.looks k;
   knows = record {
-    saw = get_or-set_other m.past.saw hand other (slice_index_or m.past.saw hand [] ++ seen_words_of m.state next) [] apart k;
+    seen_words = get_or-set_other m.past.seen_words hand other (slice_index_or m.past.seen_words hand [] ++ seen_words_of m.state next) [] apart k;
     hold = get_or-set_other m.past.holds hand other (hold_after m.state next (slice_index_or m.past.holds hand no_hold)) no_hold apart k;
     mine = get_or-set_other m.past.mine hand other (map (own_after m.state now (number_at m.state hand)) (slice_index_or m.past.mine hand [])) [] apart k;
     seen = get_or-set_other m.past.seen hand other (seen_after m.state next (slice_index_or m.past.seen hand [])) [] apart k;
-    said = get_or-set_other m.past.said hand other (slice_index_or m.past.said hand [] ++ items_stored_by_step m.state hand next) [] apart k;
+    stored = get_or-set_other m.past.stored hand other (slice_index_or m.past.stored hand [] ++ items_stored_by_step m.state hand next) [] apart k;
     known = get_or-set_other m.past.known hand other (slice_index_or m.past.known hand [] ++ known_of m.state hand next) [] apart k;
   };
 }
@@ -118,11 +118,11 @@ row_stays_changed m hand other change apart =
       holdings = own.holdings other apart k;
       looks = own.looks other apart k;
       knows = record {
-        saw = slice_index_or m.past.saw other [];
+        seen_words = slice_index_or m.past.seen_words other [];
         hold = slice_index_or m.past.holds other no_hold;
         mine = get_or-set_other m.past.mine hand other (map (own_after m.state now (number_at m.state hand)) (slice_index_or m.past.mine hand [])) [] apart k;
         seen = slice_index_or m.past.seen other [];
-        said = slice_index_or m.past.said other [];
+        stored = slice_index_or m.past.stored other [];
         known = slice_index_or m.past.known other [];
       };
     }

@@ -40,7 +40,7 @@ none_known (suc n) zero word nothing is at = cc
 none_known (suc n) (suc place) word nothing is at = none_known n place word nothing is at
 
 module _ (m : Moment) (l : IsLawful m) (hand : ℕ) (there : is_hand m.state hand ≡ true) (next : SlabState) (same : (page : ℕ) → class_of_page next page ≡ class_of_page m.state.slabs page)
-    (chunk : ChunkId) (near : has_chunk m.state.table chunk ≡ true) (free : is_free (head_at m.state chunk).tag ≡ true) (unused : (head_at m.state chunk).issue < most_issue)
+    (chunk : ChunkId) (in_range : has_chunk m.state.table chunk ≡ true) (free : is_free (head_at m.state chunk).tag ≡ true) (unused : (head_at m.state chunk).issue < most_issue)
     (room : length (holdings_at m.state hand) < most_holdings) (purpose : Purpose) where
   abbrev old : Head
   old = head_at m.state chunk
@@ -55,14 +55,14 @@ module _ (m : Moment) (l : IsLawful m) (hand : ℕ) (there : is_hand m.state han
   now = rows_more rows hand holding
 
   nobody : holder_count chunk rows ≡ 0
-  nobody = let count = l.counted.counted chunk near in let none = l.counted.shut chunk near (inl free) in omega arith
+  nobody = let count = l.counted.counted chunk in_range in let none = l.counted.shut chunk in_range (inl free) in omega arith
 
   turn : Turn m.state.table m.state.heads rows now chunk (head_after_hand_out old)
   turn = record {
     long = l.sized.headers;
-    near = near;
+    in_range = in_range;
     others = λ other isnt. more_other rows hand (hand_within m l hand there) chunk other holding refl isnt;
-    sum = let more = more_here rows hand (hand_within m l hand there) chunk holding refl in let none = l.counted.shut chunk near (inl free) in let unlinked = link_of_free old.tag free in
+    sum = let more = more_here rows hand (hand_within m l hand there) chunk holding refl in let none = l.counted.shut chunk in_range (inl free) in let unlinked = link_of_free old.tag free in
         let no_link : link_count Unlinked ≡ 0 = refl in omega arith;
     shut = λ shut. absurd (neither shut);
     issued = omega arith;
@@ -96,7 +96,7 @@ module _ (m : Moment) (l : IsLawful m) (hand : ℕ) (there : is_hand m.state han
 
 -- a chunk that the hand may get
 pub record MayHandOut (m : Moment) (hand : ℕ) (chunk : ChunkId) : Type 0 where
-  pub near : has_chunk m.state.table chunk ≡ true
+  pub in_range : has_chunk m.state.table chunk ≡ true
   pub free : is_free (head_at m.state chunk).tag ≡ true
   pub unused : (head_at m.state chunk).issue < most_issue
   pub room : length (holdings_at m.state hand) < most_holdings
@@ -119,7 +119,7 @@ module _ (m : Moment) (l : IsLawful m) (hand : ℕ) where
         | Some chunk ↦ λ first may.
             let at = first_placed m l class chunk is first in
             let free = can_hand_out_parts chunk may in
-            each chunk (record { near = near_placed m l chunk at.1; free = free.0; unused = free.1; room = ltb-true (length (holdings_at m.state hand)) most_holdings more.1 })
+            each chunk (record { in_range = near_placed m l chunk at.1; free = free.0; unused = free.1; room = ltb-true (length (holdings_at m.state hand)) most_holdings more.1 })
       ] refl parts.1
 
   -- and after one takes the place of another
@@ -135,11 +135,11 @@ module _ (m : Moment) (l : IsLawful m) (hand : ℕ) where
         | Some chunk ↦ λ found may.
             let at = found_placed m l class chunk (is_target m.state.table m.state.heads old.page) is found in
             let free = can_hand_out_parts chunk may in
-            each chunk (record { near = near_placed m l chunk at.1; free = free.0; unused = free.1; room = ltb-true (length (holdings_at m.state hand)) most_holdings more.1 })
+            each chunk (record { in_range = near_placed m l chunk at.1; free = free.0; unused = free.1; room = ltb-true (length (holdings_at m.state hand)) most_holdings more.1 })
       ] refl parts.1
 
   pub pop_tallied : (class : ℕ) → is_hand m.state hand ≡ true → can_pop m.state hand class ≡ true → IsTallied (state_after_pop m.state hand class)
-  pop_tallied class there can = pop_by IsTallied class can (λ chunk may. handed_out_tallied m l hand there (slabs_changes.after_pop m.state.slabs class) (λ page. refl) chunk may.near may.free may.unused may.room Item)
+  pop_tallied class there can = pop_by IsTallied class can (λ chunk may. handed_out_tallied m l hand there (slabs_changes.after_pop m.state.slabs class) (λ page. refl) chunk may.in_range may.free may.unused may.room Item)
 
   pub pop_off_tallied : (old : ChunkId) → is_hand m.state hand ≡ true → can_pop_off m.state hand old ≡ true → IsTallied (after_pop_off m.state hand old)
-  pop_off_tallied old there can = pop_off_by IsTallied old can (λ chunk may. handed_out_tallied m l hand there (slabs_changes.after_replace m.state.slabs chunk old) (λ page. refl) chunk may.near may.free may.unused may.room (Copy old))
+  pop_off_tallied old there can = pop_off_by IsTallied old can (λ chunk may. handed_out_tallied m l hand there (slabs_changes.after_replace m.state.slabs chunk old) (λ page. refl) chunk may.in_range may.free may.unused may.room (Copy old))

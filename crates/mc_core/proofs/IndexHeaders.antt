@@ -35,12 +35,12 @@ module _ (m : Moment) (l : IsLawful m) where
   header_only : (next : SlabState) → ((page : ℕ) → class_of_page next page ≡ class_of_page m.state.slabs page) → (chunk : ChunkId) (head : Head) → has_chunk m.state.table chunk ≡ true →
       ((head_at m.state chunk).tag ≡ Linked → head.tag ≡ Linked) → (head.tag ≡ Linked → (head_at m.state chunk).tag ≡ Linked) →
       AreIndexed m.state.table next (slice_set m.state.heads (head_place m.state.table chunk) head) m.state.words m.state.stripes
-  header_only next same chunk head near on back = header_indexed m l chunk near head next same on back m.state.stripes own (λ key. refl)
+  header_only next same chunk head in_range on back = header_indexed m l chunk in_range head next same on back m.state.stripes own (λ key. refl)
 
   handed_out_indexed : (hand : ℕ) (next : SlabState) → ((page : ℕ) → class_of_page next page ≡ class_of_page m.state.slabs page) → (chunk : ChunkId) → MayHandOut m hand chunk →
       AreIndexed m.state.table next (slice_set m.state.heads (head_place m.state.table chunk) (head_after_hand_out (head_at m.state chunk))) m.state.words m.state.stripes
   handed_out_indexed hand next same chunk may =
-      header_only next same chunk (head_after_hand_out (head_at m.state chunk)) may.near (λ linked. absurd (free_not_linked (head_at m.state chunk).tag may.free linked)) (λ never. absurd (cc))
+      header_only next same chunk (head_after_hand_out (head_at m.state chunk)) may.in_range (λ linked. absurd (free_not_linked (head_at m.state chunk).tag may.free linked)) (λ never. absurd (cc))
 
   pub pop_indexed : (hand class : ℕ) → can_pop m.state hand class ≡ true → IsIndexed (state_after_pop m.state hand class)
   pop_indexed hand class can = pop_by m l hand IsIndexed class can (λ chunk may. handed_out_indexed hand (slabs_changes.after_pop m.state.slabs class) (λ page. refl) chunk may)
@@ -70,7 +70,7 @@ module _ (m : Moment) (l : IsLawful m) where
   -- a chunk that isn't linked gets another tag
   closed_indexed : (next : SlabState) → ((page : ℕ) → class_of_page next page ≡ class_of_page m.state.slabs page) → (chunk : ChunkId) (head : Head) → has_chunk m.state.table chunk ≡ true →
       ((head_at m.state chunk).tag ≡ Linked → ⊥) → (head.tag ≡ Linked → ⊥) → AreIndexed m.state.table next (slice_set m.state.heads (head_place m.state.table chunk) head) m.state.words m.state.stripes
-  closed_indexed next same chunk head near before after = header_only next same chunk head near (λ linked. absurd (before linked)) (λ linked. absurd (after linked))
+  closed_indexed next same chunk head in_range before after = header_only next same chunk head in_range (λ linked. absurd (before linked)) (λ linked. absurd (after linked))
 
   dead_not_linked : (chunk : ChunkId) → is_dead (head_at m.state chunk) ≡ true → (head_at m.state chunk).tag ≡ Linked → ⊥
   dead_not_linked chunk dead linked =
@@ -81,16 +81,16 @@ module _ (m : Moment) (l : IsLawful m) where
   put_back_indexed hand chunk can =
       let out = and_parts _ (is_handed_out m.state.slabs chunk) can in
       let dead = and_parts _ (is_dead (head_at m.state chunk)) out.0 in
-      let near = and_parts (has_slabs m.state hand) (has_chunk m.state.table chunk) dead.0 in
-      closed_indexed (slabs_changes.after_back m.state.slabs chunk) (λ page. refl) chunk (with_tag_free (head_at m.state chunk)) near.1 (dead_not_linked chunk dead.1) (λ never. cc)
+      let in_range = and_parts (has_slabs m.state hand) (has_chunk m.state.table chunk) dead.0 in
+      closed_indexed (slabs_changes.after_back m.state.slabs chunk) (λ page. refl) chunk (with_tag_free (head_at m.state chunk)) in_range.1 (dead_not_linked chunk dead.1) (λ never. cc)
 
   pub clear_indexed : (hand : ℕ) (chunk : ChunkId) → can_clear m.state hand chunk ≡ true → IsIndexed (state_after_clear m.state hand chunk)
   clear_indexed hand chunk can =
       let listed = and_parts _ (is_listed m.state.slabs (class_of_page m.state.slabs chunk.page) chunk) can in
       let closed = and_parts _ (is_free (head_at m.state chunk).tag || is_dead (head_at m.state chunk)) listed.0 in
       let moving = and_parts _ (is_on_the_move m.state.slabs chunk.page) closed.0 in
-      let near = and_parts (has_slabs m.state hand) (has_chunk m.state.table chunk) moving.0 in
-      closed_indexed (slabs_changes.after_clear m.state.slabs chunk) (λ page. refl) chunk (with_tag_out (head_at m.state chunk)) near.1
+      let in_range = and_parts (has_slabs m.state hand) (has_chunk m.state.table chunk) moving.0 in
+      closed_indexed (slabs_changes.after_clear m.state.slabs chunk) (λ page. refl) chunk (with_tag_out (head_at m.state chunk)) in_range.1
       (λ linked. elim (or_cases (is_free (head_at m.state chunk).tag) (is_dead (head_at m.state chunk)) closed.1) [
         | inl free ↦ free_not_linked (head_at m.state chunk).tag free linked
         | inr dead ↦ dead_not_linked chunk dead linked
@@ -100,6 +100,6 @@ module _ (m : Moment) (l : IsLawful m) where
   cut_indexed hand chunk can =
       let out = and_parts _ (is_out (head_at m.state chunk).tag) can in
       let next = and_parts _ (is_next_uncut m.state.slabs chunk) out.0 in
-      let near = and_parts (has_slabs m.state hand) (has_chunk m.state.table chunk) next.0 in
-      closed_indexed (slabs_changes.after_cut m.state.slabs chunk) (λ page. refl) chunk (with_tag_free (head_at m.state chunk)) near.1
+      let in_range = and_parts (has_slabs m.state hand) (has_chunk m.state.table chunk) next.0 in
+      closed_indexed (slabs_changes.after_cut m.state.slabs chunk) (λ page. refl) chunk (with_tag_free (head_at m.state chunk)) in_range.1
       (λ linked. let never : is_out Linked ≡ true = ap is_out (sym linked) ∙ out.1 in cc) (λ never. cc)

@@ -47,8 +47,8 @@ module _ (m : Moment) (l : IsLawful m) (hand : ℕ) (chunk : ChunkId) (holding :
   is : holding.chunk ≡ chunk
   is = same_from_is_chunk holding.chunk chunk (found_passes (is_of_chunk chunk) (holdings_at m.state hand) holding may.found)
 
-  near : has_chunk m.state.table chunk ≡ true
-  near = subst (λ c. has_chunk m.state.table c ≡ true) is (found_each (λ h. has_chunk m.state.table h.chunk ≡ true) m.state.holdings hand (is_of_chunk chunk) holding may.found l.held.inside)
+  in_range : has_chunk m.state.table chunk ≡ true
+  in_range = subst (λ c. has_chunk m.state.table c ≡ true) is (found_each (λ h. has_chunk m.state.table h.chunk ≡ true) m.state.holdings hand (is_of_chunk chunk) holding may.found l.held.inside)
 
   shows : Shows m.state.table m.state.slabs m.state.words chunk (holding_words holding)
   shows = subst (λ c. Shows m.state.table m.state.slabs m.state.words c (holding_words holding)) is
@@ -74,7 +74,7 @@ module _ (m : Moment) (l : IsLawful m) (hand : ℕ) (chunk : ChunkId) (holding :
   told_indexed : (value : ReadyStripe) (stamp : ℕ) → stamp ≡ stamp_in (holding_words holding) → ((other : ℕ) → chunk_and_stamp value.state other ≡ cond (nat_eq other key) (Some (holding.chunk, stamp)) (chunk_and_stamp stripe.state other)) →
       AreIndexed m.state.table m.state.slabs (slice_set m.state.heads (head_place m.state.table chunk) (head_after_link (head_at m.state chunk))) m.state.words (slice_set m.state.stripes (stripe_of m.state key) value)
   told_indexed value stamp same gives =
-      more_indexed m l chunk near (head_after_link (head_at m.state chunk)) key stamp value refl
+      more_indexed m l chunk in_range (head_after_link (head_at m.state chunk)) key stamp value refl
       (λ before. let never : Unlinked ≡ Linked = sym may.unlinked ∙ before in cc) nowhere (word 0 (omega arith)) (word 1 (omega arith) ∙ sym same) room
       (λ other. gives other ∙ ap (λ c. cond (nat_eq other key) (Some (c, stamp)) (chunk_and_stamp stripe.state other)) is)
 

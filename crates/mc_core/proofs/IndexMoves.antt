@@ -54,7 +54,7 @@ module _ (m : Moment) (l : IsLawful m) where
   others_stay heads' chunk linked = record { tag = linked; class = refl; first_words = λ place within. refl }
 
   -- one key and one chunk, whose header is written
-  module _ (chunk : ChunkId) (near : has_chunk table chunk ≡ true) (head : Head) (key stamp : ℕ) (value : ReadyStripe) where
+  module _ (chunk : ChunkId) (in_range : has_chunk table chunk ≡ true) (head : Head) (key stamp : ℕ) (value : ReadyStripe) where
     abbrev heads' : List Head
     heads' = slice_set m.state.heads (head_place table chunk) head
 
@@ -66,7 +66,7 @@ module _ (m : Moment) (l : IsLawful m) where
 
     -- another chunk has its tag still
     tag_other : (other : ChunkId) → has_chunk table other ≡ true → (other ≡ chunk → ⊥) → (head_in table m.state.heads other).tag ≡ Linked → (head_in table heads' other).tag ≡ Linked
-    tag_other = tag_after m l chunk near head (λ other tag. (other ≡ chunk → ⊥) → (head_in table m.state.heads other).tag ≡ Linked → tag ≡ Linked) (λ apart _. absurd (apart refl)) (λ _ _ _ _ is. is)
+    tag_other = tag_after m l chunk in_range head (λ other tag. (other ≡ chunk → ⊥) → (head_in table m.state.heads other).tag ≡ Linked → tag ≡ Linked) (λ apart _. absurd (apart refl)) (λ _ _ _ _ is. is)
 
     -- the key leads nowhere any more, and its chunk isn't linked
     module _ (gone : head.tag ≡ Linked → ⊥) (there : leads stripes key ≡ Some (chunk, stamp))
@@ -85,7 +85,7 @@ module _ (m : Moment) (l : IsLawful m) where
 
       fewer_linked : (c : ChunkId) → has_chunk table c ≡ true → (head_in table heads' c).tag ≡ Linked → leads stripes' (word_of table slabs words c 0) ≡ Some (c, word_of table slabs words c 1)
       fewer_linked c near_c linked =
-          let before = tag_after m l chunk near head (λ c tag. tag ≡ Linked → ((head_in table m.state.heads c).tag ≡ Linked) × (c ≡ chunk → ⊥)) (λ is. absurd (gone is))
+          let before = tag_after m l chunk in_range head (λ c tag. tag ≡ Linked → ((head_in table m.state.heads c).tag ≡ Linked) × (c ≡ chunk → ⊥)) (λ is. absurd (gone is))
           (λ other _ isnt is. (is, apart_from other isnt)) c near_c linked in
           let found = l.indexed.linked c near_c before.0 in
           by_equal (word_of table slabs words c 0) key
@@ -103,10 +103,10 @@ module _ (m : Moment) (l : IsLawful m) where
       more_leads = one_leads stripes l.legal.some key value (Some (chunk, stamp)) gives
 
       written : (head_in table heads' chunk).tag ≡ Linked
-      written = tag_after m l chunk near head (λ c tag. c ≡ chunk → tag ≡ Linked) (λ _. linked) (λ other _ isnt same. absurd (apart_from other isnt same)) chunk near refl
+      written = tag_after m l chunk in_range head (λ c tag. c ≡ chunk → tag ≡ Linked) (λ _. linked) (λ other _ isnt same. absurd (apart_from other isnt same)) chunk in_range refl
 
       new_entry : IsEntry table slabs heads' words key stamp chunk
-      new_entry = record { inside = near; linked = written; same_key = first; same_stamp = second; fits = room }
+      new_entry = record { inside = in_range; linked = written; same_key = first; same_stamp = second; fits = room }
 
       more_entry : (other own_stamp : ℕ) (c : ChunkId) → leads stripes' other ≡ Some (c, own_stamp) → IsEntry table slabs heads' words other own_stamp c
       more_entry other own_stamp c found = by_equal other key
@@ -121,7 +121,7 @@ module _ (m : Moment) (l : IsLawful m) where
           entry_stays table slabs slabs m.state.heads heads' words words other own_stamp c (others_stay heads' c (tag_other c of.inside not_it of.linked)) of)
 
       more_linked : (c : ChunkId) → has_chunk table c ≡ true → (head_in table heads' c).tag ≡ Linked → leads stripes' (word_of table slabs words c 0) ≡ Some (c, word_of table slabs words c 1)
-      more_linked = tag_after m l chunk near head (λ c tag. tag ≡ Linked → leads stripes' (word_of table slabs words c 0) ≡ Some (c, word_of table slabs words c 1))
+      more_linked = tag_after m l chunk in_range head (λ c tag. tag ≡ Linked → leads stripes' (word_of table slabs words c 0) ≡ Some (c, word_of table slabs words c 1))
           (λ _. more_leads (word_of table slabs words chunk 0) ∙ by_equal (word_of table slabs words chunk 0) key
           (λ here _. rw here (ap (λ (n : ℕ). Some (chunk, n)) (sym second))) (λ _ apart. absurd (apart first)))
           (λ c near_c isnt is.
@@ -137,15 +137,15 @@ module _ (m : Moment) (l : IsLawful m) where
   pub filled_indexed : (chunk : ChunkId) (place word : ℕ) → IsPlaced slabs chunk → place < room_in table (class_of_page slabs chunk.page) → ((head_in table m.state.heads chunk).tag ≡ Linked → ⊥) →
       AreIndexed table slabs m.state.heads (slice_set words (place_in table slabs chunk place) word) stripes
   filled_indexed chunk place word placed within unlinked = indexed_stays table slabs slabs m.state.heads m.state.heads words (slice_set words (place_in table slabs chunk place) word) stripes stripes l.legal.some l.indexed
-      (λ c near linked. record {
+      (λ c in_range linked. record {
         tag = linked;
         class = refl;
         first_words = λ at small.
-            let has_whole_item = (entry_linked m l c near linked).fits in
-            word_kept m l chunk c place at word placed (placed_at m l c (head_in table m.state.heads c).issue near (inr linked, refl)).0 within (omega arith)
+            let has_whole_item = (entry_linked m l c in_range linked).fits in
+            word_kept m l chunk c place at word placed (placed_at m l c (head_in table m.state.heads c).issue in_range (inr linked, refl)).0 within (omega arith)
             (λ same. unlinked (ap (λ c. (head_in table m.state.heads c).tag) (sym same) ∙ linked));
       })
-      (λ c near linked. linked) own (λ key. refl)
+      (λ c in_range linked. linked) own (λ key. refl)
 
 -- the first words of what is whole are known
 some_is : (o : Option ℕ) → is_some o ≡ true → o ≡ Some (unwrap_or o 0)

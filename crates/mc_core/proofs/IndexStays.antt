@@ -62,12 +62,12 @@ module _ (table : Classes) (slabs next : SlabState) (heads heads' : List Head) (
       (λ key stamp chunk there.
       let entry = entry_from table slabs heads words stripes some indexed key stamp chunk (sym (same key) ∙ there) in
       entry_stays key stamp chunk (stays chunk entry.inside entry.linked) entry)
-      (λ chunk near linked.
-      let before = back chunk near linked in
-      link_stays other chunk (stays chunk near before) (same (word_of table slabs words chunk 0) ∙ indexed.linked chunk near before))
+      (λ chunk in_range linked.
+      let before = back chunk in_range linked in
+      link_stays other chunk (stays chunk in_range before) (same (word_of table slabs words chunk 0) ∙ indexed.linked chunk in_range before))
 
 -- one header is written
-module _ (m : Moment) (l : IsLawful m) (chunk : ChunkId) (near : has_chunk m.state.table chunk ≡ true) (head : Head) where
+module _ (m : Moment) (l : IsLawful m) (chunk : ChunkId) (in_range : has_chunk m.state.table chunk ≡ true) (head : Head) where
   abbrev table : Classes
   table = m.state.table
 
@@ -89,8 +89,8 @@ module _ (m : Moment) (l : IsLawful m) (chunk : ChunkId) (near : has_chunk m.sta
   tag_after P here elsewhere other there = elim (cases_Bool (is_chunk chunk other)) [
     | inl is ↦
         let same = same_from_is_chunk chunk other is in
-        subst (λ c. P c (head_in table heads' c).tag) same (subst (λ (h : Head). P chunk h.tag) (sym (head_written table heads chunk head l.sized.headers near)) here)
-    | inr isnt ↦ subst (λ (h : Head). P other h.tag) (sym (head_other table heads chunk other head near there isnt)) (elsewhere other there isnt)
+        subst (λ c. P c (head_in table heads' c).tag) same (subst (λ (h : Head). P chunk h.tag) (sym (head_written table heads chunk head l.sized.headers in_range)) here)
+    | inr isnt ↦ subst (λ (h : Head). P other h.tag) (sym (head_other table heads chunk other head in_range there isnt)) (elsewhere other there isnt)
   ]
 
   -- linked before and after, or neither; pages stay of their classes

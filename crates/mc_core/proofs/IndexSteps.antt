@@ -86,11 +86,11 @@ module _ (m : Moment) (l : IsLawful m) (hand : ℕ) where
       let take = and_parts _ (can_lose_entry stripe key (has_copy (holdings_at m.state hand) chunk)) reason.0 in
       let has = and_parts _ (has_stripe m.state hand (stripe_of m.state key)) take.0 in
       let idle = and_parts _ (is_linked_unheld (head_at m.state chunk)) has.0 in
-      let near = and_parts (has_slabs m.state hand) (has_chunk m.state.table chunk) idle.0 in
+      let in_range = and_parts (has_slabs m.state hand) (has_chunk m.state.table chunk) idle.0 in
       let both = and_parts (is_linked (head_at m.state chunk).tag) ((head_at m.state chunk).count == 1) idle.1 in
       let is = tag_linked (head_at m.state chunk).tag both.0 in
-      fewer_indexed m l chunk near.1 (head_after_condemn (head_at m.state chunk)) key (word_at m.state chunk 1)
-      (stripe_condemned stripe (has_copy (holdings_at m.state hand) chunk) (writer_of m.state hand) key) (λ never. cc) (l.indexed.linked chunk near.1 is)
+      fewer_indexed m l chunk in_range.1 (head_after_condemn (head_at m.state chunk)) key (word_at m.state chunk 1)
+      (stripe_condemned stripe (has_copy (holdings_at m.state hand) chunk) (writer_of m.state hand) key) (λ never. cc) (l.indexed.linked chunk in_range.1 is)
       (λ other. condemned_gives stripe (has_copy (holdings_at m.state hand) chunk) (writer_of m.state hand) key other (rising key))
 
   -- a word of a fresh chunk

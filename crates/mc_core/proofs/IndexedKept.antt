@@ -42,10 +42,10 @@ indexed_slabs : (m : Moment) (hand : ℕ) (change : Change) → MayChange m hand
 indexed_slabs m hand change may =
     let next = (after_change m.state hand change).slabs in
     indexed_stays m.state.table m.state.slabs next m.state.heads m.state.heads m.state.words m.state.words m.state.stripes m.state.stripes may.lawful.legal.some may.lawful.indexed
-    (λ chunk near linked.
-    let same = stays_changes m hand change may chunk (head_in m.state.table m.state.heads chunk).issue near (inr linked, refl) in
+    (λ chunk in_range linked.
+    let same = stays_changes m hand change may chunk (head_in m.state.table m.state.heads chunk).issue in_range (inr linked, refl) in
     record { tag = linked; class = same; first_words = λ place _. word_moved m.state.table m.state.slabs next m.state.words chunk place same })
-    (λ chunk near linked. linked) (own m may.lawful) (λ key. refl)
+    (λ chunk in_range linked. linked) (own m may.lawful) (λ key. refl)
 
 -- such a change leaves the index
 same_index : (how : StripeChange) (stripe : ReadyStripe) → (stripe_after how stripe).state.index ≡ stripe.state.index
@@ -60,8 +60,8 @@ module _ (m : Moment) (l : IsLawful m) where
       AreIndexed m.state.table m.state.slabs m.state.heads m.state.words (slice_set m.state.stripes at value)
   indexed_stripe at value within same =
       indexed_stays m.state.table m.state.slabs m.state.slabs m.state.heads m.state.heads m.state.words m.state.words m.state.stripes (slice_set m.state.stripes at value) l.legal.some l.indexed
-      (λ chunk near linked. record { tag = linked; class = refl; first_words = λ place _. refl })
-      (λ chunk near linked. linked) (same_own m.state.stripes at value within same (own m l)) (same_leads m.state.stripes at value within same)
+      (λ chunk in_range linked. record { tag = linked; class = refl; first_words = λ place _. refl })
+      (λ chunk in_range linked. linked) (same_own m.state.stripes at value within same (own m l)) (same_leads m.state.stripes at value within same)
 
   -- a stripe has another value, whose keys lead where they led
   indexed_quiet : (stripe : ℕ) (value : ReadyStripe) → ((key : ℕ) → chunk_and_stamp value.state key ≡ chunk_and_stamp (stripe_at m.state stripe).state key)
@@ -144,9 +144,9 @@ new_own stripes = λ stripe key value place at there.
     let never : None ≡ Some place = ap (λ (v : ReadyStripe). chunk_and_stamp v.state key) new ∙ there in absurd (cc)
 
 pub indexed_first : HoldsAtFirst IndexedIn
-indexed_first table stripes hands start sound some_stripe some_hand few small =
+indexed_first table stripes hands start sound some_stripe some_hand within_limit small =
     let state = new_state table stripes hands start in
     indexed_from table (fresh_slabs table) state.heads state.words (replicate stripes new_stripe) (new_own stripes)
     (λ key stamp chunk there. let never : None ≡ Some (chunk, stamp) = sym (new_leads stripes key) ∙ there in absurd (cc))
-    (λ chunk near linked.
+    (λ chunk in_range linked.
     let out : Out ≡ Linked = sym (first_heads (arena_pages_of table * most_of table) (head_place table chunk) start small).out ∙ linked in absurd (cc))

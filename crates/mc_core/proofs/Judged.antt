@@ -82,11 +82,11 @@ module _ (m : Moment) (l : IsLawful m) (hand : ℕ) (has : has_slabs m.state han
 
   -- what was seen free or dead is so
   same_shut : (chunk : ChunkId) (seen : Head) → has_chunk m.state.table chunk ≡ true → seen_head looks chunk ≡ Some seen → (is_free seen.tag || is_dead seen) ≡ true → head_at m.state chunk ≡ seen
-  same_shut chunk seen near last shut = ((l.seen hand has).last_heads chunk seen near last).0 (shut_if (is_out seen.tag) (is_free seen.tag) (is_dead seen) shut)
+  same_shut chunk seen in_range last shut = ((l.seen hand has).last_heads chunk seen in_range last).0 (shut_if (is_out seen.tag) (is_free seen.tag) (is_dead seen) shut)
 
   -- what is free was seen so
   same_free : (chunk : ChunkId) (seen : Head) → has_chunk m.state.table chunk ≡ true → (head_at m.state chunk).tag ≡ Free → seen_head looks chunk ≡ Some seen → head_at m.state chunk ≡ seen
-  same_free chunk seen near free last = free_still (head_at m.state chunk) seen free ((l.seen hand has).last_heads chunk seen near last)
+  same_free chunk seen in_range free last = free_still (head_at m.state chunk) seen free ((l.seen hand has).last_heads chunk seen in_range last)
 
   next : (class : ℕ) (chunk : ChunkId) (seen : Head) → is_class m.state.table class ≡ true → next_free m.state class ≡ Some chunk → seen_head looks chunk ≡ Some seen → head_at m.state chunk ≡ seen
   next class chunk seen is first last = let at = (are_needless m l).next class chunk is first in same_free chunk seen at.0 at.1 last
@@ -155,17 +155,17 @@ module _ (m : Moment) (l : IsLawful m) (hand : ℕ) (has : has_slabs m.state han
       (ap (can_hand_out m.state) found.0 ∙ may_hand_out chunk sees.seen free found.1 sees.unused)
 
   put_back : (chunk : ChunkId) (seen : Head) → has_chunk m.state.table chunk ≡ true → seen_head looks chunk ≡ Some seen → is_dead seen ≡ true → (head_at m.state chunk ≡ seen) × (can_put_back m.state hand chunk ≡ true)
-  put_back chunk seen near last dead =
-      let same = same_shut chunk seen near last (or_right (is_free seen.tag) (is_dead seen) dead) in
+  put_back chunk seen in_range last dead =
+      let same = same_shut chunk seen in_range last (or_right (is_free seen.tag) (is_dead seen) dead) in
       let is : is_dead (head_at m.state chunk) ≡ true = ap is_dead same ∙ dead in
-      (same, and_from _ _ (and_from _ _ (and_from _ _ has near) is) ((are_needless m l).dead chunk near is))
+      (same, and_from _ _ (and_from _ _ (and_from _ _ has in_range) is) ((are_needless m l).dead chunk in_range is))
 
   clear : (chunk : ChunkId) (seen : Head) → has_chunk m.state.table chunk ≡ true → is_on_the_move slabs chunk.page ≡ true → seen_head looks chunk ≡ Some seen →
       (is_free seen.tag || is_dead seen) ≡ true → (head_at m.state chunk ≡ seen) × (can_clear m.state hand chunk ≡ true)
-  clear chunk seen near moves last shut =
-      let same = same_shut chunk seen near last shut in
+  clear chunk seen in_range moves last shut =
+      let same = same_shut chunk seen in_range last shut in
       let is : (is_free (head_at m.state chunk).tag || is_dead (head_at m.state chunk)) ≡ true = ap (λ (h : Head). is_free h.tag || is_dead h) same ∙ shut in
-      (same, and_from _ _ (and_from _ _ (and_from _ _ (and_from _ _ has near) moves) is) ((are_needless m l).unused chunk near is))
+      (same, and_from _ _ (and_from _ _ (and_from _ _ (and_from _ _ has in_range) moves) is) ((are_needless m l).unused chunk in_range is))
 
 pub all_are_judged : AllAreJudged
 all_are_judged m l hand has = record {
@@ -181,5 +181,5 @@ all_are_judged m l hand has = record {
       let at = (are_needless m l).uncut chunk is in
       let next : is_next_uncut m.state.slabs chunk ≡ true = ap (λ (u : Option ChunkId). option_map_or (λ (c : ChunkId). is_chunk c chunk) u false) is ∙ is_chunk-same chunk in
       and_from _ _ (and_from _ _ (and_from _ _ has at.0) next) (ap is_out at.1);
-  key = λ chunk key near read. ((l.seen hand has).read_words chunk 0 key near read).same;
+  key = λ chunk key in_range read. ((l.seen hand has).read_words chunk 0 key in_range read).same;
 }

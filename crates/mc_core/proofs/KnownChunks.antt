@@ -53,52 +53,52 @@ entry_of m l key place found =
 
 module _ (m : Moment) (hand : ℕ) where
   -- nothing is said or learned
-  pub known_end : (s : State) → KnownAt s m.past.said m.past.known → KnownAt s (with_more m.past.said hand []) (with_more m.past.known hand [])
-  known_end s is = nothing_learned (λ said known. KnownAt s said known) m.past.said m.past.known hand is
+  pub known_end : (s : State) → KnownAt s m.past.stored m.past.known → KnownAt s (with_more m.past.stored hand []) (with_more m.past.known hand [])
+  known_end s is = nothing_learned (λ said known. KnownAt s said known) m.past.stored m.past.known hand is
 
   -- one header changes, and the order of lists
   known_header : (l : IsLawful m) (next : SlabState) (chunk : ChunkId) (head : Head) → ((page : ℕ) → class_of_page next page ≡ class_of_page m.state.slabs page) → has_chunk m.state.table chunk ≡ true →
-      IsNoOlder (head_at m.state chunk) head → is_linked head.tag ≡ false → KnownAt (with_head (with_slabs m.state next) chunk head) (with_more m.past.said hand []) (with_more m.past.known hand [])
-  known_header l next chunk head same near younger head_after_unlink =
+      IsNoOlder (head_at m.state chunk) head → is_linked head.tag ≡ false → KnownAt (with_head (with_slabs m.state next) chunk head) (with_more m.past.stored hand []) (with_more m.past.known hand [])
+  known_header l next chunk head same in_range younger head_after_unlink =
       known_end (with_head (with_slabs m.state next) chunk head)
-      (known_turned m l next chunk head m.state.holdings same near younger (λ is. absurd (both_ways (is_linked head.tag) head_after_unlink (ap is_linked is))) (apart_same m l) l.known.own)
+      (known_turned m l next chunk head m.state.holdings same in_range younger (λ is. absurd (both_ways (is_linked head.tag) head_after_unlink (ap is_linked is))) (apart_same m l) l.known.own)
 
   pub known_put_back : (chunk : ChunkId) → MayStep m hand (PutBack chunk) → KnownIn (moment_stepped m hand (PutBack chunk))
   known_put_back chunk may =
       let parts = and_parts _ (is_handed_out m.state.slabs chunk) may.allowed in
       let more = and_parts _ (is_dead (head_at m.state chunk)) parts.0 in
-      let near = (and_parts (has_slabs m.state hand) (has_chunk m.state.table chunk) more.0).1 in
-      known_header may.lawful (slabs_changes.after_back m.state.slabs chunk) chunk (with_tag_free (head_at m.state chunk)) (λ page. refl) near (younger_free (head_at m.state chunk)) refl
+      let in_range = (and_parts (has_slabs m.state hand) (has_chunk m.state.table chunk) more.0).1 in
+      known_header may.lawful (slabs_changes.after_back m.state.slabs chunk) chunk (with_tag_free (head_at m.state chunk)) (λ page. refl) in_range (younger_free (head_at m.state chunk)) refl
 
   pub known_clear : (chunk : ChunkId) → MayStep m hand (Clear chunk) → KnownIn (moment_stepped m hand (Clear chunk))
   known_clear chunk may =
       let parts = and_parts _ (is_listed m.state.slabs (class_of_page m.state.slabs chunk.page) chunk) may.allowed in
       let dead = and_parts _ (is_free (head_at m.state chunk).tag || is_dead (head_at m.state chunk)) parts.0 in
       let moving = and_parts _ (is_on_the_move m.state.slabs chunk.page) dead.0 in
-      let near = (and_parts (has_slabs m.state hand) (has_chunk m.state.table chunk) moving.0).1 in
-      known_header may.lawful (slabs_changes.after_clear m.state.slabs chunk) chunk (with_tag_out (head_at m.state chunk)) (λ page. refl) near (younger_out (head_at m.state chunk)) refl
+      let in_range = (and_parts (has_slabs m.state hand) (has_chunk m.state.table chunk) moving.0).1 in
+      known_header may.lawful (slabs_changes.after_clear m.state.slabs chunk) chunk (with_tag_out (head_at m.state chunk)) (λ page. refl) in_range (younger_out (head_at m.state chunk)) refl
 
   pub known_cut : (page index : ℕ) → MayStep m hand (Cut page index) → KnownIn (moment_stepped m hand (Cut page index))
   known_cut page index may =
       let chunk : ChunkId = record { page = page; index = index } in
       let parts = and_parts _ (is_out (head_at m.state chunk).tag) may.allowed in
       let next = and_parts _ (is_next_uncut m.state.slabs chunk) parts.0 in
-      let near = (and_parts (has_slabs m.state hand) (has_chunk m.state.table chunk) next.0).1 in
-      known_header may.lawful (slabs_changes.after_cut m.state.slabs chunk) chunk (with_tag_free (head_at m.state chunk)) (λ page. refl) near (younger_free (head_at m.state chunk)) refl
+      let in_range = (and_parts (has_slabs m.state hand) (has_chunk m.state.table chunk) next.0).1 in
+      known_header may.lawful (slabs_changes.after_cut m.state.slabs chunk) chunk (with_tag_free (head_at m.state chunk)) (λ page. refl) in_range (younger_free (head_at m.state chunk)) refl
 
   -- a holding is given up
-  known_dropped : (l : IsLawful m) (chunk : ChunkId) (holding : Holding) → holding_of chunk (holdings_at m.state hand) ≡ Some holding → KnownAt (after_drop m.state hand chunk) (with_more m.past.said hand []) (with_more m.past.known hand [])
+  known_dropped : (l : IsLawful m) (chunk : ChunkId) (holding : Holding) → holding_of chunk (holdings_at m.state hand) ≡ Some holding → KnownAt (after_drop m.state hand chunk) (with_more m.past.stored hand []) (with_more m.past.known hand [])
   known_dropped l chunk holding found =
       let at : holding.chunk ≡ chunk = same_from_is_chunk holding.chunk chunk (found_passes (is_of_chunk chunk) (holdings_at m.state hand) holding found) in
-      let near : has_chunk m.state.table chunk ≡ true = subst (λ (c : ChunkId). has_chunk m.state.table c ≡ true) at
+      let in_range : has_chunk m.state.table chunk ≡ true = subst (λ (c : ChunkId). has_chunk m.state.table c ≡ true) at
       (found_each (λ h. has_chunk m.state.table h.chunk ≡ true) m.state.holdings hand (is_of_chunk chunk) holding found l.held.inside) in
       known_end (after_drop m.state hand chunk)
-      (known_turned m l m.state.slabs chunk (head_after_release (head_at m.state chunk)) (rows_less m.state.holdings hand (is_of_chunk chunk)) (λ page. refl) near (younger_let_go (head_at m.state chunk)) (λ is. (is, refl))
+      (known_turned m l m.state.slabs chunk (head_after_release (head_at m.state chunk)) (rows_less m.state.holdings hand (is_of_chunk chunk)) (λ page. refl) in_range (younger_let_go (head_at m.state chunk)) (λ is. (is, refl))
       (apart_less m l hand (is_of_chunk chunk)) (own_less m l hand (is_of_chunk chunk)))
 
-  known_drop : (l : IsLawful m) (chunk : ChunkId) (fresh : Bool) → holds_as fresh (holding_of chunk (holdings_at m.state hand)) ≡ true → KnownAt (after_drop m.state hand chunk) (with_more m.past.said hand []) (with_more m.past.known hand [])
+  known_drop : (l : IsLawful m) (chunk : ChunkId) (fresh : Bool) → holds_as fresh (holding_of chunk (holdings_at m.state hand)) ≡ true → KnownAt (after_drop m.state hand chunk) (with_more m.past.stored hand []) (with_more m.past.known hand [])
   known_drop l chunk fresh can =
-      elim (holding_of chunk (holdings_at m.state hand)) as (λ o. holding_of chunk (holdings_at m.state hand) ≡ o → holds_as fresh o ≡ true → KnownAt (after_drop m.state hand chunk) (with_more m.past.said hand []) (with_more m.past.known hand [])) [
+      elim (holding_of chunk (holdings_at m.state hand)) as (λ o. holding_of chunk (holdings_at m.state hand) ≡ o → holds_as fresh o ≡ true → KnownAt (after_drop m.state hand chunk) (with_more m.past.stored hand []) (with_more m.past.known hand [])) [
         | None ↦ λ _ never. absurd (cc)
         | Some holding ↦ λ found _. known_dropped l chunk holding found
       ] refl can
@@ -110,7 +110,7 @@ module _ (m : Moment) (hand : ℕ) where
   known_discard chunk may = known_drop may.lawful chunk true may.allowed
 
   -- a free chunk is handed out
-  module _ (l : IsLawful m) (next : SlabState) (same : (page : ℕ) → class_of_page next page ≡ class_of_page m.state.slabs page) (chunk : ChunkId) (near : has_chunk m.state.table chunk ≡ true) (purpose : Purpose) where
+  module _ (l : IsLawful m) (next : SlabState) (same : (page : ℕ) → class_of_page next page ≡ class_of_page m.state.slabs page) (chunk : ChunkId) (in_range : has_chunk m.state.table chunk ≡ true) (purpose : Purpose) where
     abbrev holding : Holding
     holding = new_holding (with_slabs m.state next) chunk purpose
 
@@ -119,10 +119,10 @@ module _ (m : Moment) (hand : ℕ) where
         let was : k.issue ≤ (head_in m.state.table m.state.heads chunk).issue = subst (λ (c : ChunkId). k.issue ≤ (head_in m.state.table m.state.heads c).issue) (sym at) is.older in
         omega arith)
 
-    known_fresh : KnownAt (with_fresh (with_slabs m.state next) hand chunk purpose) (with_more m.past.said hand []) (with_more m.past.known hand [])
+    known_fresh : KnownAt (with_fresh (with_slabs m.state next) hand chunk purpose) (with_more m.past.stored hand []) (with_more m.past.known hand [])
     known_fresh =
         known_end (with_fresh (with_slabs m.state next) hand chunk purpose)
-        (known_turned m l next chunk (head_after_hand_out (head_at m.state chunk)) (rows_more m.state.holdings hand holding) same near (younger_handed_out (head_at m.state chunk))
+        (known_turned m l next chunk (head_after_hand_out (head_at m.state chunk)) (rows_more m.state.holdings hand holding) same in_range (younger_handed_out (head_at m.state chunk))
         (λ is. absurd (both_ways (is_linked Unlinked) refl (ap is_linked is)))
         (λ k is. each_more m.state.holdings hand (IsApartFrom k) holding is.apart (new_apart k is)) (own_fresh m l hand holding refl))
 
@@ -134,7 +134,7 @@ module _ (m : Moment) (hand : ℕ) where
       let of_table = and_parts (has_slabs m.state hand) (is_class m.state.table class) more.0 in
       let is = IsClass_from m.state.table m.state.slabs class l.paged.of_table of_table.1 in
       let left : State = with_slabs m.state (slabs_changes.after_pop m.state.slabs class) in
-      elim (next_free m.state class) as (λ o. next_free m.state class ≡ o → can_hand_out m.state o ≡ true → KnownAt (state_after_pop_of left hand o) (with_more m.past.said hand []) (with_more m.past.known hand [])) [
+      elim (next_free m.state class) as (λ o. next_free m.state class ≡ o → can_hand_out m.state o ≡ true → KnownAt (state_after_pop_of left hand o) (with_more m.past.stored hand []) (with_more m.past.known hand [])) [
         | None ↦ λ _ never. absurd (cc)
         | Some chunk ↦ λ first _.
             let at = first_placed m l class chunk is first in
@@ -149,7 +149,7 @@ module _ (m : Moment) (hand : ℕ) where
       let out = and_parts _ (is_handed_out m.state.slabs old) more.0 in
       let class = class_of_page m.state.slabs old.page in
       let is = IsClass-handed_out m.state.slabs old l.paged.of_table.accounted (Contains_from_among (class_at m.state.slabs class).order old out.1) in
-      elim (target_of m.state.table m.state.heads m.state.slabs old.page) as (λ o. target_of m.state.table m.state.heads m.state.slabs old.page ≡ o → can_hand_out m.state o ≡ true → KnownAt (popped_off m.state hand old o) (with_more m.past.said hand []) (with_more m.past.known hand [])) [
+      elim (target_of m.state.table m.state.heads m.state.slabs old.page) as (λ o. target_of m.state.table m.state.heads m.state.slabs old.page ≡ o → can_hand_out m.state o ≡ true → KnownAt (popped_off m.state hand old o) (with_more m.past.stored hand []) (with_more m.past.known hand [])) [
         | None ↦ λ _ never. absurd (cc)
         | Some chunk ↦ λ found _.
             let at = found_placed m l class chunk (is_target m.state.table m.state.heads old.page) is found in
@@ -163,7 +163,7 @@ module _ (m : Moment) (hand : ℕ) where
       let parts = and_parts _ (is_linked_at m.state (chunk_of_key m.state key)) may.allowed in
       let stripe = stripe_of m.state key in
       let left : State = with_stripe m.state stripe (stripe_unlinked (stripe_at m.state stripe) (has_fresh (holdings_at m.state hand)) (writer_of m.state hand) key) in
-      elim (chunk_of_key m.state key) as (λ o. chunk_of_key m.state key ≡ o → is_linked_at m.state o ≡ true → KnownAt (with_unlinked left o) (with_more m.past.said hand []) (with_more m.past.known hand [])) [
+      elim (chunk_of_key m.state key) as (λ o. chunk_of_key m.state key ≡ o → is_linked_at m.state o ≡ true → KnownAt (with_unlinked left o) (with_more m.past.stored hand []) (with_more m.past.known hand [])) [
         | None ↦ λ _ never. absurd (cc)
         | Some place ↦ λ found is.
             let entry = entry_of m l key place found in

@@ -39,7 +39,7 @@ copy_fresh old (Fresh purpose own) h = refl
 -- what may be condemned
 pub record IsCondemnable (s : State) (hand : ℕ) (chunk : ChunkId) : Type 0 where
   pub slabs : has_slabs s hand ≡ true
-  pub near : has_chunk s.table chunk ≡ true
+  pub in_range : has_chunk s.table chunk ≡ true
   pub linked : (head_at s chunk).tag ≡ Linked
   pub alone : (head_at s chunk).count ≡ 1
 
@@ -51,7 +51,7 @@ condemnable m hand chunk may =
     let idle = and_parts _ (is_linked_unheld (head_at m.state chunk)) stripe.0 in
     let both = and_parts (has_slabs m.state hand) (has_chunk m.state.table chunk) idle.0 in
     let head = and_parts (is_linked (head_at m.state chunk).tag) ((head_at m.state chunk).count == 1) idle.1 in
-    record { slabs = both.0; near = both.1; linked = linked_tag (head_at m.state chunk).tag head.0; alone = eqb-true (head_at m.state chunk).count 1 head.1 }
+    record { slabs = both.0; in_range = both.1; linked = linked_tag (head_at m.state chunk).tag head.0; alone = eqb-true (head_at m.state chunk).count 1 head.1 }
 
 module _ (m : Moment) (hand : ℕ) (chunk : ChunkId) (may : MayStep m hand (Condemn chunk)) where
   abbrev l : IsLawful m
@@ -73,7 +73,7 @@ module _ (m : Moment) (hand : ℕ) (chunk : ChunkId) (may : MayStep m hand (Cond
   pub known_condemn : KnownIn (moment_stepped m hand (Condemn chunk))
   known_condemn =
       known_end m hand (with_head (with_bound told hand chunk (item_at m.state chunk)) chunk head)
-      (known_turned m l m.state.slabs chunk head (rows_changed m.state.holdings hand (is_copy_of chunk) binds) (λ page. refl) is.near (younger_condemned (head_at m.state chunk) is.linked) (λ never. absurd (cc))
+      (known_turned m l m.state.slabs chunk head (rows_changed m.state.holdings hand (is_copy_of chunk) binds) (λ page. refl) is.in_range (younger_condemned (head_at m.state chunk) is.linked) (λ never. absurd (cc))
       (λ k still. each_changed (is_copy_of chunk) binds m.state.holdings hand (IsApartFrom k) (IsApartFrom k) (λ h apart. apart) (λ h copy apart _. apart (copy_fresh chunk h.kind copy)) still.apart)
       (own_changed m l hand (is_copy_of chunk) binds (λ h _. refl)))
 
@@ -113,7 +113,7 @@ module _ (m : Moment) (hand kept spent : ℕ) (may : MayStep m hand (Join kept s
   join = are_joined m hand kept spent may
 
   abbrev said' : List (List StoredItem)
-  said' = joined_rows m.past.said kept spent
+  said' = joined_rows m.past.stored kept spent
 
   abbrev known' : List (List KnownItem)
   known' = joined_rows m.past.known kept spent
@@ -121,9 +121,9 @@ module _ (m : Moment) (hand kept spent : ℕ) (may : MayStep m hand (Join kept s
   within : (n : ℕ) → is_hand m.state n ≡ true → n < length m.state.ids
   within n there = hand_there m.state n there
 
-  said_still : (stamp : ℕ) (words : List ℕ) → WasStored m.past.said stamp words → WasStored said' stamp words
+  said_still : (stamp : ℕ) (words : List ℕ) → WasStored m.past.stored stamp words → WasStored said' stamp words
   said_still stamp words said =
-      let rows = lawful.rows.said in let is = within kept join.there in said_joined m.past.said kept spent stamp words join.apart (omega arith) said
+      let rows = lawful.rows.stored in let is = within kept join.there in said_joined m.past.stored kept spent stamp words join.apart (omega arith) said
 
   pub known_still : (P : KnownItem → Type 0) → IsKnownToSome m.past.known P → IsKnownToSome known' P
   known_still P (other, k, has, p) =
@@ -149,10 +149,10 @@ module _ (m : Moment) (hand kept spent : ℕ) (may : MayStep m hand (Join kept s
 
   pub known_join : KnownIn (moment_stepped m hand (Join kept spent))
   known_join =
-      let rows = lawful.rows.said in let in_kept = within kept join.there in let in_spent = within spent join.there_too in
-      let once = λ (stamp : ℕ). once_joined m.past.said kept spent stamp join.apart (omega arith) (omega arith) (lawful.known.once stamp) in
+      let rows = lawful.rows.stored in let in_kept = within kept join.there in let in_spent = within spent join.there_too in
+      let once = λ (stamp : ℕ). once_joined m.past.stored kept spent stamp join.apart (omega arith) (omega arith) (lawful.known.once stamp) in
       let by_some = each_joined (λ k. WasStored said' (stamp_in_words k.words) k.words) m.past.known kept spent
-      (each_map (λ k. WasStored m.past.said (stamp_in_words k.words) k.words) (λ k. WasStored said' (stamp_in_words k.words) k.words) m.past.known (λ k. said_still (stamp_in_words k.words) k.words) lawful.known.said_by_some) in
+      (each_map (λ k. WasStored m.past.stored (stamp_in_words k.words) k.words) (λ k. WasStored said' (stamp_in_words k.words) k.words) m.past.known (λ k. said_still (stamp_in_words k.words) k.words) lawful.known.said_by_some) in
       record {
         once = once;
         agree = all_agree said' known' once by_some;
@@ -161,5 +161,5 @@ module _ (m : Moment) (hand kept spent : ℕ) (may : MayStep m hand (Join kept s
         one = each_joined (λ k. Each (AreOne k) known') m.past.known kept spent
             (each_map (λ k. Each (AreOne k) m.past.known) (λ k. Each (AreOne k) known') m.past.known (λ k all. each_joined (AreOne k) m.past.known kept spent all) lawful.known.one);
         own = own_still;
-        linked = λ chunk near linked. known_still (λ k. (k.chunk ≡ chunk) × (k.issue ≡ (head_in m.state.table m.state.heads chunk).issue)) (lawful.known.linked chunk near linked);
+        linked = λ chunk in_range linked. known_still (λ k. (k.chunk ≡ chunk) × (k.issue ≡ (head_in m.state.table m.state.heads chunk).issue)) (lawful.known.linked chunk in_range linked);
       }

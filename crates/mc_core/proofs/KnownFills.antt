@@ -81,7 +81,7 @@ module _ (m : Moment) (l : IsLawful m) (hand : ℕ) (chunk : ChunkId) (place : �
 
 module _ (m : Moment) (hand : ℕ) (chunk : ChunkId) (place word : ℕ) where
   known_filled : (l : IsLawful m) (holding : Holding) → holding_of chunk (holdings_at m.state hand) ≡ Some holding → can_fill_in place (Some holding) ≡ true →
-      KnownAt (after_fill m.state hand chunk place word) (with_more m.past.said hand []) (with_more m.past.known hand [])
+      KnownAt (after_fill m.state hand chunk place word) (with_more m.past.stored hand []) (with_more m.past.known hand [])
   known_filled l holding found can =
       known_end m hand (after_fill m.state hand chunk place word)
       (known_quiet m l m.state.slabs m.state.heads (slice_set m.state.words (place_in m.state.table m.state.slabs chunk place) word) (rows_changed m.state.holdings hand (is_of_chunk chunk) (holding_with_word place word))
@@ -94,7 +94,7 @@ module _ (m : Moment) (hand : ℕ) (chunk : ChunkId) (place word : ℕ) where
           let row = holdings_at m.state hand in
           let fresh = fill_fresh m l hand chunk place holding found can in
           let one = fresh_once m l hand (is_of_chunk chunk) holding found fresh in
-          let few = holds-le-holders holding.chunk m.state.holdings hand in
+          let within_limit = holds-le-holders holding.chunk m.state.holdings hand in
           let once : count_of_holdings chunk row ≤ 1 = subst (λ c. count_of_holdings c row ≤ 1) (fill_at m l hand chunk place holding found can) (omega arith) in
           rows_set (IsOwn m.past.known) m.state.holdings hand (change_each (is_of_chunk chunk) (holding_with_word place word) row) l.known.own
           (all_changed_once (IsOwn m.past.known hand) chunk (holding_with_word place word) row holding found once (all_lose (IsOwn m.past.known hand) (is_of_chunk chunk) row (l.known.own hand))
@@ -103,7 +103,7 @@ module _ (m : Moment) (hand : ℕ) (chunk : ChunkId) (place word : ℕ) where
   pub known_fill : MayStep m hand (Fill chunk place word) → KnownIn (moment_stepped m hand (Fill chunk place word))
   known_fill may =
       elim (holding_of chunk (holdings_at m.state hand)) as (λ o. holding_of chunk (holdings_at m.state hand) ≡ o → can_fill_in place o ≡ true →
-      KnownAt (after_fill m.state hand chunk place word) (with_more m.past.said hand []) (with_more m.past.known hand [])) [
+      KnownAt (after_fill m.state hand chunk place word) (with_more m.past.stored hand []) (with_more m.past.known hand [])) [
         | None ↦ λ _ never. absurd (cc)
         | Some holding ↦ λ found can. known_filled may.lawful holding found can
       ] refl may.allowed

@@ -57,19 +57,19 @@ module _ (m : Moment) (l : IsLawful m) (hand : ℕ) (there : is_hand m.state han
       (all_more (IsOwn known' hand) (row_of rows' hand) reference (grown hand) (λ _. (knew.room, subst (λ (k : KnownItem). Contains (row_of known' hand) k) (sym is) newly_known)))
 
   -- one header changes, and the hand gets a reference to the item
-  module _ (chunk : ChunkId) (head : Head) (near : has_chunk m.state.table chunk ≡ true) (reference : Holding) (rows' : List (List Holding)) (said' : List (List StoredItem)) where
+  module _ (chunk : ChunkId) (head : Head) (in_range : has_chunk m.state.table chunk ≡ true) (reference : Holding) (rows' : List (List Holding)) (said' : List (List StoredItem)) where
     abbrev heads' : List Head
     heads' = slice_set m.state.heads (head_place m.state.table chunk) head
 
     abbrev IsStillNow : KnownItem → Type 0
     IsStillNow k = IsTrueStill m.state.table m.state.slabs heads' m.state.words (rows_more rows' hand reference) k
 
-    pub known_learned : ((stamp : ℕ) → stored_count stamp said' ≤ 1) → ((stamp : ℕ) (words : List ℕ) → WasStored m.past.said stamp words → WasStored said' stamp words) → WasStored said' (stamp_in_words knew.words) knew.words →
+    pub known_learned : ((stamp : ℕ) → stored_count stamp said' ≤ 1) → ((stamp : ℕ) (words : List ℕ) → WasStored m.past.stored stamp words → WasStored said' stamp words) → WasStored said' (stamp_in_words knew.words) knew.words →
         ((k : KnownItem) → IsStill m l k → IsStillNow k) → IsStillNow knew → Each (AreOne knew) m.past.known → ((other : ℕ) → All (IsOwn m.past.known other) (row_of rows' other)) → known_by knew.room reference ≡ knew →
         knew.chunk ≡ chunk → knew.issue ≡ head.issue → AreKnown m.state.table m.state.slabs heads' m.state.words (rows_more rows' hand reference) said' known'
     known_learned once more said still knew_still agrees own is at issue =
         let by_some = each_more (λ k. WasStored said' (stamp_in_words k.words) k.words) m.past.known hand (knew ∷ [])
-        (each_map (λ k. WasStored m.past.said (stamp_in_words k.words) k.words) (λ k. WasStored said' (stamp_in_words k.words) k.words) m.past.known (λ k was. more (stamp_in_words k.words) k.words was) l.known.said_by_some)
+        (each_map (λ k. WasStored m.past.stored (stamp_in_words k.words) k.words) (λ k. WasStored said' (stamp_in_words k.words) k.words) m.past.known (λ k was. more (stamp_in_words k.words) k.words was) l.known.said_by_some)
         (all_one (λ k. WasStored said' (stamp_in_words k.words) k.words) knew said) in
         record {
           once = once;
@@ -78,6 +78,6 @@ module _ (m : Moment) (l : IsLawful m) (hand : ℕ) (there : is_hand m.state han
           still = each_more IsStillNow m.past.known hand (knew ∷ []) (each_map (IsStill m l) IsStillNow m.past.known still l.known.still) (all_one IsStillNow knew knew_still);
           one = one_more agrees;
           own = own_learned rows' reference own is;
-          linked = linked_turned m.state.table m.state.heads chunk head l.sized.headers near m.past.known known' (known_more m.past.known hand (knew ∷ [])) l.known.linked
+          linked = linked_turned m.state.table m.state.heads chunk head l.sized.headers in_range m.past.known known' (known_more m.past.known hand (knew ∷ [])) l.known.linked
               (λ _. (hand, knew, newly_known, (at, issue)));
         }

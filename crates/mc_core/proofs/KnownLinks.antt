@@ -82,8 +82,8 @@ module _ (m : Moment) (l : IsLawful m) (hand : ℕ) (there : is_hand m.state han
   out : IsOut m l holding
   out = found_all (IsOut m l) (is_of_chunk chunk) row holding found (held_out m l hand)
 
-  near : has_chunk m.state.table chunk ≡ true
-  near = subst (λ (c : ChunkId). has_chunk m.state.table c ≡ true) at out.0
+  in_range : has_chunk m.state.table chunk ≡ true
+  in_range = subst (λ (c : ChunkId). has_chunk m.state.table c ≡ true) at out.0
 
   issue_is : holding.issue ≡ (head_at m.state chunk).issue
   issue_is = sym out.1.1 ∙ ap (λ (c : ChunkId). (head_in m.state.table m.state.heads c).issue) at
@@ -93,7 +93,7 @@ module _ (m : Moment) (l : IsLawful m) (hand : ℕ) (there : is_hand m.state han
 
   still : (k : KnownItem) → IsStill m l k → IsStillNow k
   still k is =
-      still_turned m.state.table m.state.heads chunk head l.sized.headers near m.state.slabs m.state.slabs m.state.words m.state.holdings (rows_more less hand reference) k
+      still_turned m.state.table m.state.heads chunk head l.sized.headers in_range m.state.slabs m.state.slabs m.state.words m.state.holdings (rows_more less hand reference) k
       (younger_linked (head_at m.state chunk) (unlinked_tag (head_at m.state chunk).tag unlinked)) refl
       (each_more less hand (IsApartFrom k) reference (apart_less m l hand (is_of_chunk chunk) k is) (λ never _ _. absurd (cc))) is
 
@@ -110,7 +110,7 @@ module _ (m : Moment) (l : IsLawful m) (hand : ℕ) (there : is_hand m.state han
       record {
         inside = out.0;
         whole = numbers_whole (words_of_item (holding_words holding)) whole.long;
-        older = head_now m.state.table m.state.heads chunk head l.sized.headers near (λ h. holding.issue ≤ h.issue) holding.chunk out.0 (λ _. let same = issue_is in omega arith) (λ _. let same = out.1.1 in omega arith);
+        older = head_now m.state.table m.state.heads chunk head l.sized.headers in_range (λ h. holding.issue ≤ h.issue) holding.chunk out.0 (λ _. let same = issue_is in omega arith) (λ _. let same = out.1.1 in omega arith);
         shows = λ _. subst (Shows m.state.table m.state.slabs m.state.words holding.chunk) (sym (known_numbers (words_of_item (holding_words holding)) (and_parts _ (list_all is_some (words_of_item (holding_words holding))) complete).1))
             (shows_item m.state.table m.state.slabs m.state.words holding.chunk (holding_words holding) complete
             (found_each (λ h. Shows m.state.table m.state.slabs m.state.words h.chunk (holding_words h)) m.state.holdings hand (is_of_chunk chunk) holding found l.held.shows));
@@ -125,10 +125,10 @@ module _ (m : Moment) (l : IsLawful m) (hand : ℕ) (there : is_hand m.state han
       (λ k is same issue. absurd (found_each (IsApartFrom k) m.state.holdings hand (is_of_chunk chunk) holding found is.apart fresh (sym same) (sym issue)))
       l.known.still
 
-  pub link_learned : (said' : List (List StoredItem)) → ((stamp : ℕ) → stored_count stamp said' ≤ 1) → ((stamp : ℕ) (words : List ℕ) → WasStored m.past.said stamp words → WasStored said' stamp words) →
+  pub link_learned : (said' : List (List StoredItem)) → ((stamp : ℕ) → stored_count stamp said' ≤ 1) → ((stamp : ℕ) (words : List ℕ) → WasStored m.past.stored stamp words → WasStored said' stamp words) →
       WasStored said' (stamp_in (holding_words holding)) (numbers_of_known (words_of_item (holding_words holding))) → KnownAt (with_holding (with_head (without_holding m.state hand (is_of_chunk chunk)) chunk head) hand reference) said' (with_more m.past.known hand (knew ∷ []))
   link_learned said' once more said =
-      known_learned m l hand there knew chunk head near reference less said' once more
+      known_learned m l hand there knew chunk head in_range reference less said' once more
       (subst (λ n. WasStored said' n (numbers_of_known (words_of_item (holding_words holding)))) (sym (numbers_at (words_of_item (holding_words holding)) 1 ∙ item_stamp (holding_words holding) complete)) said)
       still knew_still none_knew (own_less m l hand (is_of_chunk chunk)) refl at issue_is
 
@@ -141,24 +141,24 @@ module _ (m : Moment) (hand : ℕ) (chunk : ChunkId) where
   ends holding kind = with_holding (with_head (recorded_link left hand holding kind) chunk (head_after_link (head_at left chunk))) hand (as_reference holding)
 
   abbrev Goal : Holding → Kind → Type 0
-  Goal holding kind = KnownAt (ends holding kind) (with_more m.past.said hand (stored_item_of kind (holding_words holding))) (with_more m.past.known hand (known_by (chunk_room m.state chunk) (as_reference holding) ∷ []))
+  Goal holding kind = KnownAt (ends holding kind) (with_more m.past.stored hand (stored_item_of kind (holding_words holding))) (with_more m.past.known hand (known_by (chunk_room m.state chunk) (as_reference holding) ∷ []))
 
   module _ (may : MayStep m hand (Link chunk)) (holding : Holding) (found : holding_of chunk (holdings_at m.state hand) ≡ Some holding) (complete : is_complete (holding_words holding) ≡ true)
       (unlinked : is_unlinked (head_at m.state chunk).tag ≡ true) where
-    within : hand < length m.past.said
-    within = let rows = may.lawful.rows.said in let is = hand_there m.state hand may.there in omega arith
+    within : hand < length m.past.stored
+    within = let rows = may.lawful.rows.stored in let is = hand_there m.state hand may.there in omega arith
 
     -- an item of the hand's own is said
     linked_own : is_fresh holding ≡ true → is_next_stamp (ids_at m.state hand) (stamp_in (holding_words holding)) ≡ true →
-        KnownAt (with_holding (with_head left chunk (head_after_link (head_at m.state chunk))) hand (as_reference holding)) (with_more m.past.said hand (record { stamp = stamp_in (holding_words holding); words = numbers_of_known (words_of_item (holding_words holding)) } ∷ []))
+        KnownAt (with_holding (with_head left chunk (head_after_link (head_at m.state chunk))) hand (as_reference holding)) (with_more m.past.stored hand (record { stamp = stamp_in (holding_words holding); words = numbers_of_known (words_of_item (holding_words holding)) } ∷ []))
         (with_more m.past.known hand (known_by (chunk_room m.state chunk) (as_reference holding) ∷ []))
     linked_own fresh next =
         let l = may.lawful in
         let s : StoredItem = record { stamp = stamp_in (holding_words holding); words = numbers_of_known (words_of_item (holding_words holding)) } in
-        let unsaid = next_unsaid m.state.ids m.past.mine m.past.said m.past.known hand s.stamp l.numbered next in
-        link_learned m l hand may.there chunk holding found fresh complete unlinked (with_more m.past.said hand (s ∷ []))
-        (λ stamp. once_more m.past.said hand s stamp within unsaid (l.known.once stamp)) (λ stamp words. said_more m.past.said hand (s ∷ []) stamp words)
-        (hand, s, more_added m.past.said hand (s ∷ []) s within (one_contained s), refl, refl)
+        let stores_nothing = next_unsaid m.state.ids m.past.mine m.past.stored m.past.known hand s.stamp l.numbered next in
+        link_learned m l hand may.there chunk holding found fresh complete unlinked (with_more m.past.stored hand (s ∷ []))
+        (λ stamp. once_more m.past.stored hand s stamp within stores_nothing (l.known.once stamp)) (λ stamp words. said_more m.past.stored hand (s ∷ []) stamp words)
+        (hand, s, more_added m.past.stored hand (s ∷ []) s within (one_contained s), refl, refl)
 
     -- what was rescued was said
     linked_rescued : (old : ChunkId) (item : List ℕ) (own : Words) → holding.kind ≡ Fresh (Rescue old item) own → are_same (words_of_item (holding_words holding)) item ≡ true → Goal holding (Fresh (Rescue old item) own)
@@ -166,13 +166,13 @@ module _ (m : Moment) (hand : ℕ) (chunk : ChunkId) where
         let l = may.lawful in
         let fresh : is_fresh holding ≡ true = ap is_fresh_kind kind in
         let is = same_words (words_of_item (holding_words holding)) item same in
-        let rescue : IsRescue m.past.said holding.chunk (Fresh (Rescue old item) own) = subst (IsRescue m.past.said holding.chunk) kind (found_each (λ h. IsRescue m.past.said h.chunk h.kind) m.state.holdings hand (is_of_chunk chunk) holding found l.rescued) in
+        let rescue : IsRescue m.past.stored holding.chunk (Fresh (Rescue old item) own) = subst (IsRescue m.past.stored holding.chunk) kind (found_each (λ h. IsRescue m.past.stored h.chunk h.kind) m.state.holdings hand (is_of_chunk chunk) holding found l.rescued) in
         let same_item : numbers_of_known (words_of_item (holding_words holding)) ≡ item = ap numbers_of_known is ∙ numbers_known item in
         let stamp : stamp_in_words item ≡ stamp_in (holding_words holding) = ap stamp_in_words (sym same_item) ∙ numbers_at (words_of_item (holding_words holding)) 1 ∙ item_stamp (holding_words holding) complete in
-        let said : WasStored m.past.said (stamp_in (holding_words holding)) (numbers_of_known (words_of_item (holding_words holding))) =
-        subst (λ n. WasStored m.past.said n (numbers_of_known (words_of_item (holding_words holding)))) stamp (subst (WasStored m.past.said (stamp_in_words item)) (sym same_item) rescue.1) in
-        subst (λ (s : List (List StoredItem)). KnownAt (ends holding (Fresh (Rescue old item) own)) s (with_more m.past.known hand (known_by (chunk_room m.state chunk) (as_reference holding) ∷ []))) (sym (with_none m.past.said hand))
-        (link_learned m l hand may.there chunk holding found fresh complete unlinked m.past.said l.known.once (λ stamp words is. is) said)
+        let said : WasStored m.past.stored (stamp_in (holding_words holding)) (numbers_of_known (words_of_item (holding_words holding))) =
+        subst (λ n. WasStored m.past.stored n (numbers_of_known (words_of_item (holding_words holding)))) stamp (subst (WasStored m.past.stored (stamp_in_words item)) (sym same_item) rescue.1) in
+        subst (λ (s : List (List StoredItem)). KnownAt (ends holding (Fresh (Rescue old item) own)) s (with_more m.past.known hand (known_by (chunk_room m.state chunk) (as_reference holding) ∷ []))) (sym (with_none m.past.stored hand))
+        (link_learned m l hand may.there chunk holding found fresh complete unlinked m.past.stored l.known.once (λ stamp words is. is) said)
 
     linked_kind : (kind : Kind) → holding.kind ≡ kind → is_allowed_for m.state hand (holding_words holding) kind ≡ true → Goal holding kind
     linked_kind (Reference own) kind can = absurd (cc)
@@ -183,7 +183,7 @@ module _ (m : Moment) (hand : ℕ) (chunk : ChunkId) where
   pub known_link : MayStep m hand (Link chunk) → KnownIn (moment_stepped m hand (Link chunk))
   known_link may =
       elim (holding_of chunk (holdings_at m.state hand)) as (λ o. holding_of chunk (holdings_at m.state hand) ≡ o → can_link_holding m.state hand chunk o ≡ true →
-      KnownAt (after_link_of left hand chunk o) (with_more m.past.said hand (item_stored_by_link o)) (with_more m.past.known hand (known_of_holding (chunk_room m.state chunk) o))) [
+      KnownAt (after_link_of left hand chunk o) (with_more m.past.stored hand (item_stored_by_link o)) (with_more m.past.known hand (known_of_holding (chunk_room m.state chunk) o))) [
         | None ↦ λ _ never. absurd (cc)
         | Some holding ↦ λ found can.
             let parts = and_parts _ (can_count (head_at m.state chunk)) can in

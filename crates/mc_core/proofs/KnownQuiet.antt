@@ -60,7 +60,7 @@ module _ (m : Moment) (l : IsLawful m) where
   IsStill k = IsTrueStill table m.state.slabs m.state.heads m.state.words rows k
 
   pub known_quiet : (next : SlabState) (heads : List Head) (words : List ℕ) (rows' : List (List Holding)) → ((k : KnownItem) → IsStill k → IsTrueStill table next heads words rows' k) →
-      ((hand : ℕ) → All (IsOwn known hand) (row_of rows' hand)) → AreLinkedKnown table heads known → AreKnown table next heads words rows' m.past.said known
+      ((hand : ℕ) → All (IsOwn known hand) (row_of rows' hand)) → AreLinkedKnown table heads known → AreKnown table next heads words rows' m.past.stored known
   known_quiet next heads words rows' still own head_after_link = record {
     once = l.known.once;
     agree = l.known.agree;
@@ -75,14 +75,14 @@ module _ (m : Moment) (l : IsLawful m) where
   pub known_turned : (next : SlabState) (chunk : ChunkId) (head : Head) (rows' : List (List Holding)) → ((page : ℕ) → class_of_page next page ≡ class_of_page m.state.slabs page) → has_chunk table chunk ≡ true →
       IsNoOlder (head_in table m.state.heads chunk) head → (head.tag ≡ Linked → ((head_in table m.state.heads chunk).tag ≡ Linked) × (head.issue ≡ (head_in table m.state.heads chunk).issue)) →
       ((k : KnownItem) → IsStill k → Each (IsApartFrom k) rows') → ((hand : ℕ) → All (IsOwn known hand) (row_of rows' hand)) →
-      AreKnown table next (slice_set m.state.heads (head_place table chunk) head) m.state.words rows' m.past.said known
-  known_turned next chunk head rows' same near younger tag apart own =
+      AreKnown table next (slice_set m.state.heads (head_place table chunk) head) m.state.words rows' m.past.stored known
+  known_turned next chunk head rows' same in_range younger tag apart own =
       known_quiet next (slice_set m.state.heads (head_place table chunk) head) m.state.words rows'
-      (λ k is. still_turned table m.state.heads chunk head l.sized.headers near m.state.slabs next m.state.words rows rows' k younger (same k.chunk.page) (apart k is) is)
+      (λ k is. still_turned table m.state.heads chunk head l.sized.headers in_range m.state.slabs next m.state.words rows rows' k younger (same k.chunk.page) (apart k is) is)
       own
-      (linked_turned table m.state.heads chunk head l.sized.headers near known known (λ P some. some) l.known.linked
+      (linked_turned table m.state.heads chunk head l.sized.headers in_range known known (λ P some. some) l.known.linked
       (λ is. let was = tag is in
-      subst (λ n. IsKnownToSome known (λ k. (k.chunk ≡ chunk) × (k.issue ≡ n))) (sym was.1) (l.known.linked chunk near was.0)))
+      subst (λ n. IsKnownToSome known (λ k. (k.chunk ≡ chunk) × (k.issue ≡ n))) (sym was.1) (l.known.linked chunk in_range was.0)))
 
   -- the holdings may stay, or one go, or one come that is fresh
   pub apart_same : (k : KnownItem) → IsStill k → Each (IsApartFrom k) rows

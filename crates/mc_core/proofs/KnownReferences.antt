@@ -32,7 +32,7 @@ linked_tag Free h = absurd (cc)
 linked_tag Unlinked h = absurd (cc)
 linked_tag Linked h = refl
 
-module _ (m : Moment) (l : IsLawful m) (chunk : ChunkId) (near : has_chunk m.state.table chunk ≡ true) (linked : (head_at m.state chunk).tag ≡ Linked) where
+module _ (m : Moment) (l : IsLawful m) (chunk : ChunkId) (in_range : has_chunk m.state.table chunk ≡ true) (linked : (head_at m.state chunk).tag ≡ Linked) where
   -- the item in the chunk
   abbrev pub item_known : KnownItem
   item_known = known_by (chunk_room m.state chunk) (new_reference m.state chunk)
@@ -40,7 +40,7 @@ module _ (m : Moment) (l : IsLawful m) (chunk : ChunkId) (near : has_chunk m.sta
   -- is known to some hand
   pub linked_known : (hand : ℕ) × (k : KnownItem) × Contains (row_of m.past.known hand) k × (k ≡ item_known)
   linked_known =
-      let (hand, k, has, same) = l.known.linked chunk near linked in
+      let (hand, k, has, same) = l.known.linked chunk in_range linked in
       let still = each_contained (IsStill m l) m.past.known hand k l.known.still has in
       let whole : IsWhole (all_known k.words) = whole_known k.words still.whole in
       let shown = still.shows (subst (λ (c : ChunkId). IsHandedOut (head_in m.state.table m.state.heads c) k.issue) (sym same.0) (inr linked, sym same.1)) in
@@ -56,7 +56,7 @@ module _ (m : Moment) (l : IsLawful m) (chunk : ChunkId) (near : has_chunk m.sta
   pub item_has : (P : KnownItem → Type 0) → Each P m.past.known → P item_known
   item_has P each = let (hand, k, has, same) = linked_known in subst P same (each_contained P m.past.known hand k each has)
 
-module _ (m : Moment) (l : IsLawful m) (hand : ℕ) (there : is_hand m.state hand ≡ true) (chunk : ChunkId) (near : has_chunk m.state.table chunk ≡ true) (linked : (head_at m.state chunk).tag ≡ Linked) where
+module _ (m : Moment) (l : IsLawful m) (hand : ℕ) (there : is_hand m.state hand ≡ true) (chunk : ChunkId) (in_range : has_chunk m.state.table chunk ≡ true) (linked : (head_at m.state chunk).tag ≡ Linked) where
   abbrev reference : Holding
   reference = new_reference m.state chunk
 
@@ -68,23 +68,23 @@ module _ (m : Moment) (l : IsLawful m) (hand : ℕ) (there : is_hand m.state han
 
   still : (k : KnownItem) → IsStill m l k → IsStillNow k
   still k is =
-      still_turned m.state.table m.state.heads chunk head l.sized.headers near m.state.slabs m.state.slabs m.state.words m.state.holdings (rows_more m.state.holdings hand reference) k
+      still_turned m.state.table m.state.heads chunk head l.sized.headers in_range m.state.slabs m.state.slabs m.state.words m.state.holdings (rows_more m.state.holdings hand reference) k
       (younger_referred (head_at m.state chunk)) refl (each_more m.state.holdings hand (IsApartFrom k) reference is.apart (λ never _ _. absurd (cc))) is
 
-  pub known_referred : KnownAt (with_reference m.state hand chunk) (with_more m.past.said hand []) (with_more m.past.known hand (known_by (chunk_room m.state chunk) reference ∷ []))
+  pub known_referred : KnownAt (with_reference m.state hand chunk) (with_more m.past.stored hand []) (with_more m.past.known hand (known_by (chunk_room m.state chunk) reference ∷ []))
   known_referred =
-      let said = item_has m l chunk near linked (λ k. WasStored m.past.said (stamp_in_words k.words) k.words) l.known.said_by_some in
-      subst (λ s. KnownAt (with_reference m.state hand chunk) s (with_more m.past.known hand (known_by (chunk_room m.state chunk) reference ∷ []))) (sym (with_none m.past.said hand))
-      (known_learned m l hand there (known_by (chunk_room m.state chunk) reference) chunk head near reference m.state.holdings m.past.said l.known.once (λ stamp words is. is) said still
-      (still (known_by (chunk_room m.state chunk) reference) (item_has m l chunk near linked (IsStill m l) l.known.still))
-      (item_has m l chunk near linked (λ k. Each (AreOne k) m.past.known) l.known.one) l.known.own refl refl refl)
+      let said = item_has m l chunk in_range linked (λ k. WasStored m.past.stored (stamp_in_words k.words) k.words) l.known.said_by_some in
+      subst (λ s. KnownAt (with_reference m.state hand chunk) s (with_more m.past.known hand (known_by (chunk_room m.state chunk) reference ∷ []))) (sym (with_none m.past.stored hand))
+      (known_learned m l hand there (known_by (chunk_room m.state chunk) reference) chunk head in_range reference m.state.holdings m.past.stored l.known.once (λ stamp words is. is) said still
+      (still (known_by (chunk_room m.state chunk) reference) (item_has m l chunk in_range linked (IsStill m l) l.known.still))
+      (item_has m l chunk in_range linked (λ k. Each (AreOne k) m.past.known) l.known.one) l.known.own refl refl refl)
 
 module _ (m : Moment) (hand : ℕ) where
   pub known_refer : (key : ℕ) → MayStep m hand (Refer key) → KnownIn (moment_stepped m hand (Refer key))
   known_refer key may =
       let l = may.lawful in
       elim (chunk_of_key m.state key) as (λ o. chunk_of_key m.state key ≡ o → can_refer_to m.state o ≡ true →
-      KnownAt (referred_to (with_got m.state hand key) hand o) (with_more m.past.said hand []) (with_more m.past.known hand (known_of_place m.state o))) [
+      KnownAt (referred_to (with_got m.state hand key) hand o) (with_more m.past.stored hand []) (with_more m.past.known hand (known_of_place m.state o))) [
         | None ↦ λ _ never. absurd (cc)
         | Some place ↦ λ found _.
             let entry = entry_of m l key place found in
@@ -96,5 +96,5 @@ module _ (m : Moment) (hand : ℕ) where
       let parts = and_parts _ (can_count (head_at m.state chunk)) may.allowed in
       let right = and_parts _ ((head_at m.state chunk).issue == issue) parts.0 in
       let tag = and_parts _ (is_linked (head_at m.state chunk).tag) right.0 in
-      let near = (and_parts (has_chunk m.state.table chunk) (has_place_unlocked m.state hand) tag.0).0 in
-      known_referred m may.lawful hand may.there chunk near (linked_tag (head_at m.state chunk).tag tag.1)
+      let in_range = (and_parts (has_chunk m.state.table chunk) (has_place_unlocked m.state hand) tag.0).0 in
+      known_referred m may.lawful hand may.there chunk in_range (linked_tag (head_at m.state chunk).tag tag.1)

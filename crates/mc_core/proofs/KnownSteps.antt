@@ -32,7 +32,7 @@ use Rattle.mc_core.proofs.KnownCondemned.{known_condemn, known_join}
 use Rattle.mc_core.proofs.Made.{first_heads}
 
 -- the order of lists changes, and what is handed out stays of its class
-known_listed : (m : Moment) (l : IsLawful m) (next : SlabState) → StaysOfClass m.state (with_slabs m.state next) → KnownAt (with_slabs m.state next) m.past.said m.past.known
+known_listed : (m : Moment) (l : IsLawful m) (next : SlabState) → StaysOfClass m.state (with_slabs m.state next) → KnownAt (with_slabs m.state next) m.past.stored m.past.known
 known_listed m l next stays =
     known_quiet m l next m.state.heads m.state.words m.state.holdings
     (λ k is. still_listed m.state.table m.state.slabs next m.state.heads m.state.words m.state.holdings m.state.holdings k (λ out. stays k.chunk k.issue is.inside out) is.apart is)
@@ -57,11 +57,11 @@ known_steps m hand TakeSlabs may = known_end m hand (after_step m.state hand Tak
 known_steps m hand (TakeStripe stripe) may = known_end m hand (after_step m.state hand (TakeStripe stripe)) may.lawful.known
 known_steps m hand MissSlabs may = known_end m hand m.state may.lawful.known
 known_steps m hand (MissStripe stripe) may =
-    known_end m hand (after_step m.state hand (MissStripe stripe)) (known_looked m.state hand (SawStripe stripe (slice_index m.state.stripe_locks stripe)) m.past.said m.past.known may.lawful.known)
+    known_end m hand (after_step m.state hand (MissStripe stripe)) (known_looked m.state hand (SawStripe stripe (slice_index m.state.stripe_locks stripe)) m.past.stored m.past.known may.lawful.known)
 known_steps m hand GiveSlabs may = known_end m hand (after_step m.state hand GiveSlabs) may.lawful.known
 known_steps m hand (GiveStripe stripe) may = known_end m hand (after_step m.state hand (GiveStripe stripe)) may.lawful.known
 known_steps m hand (step.Head chunk) may =
-    known_end m hand (after_step m.state hand (step.Head chunk)) (known_looked m.state hand (Saw chunk (head_at m.state chunk)) m.past.said m.past.known may.lawful.known)
+    known_end m hand (after_step m.state hand (step.Head chunk)) (known_looked m.state hand (Saw chunk (head_at m.state chunk)) m.past.stored m.past.known may.lawful.known)
 known_steps m hand (Pop class) may = known_pop m hand class may
 known_steps m hand (PopOff old) may = known_pop_off m hand old may
 known_steps m hand (Fill chunk place word) may = known_fill m hand chunk place word may
@@ -96,11 +96,11 @@ known_first table stripes hands start sound some one most small =
     let m = first_moment table stripes hands start in
     record {
       once = λ stamp. let none = none_said stamp hands in omega arith;
-      agree = each_none (λ k. (words : List ℕ) → WasStored m.past.said (stamp_in_words k.words) words → words ≡ k.words) hands;
-      said_by_some = each_none (λ k. WasStored m.past.said (stamp_in_words k.words) k.words) hands;
+      agree = each_none (λ k. (words : List ℕ) → WasStored m.past.stored (stamp_in_words k.words) words → words ≡ k.words) hands;
+      said_by_some = each_none (λ k. WasStored m.past.stored (stamp_in_words k.words) k.words) hands;
       still = each_none (IsTrueStill table m.state.slabs m.state.heads m.state.words m.state.holdings) hands;
       one = each_none (λ k. Each (AreOne k) m.past.known) hands;
       own = λ hand. subst (λ (row : List Holding). All (IsOwn m.past.known hand) row) (sym (read_replicate hands hand [])) (All-nil (IsOwn m.past.known hand));
-      linked = λ chunk near linked.
+      linked = λ chunk in_range linked.
           let was : ◌≡◌ {A = Tag} Out Linked = sym (first_heads (arena_pages_of table * most_of table) (head_place table chunk) start small).out ∙ linked in absurd (cc);
     }

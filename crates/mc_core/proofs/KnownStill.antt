@@ -43,10 +43,10 @@ module _ (table : Classes) (heads : List Head) (chunk : ChunkId) (head : Head) (
 
   -- a header is the new one, or as it was
   pub head_now : (P : Head → Type 0) (other : ChunkId) → has_chunk table other ≡ true → (chunk ≡ other → P head) → (is_chunk chunk other ≡ false → P (head_in table heads other)) → P (head_in table now other)
-  head_now P other near here there = elim (cases_Bool (is_chunk chunk other)) [
+  head_now P other in_range here there = elim (cases_Bool (is_chunk chunk other)) [
     | inl is ↦ let same = same_from_is_chunk chunk other is in
         subst (λ (c : ChunkId). P (head_in table now c)) same (subst P (sym (head_written table heads chunk head sized inside)) (here same))
-    | inr isnt ↦ subst P (sym (head_other table heads chunk other head inside near isnt)) (there isnt)
+    | inr isnt ↦ subst P (sym (head_other table heads chunk other head inside in_range isnt)) (there isnt)
   ]
 
   -- what is known stays true
@@ -79,10 +79,10 @@ module _ (table : Classes) (heads : List Head) (chunk : ChunkId) (head : Head) (
       → ((other : ChunkId) → has_chunk table other ≡ true → (head_in table heads other).tag ≡ Linked → IsKnownToSome known (λ k. (k.chunk ≡ other) × (k.issue ≡ (head_in table heads other).issue)))
       → (head.tag ≡ Linked → IsKnownToSome known' (λ k. (k.chunk ≡ chunk) × (k.issue ≡ head.issue)))
       → (other : ChunkId) → has_chunk table other ≡ true → (head_in table now other).tag ≡ Linked → IsKnownToSome known' (λ k. (k.chunk ≡ other) × (k.issue ≡ (head_in table now other).issue))
-  linked_turned known known' more were here other near =
-      head_now (λ h. h.tag ≡ Linked → IsKnownToSome known' (λ k. (k.chunk ≡ other) × (k.issue ≡ h.issue))) other near
+  linked_turned known known' more were here other in_range =
+      head_now (λ h. h.tag ≡ Linked → IsKnownToSome known' (λ k. (k.chunk ≡ other) × (k.issue ≡ h.issue))) other in_range
       (λ is linked. subst (λ (c : ChunkId). IsKnownToSome known' (λ k. (k.chunk ≡ c) × (k.issue ≡ head.issue))) is (here linked))
-      (λ _ linked. more (λ k. (k.chunk ≡ other) × (k.issue ≡ (head_in table heads other).issue)) (were other near linked))
+      (λ _ linked. more (λ k. (k.chunk ≡ other) × (k.issue ≡ (head_in table heads other).issue)) (were other in_range linked))
 
 -- the headers stay
 pub still_listed : (table : Classes) (slabs next : SlabState) (heads : List Head) (words : List ℕ) (rows rows' : List (List Holding)) (k : KnownItem) →

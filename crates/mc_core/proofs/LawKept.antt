@@ -66,21 +66,21 @@ lawful_steps m hand step may = record {
 }
 
 pub lawful_first : HoldsAtFirst IsLawful
-lawful_first table stripes hands start sound some someone few small = record {
-  sized = sized_first table stripes hands start sound some someone few small;
-  paged = paged_first table stripes hands start sound some someone few small;
-  placed = placed_first table stripes hands start sound some someone few small;
-  counted = counted_first table stripes hands start sound some someone few small;
-  held = held_first table stripes hands start sound some someone few small;
-  indexed = indexed_first table stripes hands start sound some someone few small;
-  legal = legal_first table stripes hands start sound some someone few small;
-  hands = hands_first table stripes hands start sound some someone few small;
-  rows = rows_first table stripes hands start sound some someone few small;
-  numbered = numbered_first table stripes hands start sound some someone few small;
-  seen = seen_first table stripes hands start sound some someone few small;
-  known = known_first table stripes hands start sound some someone few small;
-  rescued = rescued_first table stripes hands start sound some someone few small;
-  told = told_first table stripes hands start sound some someone few small;
+lawful_first table stripes hands start sound some someone within_limit small = record {
+  sized = sized_first table stripes hands start sound some someone within_limit small;
+  paged = paged_first table stripes hands start sound some someone within_limit small;
+  placed = placed_first table stripes hands start sound some someone within_limit small;
+  counted = counted_first table stripes hands start sound some someone within_limit small;
+  held = held_first table stripes hands start sound some someone within_limit small;
+  indexed = indexed_first table stripes hands start sound some someone within_limit small;
+  legal = legal_first table stripes hands start sound some someone within_limit small;
+  hands = hands_first table stripes hands start sound some someone within_limit small;
+  rows = rows_first table stripes hands start sound some someone within_limit small;
+  numbered = numbered_first table stripes hands start sound some someone within_limit small;
+  seen = seen_first table stripes hands start sound some someone within_limit small;
+  known = known_first table stripes hands start sound some someone within_limit small;
+  rescued = rescued_first table stripes hands start sound some someone within_limit small;
+  told = told_first table stripes hands start sound some someone within_limit small;
 }
 
 -- the state of a moment is that of the model
@@ -145,8 +145,8 @@ are_played events m state e = played_from 0 m events state e
 pub are_lawful : AreLawful
 are_lawful = record {
   runs = lawful_run;
-  from_first = λ table stripes hands start events state sound some someone few small e.
+  from_first = λ table stripes hands start events state sound some someone within_limit small e.
       let first = first_moment table stripes hands start in
       let played = are_played events first state e in
-      (played.1, lawful_run first events (lawful_first table stripes hands start sound some someone few small) played.0);
+      (played.1, lawful_run first events (lawful_first table stripes hands start sound some someone within_limit small) played.0);
 }

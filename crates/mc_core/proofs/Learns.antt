@@ -16,20 +16,20 @@ use Rattle.mc_core.proofs.RowsKept.{by_join}
 
 -- a hand has its row of each column
 record HasRow (past : Past) (hand : ℕ) : Type 0 where
-  saw : hand < length past.saw
+  seen_words : hand < length past.seen_words
   hold : hand < length past.holds
   mine : hand < length past.mine
   seen : hand < length past.seen
-  said : hand < length past.said
+  stored : hand < length past.stored
   known : hand < length past.known
 
 has_row : (m : Moment) (hand : ℕ) → HaveRows m.state.ids (length m.state.stripes) m.past → hand < length m.state.ids → HasRow m.past hand
 has_row m hand rows within = record {
-  saw = omega (arith, rows.saw, within);
+  seen_words = omega (arith, rows.seen_words, within);
   hold = omega (arith, rows.holds, within);
   mine = omega (arith, rows.mine, within);
   seen = omega (arith, rows.seen, within);
-  said = omega (arith, rows.said, within);
+  stored = omega (arith, rows.stored, within);
   known = omega (arith, rows.known, within);
 }
 
@@ -38,11 +38,11 @@ row_written : (past : Past) (hand : ℕ) (before now : State) (step : Step) (kne
     → knowledge_at (with_knowledge past hand (knowledge_after before now hand step knew)) hand ≡ knowledge_after before now hand step knew
 row_written past hand before now step knew has =
     let knows : Knowledge = knowledge_after before now hand step knew in λ k. record {
-      saw = get_or-set_same past.saw hand knows.saw [] has.saw k;
+      seen_words = get_or-set_same past.seen_words hand knows.seen_words [] has.seen_words k;
       hold = get_or-set_same past.holds hand knows.hold no_hold has.hold k;
       mine = get_or-set_same past.mine hand knows.mine [] has.mine k;
       seen = get_or-set_same past.seen hand knows.seen [] has.seen k;
-      said = get_or-set_same past.said hand knows.said [] has.said k;
+      stored = get_or-set_same past.stored hand knows.stored [] has.stored k;
       known = get_or-set_same past.known hand knows.known [] has.known k;
     }
 
@@ -69,11 +69,11 @@ module _ (m : Moment) (kept spent : ℕ) (may : MayStep m kept (Join kept spent)
       let facts = join_facts m kept kept spent may in
       let has = has_row m kept may.lawful.rows facts.1 in
       let past = m.past in λ k. record {
-        saw = get_or-set_other past.saw spent kept [] [] facts.0 k;
+        seen_words = get_or-set_other past.seen_words spent kept [] [] facts.0 k;
         hold = get_or-set_other past.holds spent kept no_hold no_hold facts.0 k;
         mine = (get_or-set_other (with_more past.mine kept (slice_index_or past.mine spent [])) spent kept [] [] facts.0 ∙ get_or-set_same past.mine kept _ [] has.mine) k;
         seen = (get_or-set_other (slice_set past.seen kept (longer_each (slice_index_or past.seen kept []) (slice_index_or past.seen spent []))) spent kept [] [] facts.0 ∙ get_or-set_same past.seen kept _ [] has.seen) k;
-        said = (get_or-set_other (with_more past.said kept (slice_index_or past.said spent [])) spent kept [] [] facts.0 ∙ get_or-set_same past.said kept _ [] has.said) k;
+        stored = (get_or-set_other (with_more past.stored kept (slice_index_or past.stored spent [])) spent kept [] [] facts.0 ∙ get_or-set_same past.stored kept _ [] has.stored) k;
         known = (get_or-set_other (with_more past.known kept (slice_index_or past.known spent [])) spent kept [] [] facts.0 ∙ get_or-set_same past.known kept _ [] has.known) k;
       }
 
@@ -82,11 +82,11 @@ module _ (m : Moment) (kept spent : ℕ) (may : MayStep m kept (Join kept spent)
       let facts = join_facts m kept kept spent may in
       let has = has_row m spent may.lawful.rows facts.2 in
       let past = m.past in λ k. record {
-        saw = get_or-set_same past.saw spent [] [] has.saw k;
+        seen_words = get_or-set_same past.seen_words spent [] [] has.seen_words k;
         hold = get_or-set_same past.holds spent no_hold no_hold has.hold k;
         mine = get_or-set_same (with_more past.mine kept (slice_index_or past.mine spent [])) spent [] [] (omega (arith, has.mine, length-set past.mine kept (slice_index_or past.mine kept [] ++ slice_index_or past.mine spent []))) k;
         seen = get_or-set_same (slice_set past.seen kept (longer_each (slice_index_or past.seen kept []) (slice_index_or past.seen spent []))) spent [] [] (omega (arith, has.seen, length-set past.seen kept (longer_each (slice_index_or past.seen kept []) (slice_index_or past.seen spent [])))) k;
-        said = get_or-set_same (with_more past.said kept (slice_index_or past.said spent [])) spent [] [] (omega (arith, has.said, length-set past.said kept (slice_index_or past.said kept [] ++ slice_index_or past.said spent []))) k;
+        stored = get_or-set_same (with_more past.stored kept (slice_index_or past.stored spent [])) spent [] [] (omega (arith, has.stored, length-set past.stored kept (slice_index_or past.stored kept [] ++ slice_index_or past.stored spent []))) k;
         known = get_or-set_same (with_more past.known kept (slice_index_or past.known spent [])) spent [] [] (omega (arith, has.known, length-set past.known kept (slice_index_or past.known kept [] ++ slice_index_or past.known spent []))) k;
       }
 

@@ -86,7 +86,7 @@ module _ (m : Moment) (l : IsLawful m) (hand : ℕ) (there : is_hand m.state han
   turn : Turn m.state.table m.state.heads rows now chunk (head_after_link old)
   turn = record {
     long = l.sized.headers;
-    near = subst (λ c. has_chunk m.state.table c ≡ true) is so.inside;
+    in_range = subst (λ c. has_chunk m.state.table c ≡ true) is so.inside;
     others = λ other isnt. more_other left hand (length_less rows hand within (is_of_chunk chunk)) chunk other (as_reference holding) is isnt
         ∙ less_other rows hand within chunk other (is_of_chunk chunk) holding may.found is isnt;
     sum =

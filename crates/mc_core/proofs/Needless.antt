@@ -38,8 +38,8 @@ holders_most chunk [] most = omega arith
 holders_most chunk (row ∷ rows) most =
     let here : length row ≤ most_holdings = All-head (λ (r : List Holding). length r ≤ most_holdings) row rows most in
     let rest = holders_most chunk rows (All-tail (λ (r : List Holding). length r ≤ most_holdings) row rows most) in
-    let few = count_by-le-length (is_of_chunk chunk) row in
-    omega (arith, here, rest, few)
+    let within_limit = count_by-le-length (is_of_chunk chunk) row in
+    omega (arith, here, rest, within_limit)
 
 truth_most : (b : Bool) → truth b ≤ 1
 truth_most true = omega arith
@@ -70,16 +70,16 @@ module _ (m : Moment) (l : IsLawful m) where
   slabs = m.state.slabs
 
   most : (chunk : ChunkId) → has_chunk m.state.table chunk ≡ true → (head_at m.state chunk).count ≤ most_count
-  most chunk near =
-      let same = l.counted.counted chunk near in
+  most chunk in_range =
+      let same = l.counted.counted chunk in_range in
       let link = truth_most (is_linked (head_in m.state.table m.state.heads chunk).tag) in
       let held = holders_most chunk m.state.holdings l.held.most in
       let rows = l.hands.holding_rows in
-      let few = l.hands.count.1 in
-      omega (arith, same, link, held, rows, few)
+      let within_limit = l.hands.count.1 in
+      omega (arith, same, link, held, rows, within_limit)
 
   room : (chunk : ChunkId) → has_chunk m.state.table chunk ≡ true → can_count (head_at m.state chunk) ≡ true
-  room chunk near = let few = most chunk near in lt-ltb (head_at m.state chunk).count 65535 (omega arith)
+  room chunk in_range = let within_limit = most chunk in_range in lt-ltb (head_at m.state chunk).count 65535 (omega arith)
 
   next : (class : ℕ) (chunk : ChunkId) → is_class m.state.table class ≡ true → next_free m.state class ≡ Some chunk → (has_chunk m.state.table chunk ≡ true) × ((head_at m.state chunk).tag ≡ Free)
   next class chunk is first =
@@ -104,28 +104,28 @@ module _ (m : Moment) (l : IsLawful m) where
       (near_placed m l chunk at.1, tag_free (head_at m.state chunk).tag at.2)
 
   dead : (chunk : ChunkId) → has_chunk m.state.table chunk ≡ true → is_dead (head_at m.state chunk) ≡ true → is_handed_out slabs chunk ≡ true
-  dead chunk near is =
+  dead chunk in_range is =
       let head = head_at m.state chunk in
       let tag = tag_unlinked head.tag (and_parts (is_unlinked head.tag) (head.count == 0) is).0 in
-      let at = placed_at m l chunk head.issue near (inl tag, refl) in
+      let at = placed_at m l chunk head.issue in_range (inl tag, refl) in
       among_from_times (class_at slabs (class_of_page slabs chunk.page)).order chunk at.1
 
   -- a free chunk stands in its class's free list
   free_among : (chunk : ChunkId) → has_chunk m.state.table chunk ≡ true → is_free (head_at m.state chunk).tag ≡ true → is_among (class_at slabs (class_of_page slabs chunk.page)).free chunk ≡ true
-  free_among chunk near free = elim (cases_Bool (is_cut_there slabs chunk)) [
+  free_among chunk in_range free = elim (cases_Bool (is_cut_there slabs chunk)) [
     | inl cut ↦
         let placed = placed_from m l chunk cut in
         let class = class_of_page slabs chunk.page in
         among_from_times (class_at slabs class).free chunk (l.placed.free class chunk placed.class ∙ ap truth (and_from (is_cut slabs class chunk) (is_free (head_at m.state chunk).tag) cut free))
-    | inr uncut ↦ absurd (free_not_out (head_at m.state chunk).tag (tag_free (head_at m.state chunk).tag free) (l.placed.elsewhere chunk near uncut))
+    | inr uncut ↦ absurd (free_not_out (head_at m.state chunk).tag (tag_free (head_at m.state chunk).tag free) (l.placed.elsewhere chunk in_range uncut))
   ]
 
   unused : (chunk : ChunkId) → has_chunk m.state.table chunk ≡ true → (is_free (head_at m.state chunk).tag || is_dead (head_at m.state chunk)) ≡ true → is_listed slabs (class_of_page slabs chunk.page) chunk ≡ true
-  unused chunk near is =
+  unused chunk in_range is =
       let class = class_of_page slabs chunk.page in
       or_parts (is_free (head_at m.state chunk).tag) (is_dead (head_at m.state chunk)) (is_listed slabs class chunk ≡ true) is
-      (λ free. or_left (is_among (class_at slabs class).free chunk) (is_among (class_at slabs class).order chunk) (free_among chunk near free))
-      (λ gone. or_right (is_among (class_at slabs class).free chunk) (is_among (class_at slabs class).order chunk) (dead chunk near gone))
+      (λ free. or_left (is_among (class_at slabs class).free chunk) (is_among (class_at slabs class).order chunk) (free_among chunk in_range free))
+      (λ gone. or_right (is_among (class_at slabs class).free chunk) (is_among (class_at slabs class).order chunk) (dead chunk in_range gone))
 
   -- what is cut next wasn't cut
   uncut_yet : (chunk : ChunkId) → slabs.uncut ≡ Some chunk → is_cut_there slabs chunk ≡ false
@@ -143,8 +143,8 @@ module _ (m : Moment) (l : IsLawful m) where
   uncut : (chunk : ChunkId) → slabs.uncut ≡ Some chunk → (has_chunk m.state.table chunk ≡ true) × ((head_at m.state chunk).tag ≡ Out)
   uncut chunk is =
       let cutting = l.paged.order.1.uncut chunk is in
-      let near = near_in m l chunk cutting.owned cutting.within in
-      (near, l.placed.elsewhere chunk near (uncut_yet chunk is))
+      let in_range = near_in m l chunk cutting.owned cutting.within in
+      (in_range, l.placed.elsewhere chunk in_range (uncut_yet chunk is))
 
   entry : (key : ℕ) (place : ChunkId × ℕ) → chunk_of_key m.state key ≡ Some place → (has_chunk m.state.table place.0 ≡ true) × ((head_at m.state place.0).tag ≡ Linked)
   entry key place found = let is = entry_of m l key place found in (is.inside, is.linked)
@@ -153,9 +153,9 @@ module _ (m : Moment) (l : IsLawful m) where
       (has_chunk m.state.table chunk ≡ true) × ((head_at m.state chunk).tag ≡ Unlinked)
   fresh hand chunk holding found is =
       let same = same_from_is_chunk holding.chunk chunk (found_passes (is_of_chunk chunk) (holdings_at m.state hand) holding found) in
-      let near = found_each (λ h. has_chunk m.state.table h.chunk ≡ true) m.state.holdings hand (is_of_chunk chunk) holding found l.held.inside in
+      let in_range = found_each (λ h. has_chunk m.state.table h.chunk ≡ true) m.state.holdings hand (is_of_chunk chunk) holding found l.held.inside in
       let alone = found_each (λ h. is_fresh h ≡ true → ((head_in m.state.table m.state.heads h.chunk).tag ≡ Unlinked) × (holder_count h.chunk m.state.holdings ≡ 1)) m.state.holdings hand (is_of_chunk chunk) holding found l.held.alone in (
-        subst (λ c. has_chunk m.state.table c ≡ true) same near,
+        subst (λ c. has_chunk m.state.table c ≡ true) same in_range,
         subst (λ c. (head_in m.state.table m.state.heads c).tag ≡ Unlinked) same (alone is).0,
       )
 
@@ -163,7 +163,7 @@ pub are_needless : AllAreNeedless
 are_needless m l = record {
   most = most m l;
   room = room m l;
-  fits = λ chunk near. record { issue = l.counted.issued chunk near; count = let few = most m l chunk near in omega arith };
+  fits = λ chunk in_range. record { issue = l.counted.issued chunk in_range; count = let within_limit = most m l chunk in_range in omega arith };
   next = next m l;
   target = target m l;
   dead = dead m l;

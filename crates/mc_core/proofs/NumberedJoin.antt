@@ -38,8 +38,8 @@ said_both : (stamp : ℕ) (a b : List StoredItem) → stored_times stamp (a ++ b
 said_both stamp a b = sum_by-append (λ (s : StoredItem). truth (s.stamp == stamp)) a b
 
 -- a hand without the number said no stamp of it
-unsaid : (number count : ℕ) (own : List Own) (row : List StoredItem) → All (λ (s : StoredItem). count_in_hand (s.stamp / 2 ^ 48) own ≡ 1) row → count_in_hand number own ≡ 0 → count < 2 ^ 48 → stored_times (number * 2 ^ 48 + count) row ≡ 0
-unsaid number count own row all none small =
+stores_nothing : (number count : ℕ) (own : List Own) (row : List StoredItem) → All (λ (s : StoredItem). count_in_hand (s.stamp / 2 ^ 48) own ≡ 1) row → count_in_hand number own ≡ 0 → count < 2 ^ 48 → stored_times (number * 2 ^ 48 + count) row ≡ 0
+stores_nothing number count own row all none small =
     times_none (number * 2 ^ 48 + count) row (All-weaker (λ (s : StoredItem). count_in_hand (s.stamp / 2 ^ 48) own ≡ 1) (λ (s : StoredItem). s.stamp ≡ number * 2 ^ 48 + count → ⊥)
     (λ s one is. let same : s.stamp / 2 ^ 48 ≡ number = omega arith in let here : count_in_hand number own ≡ 1 = subst (λ n. count_in_hand n own ≡ 1) same one in omega arith) row all)
 
@@ -78,12 +78,12 @@ module _ (ids : List Ids) (mine : List (List Own)) (said : List (List StoredItem
   -- the kept hand's count of its own number
   kept_counts : (number most : ℕ) → count_in_hand number (row_of mine spent) ≡ 0 → AreCountedTo most number (row_of said kept) → AreCountedTo most number (row_of said' kept)
   kept_counts number most none counted count small =
-      let rest = unsaid number count (row_of mine spent) (row_of said spent) (l.of_own spent) none small in
+      let rest = stores_nothing number count (row_of mine spent) (row_of said spent) (l.of_own spent) none small in
       rw (row_kept said kept spent apart said_rows.0) (said_both (number * 2 ^ 48 + count) (row_of said kept) (row_of said spent) ∙ rw rest (add-zero _ ∙ counted count small))
 
   spent_counts : (number most : ℕ) → count_in_hand number (row_of mine kept) ≡ 0 → AreCountedTo most number (row_of said spent) → AreCountedTo most number (row_of said' kept)
   spent_counts number most none counted count small =
-      let rest = unsaid number count (row_of mine kept) (row_of said kept) (l.of_own kept) none small in
+      let rest = stores_nothing number count (row_of mine kept) (row_of said kept) (l.of_own kept) none small in
       rw (row_kept said kept spent apart said_rows.0) (said_both (number * 2 ^ 48 + count) (row_of said kept) (row_of said spent) ∙ rw rest (zero-add _ ∙ counted count small))
 
   abbrev Gapless : List StoredItem → Own → Type 0

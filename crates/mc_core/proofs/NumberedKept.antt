@@ -54,17 +54,17 @@ pub numbered_changes : ChangesKeep NumberedIn
 numbered_changes m hand change may =
     let now = after_change m.state hand change in
     let mine = (with_calls m.state now m.past hand).mine in
-    subst (λ (ids : List Ids). AreNumbered ids mine m.past.said m.past.known) (sym (ids_change m.state hand change))
-    (numbered_quiet m.state.ids m.past.mine mine m.past.said m.past.known m.past.known (same_numbers m.state now m.past hand) may.lawful.numbered (λ other none. refl))
+    subst (λ (ids : List Ids). AreNumbered ids mine m.past.stored m.past.known) (sym (ids_change m.state hand change))
+    (numbered_quiet m.state.ids m.past.mine mine m.past.stored m.past.known m.past.known (same_numbers m.state now m.past hand) may.lawful.numbered (λ other none. refl))
 
 -- a step that says nothing
 pub numbered_unsaid : (m : Moment) (hand : ℕ) (next : Step) → is_join next ≡ false → (after_step m.state hand next).ids ≡ m.state.ids → items_stored_by_step m.state hand next ≡ [] → is_hand m.state hand ≡ true → NumberedIn m → NumberedIn (moment_stepped m hand next)
-numbered_unsaid m hand next alone same unsaid there l =
+numbered_unsaid m hand next alone same stores_nothing there l =
     let now = after_step m.state hand next in
     let past = learned_alone m.state now m.past hand next in
-    let said : past.said ≡ m.past.said = ap (with_more m.past.said hand) unsaid ∙ with_none m.past.said hand in
-    subst (λ (p : Past). AreNumbered now.ids p.mine p.said p.known) (sym (learned_is m.state now m.past hand next alone))
-    (subst (λ (ids : List Ids). AreNumbered ids past.mine past.said past.known) (sym same)
+    let said : past.stored ≡ m.past.stored = ap (with_more m.past.stored hand) stores_nothing ∙ with_none m.past.stored hand in
+    subst (λ (p : Past). AreNumbered now.ids p.mine p.stored p.known) (sym (learned_is m.state now m.past hand next alone))
+    (subst (λ (ids : List Ids). AreNumbered ids past.mine past.stored past.known) (sym same)
     (subst (λ (s : List (List StoredItem)). AreNumbered m.state.ids past.mine s past.known) (sym said)
-    (numbered_quiet m.state.ids m.past.mine past.mine m.past.said m.past.known past.known (same_numbers m.state now m.past hand) l
+    (numbered_quiet m.state.ids m.past.mine past.mine m.past.stored m.past.known past.known (same_numbers m.state now m.past hand) l
     (λ other none. row_other m.past.known hand other _ (there_apart m.state.ids hand other there none)))))

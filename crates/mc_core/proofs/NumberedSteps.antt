@@ -32,7 +32,7 @@ hand_within ids hand there = elim (cases_lt hand (length ids)) [
 ]
 
 quiet : (m : Moment) (hand : ℕ) (next : Step) → is_join next ≡ false → leaves_ids next ≡ true → items_stored_by_step m.state hand next ≡ [] → MayStep m hand next → NumberedIn (moment_stepped m hand next)
-quiet m hand next alone same unsaid may = numbered_unsaid m hand next alone (ids_step m.state hand next same) unsaid may.there may.lawful.numbered
+quiet m hand next alone same stores_nothing may = numbered_unsaid m hand next alone (ids_step m.state hand next same) stores_nothing may.there may.lawful.numbered
 
 -- what is so after calls came in is so with the new stamp, too
 stored : (m : Moment) (hand : ℕ) (chunk : ChunkId) (holding : Holding) → MayStep m hand (step.Link chunk)
@@ -42,11 +42,11 @@ stored m hand chunk holding may is =
     let past = learned_alone m.state now m.past hand (step.Link chunk) in
     let s : StoredItem = record { stamp = stamp_in (holding_words holding); words = numbers_of_known (words_of_item (holding_words holding)) } in
     let within = hand_within m.state.ids hand may.there in
-    let told : AreNumbered m.state.ids past.mine m.past.said m.past.known =
-    numbered_quiet m.state.ids m.past.mine past.mine m.past.said m.past.known m.past.known (same_numbers m.state now m.past hand) may.lawful.numbered (λ other none. refl) in
-    subst (λ (ids : List Ids). AreNumbered ids past.mine past.said past.known) (sym is.ids)
-    (subst (λ (more : List StoredItem). AreNumbered (slice_set m.state.ids hand (ids_after_stamp (ids_at m.state hand))) past.mine (with_more m.past.said hand more) past.known) (sym is.says)
-    (numbered_said m.state.ids past.mine m.past.said m.past.known past.known hand s told is.next within (omega (arith, within, may.lawful.rows.said))
+    let told : AreNumbered m.state.ids past.mine m.past.stored m.past.known =
+    numbered_quiet m.state.ids m.past.mine past.mine m.past.stored m.past.known m.past.known (same_numbers m.state now m.past hand) may.lawful.numbered (λ other none. refl) in
+    subst (λ (ids : List Ids). AreNumbered ids past.mine past.stored past.known) (sym is.ids)
+    (subst (λ (more : List StoredItem). AreNumbered (slice_set m.state.ids hand (ids_after_stamp (ids_at m.state hand))) past.mine (with_more m.past.stored hand more) past.known) (sym is.says)
+    (numbered_said m.state.ids past.mine m.past.stored m.past.known past.known hand s told is.next within (omega (arith, within, may.lawful.rows.stored))
     (λ other apart. row_other m.past.known hand other _ apart)))
 
 linked : (m : Moment) (hand : ℕ) (chunk : ChunkId) → MayStep m hand (step.Link chunk) → NumberedIn (moment_stepped m hand (step.Link chunk))
@@ -71,8 +71,8 @@ join : (m : Moment) (hand kept spent : ℕ) → MayStep m hand (step.Join kept s
 join m hand kept spent may =
     let facts = join_facts m hand kept spent may in
     let rows = may.lawful.rows in
-    numbered_joined m.state.ids m.past.mine m.past.said m.past.known kept spent may.lawful.numbered facts.0 facts.3
-    (omega (arith, facts.1, rows.mine), omega (arith, facts.2, rows.mine)) (omega (arith, facts.1, rows.said), omega (arith, facts.2, rows.said)) (omega (arith, facts.2, rows.known))
+    numbered_joined m.state.ids m.past.mine m.past.stored m.past.known kept spent may.lawful.numbered facts.0 facts.3
+    (omega (arith, facts.1, rows.mine), omega (arith, facts.2, rows.mine)) (omega (arith, facts.1, rows.stored), omega (arith, facts.2, rows.stored)) (omega (arith, facts.2, rows.known))
 
 pub numbered_steps : StepsKeep NumberedIn
 numbered_steps m hand step.TakeSlabs may = quiet m hand step.TakeSlabs refl refl refl may

@@ -123,9 +123,9 @@ module _ (table : Classes) (slabs : SlabState) (lock : ℕ) (paged : ArePaged ta
       }
 
   automove_paged : (mode : ℕ) → nat_le mode 2 ≡ true → StayPaged slabs (record slabs { automove = mode })
-  automove_paged mode few = record {
+  automove_paged mode within_limit = record {
     shape = record { page = refl; limit = refl; counts = refl; owners = refl };
-    order = (paged.order.0, IsInOrder-automove slabs paged.order.0 mode (leb-true mode 2 few) paged.order.1);
+    order = (paged.order.0, IsInOrder-automove slabs paged.order.0 mode (leb-true mode 2 within_limit) paged.order.1);
   }
 
   trimmed_paged : StayPaged slabs (after_trim slabs)

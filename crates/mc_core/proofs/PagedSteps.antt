@@ -183,7 +183,7 @@ no_move : (move : Moving) → None ≡ Some move → ⊥
 no_move move h = cc
 
 pub paged_first : HoldsAtFirst PagedIn
-paged_first table stripes hands start sound some someone few _ =
+paged_first table stripes hands start sound some someone within_limit _ =
     let kept = IsInOrder-fresh table sound in
     record {
       of_table = record { page = refl; limit = refl; per_page = per_pages table.page table.sizes; owners = length-replicate {A = Owner} (arena_pages_of table) Untouched; accounted = kept.accounted };

@@ -72,13 +72,13 @@ module _ (m : Moment) (l : IsLawful m) where
   abbrev heads : List Head
   heads = m.state.heads
 
-  near : (c : ℕ) (other : ChunkId) → HasClass slabs c → is_cut slabs c other ≡ true → has_chunk table other ≡ true
-  near c other is cut = near_placed m l other (placed_in m l c other is cut).1
+  in_range : (c : ℕ) (other : ChunkId) → HasClass slabs c → is_cut slabs c other ≡ true → has_chunk table other ≡ true
+  in_range c other is cut = near_placed m l other (placed_in m l c other is cut).1
 
   -- a header is written, and its chunk changes its list
   written : (class : ℕ) (state : ClassState) (uncut : Option ChunkId) (chunk : ChunkId) (head : Head) → Changes table slabs class state uncut chunk head.tag →
       ArePlaced table (record (slabs_changes.with_class slabs class state) { uncut = uncut }) (slice_set heads (head_place table chunk) head)
-  written class state uncut chunk head change = placed_written table slabs heads class state uncut chunk head l.paged.order.1.accounted l.placed l.sized.headers near change
+  written class state uncut chunk head change = placed_written table slabs heads class state uncut chunk head l.paged.order.1.accounted l.placed l.sized.headers in_range change
 
   popped_placed : (class : ℕ) (chunk : ChunkId) (head : Head) → head.tag ≡ Unlinked → HasClass slabs class → first_free (class_at slabs class) ≡ Some chunk →
       ArePlaced table (slabs_changes.after_pop slabs class) (slice_set heads (head_place table chunk) head)
@@ -86,7 +86,7 @@ module _ (m : Moment) (l : IsLawful m) where
       let at = first_placed m l class chunk is first in
       let cut : is_cut slabs class chunk ≡ true = subst (λ n. is_cut slabs n chunk ≡ true) at.0 at.1.cut in
       let split = first_is (class_at slabs class).free chunk first in
-      let lists = pop_lists table slabs heads l.placed class chunk is (near class chunk is cut) cut split.0 split.1 at.2 in
+      let lists = pop_lists table slabs heads l.placed class chunk is (in_range class chunk is cut) cut split.0 split.1 at.2 in
       let state : ClassState = record (class_at slabs class) { free = split.0; order = (class_at slabs class).order ++ chunk ∷ [] } in
       subst (λ s. ArePlaced table (slabs_changes.with_class slabs class s) (slice_set heads (head_place table chunk) head)) (sym (popped_as (class_at slabs class) chunk split.0 split.1))
       (written class state slabs.uncut chunk head (subst (λ t. Changes table slabs class state slabs.uncut chunk t) (sym tag) lists))
@@ -99,7 +99,7 @@ module _ (m : Moment) (l : IsLawful m) where
       let is = IsClass-handed_out slabs old l.paged.order.1.accounted (Contains_from_among state.order old out) in
       let at = found_placed m l class chunk (is_target m.state.table m.state.heads old.page) is found in
       let cut : is_cut slabs class chunk ≡ true = subst (λ n. is_cut slabs n chunk ≡ true) at.0 at.1.cut in
-      let lists = replace_lists table slabs heads l.placed class chunk is (near class chunk is cut) cut old (times_from_among state.order old out) at.2 in
+      let lists = replace_lists table slabs heads l.placed class chunk is (in_range class chunk is cut) cut old (times_from_among state.order old out) at.2 in
       written class (class_after_replacement state chunk old) slabs.uncut chunk head (subst (λ t. Changes table slabs class (class_after_replacement state chunk old) slabs.uncut chunk t) (sym tag) lists)
 
   -- a chunk that is in a list was cut
@@ -288,7 +288,7 @@ no_chunks page (size ∷ sizes) zero chunk = (refl, refl)
 no_chunks page (size ∷ sizes) (suc i) chunk = no_chunks page sizes i chunk
 
 pub placed_first : HoldsAtFirst PlacedIn
-placed_first table stripes hands start sound some someone few small =
+placed_first table stripes hands start sound some someone within_limit small =
     let fresh : SlabState = fresh_slabs table in
     let uncut : (class : ℕ) (chunk : ChunkId) → is_cut fresh class chunk ≡ false = λ class chunk. and_left _ _ (ap (is_of_class class) (read_replicate (arena_pages_of table) chunk.page Untouched)) in
     record {

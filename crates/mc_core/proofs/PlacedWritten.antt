@@ -47,7 +47,7 @@ module _ (table : Classes) (slabs : SlabState) (heads : List Head) (class : ℕ)
     (all : IsAccounted slabs)
     (placed : ArePlaced table slabs heads)
     (long : length heads ≡ arena_pages_of table * most_of table)
-    (near : (c : ℕ) (other : ChunkId) → HasClass slabs c → is_cut slabs c other ≡ true → has_chunk table other ≡ true)
+    (in_range : (c : ℕ) (other : ChunkId) → HasClass slabs c → is_cut slabs c other ≡ true → has_chunk table other ≡ true)
     (change : Changes table slabs class state uncut chunk head.tag) where
   abbrev now : SlabState
   now = relisted slabs class state uncut
@@ -92,7 +92,7 @@ module _ (table : Classes) (slabs : SlabState) (heads : List Head) (class : ℕ)
     times_else : (c : ℕ) (other : ChunkId) → HasClass slabs c → is_chunk chunk other ≡ false → times_in other (part (class_at now c)) ≡ truth (is_cut now c other && test (head_in table written other).tag)
     times_else c other is apart =
         let list : times_in other (part (class_at now c)) ≡ times_in other (part (class_at slabs c)) = class_at-with_class_kept (λ s. times_in other (part s)) slabs class c state change.is is.0 (others other apart) in
-        let tags = same_truth (is_cut slabs c other) (test (head_in table heads other).tag) (test (head_in table written other).tag) (λ cut. sym (ap test (tag_else other (near c other is cut) apart))) in
+        let tags = same_truth (is_cut slabs c other) (test (head_in table heads other).tag) (test (head_in table written other).tag) (λ cut. sym (ap test (tag_else other (in_range c other is cut) apart))) in
         list ∙ was c other is ∙ tags ∙ sym (ap (λ b. truth (b && test (head_in table written other).tag)) (change.cut c other is apart))
 
     times_now : (c : ℕ) (other : ChunkId) → HasClass now c → times_in other (part (class_at now c)) ≡ truth (is_cut now c other && test (head_in table written other).tag)
@@ -110,7 +110,7 @@ module _ (table : Classes) (slabs : SlabState) (heads : List Head) (class : ℕ)
     | inr apart ↦
         let before = was_class c is in
         let was = sym (change.cut c other before apart) ∙ cut in
-        placed.cleared c other before was (sym (tag_else other (near c other before was) apart) ∙ out)
+        placed.cleared c other before was (sym (tag_else other (in_range c other before was) apart) ∙ out)
   ]
 
   elsewhere_now : (other : ChunkId) → has_chunk table other ≡ true → is_cut_there now other ≡ false → (head_in table written other).tag ≡ Out

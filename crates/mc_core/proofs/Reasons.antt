@@ -189,7 +189,7 @@ module _ (m : Moment) (l : IsLawful m) (hand : ℕ) (chunk : ChunkId) (has : has
 
   -- what is said of the hand's holdings
   abbrev rescued : Holding → Type 0
-  rescued holding = IsRescue m.past.said holding.chunk holding.kind
+  rescued holding = IsRescue m.past.stored holding.chunk holding.kind
 
   own_rescued : All rescued (holdings_at m.state hand)
   own_rescued = each_row rescued m.state.holdings hand l.rescued
@@ -197,14 +197,14 @@ module _ (m : Moment) (l : IsLawful m) (hand : ℕ) (chunk : ChunkId) (has : has
   copied : has_copy (holdings_at m.state hand) chunk ≡ true → HasCopyOff m.state hand chunk
   copied is =
       let (copy, among, passes) = some_passes (is_copy_of chunk) (holdings_at m.state hand) is in
-      let both = copy_is m.past.said copy.chunk chunk copy.kind passes (All-contains rescued (holdings_at m.state hand) copy own_rescued among) in
+      let both = copy_is m.past.stored copy.chunk chunk copy.kind passes (All-contains rescued (holdings_at m.state hand) copy own_rescued among) in
       record { copy = copy; among = among; words = both.0.0; meant = both.0.1; off = both.1 }
 
   all_off : All (λ (copy : Holding). (words : Words) → copy.kind ≡ Fresh (Copy chunk) words → copy.chunk.page ≢ chunk.page) (holdings_at m.state hand)
   all_off = All-weaker rescued (λ (copy : Holding). (words : Words) → copy.kind ≡ Fresh (Copy chunk) words → copy.chunk.page ≢ chunk.page) off (holdings_at m.state hand) own_rescued
     where
       off : (copy : Holding) → rescued copy → (words : Words) → copy.kind ≡ Fresh (Copy chunk) words → copy.chunk.page ≢ chunk.page
-      off copy is words meant = subst (IsRescue m.past.said copy.chunk) meant is
+      off copy is words meant = subst (IsRescue m.past.stored copy.chunk) meant is
 
   reason : has_reason m.state.table m.state.heads m.state.slabs (looks_at m.state hand) (holdings_at m.state hand) chunk ≡ true → (Moves m.state.slabs chunk.page × HasCopyOff m.state hand chunk) ⊎ (IsSwept m.state hand class × MustGo m.state chunk.page)
   reason is =

@@ -42,7 +42,7 @@ module _ (m : Moment) (l : IsLawful m) (hand : ℕ) (there : is_hand m.state han
         | inr stale ↦ stale
       ]
 
-  module _ (chunk : ChunkId) (near : has_chunk m.state.table chunk ≡ true) (linked : (head_at m.state chunk).tag ≡ Linked)
+  module _ (chunk : ChunkId) (in_range : has_chunk m.state.table chunk ≡ true) (linked : (head_at m.state chunk).tag ≡ Linked)
       (fit : 3 + word_at m.state chunk 2 ≤ room_in m.state.table (class_of_page m.state.slabs chunk.page)) (room : length (holdings_at m.state hand) < most_holdings) where
     abbrev old : Head
     old = head_at m.state chunk
@@ -59,11 +59,11 @@ module _ (m : Moment) (l : IsLawful m) (hand : ℕ) (there : is_hand m.state han
     turn : Turn m.state.table m.state.heads rows now chunk (head_after_refer old)
     turn = record {
       long = l.sized.headers;
-      near = near;
+      in_range = in_range;
       others = λ other isnt. more_other rows hand (hand_within m l hand there) chunk other holding refl isnt;
       sum = let more = more_here rows hand (hand_within m l hand there) chunk holding refl in omega arith;
       shut = λ shut. absurd (linked_open old.tag linked shut);
-      issued = l.counted.issued chunk near;
+      issued = l.counted.issued chunk in_range;
     }
 
     abbrev heads' : List Head
@@ -101,5 +101,5 @@ module _ (m : Moment) (l : IsLawful m) (hand : ℕ) (there : is_hand m.state han
       let linked = and_parts _ (is_linked (head_at m.state chunk).tag) same.0 in
       let room = and_parts (has_chunk m.state.table chunk) (has_place_unlocked m.state hand) linked.0 in
       let is = tag_linked (head_at m.state chunk).tag linked.1 in
-      let few = ltb-true (length (holdings_at m.state hand)) most_refs room.1 in
+      let within_limit = ltb-true (length (holdings_at m.state hand)) most_refs room.1 in
       referred_tallied chunk room.0 is (entry_linked m l chunk room.0 is).fits (omega arith)

@@ -81,71 +81,71 @@ rescued_more rows said hand more =
 module _ (m : Moment) (hand : ℕ) where
   -- what is left of rows and sayings
   abbrev Ends : State → List StoredItem → Type 0
-  Ends s more = AreRescued s.holdings (with_more m.past.said hand more)
+  Ends s more = AreRescued s.holdings (with_more m.past.stored hand more)
 
-  ends : (s : State) (more : List StoredItem) → AreRescued s.holdings m.past.said → Ends s more
-  ends s more is = rescued_more s.holdings m.past.said hand more is
+  ends : (s : State) (more : List StoredItem) → AreRescued s.holdings m.past.stored → Ends s more
+  ends s more is = rescued_more s.holdings m.past.stored hand more is
 
-  looked_rescued : (look : Look) → AreRescued m.state.holdings m.past.said → AreRescued (state_after_look m.state hand look).holdings m.past.said
-  looked_rescued look is = elim (has_slabs m.state hand) as (λ (b : Bool). AreRescued (if b then with_look m.state hand look else m.state).holdings m.past.said) [ true ↦ is | false ↦ is ]
+  looked_rescued : (look : Look) → AreRescued m.state.holdings m.past.stored → AreRescued (state_after_look m.state hand look).holdings m.past.stored
+  looked_rescued look is = elim (has_slabs m.state hand) as (λ (b : Bool). AreRescued (if b then with_look m.state hand look else m.state).holdings m.past.stored) [ true ↦ is | false ↦ is ]
 
-  module _ (is : AreRescued m.state.holdings m.past.said) where
-    one_less : (test : Holding → Bool) → AreRescued (rows_less m.state.holdings hand test) m.past.said
-    one_less test = each_less m.state.holdings hand (IsSaidRescue m.past.said) test is
+  module _ (is : AreRescued m.state.holdings m.past.stored) where
+    one_less : (test : Holding → Bool) → AreRescued (rows_less m.state.holdings hand test) m.past.stored
+    one_less test = each_less m.state.holdings hand (IsSaidRescue m.past.stored) test is
 
     -- a holding goes and one comes
-    one_other : (test : Holding → Bool) (holding : Holding) → IsRescue m.past.said holding.chunk holding.kind → AreRescued (rows_more (rows_less m.state.holdings hand test) hand holding) m.past.said
-    one_other test holding new = each_more (rows_less m.state.holdings hand test) hand (IsSaidRescue m.past.said) holding (one_less test) new
+    one_other : (test : Holding → Bool) (holding : Holding) → IsRescue m.past.stored holding.chunk holding.kind → AreRescued (rows_more (rows_less m.state.holdings hand test) hand holding) m.past.stored
+    one_other test holding new = each_more (rows_less m.state.holdings hand test) hand (IsSaidRescue m.past.stored) holding (one_less test) new
 
-    one_more : (holding : Holding) → IsRescue m.past.said holding.chunk holding.kind → AreRescued (rows_more m.state.holdings hand holding) m.past.said
-    one_more holding new = each_more m.state.holdings hand (IsSaidRescue m.past.said) holding is new
+    one_more : (holding : Holding) → IsRescue m.past.stored holding.chunk holding.kind → AreRescued (rows_more m.state.holdings hand holding) m.past.stored
+    one_more holding new = each_more m.state.holdings hand (IsSaidRescue m.past.stored) holding is new
 
-    popped_rescued : (class : ℕ) (next : Option ChunkId) → AreRescued (state_after_pop_of (with_slabs m.state (slabs_changes.after_pop m.state.slabs class)) hand next).holdings m.past.said
+    popped_rescued : (class : ℕ) (next : Option ChunkId) → AreRescued (state_after_pop_of (with_slabs m.state (slabs_changes.after_pop m.state.slabs class)) hand next).holdings m.past.stored
     popped_rescued class None = is
     popped_rescued class (Some chunk) = one_more _ tt
 
-    popped_off_rescued : (old : ChunkId) (next : Option ChunkId) → target_of m.state.table m.state.heads m.state.slabs old.page ≡ next → AreRescued (popped_off m.state hand old next).holdings m.past.said
+    popped_off_rescued : (old : ChunkId) (next : Option ChunkId) → target_of m.state.table m.state.heads m.state.slabs old.page ≡ next → AreRescued (popped_off m.state hand old next).holdings m.past.stored
     popped_off_rescued old None found = is
     popped_off_rescued old (Some chunk) found = one_more _ (target_off m.state old.page chunk found)
 
-    filled_rescued : (chunk : ChunkId) (place word : ℕ) → AreRescued (rows_changed m.state.holdings hand (is_of_chunk chunk) (holding_with_word place word)) m.past.said
-    filled_rescued chunk place word = each_changed (is_of_chunk chunk) (holding_with_word place word) m.state.holdings hand (IsSaidRescue m.past.said) (IsSaidRescue m.past.said) (λ h rescue. rescue) (λ h _ rescue. filled_rescue m.past.said place word h.chunk h.kind rescue) is
+    filled_rescued : (chunk : ChunkId) (place word : ℕ) → AreRescued (rows_changed m.state.holdings hand (is_of_chunk chunk) (holding_with_word place word)) m.past.stored
+    filled_rescued chunk place word = each_changed (is_of_chunk chunk) (holding_with_word place word) m.state.holdings hand (IsSaidRescue m.past.stored) (IsSaidRescue m.past.stored) (λ h rescue. rescue) (λ h _ rescue. filled_rescue m.past.stored place word h.chunk h.kind rescue) is
 
-    linked_kind : (chunk : ChunkId) (holding : Holding) (kind : Kind) → AreRescued (with_holding (with_head (recorded_link (without_holding m.state hand (is_of_chunk chunk)) hand holding kind) chunk (head_after_link (head_at m.state chunk))) hand (as_reference holding)).holdings m.past.said
+    linked_kind : (chunk : ChunkId) (holding : Holding) (kind : Kind) → AreRescued (with_holding (with_head (recorded_link (without_holding m.state hand (is_of_chunk chunk)) hand holding kind) chunk (head_after_link (head_at m.state chunk))) hand (as_reference holding)).holdings m.past.stored
     linked_kind chunk holding (Reference own) = one_other (is_of_chunk chunk) (as_reference holding) tt
     linked_kind chunk holding (Fresh Item own) = one_other (is_of_chunk chunk) (as_reference holding) tt
     linked_kind chunk holding (Fresh (Copy old) own) = one_other (is_of_chunk chunk) (as_reference holding) tt
     linked_kind chunk holding (Fresh (Rescue old item) own) = one_other (is_of_chunk chunk) (as_reference holding) tt
 
-    linked_rescued : (chunk : ChunkId) (found : Option Holding) → AreRescued (after_link_of (without_holding m.state hand (is_of_chunk chunk)) hand chunk found).holdings m.past.said
+    linked_rescued : (chunk : ChunkId) (found : Option Holding) → AreRescued (after_link_of (without_holding m.state hand (is_of_chunk chunk)) hand chunk found).holdings m.past.stored
     linked_rescued chunk None = one_less (is_of_chunk chunk)
     linked_rescued chunk (Some holding) = linked_kind chunk holding holding.kind
 
-    referred_rescued : (key : ℕ) (place : Option (ChunkId × ℕ)) → AreRescued (referred_to (with_got m.state hand key) hand place).holdings m.past.said
+    referred_rescued : (key : ℕ) (place : Option (ChunkId × ℕ)) → AreRescued (referred_to (with_got m.state hand key) hand place).holdings m.past.stored
     referred_rescued key None = is
     referred_rescued key (Some place) = one_more _ tt
 
-    unlinked_rescued : (s : State) (place : Option (ChunkId × ℕ)) → AreRescued s.holdings m.past.said → AreRescued (with_unlinked s place).holdings m.past.said
+    unlinked_rescued : (s : State) (place : Option (ChunkId × ℕ)) → AreRescued s.holdings m.past.stored → AreRescued (with_unlinked s place).holdings m.past.stored
     unlinked_rescued s None is = is
     unlinked_rescued s (Some place) is = is
 
   -- the item of a chunk that is condemned was said
-  condemned_rescued : (chunk : ChunkId) → MayStep m hand (Condemn chunk) → AreRescued (rows_changed m.state.holdings hand (is_copy_of chunk) (as_rescue chunk (item_at m.state chunk))) m.past.said
+  condemned_rescued : (chunk : ChunkId) → MayStep m hand (Condemn chunk) → AreRescued (rows_changed m.state.holdings hand (is_copy_of chunk) (as_rescue chunk (item_at m.state chunk))) m.past.stored
   condemned_rescued chunk may =
       let l = may.lawful in
       let is = condemnable m hand chunk may in
-      let whole = item_has m l chunk is.near is.linked (λ k. length k.words ≡ length_of_item k.words)
+      let whole = item_has m l chunk is.in_range is.linked (λ k. length k.words ≡ length_of_item k.words)
       (each_map (IsStill m l) (λ k. length k.words ≡ length_of_item k.words) m.past.known (λ k still. still.whole) l.known.still) in
-      let said = item_has m l chunk is.near is.linked (λ k. WasStored m.past.said (stamp_in_words k.words) k.words) l.known.said_by_some in
-      each_changed (is_copy_of chunk) (as_rescue chunk (item_at m.state chunk)) m.state.holdings hand (IsSaidRescue m.past.said) (IsSaidRescue m.past.said) (λ h rescue. rescue)
-      (λ h copy rescue. (whole, said, (copy_is m.past.said h.chunk chunk h.kind copy rescue).1)) l.rescued
+      let said = item_has m l chunk is.in_range is.linked (λ k. WasStored m.past.stored (stamp_in_words k.words) k.words) l.known.said_by_some in
+      each_changed (is_copy_of chunk) (as_rescue chunk (item_at m.state chunk)) m.state.holdings hand (IsSaidRescue m.past.stored) (IsSaidRescue m.past.stored) (λ h rescue. rescue)
+      (λ h copy rescue. (whole, said, (copy_is m.past.stored h.chunk chunk h.kind copy rescue).1)) l.rescued
 
-joined_rescued : (m : Moment) (hand kept spent : ℕ) → MayStep m hand (Join kept spent) → AreRescued m.state.holdings (joined_rows m.past.said kept spent)
+joined_rescued : (m : Moment) (hand kept spent : ℕ) → MayStep m hand (Join kept spent) → AreRescued m.state.holdings (joined_rows m.past.stored kept spent)
 joined_rescued m hand kept spent may =
     let join = are_joined m hand kept spent may in
-    let rows = may.lawful.rows.said in let within = hand_there m.state kept join.there in
-    each_map (IsSaidRescue m.past.said) (IsSaidRescue (joined_rows m.past.said kept spent)) m.state.holdings
-    (λ holding. rescue_still m.past.said (joined_rows m.past.said kept spent) (λ stamp words. said_joined m.past.said kept spent stamp words join.apart (omega arith)) holding.chunk holding.kind) may.lawful.rescued
+    let rows = may.lawful.rows.stored in let within = hand_there m.state kept join.there in
+    each_map (IsSaidRescue m.past.stored) (IsSaidRescue (joined_rows m.past.stored kept spent)) m.state.holdings
+    (λ holding. rescue_still m.past.stored (joined_rows m.past.stored kept spent) (λ stamp words. said_joined m.past.stored kept spent stamp words join.apart (omega arith)) holding.chunk holding.kind) may.lawful.rescued
 
 pub rescued_changes : ChangesKeep RescuedIn
 rescued_changes m hand (Grow class) may = may.lawful.rescued
@@ -189,4 +189,4 @@ rescued_steps m hand (Again chunk issue) may = ends m hand (after_step m.state h
 rescued_steps m hand (Join kept spent) may = joined_rescued m hand kept spent may
 
 pub rescued_first : HoldsAtFirst RescuedIn
-rescued_first table stripes hands start sound some one most _ = each_none (IsSaidRescue (first_moment table stripes hands start).past.said) hands
+rescued_first table stripes hands start sound some one most _ = each_none (IsSaidRescue (first_moment table stripes hands start).past.stored) hands

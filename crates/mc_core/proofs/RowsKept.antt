@@ -73,11 +73,11 @@ seen_kept ids rows count hand row each own other there = elim (cases_eq other ha
 rows_alone : (m : Moment) (hand : ℕ) (step : Step) → RowsIn m → SameHands m.state (after_step m.state hand step) →
     HaveRows (after_step m.state hand step).ids (length (after_step m.state hand step).stripes) (learned_alone m.state (after_step m.state hand step) m.past hand step)
 rows_alone m hand step l same = let long = same.long in record {
-  saw = length-set m.past.saw hand _ ∙ l.saw ∙ sym long;
+  seen_words = length-set m.past.seen_words hand _ ∙ l.seen_words ∙ sym long;
   holds = length-set m.past.holds hand _ ∙ l.holds ∙ sym long;
   mine = length-set m.past.mine hand _ ∙ l.mine ∙ sym long;
   seen = length-set m.past.seen hand _ ∙ l.seen ∙ sym long;
-  said = length-set m.past.said hand _ ∙ l.said ∙ sym long;
+  stored = length-set m.past.stored hand _ ∙ l.stored ∙ sym long;
   known = length-set m.past.known hand _ ∙ l.known ∙ sym long;
   histories = λ other there.
       let now = step_long m.state hand step in
@@ -101,11 +101,11 @@ rows_joined m hand kept spent may =
     let both = longer_each (row_of m.past.seen kept) (row_of m.past.seen spent) in
     let put = slice_set m.past.seen kept both in
     record {
-      saw = length-set m.past.saw spent _ ∙ l.saw ∙ sym long;
+      seen_words = length-set m.past.seen_words spent _ ∙ l.seen_words ∙ sym long;
       holds = length-set m.past.holds spent _ ∙ l.holds ∙ sym long;
       mine = length-set _ spent _ ∙ length-set m.past.mine kept _ ∙ l.mine ∙ sym long;
       seen = length-set _ spent _ ∙ length-set m.past.seen kept _ ∙ l.seen ∙ sym long;
-      said = length-set _ spent _ ∙ length-set m.past.said kept _ ∙ l.said ∙ sym long;
+      stored = length-set _ spent _ ∙ length-set m.past.stored kept _ ∙ l.stored ∙ sym long;
       known = length-set _ spent _ ∙ length-set m.past.known kept _ ∙ l.known ∙ sym long;
       histories = λ other there.
           let was = there_before m.state.ids spent other (number_in (slice_set m.state.ids spent no_ids) other) refl there in
@@ -125,11 +125,11 @@ pub rows_first : HoldsAtFirst RowsIn
 rows_first table stripes hands start sound _ _ _ _ =
     let named = length-map (range_with_len 0 hands) _ ∙ length-range_with_len 0 hands in
     record {
-      saw = length-replicate hands _ ∙ sym named;
+      seen_words = length-replicate hands _ ∙ sym named;
       holds = length-replicate hands _ ∙ sym named;
       mine = length-map (range_with_len 0 hands) _ ∙ length-range_with_len 0 hands ∙ sym named;
       seen = length-replicate hands _ ∙ sym named;
-      said = length-replicate hands _ ∙ sym named;
+      stored = length-replicate hands _ ∙ sym named;
       known = length-replicate hands _ ∙ sym named;
       histories = λ hand there. elim (cases_lt hand hands) [
         | inl within ↦ ap length (get_or-replicate hands hand (replicate stripes []) [] within) ∙ (length-replicate stripes [] ∙ sym (length-replicate stripes new_stripe))
@@ -142,11 +142,11 @@ rows_changes m hand change may =
     let l = may.lawful.rows in
     let own = own_change m.state hand change in
     record {
-      saw = l.saw ∙ sym own.long;
+      seen_words = l.seen_words ∙ sym own.long;
       holds = l.holds ∙ sym own.long;
       mine = length-set m.past.mine hand _ ∙ l.mine ∙ sym own.long;
       seen = l.seen ∙ sym own.long;
-      said = l.said ∙ sym own.long;
+      stored = l.stored ∙ sym own.long;
       known = l.known ∙ sym own.long;
       histories = λ other there. l.histories other (ap is_some (sym (own.numbers other)) ∙ there) ∙ sym (change_long m.state hand change);
     }

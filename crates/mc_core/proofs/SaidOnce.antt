@@ -55,8 +55,8 @@ said_one said stamp a b once (hand, s, has, is, words) (hand', s', has', is', wo
       | inl same ↦
           let one : Contains (row_of said hand) s' = subst (λ n. Contains (row_of said n) s') (sym same) has' in
           let most = total_at (stored_times stamp) said hand refl in
-          let few : stored_times stamp (row_of said hand) ≤ 1 = omega arith in
-          sym words ∙ (ap (λ (x : StoredItem). x.words) (row_once stamp (row_of said hand) s s' few has one is is') ∙ words')
+          let within_limit : stored_times stamp (row_of said hand) ≤ 1 = omega arith in
+          sym words ∙ (ap (λ (x : StoredItem). x.words) (row_once stamp (row_of said hand) s s' within_limit has one is is') ∙ words')
       | inr apart ↦ absurd (omega (arith, total_two (stored_times stamp) said hand hand' refl apart))
     ]
 
@@ -119,14 +119,14 @@ next_unsaid ids mine said known hand stamp are next =
 
 -- a new saying
 pub once_more : (said : List (List StoredItem)) (hand : ℕ) (s : StoredItem) (stamp : ℕ) → hand < length said → stored_count s.stamp said ≡ 0 → stored_count stamp said ≤ 1 → stored_count stamp (with_more said hand (s ∷ [])) ≤ 1
-once_more said hand s stamp within unsaid once =
+once_more said hand s stamp within stores_nothing once =
     let before = said_total stamp said in
     let now = said_total stamp (with_more said hand (s ∷ [])) in
     let more = total_more (λ (x : StoredItem). truth (x.stamp == stamp)) said hand (s ∷ []) within in
     let one = times-cons stamp s [] in
     elim (cases_eq s.stamp stamp) [
       | inl same ↦
-          let none : stored_count stamp said ≡ 0 = subst (λ n. stored_count n said ≡ 0) same unsaid in
+          let none : stored_count stamp said ≡ 0 = subst (λ n. stored_count n said ≡ 0) same stores_nothing in
           let here = here_counts stamp s same in omega arith
       | inr apart ↦ let other : truth (s.stamp == stamp) ≡ 0 = ap truth (ne_eqb s.stamp stamp apart) in omega arith
     ]

@@ -78,18 +78,18 @@ module _ (table : Classes) (slabs : SlabState) (heads : List Head) (words : List
   pub adds_stripe : (stripe word : ℕ) → AddsLook table slabs slabs heads heads words known looks (SawStripe stripe word)
   adds_stripe stripe word = record {
     told = refl;
-    headers = λ chunk before seen near was last. was seen last;
-    linked = λ chunk before issue near was last. was issue last;
-    reads = λ chunk place before issue w near same was last. let read = was w last in (read.same, read.within, issue_stays chunk place w issue same read);
+    headers = λ chunk before seen in_range was last. was seen last;
+    linked = λ chunk before issue in_range was last. was issue last;
+    reads = λ chunk place before issue w in_range same was last. let read = was w last in (read.same, read.within, issue_stays chunk place w issue same read);
   }
 
   pub adds_read : (chunk : ChunkId) (at : ℕ) → was_linked looks chunk ≡ true → at < room_in table (class_of_page slabs chunk.page) →
       AddsLook table slabs slabs heads heads words known looks (Read chunk at (slice_index words (place_in table slabs chunk at)))
   adds_read chunk at linked within = record {
     told = refl;
-    headers = λ other before seen near was last. was seen last;
-    linked = λ other before issue near was last. was issue last;
-    reads = λ other place before issue w near same was last.
+    headers = λ other before seen in_range was last. was seen last;
+    linked = λ other before issue in_range was last. was issue last;
+    reads = λ other place before issue w in_range same was last.
         elim (cases_Bool (is_chunk chunk other && at == place)) [
           | inl here ↦
               let parts = and_parts (is_chunk chunk other) (at == place) here in
@@ -110,14 +110,14 @@ module _ (table : Classes) (slabs : SlabState) (heads : List Head) (words : List
   pub adds_saw : (chunk : ChunkId) → AreLinkedKnown table heads known → AddsLook table slabs slabs heads heads words known looks (Saw chunk (head_in table heads chunk))
   adds_saw chunk all_known = record {
     told = refl;
-    headers = λ other before seen near was last.
+    headers = λ other before seen in_range was last.
         elim (cases_Bool (is_chunk chunk other)) [
           | inl same ↦
               let is = newer_here other chunk (head_in table heads chunk) seen before same last in
               subst (λ h. IsStill (head_in table heads other) h) is (subst (λ c. IsStill (head_in table heads other) (head_in table heads c)) (sym (same_from_is_chunk chunk other same)) (still_now (head_in table heads other)))
           | inr apart ↦ was seen (newer_there other chunk (head_in table heads chunk) seen before apart last)
         ];
-    linked = λ other before issue near was last.
+    linked = λ other before issue in_range was last.
         elim (cases_Bool (is_chunk chunk other && is_linked (head_in table heads chunk).tag)) [
           | inl here ↦
               let parts = and_parts (is_chunk chunk other) (is_linked (head_in table heads chunk).tag) here in
@@ -126,10 +126,10 @@ module _ (table : Classes) (slabs : SlabState) (heads : List Head) (words : List
               let at : (head_in table heads chunk).issue ≡ issue = (cc) in
               let there : (head_in table heads other).issue ≡ issue = subst (λ c. (head_in table heads c).issue ≡ issue) other_is at in
               let tag : (head_in table heads other).tag ≡ Linked = subst (λ c. (head_in table heads c).tag ≡ Linked) other_is (linked_tag (head_in table heads chunk).tag parts.1) in
-              ((inr tag, there), subst (λ i. IsKnownToSome known (λ k. (k.chunk ≡ other) × (k.issue ≡ i))) there (all_known other near tag))
+              ((inr tag, there), subst (λ i. IsKnownToSome known (λ k. (k.chunk ≡ other) × (k.issue ≡ i))) there (all_known other in_range tag))
           | inr there ↦ was issue (subst (λ b. cond b (Some (head_in table heads chunk).issue) before ≡ Some issue) there last)
         ];
-    reads = λ other place before issue w near same was last.
+    reads = λ other place before issue w in_range same was last.
         let read = was w last in
         (read.same, read.within, kept (is_chunk chunk other && is_linked (head_in table heads chunk).tag) (head_in table heads chunk).issue issue (issue_stays other place w issue same read));
   }
@@ -144,17 +144,17 @@ module _ (table : Classes) (slabs : SlabState) (heads : List Head) (words : List
       AddsLook table slabs (slabs_after slabs change) heads heads words known looks (Changed change)
   adds_changed change found seen stays = record {
     told = refl;
-    headers = λ chunk before seen near was last. was seen last;
-    linked = λ chunk before issue near was last. was issue last;
-    reads = λ chunk place before issue w near same was last.
+    headers = λ chunk before seen in_range was last. was seen last;
+    linked = λ chunk before issue in_range was last. was issue last;
+    reads = λ chunk place before issue w in_range same was last.
         let read = was w last in
         let some = some_is (fold (linked_issue chunk) None looks) read.linked in
-        let moved = read_moved table slabs (slabs_after slabs change) words looks chunk place w (stays chunk some.0 near (seen.linked chunk some.0 near some.1).0) read in
+        let moved = read_moved table slabs (slabs_after slabs change) words looks chunk place w (stays chunk some.0 in_range (seen.linked chunk some.0 in_range some.1).0) read in
         (moved.0, moved.1, issue_stays chunk place w issue same read);
   }
 
   -- a header is written, and the look says so
-  module _ (next : SlabState) (chunk : ChunkId) (head : Head) (look : Look) (sized : length heads ≡ arena_pages_of table * most_of table) (near : has_chunk table chunk ≡ true)
+  module _ (next : SlabState) (chunk : ChunkId) (head : Head) (look : Look) (sized : length heads ≡ arena_pages_of table * most_of table) (in_range : has_chunk table chunk ≡ true)
       (classes : (page : ℕ) → class_of_page next page ≡ class_of_page slabs page) (told : slabs_after_look slabs look ≡ next)
       (headed : (other : ChunkId) (before : Option Head) → last_head other before look ≡ newer other chunk head before) where
     abbrev heads' : List Head
@@ -164,7 +164,7 @@ module _ (table : Classes) (slabs : SlabState) (heads : List Head) (words : List
         last_head other before look ≡ Some seen → IsStill (head_in table heads' other) seen
     header_still other before seen near' was last =
         let last' = sym (headed other before) ∙ last in
-        head_now table heads chunk head sized near (λ h. IsStill h seen) other near'
+        head_now table heads chunk head sized in_range (λ h. IsStill h seen) other near'
         (λ same. subst (λ h. IsStill head h) (newer_here other chunk head seen before (subst (λ c. is_chunk chunk c ≡ true) same (is_chunk-same chunk)) last') (still_now head))
         (λ apart. was seen (newer_there other chunk head seen before apart last'))
 
@@ -176,7 +176,7 @@ module _ (table : Classes) (slabs : SlabState) (heads : List Head) (words : List
       headers = header_still;
       linked = λ other before issue near' was last.
           let both = was issue (sym (same_link other before) ∙ last) in
-          (head_now table heads chunk head sized near (λ h. IsHandedOut h issue) other near' (λ same. out issue (subst (λ c. IsHandedOut (head_in table heads c) issue) (sym same) both.0)) (λ _. both.0), both.1);
+          (head_now table heads chunk head sized in_range (λ h. IsHandedOut h issue) other near' (λ same. out issue (subst (λ c. IsHandedOut (head_in table heads c) issue) (sym same) both.0)) (λ _. both.0), both.1);
       reads = λ other place before issue w near' same was last.
           let read = was w (sym (same_read other place before) ∙ last) in
           let moved = read_moved table slabs next words looks other place w (classes other.page) read in
@@ -191,7 +191,7 @@ module _ (table : Classes) (slabs : SlabState) (heads : List Head) (words : List
       headers = header_still;
       linked = λ other before issue near' was last.
           let last' = sym (ended_link other before) ∙ last in (
-            head_now table heads chunk head sized near (λ h. IsHandedOut h issue) other near'
+            head_now table heads chunk head sized in_range (λ h. IsHandedOut h issue) other near'
                 (λ same. none_some issue (IsHandedOut head issue) (subst (λ b. cond b None before ≡ Some issue) (subst (λ c. is_chunk chunk c ≡ true) same (is_chunk-same chunk)) last'))
                 (λ apart. (was issue (subst (λ b. cond b None before ≡ Some issue) apart last')).0),
             elim (cases_Bool (is_chunk chunk other)) [

@@ -95,19 +95,19 @@ module _ (m : Moment) (l : IsLawful m) where
   -- neither headers nor words change
   pub leaves_same : (hand : ℕ) (more : List KnownItem) → LeavesSeen table m.state.slabs m.state.heads m.state.heads m.state.words m.state.words known (with_more known hand more)
   leaves_same hand more = record {
-    headers = λ chunk near. put_same (head_in table m.state.heads chunk);
+    headers = λ chunk in_range. put_same (head_in table m.state.heads chunk);
     items = λ chunk issue. known_more known hand more (λ k. (k.chunk ≡ chunk) × (k.issue ≡ issue));
-    data_words = λ chunk place issue near is within. refl;
+    data_words = λ chunk place issue in_range is within. refl;
   }
 
   -- one header changes
   pub leaves_turned : (hand : ℕ) (more : List KnownItem) (chunk : ChunkId) (head : Head) → has_chunk table chunk ≡ true → StaysPut (head_in table m.state.heads chunk) head →
       LeavesSeen table m.state.slabs m.state.heads (slice_set m.state.heads (head_place table chunk) head) m.state.words m.state.words known (with_more known hand more)
-  leaves_turned hand more chunk head near put = record {
-    headers = λ other near'. head_now table m.state.heads chunk head l.sized.headers near (λ h. StaysPut (head_in table m.state.heads other) h) other near'
+  leaves_turned hand more chunk head in_range put = record {
+    headers = λ other near'. head_now table m.state.heads chunk head l.sized.headers in_range (λ h. StaysPut (head_in table m.state.heads other) h) other near'
         (λ same. subst (λ c. StaysPut (head_in table m.state.heads c) head) same put) (λ _. put_same (head_in table m.state.heads other));
     items = λ chunk issue. known_more known hand more (λ k. (k.chunk ≡ chunk) × (k.issue ≡ issue));
-    data_words = λ chunk place issue near is within. refl;
+    data_words = λ chunk place issue in_range is within. refl;
   }
 
   -- the holder looks once more

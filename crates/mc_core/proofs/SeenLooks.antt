@@ -61,14 +61,14 @@ pub record LeavesSeen (table : Classes) (slabs : SlabState) (heads heads' : List
 pub seen_left : (table : Classes) (slabs found : SlabState) (heads heads' : List Head) (words words' : List ℕ) (known known' : List (List KnownItem)) (looks : List Look) →
     LeavesSeen table slabs heads heads' words words' known known' → AreSeen table slabs heads words known found looks → AreSeen table slabs heads' words' known' found looks
 seen_left table slabs found heads heads' words words' known known' looks leaves seen = record {
-  last_heads = λ chunk head near last. still_put (head_in table heads chunk) (head_in table heads' chunk) head (leaves.headers chunk near) (seen.last_heads chunk head near last);
-  linked = λ chunk issue near last.
-      let both = seen.linked chunk issue near last in
-      ((leaves.headers chunk near).out issue both.0, leaves.items chunk issue both.1);
-  read_words = λ chunk place word near last.
-      let read = seen.read_words chunk place word near last in
+  last_heads = λ chunk head in_range last. still_put (head_in table heads chunk) (head_in table heads' chunk) head (leaves.headers chunk in_range) (seen.last_heads chunk head in_range last);
+  linked = λ chunk issue in_range last.
+      let both = seen.linked chunk issue in_range last in
+      ((leaves.headers chunk in_range).out issue both.0, leaves.items chunk issue both.1);
+  read_words = λ chunk place word in_range last.
+      let read = seen.read_words chunk place word in_range last in
       let (issue, is) = some_is (fold (linked_issue chunk) None looks) read.linked in
-      record { same = leaves.data_words chunk place issue near (seen.linked chunk issue near is) read.within ∙ read.same; within = read.within; linked = read.linked };
+      record { same = leaves.data_words chunk place issue in_range (seen.linked chunk issue in_range is) read.within ∙ read.same; within = read.within; linked = read.linked };
   told = seen.told;
 }
 
@@ -87,12 +87,12 @@ pub record AddsLook (table : Classes) (slabs slabs' : SlabState) (heads heads' :
 pub seen_added : (table : Classes) (slabs slabs' found : SlabState) (heads heads' : List Head) (words : List ℕ) (known : List (List KnownItem)) (looks : List Look) (look : Look) →
     AddsLook table slabs slabs' heads heads' words known looks look → AreSeen table slabs heads words known found looks → AreSeen table slabs' heads' words known found (looks ++ look ∷ [])
 seen_added table slabs slabs' found heads heads' words known looks look adds seen = record {
-  last_heads = λ chunk head near last.
-      adds.headers chunk (fold (last_head chunk) None looks) head near (λ h before. seen.last_heads chunk h near before) (sym (fold_push (last_head chunk) None looks look) ∙ last);
-  linked = λ chunk issue near last.
-      adds.linked chunk (fold (linked_issue chunk) None looks) issue near (λ i before. seen.linked chunk i near before) (sym (fold_push (linked_issue chunk) None looks look) ∙ last);
-  read_words = λ chunk place word near last.
-      let read = adds.reads chunk place (fold (last_read chunk place) None looks) (fold (linked_issue chunk) None looks) word near refl (λ w before. seen.read_words chunk place w near before)
+  last_heads = λ chunk head in_range last.
+      adds.headers chunk (fold (last_head chunk) None looks) head in_range (λ h before. seen.last_heads chunk h in_range before) (sym (fold_push (last_head chunk) None looks look) ∙ last);
+  linked = λ chunk issue in_range last.
+      adds.linked chunk (fold (linked_issue chunk) None looks) issue in_range (λ i before. seen.linked chunk i in_range before) (sym (fold_push (linked_issue chunk) None looks look) ∙ last);
+  read_words = λ chunk place word in_range last.
+      let read = adds.reads chunk place (fold (last_read chunk place) None looks) (fold (linked_issue chunk) None looks) word in_range refl (λ w before. seen.read_words chunk place w in_range before)
       (sym (fold_push (last_read chunk place) None looks look) ∙ last) in
       record { same = read.0; within = read.1; linked = ap is_some (fold_push (linked_issue chunk) None looks look) ∙ read.2 };
   told = fold_push slabs_after_look found looks look ∙ (ap (λ s. slabs_after_look s look) seen.told ∙ adds.told);

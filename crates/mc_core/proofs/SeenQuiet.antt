@@ -62,8 +62,8 @@ module _ (m : Moment) (hand : ℕ) (l : IsLawful m) where
 
   -- one header changes
   turned : (more : List KnownItem) (chunk : ChunkId) (head : Head) → has_chunk m.state.table chunk ≡ true → StaysPut (head_at m.state chunk) head → (h : ℕ) → has_slabs m.state h ≡ true → SeenBy more (with_head m.state chunk head) h
-  turned more chunk head near put h has =
-      seen_quiet m l hand more (slice_set m.state.heads (head_place m.state.table chunk) head) m.state.words (leaves_turned m l hand more chunk head near put) h has
+  turned more chunk head in_range put h has =
+      seen_quiet m l hand more (slice_set m.state.heads (head_place m.state.table chunk) head) m.state.words (leaves_turned m l hand more chunk head in_range put) h has
 
   module _ (chunk : ChunkId) (place word : ℕ) (holding : Holding) (found : holding_of chunk (holdings_at m.state hand) ≡ Some holding) (can : can_fill_in place (Some holding) ≡ true) where
     abbrev words' : List ℕ
@@ -77,12 +77,12 @@ module _ (m : Moment) (hand : ℕ) (l : IsLawful m) where
 
     pub leaves_filled : LeavesSeen m.state.table m.state.slabs m.state.heads m.state.heads m.state.words words' m.past.known (with_more m.past.known hand [])
     leaves_filled = record {
-      headers = λ other near. put_same (head_in m.state.table m.state.heads other);
+      headers = λ other in_range. put_same (head_in m.state.table m.state.heads other);
       items = λ other issue. known_more m.past.known hand [] (λ k. (k.chunk ≡ other) × (k.issue ≡ issue));
-      data_words = λ other at issue near is within.
+      data_words = λ other at issue in_range is within.
           get_or-set_other m.state.words (place_in m.state.table m.state.slabs chunk place) (place_in m.state.table m.state.slabs other at) word 0
           (λ same. not_filled other issue is
-          (same_word m l other chunk at place (placed_at m l other issue near is.0).0 (fill_placed m l hand chunk place holding found can) within (fill_on m l hand chunk place holding found can) same).0);
+          (same_word m l other chunk at place (placed_at m l other issue in_range is.0).0 (fill_placed m l hand chunk place holding found can) within (fill_on m l hand chunk place holding found can) same).0);
     }
 
 module _ (m : Moment) (hand : ℕ) where
@@ -127,7 +127,7 @@ module _ (m : Moment) (hand : ℕ) where
 
   -- a linked chunk gets a holder more
   seen_referred : (l : IsLawful m) (chunk : ChunkId) (more : List KnownItem) → has_chunk m.state.table chunk ≡ true → (head_at m.state chunk).tag ≡ Linked → (h : ℕ) → has_slabs m.state h ≡ true → SeenBy m hand l more (with_reference m.state hand chunk) h
-  seen_referred l chunk more near head_after_link h has = turned m hand l more chunk (head_after_refer (head_at m.state chunk)) near (put_referred (head_at m.state chunk) head_after_link) h has
+  seen_referred l chunk more in_range head_after_link h has = turned m hand l more chunk (head_after_refer (head_at m.state chunk)) in_range (put_referred (head_at m.state chunk) head_after_link) h has
 
   pub seen_refer : (key : ℕ) → MayStep m hand (Refer key) → SeenIn (moment_stepped m hand (Refer key))
   seen_refer key may h has =
@@ -145,8 +145,8 @@ module _ (m : Moment) (hand : ℕ) where
       let parts = and_parts _ (can_count (head_at m.state chunk)) may.allowed in
       let right = and_parts _ ((head_at m.state chunk).issue == issue) parts.0 in
       let tag = and_parts _ (is_linked (head_at m.state chunk).tag) right.0 in
-      let near = (and_parts (has_chunk m.state.table chunk) (has_place_unlocked m.state hand) tag.0).0 in
-      seen_referred may.lawful chunk _ near (linked_tag (head_at m.state chunk).tag tag.1) h has
+      let in_range = (and_parts (has_chunk m.state.table chunk) (has_place_unlocked m.state hand) tag.0).0 in
+      seen_referred may.lawful chunk _ in_range (linked_tag (head_at m.state chunk).tag tag.1) h has
 
   -- a fresh chunk is linked
   seen_linked : (l : IsLawful m) (chunk : ChunkId) (holding : Holding) → holding_of chunk (holdings_at m.state hand) ≡ Some holding → is_unlinked (head_at m.state chunk).tag ≡ true → (more : List KnownItem) (h : ℕ) → has_slabs m.state h ≡ true →

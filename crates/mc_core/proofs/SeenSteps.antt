@@ -54,9 +54,9 @@ never x P e = absurd (cc)
 -- nothing was seen yet
 nothing_seen : (m : Moment) → AreSeen m.state.table m.state.slabs m.state.heads m.state.words m.past.known m.state.slabs []
 nothing_seen m = record {
-  last_heads = λ chunk seen near last. never seen _ last;
-  linked = λ chunk issue near last. never issue _ last;
-  read_words = λ chunk place word near last. never word _ last;
+  last_heads = λ chunk seen in_range last. never seen _ last;
+  linked = λ chunk issue in_range last. never issue _ last;
+  read_words = λ chunk place word in_range last. never word _ last;
   told = refl;
 }
 
@@ -78,7 +78,7 @@ module _ (m : Moment) (hand : ℕ) where
       let found : (slice_index_or holds' hand no_hold).found ≡ m.state.slabs =
       ap (λ (x : Hold). x.found) (get_or-set_same m.past.holds hand begun no_hold (omega arith)) in
       let looks : row_of (slice_set m.state.looks hand []) hand ≡ [] = row_same m.state.looks hand [] (omega arith) in
-      let seen = nothing_learned (λ _ known. AreSeen m.state.table m.state.slabs m.state.heads m.state.words known m.state.slabs []) m.past.said m.past.known hand (nothing_seen m) in
+      let seen = nothing_learned (λ _ known. AreSeen m.state.table m.state.slabs m.state.heads m.state.words known m.state.slabs []) m.past.stored m.past.known hand (nothing_seen m) in
       subst (λ n. AreSeen m.state.table m.state.slabs m.state.heads m.state.words (with_more m.past.known hand []) (slice_index_or holds' n no_hold).found (row_of (slice_set m.state.looks hand []) n)) same
       (subst (λ f. AreSeen m.state.table m.state.slabs m.state.heads m.state.words (with_more m.past.known hand []) f (row_of (slice_set m.state.looks hand []) hand)) (sym found)
       (subst (λ looks. AreSeen m.state.table m.state.slabs m.state.heads m.state.words (with_more m.past.known hand []) m.state.slabs looks) (sym looks) seen))
@@ -113,9 +113,9 @@ module _ (m : Moment) (hand : ℕ) where
         let looks : looks_at m.state h ≡ row_of (slice_set m.state.looks spent []) h = sym (row_other m.state.looks spent h [] both.0) in
         let seen = seen_left m.state.table m.state.slabs (slice_index_or m.past.holds h no_hold).found m.state.heads m.state.heads m.state.words m.state.words m.past.known known' (looks_at m.state h)
         (record {
-          headers = λ chunk near. put_same _;
+          headers = λ chunk in_range. put_same _;
           items = λ chunk issue. known_still m hand kept spent may (λ k. (k.chunk ≡ chunk) × (k.issue ≡ issue));
-          data_words = λ chunk place issue near is within. refl;
+          data_words = λ chunk place issue in_range is within. refl;
         }) (may.lawful.seen h both.1) in
         subst (λ looks. AreSeen m.state.table m.state.slabs m.state.heads m.state.words known' (slice_index_or holds' h no_hold).found looks) looks
         (subst (λ f. AreSeen m.state.table m.state.slabs m.state.heads m.state.words known' f (looks_at m.state h)) found seen)

@@ -139,8 +139,8 @@ module _ (m : Moment) (hand : ℕ) where
       ((other : ChunkId) (before : Option Head) → last_head other before seen ≡ newer other chunk (head_after_hand_out (head_at m.state chunk)) before) →
       ((other : ChunkId) (before : Option ℕ) → linked_issue other before seen ≡ before) → ((other : ChunkId) (place : ℕ) (before : Option ℕ) → last_read other place before seen ≡ before) →
       AddsLook m.state.table m.state.slabs next m.state.heads (slice_set m.state.heads (head_place m.state.table chunk) (head_after_hand_out (head_at m.state chunk))) m.state.words m.past.known (looks_at m.state hand) seen
-  adds_handed_out l next chunk seen near free same told headed link read =
-      adds_turned m.state.table m.state.slabs m.state.heads m.state.words m.past.known (looks_at m.state hand) next chunk (head_after_hand_out (head_at m.state chunk)) seen l.sized.headers near same told headed link read
+  adds_handed_out l next chunk seen in_range free same told headed link read =
+      adds_turned m.state.table m.state.slabs m.state.heads m.state.words m.past.known (looks_at m.state hand) next chunk (head_after_hand_out (head_at m.state chunk)) seen l.sized.headers in_range same told headed link read
       (λ issue out. not_shown (head_at m.state chunk) issue (IsHandedOut (head_after_hand_out (head_at m.state chunk)) issue) (inl (free_tag (head_at m.state chunk).tag free)) out)
 
   pub seen_pop : (class : ℕ) → MayStep m hand (Pop class) → SeenIn (moment_stepped m hand (Pop class))
@@ -190,5 +190,5 @@ module _ (m : Moment) (hand : ℕ) where
       let is = condemnable m hand chunk may in
       let head = head_after_condemn (head_at m.state chunk) in
       turns m hand l may.there is.slabs m.state.slabs chunk head (look.Condemned chunk head)
-      (adds_turned m.state.table m.state.slabs m.state.heads m.state.words m.past.known (looks_at m.state hand) m.state.slabs chunk head (look.Condemned chunk head) l.sized.headers is.near (λ page. refl) refl
+      (adds_turned m.state.table m.state.slabs m.state.heads m.state.words m.past.known (looks_at m.state hand) m.state.slabs chunk head (look.Condemned chunk head) l.sized.headers is.in_range (λ page. refl) refl
       (λ other before. refl) (λ other before. refl) (λ other place before. refl) (λ issue out. (inl refl, out.1))) h before

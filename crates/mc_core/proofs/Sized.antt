@@ -107,7 +107,7 @@ sized_steps moment hand step may =
     }
 
 pub sized_first : HoldsAtFirst SizedIn
-sized_first table stripes hands start sound some someone few _ = record {
+sized_first table stripes hands start sound some someone within_limit _ = record {
   sound = sound;
   headers = length-replicate {A = Head} (arena_pages_of table * most_of table) (uncut_from start);
   places = length-replicate {A = ℕ} (arena_pages_of table * page_words table) 0;

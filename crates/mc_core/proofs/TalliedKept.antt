@@ -133,16 +133,16 @@ none_each : (P : Holding → Type 0) (hands : ℕ) → Each P (replicate hands [
 none_each P hands = All-replicate (All P) hands [] (All-nil P)
 
 pub counted_first : HoldsAtFirst CountedIn
-counted_first table stripes hands start sound some_stripe some_hand few small =
+counted_first table stripes hands start sound some_stripe some_hand within_limit small =
     let at = λ (chunk : ChunkId). first_heads (arena_pages_of table * most_of table) (head_place table chunk) start small in
     record {
-      counted = λ chunk near. let none = none_held chunk hands in (at chunk).none ∙ omega (arith, none, ap link_count (at chunk).out);
-      shut = λ chunk near shut. (at chunk).none;
-      issued = λ chunk near. (at chunk).fits;
+      counted = λ chunk in_range. let none = none_held chunk hands in (at chunk).none ∙ omega (arith, none, ap link_count (at chunk).out);
+      shut = λ chunk in_range shut. (at chunk).none;
+      issued = λ chunk in_range. (at chunk).fits;
     }
 
 pub held_first : HoldsAtFirst HeldIn
-held_first table stripes hands start sound some_stripe some_hand few _ =
+held_first table stripes hands start sound some_stripe some_hand within_limit _ =
     let heads = replicate (arena_pages_of table * most_of table) (uncut_from start) in
     let words = (new_state table stripes hands start).words in
     held_from_so table (fresh_slabs table) heads words (replicate hands []) (none_each (IsSo table (fresh_slabs table) heads words (replicate hands [])) hands)

@@ -42,8 +42,8 @@ number_is state hand None is there = absurd (cc)
 number_is state hand (Some number) is there = is ∙ ap Some (sym (ap (λ (o : Option ℕ). unwrap_or o 0) is))
 
 -- what the histories say after one telling
-told_next : (m : Moment) (hand : ℕ) (after : State) (more : List StoredItem) (seen' : List (List (List Call))) (said' : List (List StoredItem)) → RecordedIn m → AreNumbered m.state.ids m.past.mine m.past.said m.past.known → length m.past.mine ≡ length m.state.ids
-    → is_hand m.state hand ≡ true → MayTell m.state after.stripes hand more → All (IsBegun after.stripes) seen' → ((stamp : ℕ) → stored_count stamp said' ≡ stored_count stamp m.past.said + stored_times stamp more)
+told_next : (m : Moment) (hand : ℕ) (after : State) (more : List StoredItem) (seen' : List (List (List Call))) (said' : List (List StoredItem)) → RecordedIn m → AreNumbered m.state.ids m.past.mine m.past.stored m.past.known → length m.past.mine ≡ length m.state.ids
+    → is_hand m.state hand ≡ true → MayTell m.state after.stripes hand more → All (IsBegun after.stripes) seen' → ((stamp : ℕ) → stored_count stamp said' ≡ stored_count stamp m.past.stored + stored_times stamp more)
     → Each (IsStored after.stripes) said' → AreRecorded after.stripes (with_calls m.state after m.past hand).mine seen' said'
 told_next m hand after more seen' said' l numbered rows there told begun counts stored =
     let writer = writer_of m.state hand in
@@ -54,9 +54,9 @@ told_next m hand after more seen' said' l numbered rows there told begun counts 
     let within = hand_within m.state.ids hand there in
     record {
       own_calls = subst (λ (n : Option ℕ). Each (IsOwnIn after.stripes) (slice_set m.past.mine hand (map (own_after m.state after n) (row_of m.past.mine hand)))) (sym number)
-          (own_calls_grown m.state after hand writer m.state.ids m.past.mine m.past.said m.past.known numbered number g (omega (arith, within, rows)) l.own_calls);
+          (own_calls_grown m.state after hand writer m.state.ids m.past.mine m.past.stored m.past.known numbered number g (omega (arith, within, rows)) l.own_calls);
       begun = begun;
-      writers = writers_grown writer m.state.stripes after.stripes g m.past.mine mine' same (one_owner m.state after hand writer m.state.ids m.past.mine m.past.said m.past.known numbered number g) l.writers;
+      writers = writers_grown writer m.state.stripes after.stripes g m.past.mine mine' same (one_owner m.state after hand writer m.state.ids m.past.mine m.past.stored m.past.known numbered number g) l.writers;
       sets = sets_grown writer m.state.stripes after.stripes g l.sets;
       stored_once = λ stamp. set_count_told m.state after.stripes hand more stamp told ∙ ap (λ n. n + stored_times stamp more) (l.stored_once stamp) ∙ sym (counts stamp);
       stored = stored;
@@ -68,10 +68,10 @@ told_changes m hand change may =
     let told = told_by_change m.state hand may.lawful.legal change may.allowed in
     let g = grown_told m.state after.stripes hand [] told in
     let l = may.lawful.told in
-    told_next m hand after [] m.past.seen m.past.said l may.lawful.numbered may.lawful.rows.mine may.there told
+    told_next m hand after [] m.past.seen m.past.stored l may.lawful.numbered may.lawful.rows.mine may.there told
     (All-weaker (IsBegun m.state.stripes) (IsBegun after.stripes) (begun_grown (writer_of m.state hand) m.state.stripes after.stripes g) m.past.seen l.begun)
-    (λ stamp. sym (add-zero (stored_count stamp m.past.said)))
-    (each_map (IsStored m.state.stripes) (IsStored after.stripes) m.past.said (stored_grown (writer_of m.state hand) m.state.stripes after.stripes g) l.stored)
+    (λ stamp. sym (add-zero (stored_count stamp m.past.stored)))
+    (each_map (IsStored m.state.stripes) (IsStored after.stripes) m.past.stored (stored_grown (writer_of m.state hand) m.state.stripes after.stripes g) l.stored)
 
 -- a step by which the hand alone learns
 alone : (m : Moment) (hand : ℕ) (next : Step) → is_join next ≡ false → MayStep m hand next → IsBegun (after_step m.state hand next).stripes (seen_after m.state next (slice_index_or m.past.seen hand []))
@@ -84,16 +84,16 @@ alone m hand next is_alone may begun stored =
     let writer = writer_of m.state hand in
     let l = may.lawful.told in
     let within = hand_within m.state.ids hand may.there in
-    let said_within : hand < length m.past.said = omega (arith, within, may.lawful.rows.said) in
+    let said_within : hand < length m.past.stored = omega (arith, within, may.lawful.rows.stored) in
     let seen' = slice_set m.past.seen hand (seen_after m.state next (slice_index_or m.past.seen hand [])) in
-    let said' = with_more m.past.said hand more in
-    subst (λ (p : Past). AreRecorded after.stripes p.mine p.seen p.said) (sym (learned_is m.state after m.past hand next is_alone))
+    let said' = with_more m.past.stored hand more in
+    subst (λ (p : Past). AreRecorded after.stripes p.mine p.seen p.stored) (sym (learned_is m.state after m.past hand next is_alone))
     (told_next m hand after more seen' said' l may.lawful.numbered may.lawful.rows.mine may.there told
     (All-set (IsBegun after.stripes) m.past.seen hand (seen_after m.state next (slice_index_or m.past.seen hand [])) begun
     (All-weaker (IsBegun m.state.stripes) (IsBegun after.stripes) (begun_grown writer m.state.stripes after.stripes g) m.past.seen l.begun))
-    (λ stamp. said_total stamp said' ∙ total_more (λ (s : StoredItem). truth (s.stamp == stamp)) m.past.said hand more said_within ∙ ap (λ n. n + stored_times stamp more) (sym (said_total stamp m.past.said)))
-    (each_more (IsStored after.stripes) m.past.said hand more
-    (each_map (IsStored m.state.stripes) (IsStored after.stripes) m.past.said (stored_grown writer m.state.stripes after.stripes g) l.stored) stored))
+    (λ stamp. said_total stamp said' ∙ total_more (λ (s : StoredItem). truth (s.stamp == stamp)) m.past.stored hand more said_within ∙ ap (λ n. n + stored_times stamp more) (sym (said_total stamp m.past.stored)))
+    (each_more (IsStored after.stripes) m.past.stored hand more
+    (each_map (IsStored m.state.stripes) (IsStored after.stripes) m.past.stored (stored_grown writer m.state.stripes after.stripes g) l.stored) stored))
 
 begun_nothing : (stripes : List ReadyStripe) → IsBegun stripes []
 begun_nothing stripes stripe calls value at is = absurd (cc)
@@ -113,13 +113,13 @@ begun_seen state row at begun stripe calls value is there = elim (get_set row at
 ]
 
 quiet : (m : Moment) (hand : ℕ) (next : Step) → is_join next ≡ false → seen_after m.state next (slice_index_or m.past.seen hand []) ≡ slice_index_or m.past.seen hand [] → items_stored_by_step m.state hand next ≡ [] → MayStep m hand next → RecordedIn (moment_stepped m hand next)
-quiet m hand next is_alone same unsaid may =
+quiet m hand next is_alone same stores_nothing may =
     let after = after_step m.state hand next in
     let told = told_by_step m.state hand may.lawful.legal next may.allowed in
     let g = grown_told m.state after.stripes hand (items_stored_by_step m.state hand next) told in
     alone m hand next is_alone may
     (subst (IsBegun after.stripes) (sym same) (begun_grown (writer_of m.state hand) m.state.stripes after.stripes g (slice_index_or m.past.seen hand []) (begun_row m.state.stripes m.past.seen hand may.lawful.told.begun)))
-    (subst (All (IsStored after.stripes)) (sym unsaid) (All-nil (IsStored after.stripes)))
+    (subst (All (IsStored after.stripes)) (sym stores_nothing) (All-nil (IsStored after.stripes)))
 
 -- the key of an item is that of its words
 key_of_item : (words : Words) → known_key (words_of_item words) ≡ known_key words
@@ -183,9 +183,9 @@ join m hand kept spent may =
     let owned : (number : ℕ) → count_in_hands number (joined_rows m.past.mine kept spent) ≡ count_in_hands number m.past.mine = λ number.
     owned_total number (joined_rows m.past.mine kept spent)
     ∙ (total_joined (λ (own : Own). truth (own.number == number)) m.past.mine kept spent facts.0 (omega (arith, facts.1, rows.mine)) (omega (arith, facts.2, rows.mine)) ∙ sym (owned_total number m.past.mine)) in
-    let counted : (stamp : ℕ) → stored_count stamp (joined_rows m.past.said kept spent) ≡ stored_count stamp m.past.said = λ stamp.
-    said_total stamp (joined_rows m.past.said kept spent)
-    ∙ (total_joined (λ (s : StoredItem). truth (s.stamp == stamp)) m.past.said kept spent facts.0 (omega (arith, facts.1, rows.said)) (omega (arith, facts.2, rows.said)) ∙ sym (said_total stamp m.past.said)) in
+    let counted : (stamp : ℕ) → stored_count stamp (joined_rows m.past.stored kept spent) ≡ stored_count stamp m.past.stored = λ stamp.
+    said_total stamp (joined_rows m.past.stored kept spent)
+    ∙ (total_joined (λ (s : StoredItem). truth (s.stamp == stamp)) m.past.stored kept spent facts.0 (omega (arith, facts.1, rows.stored)) (omega (arith, facts.2, rows.stored)) ∙ sym (said_total stamp m.past.stored)) in
     let seen_of = λ (h : ℕ). begun_row stripes m.past.seen h l.begun in
     record {
       own_calls = each_joined (IsOwnIn stripes) m.past.mine kept spent l.own_calls;
@@ -194,7 +194,7 @@ join m hand kept spent may =
           (λ value all. All-weaker (λ call. count_in_hands (hand_of call) m.past.mine ≡ 1) (λ call. count_in_hands (hand_of call) (joined_rows m.past.mine kept spent) ≡ 1) (λ call is. owned (hand_of call) ∙ is) value.state.history all) stripes l.writers;
       sets = l.sets;
       stored_once = λ stamp. l.stored_once stamp ∙ sym (counted stamp);
-      stored = each_joined (IsStored stripes) m.past.said kept spent l.stored;
+      stored = each_joined (IsStored stripes) m.past.stored kept spent l.stored;
     }
 
 pub told_steps : StepsKeep RecordedIn

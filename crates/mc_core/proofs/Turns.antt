@@ -61,7 +61,7 @@ held_from_so table slabs heads words rows each most = record {
 -- the chunk's new header suits the holdings of now, and other chunks are held as before
 pub record Turn (table : Classes) (heads : List Head) (rows now : List (List Holding)) (chunk : ChunkId) (head : Head) : Type 0 where
   pub long : length heads ≡ arena_pages_of table * most_of table
-  pub near : has_chunk table chunk ≡ true
+  pub in_range : has_chunk table chunk ≡ true
   pub others : (other : ChunkId) → is_chunk chunk other ≡ false → holder_count other now ≡ holder_count other rows
   pub sum : (head_in table heads chunk).count + (link_count head.tag + holder_count chunk now) ≡ head.count + (link_count (head_in table heads chunk).tag + holder_count chunk rows)
   pub shut : (is_free head.tag ≡ true) ⊎ (is_out head.tag ≡ true) → head.count ≡ 0
@@ -75,29 +75,29 @@ module _ (table : Classes) (heads : List Head) (rows now : List (List Holding)) 
   old = head_in table heads chunk
 
   written : head_in table heads' chunk ≡ head
-  written = head_written table heads chunk head turn.long turn.near
+  written = head_written table heads chunk head turn.long turn.in_range
 
   -- what holds at the chunk by its new header, and elsewhere by the old ones
   at_each : (P : ChunkId → Head → Type 0) → P chunk head → ((other : ChunkId) → has_chunk table other ≡ true → is_chunk chunk other ≡ false → P other (head_in table heads other)) →
       (other : ChunkId) → has_chunk table other ≡ true → P other (head_in table heads' other)
-  at_each P here elsewhere other near = elim (cases_Bool (is_chunk chunk other)) [
+  at_each P here elsewhere other in_range = elim (cases_Bool (is_chunk chunk other)) [
     | inl is ↦ let same = same_from_is_chunk chunk other is in subst (λ c. P c (head_in table heads' c)) same (subst (P chunk) (sym written) here)
-    | inr isnt ↦ subst (P other) (sym (head_other table heads chunk other head turn.near near isnt)) (elsewhere other near isnt)
+    | inr isnt ↦ subst (P other) (sym (head_other table heads chunk other head turn.in_range in_range isnt)) (elsewhere other in_range isnt)
   ]
 
   pub turn_counted : AreCounted table heads rows → AreCounted table heads' now
   turn_counted counted = record {
     counted = at_each (λ c h. h.count ≡ link_count h.tag + holder_count c now)
-        (let before = counted.counted chunk turn.near in let sum = turn.sum in omega arith)
-        (λ other near isnt. counted.counted other near ∙ ap (λ n. link_count (head_in table heads other).tag + n) (sym (turn.others other isnt)));
-    shut = at_each (λ c h. (is_free h.tag ≡ true) ⊎ (is_out h.tag ≡ true) → h.count ≡ 0) turn.shut (λ other near isnt. counted.shut other near);
-    issued = at_each (λ c h. h.issue < 2 ^ 46) turn.issued (λ other near isnt. counted.issued other near);
+        (let before = counted.counted chunk turn.in_range in let sum = turn.sum in omega arith)
+        (λ other in_range isnt. counted.counted other in_range ∙ ap (λ n. link_count (head_in table heads other).tag + n) (sym (turn.others other isnt)));
+    shut = at_each (λ c h. (is_free h.tag ≡ true) ⊎ (is_out h.tag ≡ true) → h.count ≡ 0) turn.shut (λ other in_range isnt. counted.shut other in_range);
+    issued = at_each (λ c h. h.issue < 2 ^ 46) turn.issued (λ other in_range isnt. counted.issued other in_range);
   }
 
   module _ (slabs next : SlabState) (words : List ℕ) (same : (page : ℕ) → class_of_page next page ≡ class_of_page slabs page) where
     so_there : (holding : Holding) → is_chunk chunk holding.chunk ≡ false → IsSo table slabs heads words rows holding → IsSo table next heads' words now holding
     so_there holding isnt so =
-        let kept = head_other table heads chunk holding.chunk head turn.near so.inside isnt in
+        let kept = head_other table heads chunk holding.chunk head turn.in_range so.inside isnt in
         record {
           inside = so.inside;
           issue = so.issue ∙ ap (λ (h : Head). h.issue) (sym kept);
@@ -134,7 +134,7 @@ module _ (table : Classes) (heads : List Head) (rows now : List (List Holding)) 
     pub turn_more : (holding : Holding) → holding.chunk ≡ chunk → holding.issue ≡ head.issue → Shows table next words chunk (holding_words holding) → IsHoldingSized (room_in table (class_of_page next chunk.page)) holding →
         (is_fresh holding ≡ true → (head.tag ≡ Unlinked) × (holder_count chunk now ≡ 1)) → IsSo table next heads' words now holding
     turn_more holding is issue shows sized alone = record {
-      inside = ap (has_chunk table) is ∙ turn.near;
+      inside = ap (has_chunk table) is ∙ turn.in_range;
       issue = issue ∙ (ap (λ (h : Head). h.issue) (sym written) ∙ ap (λ c. (head_in table heads' c).issue) (sym is));
       shows = subst (λ c. Shows table next words c (holding_words holding)) (sym is) shows;
       sized = subst (λ (c : ChunkId). IsHoldingSized (room_in table (class_of_page next c.page)) holding) (sym is) sized;

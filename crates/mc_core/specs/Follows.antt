@@ -25,7 +25,7 @@ pub record IsStoredItem (moment : Moment) (chunk : ChunkId) : Type 0 where
   pub words : List ℕ
   pub whole : length words ≡ length_of_item words
   pub shows : Shows moment.state.table moment.state.slabs moment.state.words chunk (all_known words)
-  pub said : WasStored moment.past.said (stamp_in_words words) words
+  pub stored : WasStored moment.past.stored (stamp_in_words words) words
   pub entry : chunk_and_stamp (stripe_for moment.state.stripes (key_of words)).state (key_of words) ≡ Some (chunk, stamp_in_words words)
 
 -- in every lawful moment the words of each linked chunk are a whole item, which was stored with the stamp of its key's entry

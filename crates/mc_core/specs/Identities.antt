@@ -33,11 +33,11 @@ pub record AreHands (ids : List Ids) (slabs_lock : ℕ) (locks : List ℕ) (hold
 
 -- rows: there is a row for each hand, and a live hand's row has a history of each stripe, perhaps an empty one
 pub record HaveRows (ids : List Ids) (stripes : ℕ) (past : Past) : Type 0 where
-  pub saw : length past.saw ≡ length ids
+  pub seen_words : length past.seen_words ≡ length ids
   pub holds : length past.holds ≡ length ids
   pub mine : length past.mine ≡ length ids
   pub seen : length past.seen ≡ length ids
-  pub said : length past.said ≡ length ids
+  pub stored : length past.stored ≡ length ids
   pub known : length past.known ≡ length ids
   pub histories : (hand : ℕ) → is_some (number_in ids hand) ≡ true → length (slice_index_or past.seen hand []) ≡ stripes
 

@@ -52,7 +52,7 @@ RowsIn m = HaveRows m.state.ids (length m.state.stripes) m.past
 
 -- in this moment a number is one hand's at most, and the stamps that hands stored are counted without a gap
 abbrev pub NumberedIn : Moment → Type 0
-NumberedIn m = AreNumbered m.state.ids m.past.mine m.past.said m.past.known
+NumberedIn m = AreNumbered m.state.ids m.past.mine m.past.stored m.past.known
 
 -- what this hand saw or did under its last hold of the slabs lock holds still
 abbrev pub IsSeenBy : State → Past → ℕ → Type 0
@@ -66,15 +66,15 @@ SeenIn m = (hand : ℕ) → has_slabs m.state hand ≡ true → IsSeenBy m.state
 
 -- in this moment a known item is whole, was stored, and is in its chunk while the chunk is handed out with the item's issue
 abbrev pub KnownIn : Moment → Type 0
-KnownIn m = AreKnown m.state.table m.state.slabs m.state.heads m.state.words m.state.holdings m.past.said m.past.known
+KnownIn m = AreKnown m.state.table m.state.slabs m.state.heads m.state.words m.state.holdings m.past.stored m.past.known
 
 -- in this moment a chunk for a copy is off its original's page, and an item that is being rescued was stored with its stamp
 abbrev pub RescuedIn : Moment → Type 0
-RescuedIn m = Each (λ holding. IsRescue m.past.said holding.chunk holding.kind) m.state.holdings
+RescuedIn m = Each (λ holding. IsRescue m.past.stored holding.chunk holding.kind) m.state.holdings
 
 -- in this moment a hand's own calls are the histories', which begin with what the hand saw and have the stamps that hands stored
 abbrev pub RecordedIn : Moment → Type 0
-RecordedIn m = AreRecorded m.state.stripes m.past.mine m.past.seen m.past.said
+RecordedIn m = AreRecorded m.state.stripes m.past.mine m.past.seen m.past.stored
 
 -- *lawful*: what holds of the moment, subject by subject
 pub record IsLawful (moment : Moment) : Type 0 where

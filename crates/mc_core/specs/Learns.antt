@@ -8,11 +8,11 @@ use Rattle.mc_core.specs.Laws.{MayChange, MayStep}
 
 -- the knowledge of the first of two hands, after it took the second over
 abbrev pub both_know : Knowledge → Knowledge → Knowledge
-both_know a b = record a { mine = a.mine ++ b.mine; seen = longer_each a.seen b.seen; said = a.said ++ b.said; known = a.known ++ b.known }
+both_know a b = record a { mine = a.mine ++ b.mine; seen = longer_each a.seen b.seen; stored = a.stored ++ b.stored; known = a.known ++ b.known }
 
 -- the knowledge of a hand that is gone
 abbrev pub knows_nothing : Knowledge
-knows_nothing = record { saw = []; hold = no_hold; mine = []; seen = []; said = []; known = [] }
+knows_nothing = record { seen_words = []; hold = no_hold; mine = []; seen = []; stored = []; known = [] }
 
 -- a change adds to the hand's own calls alone, a step adds what it teaches, and a join gives one hand the knowledge of both
 pub record AreLearned : Type 0 where

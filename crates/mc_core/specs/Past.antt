@@ -66,11 +66,11 @@ pub record Own : Type 0 where
 -- for each hand, six rows: the words that its looks found; its holds of locks; its numbers with their calls; the history of each stripe
 -- that it saw; what it stored; and the items that it ever held
 pub record Past : Type 0 where
-  pub saw : List (List SeenWord)
+  pub seen_words : List (List SeenWord)
   pub holds : List Hold
   pub mine : List (List Own)
   pub seen : List (List (List Call))
-  pub said : List (List StoredItem)
+  pub stored : List (List StoredItem)
   pub known : List (List KnownItem)
 
 -- a run's state with what the hands know
@@ -193,11 +193,11 @@ no_hold = record { found = no_slabs; left = no_slabs; count = 0; stripes = [] }
 -- knows nothing any more
 abbrev pub past_after_join : Past → ℕ → ℕ → Past
 past_after_join past kept spent = record {
-  saw = slice_set past.saw spent [];
+  seen_words = slice_set past.seen_words spent [];
   holds = slice_set past.holds spent no_hold;
   mine = slice_set (with_more past.mine kept (slice_index_or past.mine spent [])) spent [];
   seen = slice_set (slice_set past.seen kept (longer_each (slice_index_or past.seen kept []) (slice_index_or past.seen spent []))) spent [];
-  said = slice_set (with_more past.said kept (slice_index_or past.said spent [])) spent [];
+  stored = slice_set (with_more past.stored kept (slice_index_or past.stored spent [])) spent [];
   known = slice_set (with_more past.known kept (slice_index_or past.known spent [])) spent [];
 }
 
@@ -208,32 +208,32 @@ with_calls before now past hand =
 
 -- what one hand knows: its row of each column
 pub record Knowledge : Type 0 where
-  pub saw : List SeenWord
+  pub seen_words : List SeenWord
   pub hold : Hold
   pub mine : List Own
   pub seen : List (List Call)
-  pub said : List StoredItem
+  pub stored : List StoredItem
   pub known : List KnownItem
 
 -- what this hand knows; nothing where there is no such hand
 abbrev pub knowledge_at : Past → ℕ → Knowledge
 knowledge_at past hand = record {
-  saw = slice_index_or past.saw hand [];
+  seen_words = slice_index_or past.seen_words hand [];
   hold = slice_index_or past.holds hand no_hold;
   mine = slice_index_or past.mine hand [];
   seen = slice_index_or past.seen hand [];
-  said = slice_index_or past.said hand [];
+  stored = slice_index_or past.stored hand [];
   known = slice_index_or past.known hand [];
 }
 
 -- the past where this hand knows this, and each other hand what it knew
 abbrev pub with_knowledge : Past → ℕ → Knowledge → Past
 with_knowledge past hand knows = record {
-  saw = slice_set past.saw hand knows.saw;
+  seen_words = slice_set past.seen_words hand knows.seen_words;
   holds = slice_set past.holds hand knows.hold;
   mine = slice_set past.mine hand knows.mine;
   seen = slice_set past.seen hand knows.seen;
-  said = slice_set past.said hand knows.said;
+  stored = slice_set past.stored hand knows.stored;
   known = slice_set past.known hand knows.known;
 }
 
@@ -244,11 +244,11 @@ own_calls_after before now hand mine = map (own_after before now (number_at befo
 -- what the stepping hand knows after the step, from what it knew and from the states before and after
 abbrev pub knowledge_after : State → State → ℕ → Step → Knowledge → Knowledge
 knowledge_after before now hand step knows = record {
-  saw = knows.saw ++ seen_words_of before step;
+  seen_words = knows.seen_words ++ seen_words_of before step;
   hold = hold_after before step knows.hold;
   mine = own_calls_after before now hand knows.mine;
   seen = seen_after before step knows.seen;
-  said = knows.said ++ items_stored_by_step before hand step;
+  stored = knows.stored ++ items_stored_by_step before hand step;
   known = knows.known ++ known_of before hand step;
 }
 
@@ -283,11 +283,11 @@ moment_after moment event = moment_stepped (moment_changes moment event.hand eve
 -- the past at the beginning: no hand saw or stored anything, and each has its number
 abbrev pub no_past : ℕ → ℕ → Past
 no_past stripes hands = record {
-  saw = replicate hands [];
+  seen_words = replicate hands [];
   holds = replicate hands no_hold;
   mine = map (λ number. record { number = number; calls = replicate stripes [] } ∷ []) (range_with_len 0 hands);
   seen = replicate hands (replicate stripes []);
-  said = replicate hands [];
+  stored = replicate hands [];
   known = replicate hands [];
 }
 

@@ -42,5 +42,5 @@ gave_piece first mid last old new b c count is took =
 
 -- what was given so far, and then at most so much more
 pub gives_more : (n most : ℕ) (first mid last old : List ℕ) → mid ≡ first ++ old → GivesAtMost n mid last → length old + n ≤ most → GivesAtMost most first last
-gives_more n most first mid last old is (piece, gave, few) fits =
-    (old ++ piece, gave ∙ ap (λ bytes. bytes ++ piece) is ∙ append_assoc first old piece, omega (arith, few, fits, length-append old piece))
+gives_more n most first mid last old is (piece, gave, within_limit) fits =
+    (old ++ piece, gave ∙ ap (λ bytes. bytes ++ piece) is ∙ append_assoc first old piece, omega (arith, within_limit, fits, length-append old piece))

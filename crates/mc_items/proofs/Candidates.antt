@@ -6,7 +6,7 @@ use Rattle.mc_pages.specs.declared.ids.ChunkId.{ChunkId}
 
 -- the walk came to the end
 pub candidates_are_all : (n : ℕ) (order done : List ChunkId) → order ≡ done ++ [] → length done < n → take n order ≡ done
-candidates_are_all n order done split few =
+candidates_are_all n order done split within_limit =
     let all = split ∙ append-nil done in
     let len = ap length all in
     take_all n order (omega arith) ∙ all
@@ -17,7 +17,7 @@ candidates_passed n order done rest split count = ap (take n) split ∙ take_at 
 
 -- the next one is among them
 pub candidates_with : (n : ℕ) (order done : List ChunkId) (chunk : ChunkId) (more : List ChunkId) → order ≡ done ++ chunk ∷ more → length done < n → take n order ≡ done ++ chunk ∷ take (n - (length done + 1)) more
-candidates_with n order done chunk more split few =
+candidates_with n order done chunk more split within_limit =
     let all : n ≡ length done + suc (n - (length done + 1)) = omega arith in
     ap (take n) split ∙ (ap (λ k. take k (done ++ chunk ∷ more)) all ∙ take-append-add done (chunk ∷ more) (suc (n - (length done + 1))))
 

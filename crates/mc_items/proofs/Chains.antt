@@ -42,20 +42,20 @@ pub ready_still : (before now : Hand) → now.locks ≡ before.locks → (view n
 ready_still before now locks holdings ready = record {
   unlocked = unlocked_still before now locks ready;
   unfilled = ap has_fresh holdings ∙ ready.unfilled;
-  few = subst (λ (hs : List Holding). length hs ≤ most_refs) (sym holdings) ready.few;
+  within_limit = subst (λ (hs : List Holding). length hs ≤ most_refs) (sym holdings) ready.within_limit;
 }
 
 -- and one that holds one more, where there is room for it
 pub ready_more : (before now : Hand) (one : Holding) → now.locks ≡ before.locks → (view now).row.holdings ≡ (view before).row.holdings ++ one ∷ [] → is_fresh one ≡ false → length (view before).row.holdings < most_refs → IsReady (view before) → IsReady (view now)
-ready_more before now one locks holdings old few ready = record {
+ready_more before now one locks holdings old within_limit ready = record {
   unlocked = unlocked_still before now locks ready;
   unfilled = ap has_fresh holdings ∙ fresh_more (view before).row.holdings one ready.unfilled old;
-  few = let long = length-append (view before).row.holdings (one ∷ []) in let same = ap (λ (hs : List Holding). length hs) holdings in omega arith;
+  within_limit = let long = length-append (view before).row.holdings (one ∷ []) in let same = ap (λ (hs : List Holding). length hs) holdings in omega arith;
 }
 
 -- and one that holds less
 pub ready_less : (before now : Hand) → now.locks ≡ before.locks → has_fresh (view now).row.holdings ≡ false → length (view now).row.holdings ≤ length (view before).row.holdings → IsReady (view before) → IsReady (view now)
-ready_less before now locks none less ready = record { unlocked = unlocked_still before now locks ready; unfilled = none; few = let few = ready.few in omega arith }
+ready_less before now locks none less ready = record { unlocked = unlocked_still before now locks ready; unfilled = none; within_limit = let within_limit = ready.within_limit in omega arith }
 
 -- a hand's number stands in its view
 pub number_kept : (before now : Hand) → (view now).row.ids.number ≡ (view before).row.ids.number → now.number ≡ before.number
@@ -205,13 +205,13 @@ module _ (view : View) (was : LawfulView view) (item : Ref) (is : IsItemRef view
   pub item_said : HasStoredWords view item
   item_said = record { by_some = some; own = λ saying has stamp. own saying has stamp }
     where
-      some : (other : LawfulView view) → WasStored other.moment.past.said (item_stamp item) (held_item view (item_chunk item))
+      some : (other : LawfulView view) → WasStored other.moment.past.stored (item_stamp item) (held_item view (item_chunk item))
       some other =
           let knows = subst (λ (l : List KnownItem). Contains l (known_by item.reference.room is.reference.holding)) (ap (λ (v : View). v.row.knows.known) other.is) is.reference.knows in
-          let said = each_contained (λ (k : KnownItem). WasStored other.moment.past.said (stamp_in_words k.words) k.words) other.moment.past.known other.hand (known_by item.reference.room is.reference.holding) other.lawful.known.said_by_some knows in
-          subst (λ (p : ℕ × List ℕ). WasStored other.moment.past.said p.0 p.1) (λ k. ((ap stamp_in_words (sym item_is) ∙ is.stamp) k, sym item_is k)) said
+          let said = each_contained (λ (k : KnownItem). WasStored other.moment.past.stored (stamp_in_words k.words) k.words) other.moment.past.known other.hand (known_by item.reference.room is.reference.holding) other.lawful.known.said_by_some knows in
+          subst (λ (p : ℕ × List ℕ). WasStored other.moment.past.stored p.0 p.1) (λ k. ((ap stamp_in_words (sym item_is) ∙ is.stamp) k, sym item_is k)) said
 
-      own : (saying : StoredItem) → Contains view.row.knows.said saying → saying.stamp ≡ item_stamp item → saying.words ≡ held_item view (item_chunk item)
+      own : (saying : StoredItem) → Contains view.row.knows.stored saying → saying.stamp ≡ item_stamp item → saying.words ≡ held_item view (item_chunk item)
       own saying has stamp =
           (Rattle.mc_words.proofs.Hands.Joined.agrees view was).both saying (known_by item.reference.room is.reference.holding) has is.reference.knows (stamp ∙ (sym is.stamp ∙ ap stamp_in_words item_is)) ∙ sym item_is
 

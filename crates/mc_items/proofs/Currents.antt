@@ -28,7 +28,7 @@ same_end (x ∷ xs) a b e = let rest : xs ++ a ∷ [] ≡ xs ++ b ∷ [] = cc in
 
 -- the first words of an item are those of its chunk
 word_of_item : (state : State) (chunk : ChunkId) (place : ℕ) → place < length (item_at state chunk) → slice_index (item_at state chunk) place ≡ word_at state chunk place
-word_of_item state chunk place near =
+word_of_item state chunk place in_range =
     let long = length-map-range_with_len (λ place. word_at state chunk place) 0 (min (3 + word_at state chunk 2) (chunk_room state chunk)) in
     get_or-map-range_with_len (λ place. word_at state chunk place) 0 (min (3 + word_at state chunk 2) (chunk_room state chunk)) place place 0 (omega arith) (zero-add place)
 
@@ -43,7 +43,7 @@ module _ (view now : View) (chunk : ChunkId) (issue room : ℕ) (refers : Refers
   long = let whole = refers.whole in let same = ap (λ (l : List ℕ). length l) item_is in omega arith
 
   word : (place : ℕ) → place < 3 → slice_index refers.item place ≡ word_at m.state chunk place
-  word place near = ap (λ (l : List ℕ). slice_index l place) item_is ∙ word_of_item m.state chunk place (let l = long in omega arith)
+  word place in_range = ap (λ (l : List ℕ). slice_index l place) item_is ∙ word_of_item m.state chunk place (let l = long in omega arith)
 
   -- its key leads to it
   pub leads_to_it : IsCurrent m (key_of refers.item) (stamp_in_words refers.item) chunk

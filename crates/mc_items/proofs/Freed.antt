@@ -22,7 +22,7 @@ use Rattle.mc_items.proofs.Passes.{OwnTuple, each_keeps, lacks_spares, own_of, p
 -- the hand has the chunks, the words said and the numbers that it had, and of its own calls at most an eviction came
 pub record Evicts (number : ℕ) (view now : View) : Type 0 where
   pub holdings : now.row.holdings ≡ view.row.holdings
-  pub said : now.row.knows.said ≡ view.row.knows.said
+  pub stored : now.row.knows.stored ≡ view.row.knows.stored
   pub ids : now.row.ids ≡ view.row.ids
   pub known : now.row.knows.known ≡ view.row.knows.known
   pub calls : RecordsEviction number view now
@@ -31,7 +31,7 @@ pub record Evicts (number : ℕ) (view now : View) : Type 0 where
 pub evicts_none : (number : ℕ) (view now : View) → own_of now ≡ own_of view → Evicts number view now
 evicts_none number view now own = record {
   holdings = ap (λ (o : OwnTuple). o.0) own;
-  said = ap (λ (o : OwnTuple). o.1) own;
+  stored = ap (λ (o : OwnTuple). o.1) own;
   ids = ap (λ (o : OwnTuple). o.2) own;
   known = ap (λ (o : OwnTuple). o.4) own;
   calls = inl (ap (λ (o : OwnTuple). o.3) own);
@@ -41,7 +41,7 @@ evicts_none number view now own = record {
 pub evicts_after : (number : ℕ) (view next now : View) → own_of next ≡ own_of view → Evicts number next now → Evicts number view now
 evicts_after number view next now own then_now = record {
   holdings = then_now.holdings ∙ ap (λ (o : OwnTuple). o.0) own;
-  said = then_now.said ∙ ap (λ (o : OwnTuple). o.1) own;
+  stored = then_now.stored ∙ ap (λ (o : OwnTuple). o.1) own;
   ids = then_now.ids ∙ ap (λ (o : OwnTuple). o.2) own;
   known = then_now.known ∙ ap (λ (o : OwnTuple). o.4) own;
   calls = by then_now.calls;
@@ -58,7 +58,7 @@ evicts_after number view next now own then_now = record {
 pub evicts_before : (number : ℕ) (view next now : View) → Evicts number view next → own_of now ≡ own_of next → Evicts number view now
 evicts_before number view next now first own = record {
   holdings = ap (λ (o : OwnTuple). o.0) own ∙ first.holdings;
-  said = ap (λ (o : OwnTuple). o.1) own ∙ first.said;
+  stored = ap (λ (o : OwnTuple). o.1) own ∙ first.stored;
   ids = ap (λ (o : OwnTuple). o.2) own ∙ first.ids;
   known = ap (λ (o : OwnTuple). o.4) own ∙ first.known;
   calls = by first.calls;
@@ -75,7 +75,7 @@ evicts_before number view next now first own = record {
 taken_done : (number stripe : ℕ) (chunk : ChunkId) (value : ReadyStripe) (view now : View) → UsesRoomForCall number stripe value (Condemns number stripe chunk) view now → Evicts number view now
 taken_done number stripe chunk value view now done = record {
   holdings = ap (λ (v : View). v.row.holdings) done.given ∙ ap (λ (v : View). v.row.holdings) done.does.is;
-  said = ap (λ (v : View). v.row.knows.said) done.given ∙ ap (λ (v : View). v.row.knows.said) done.does.is;
+  stored = ap (λ (v : View). v.row.knows.stored) done.given ∙ ap (λ (v : View). v.row.knows.stored) done.does.is;
   ids = ap (λ (v : View). v.row.ids) done.given ∙ ap (λ (v : View). v.row.ids) done.does.is;
   known = ap (λ (v : View). v.row.knows.known) done.given ∙ ap (λ (v : View). v.row.knows.known) done.does.is;
   calls = inr (stripe, done.does.key, ap (λ (v : View). v.row.knows.mine) done.given ∙ ap (λ (v : View). v.row.knows.mine) done.does.is);

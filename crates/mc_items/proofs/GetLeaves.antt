@@ -28,7 +28,7 @@ use Rattle.mc_items.proofs.Left.{GotOne, Kept, deletes_keep, gets_one, kept_of, 
 pub record Leaves (found : Option Ref) (view now : View) : Type 0 where
   pub holds : HoldsToo found view now
   pub keeps : KeepsRefs view now
-  pub said : now.row.knows.said ≡ view.row.knows.said
+  pub stored : now.row.knows.stored ≡ view.row.knows.stored
   pub ids : now.row.ids ≡ view.row.ids
 
 -- one reference more
@@ -37,7 +37,7 @@ leaves_one item view now one =
     let holding = reference_to (item_chunk item) (item_issue item) one.item in record {
       holds = one_more_held item view now one;
       keeps = refs_and_more view now holding (known_by item.reference.room holding ∷ []) (ap (λ (k : Kept). k.0) one.kept) (ap (λ (k : Kept). k.1) one.kept);
-      said = ap (λ (k : Kept). k.2) one.kept;
+      stored = ap (λ (k : Kept). k.2) one.kept;
       ids = ap (λ (k : Kept). k.3) one.kept;
     }
 
@@ -46,7 +46,7 @@ pub leaves_none : (view now : View) → kept_of now ≡ kept_of view → Leaves 
 leaves_none view now kept = record {
   holds = ap (λ (k : Kept). k.0) kept;
   keeps = refs_stay view now (ap (λ (k : Kept). k.0) kept) (ap (λ (k : Kept). k.1) kept);
-  said = ap (λ (k : Kept). k.2) kept;
+  stored = ap (λ (k : Kept). k.2) kept;
   ids = ap (λ (k : Kept). k.3) kept;
 }
 
@@ -56,8 +56,8 @@ get_leaves number stripe key None view now on = leaves_none view now (none_keeps
 
 -- a ready hand, where it held few enough for one more
 pub get_ready : (before now : Hand) (found : Option Ref) → now.locks ≡ before.locks → HoldsToo found (view before) (view now) → length (view before).row.holdings < most_refs → IsReady (view before) → IsReady (view now)
-get_ready before now (Some item) locks holds few ready = ready_more before now (holding_by (view now) item) locks holds refl few ready
-get_ready before now None locks holds few ready = ready_still before now locks holds ready
+get_ready before now (Some item) locks holds within_limit ready = ready_more before now (holding_by (view now) item) locks holds refl within_limit ready
+get_ready before now None locks holds within_limit ready = ready_still before now locks holds ready
 
 -- what is known of the item
 pub get_near : (setup : Setup) (view : View) (found : Option Ref) (key : ℕ) → LawfulView view → view.setup ≡ setup → IfSome found (λ item. IsItemRef view item × (item_key item ≡ key)) → IfSome found (λ item. has_chunk setup.table (item_chunk item) ≡ true)
@@ -78,6 +78,6 @@ abbrev refusal : Again → Result words.Ref Again
 refusal e = Err e
 
 pub again_kept : (e : Again) (view : View) (chunk : ChunkId) (issue : ℕ) (now : View) → (refusal e ≡ Err Gone → FindsGone view chunk issue now) → (refusal e ≡ Err Contended → FindsContended view chunk issue now) → (refusal e ≡ Err TooManyRefs → now ≡ view) → kept_of now ≡ kept_of view
-again_kept Gone view chunk issue now gone contended many = gone_keeps view chunk issue now (gone refl)
-again_kept Contended view chunk issue now gone contended many = contended_keeps view chunk issue now (contended refl)
-again_kept TooManyRefs view chunk issue now gone contended many = ap kept_of (many refl)
+again_kept Gone view chunk issue now gone contended at_limit = gone_keeps view chunk issue now (gone refl)
+again_kept Contended view chunk issue now gone contended at_limit = contended_keeps view chunk issue now (contended refl)
+again_kept TooManyRefs view chunk issue now gone contended at_limit = ap kept_of (at_limit refl)

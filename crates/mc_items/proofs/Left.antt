@@ -30,7 +30,7 @@ abbrev pub Kept : Type 0
 Kept = List Holding × List KnownItem × List StoredItem × Ids
 
 abbrev pub kept_of : View → Kept
-kept_of view = (view.row.holdings, view.row.knows.known, view.row.knows.said, view.row.ids)
+kept_of view = (view.row.holdings, view.row.knows.known, view.row.knows.stored, view.row.ids)
 
 -- waiting for a lock leaves these
 pub waited : (stripe : ℕ) (before : View) (value : ReadyStripe) (now : View) → WaitsForStripe stripe before value now → kept_of now ≡ kept_of before

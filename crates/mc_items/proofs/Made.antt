@@ -159,24 +159,24 @@ comes_so before after class supply slabs between made with finds seen makes = re
 
 -- what was said, the numbers, what is known, and at most an eviction among the calls
 pub record Tells (number : ℕ) (view now : View) : Type 0 where
-  pub said : now.row.knows.said ≡ view.row.knows.said
+  pub stored : now.row.knows.stored ≡ view.row.knows.stored
   pub ids : now.row.ids ≡ view.row.ids
   pub known : now.row.knows.known ≡ view.row.knows.known
   pub calls : RecordsEviction number view now
 
 pub tells_from : (number : ℕ) (view now : View) → Evicts number view now → Tells number view now
-tells_from number view now evicts = record { said = evicts.said; ids = evicts.ids; known = evicts.known; calls = evicts.calls }
+tells_from number view now evicts = record { stored = evicts.stored; ids = evicts.ids; known = evicts.known; calls = evicts.calls }
 
 -- a pop leaves these, too
 abbrev pub TellsTuple : Type 0
 TellsTuple = List StoredItem × Ids × List Own × List KnownItem
 
 abbrev pub told_of : View → TellsTuple
-told_of view = (view.row.knows.said, view.row.ids, view.row.knows.mine, view.row.knows.known)
+told_of view = (view.row.knows.stored, view.row.ids, view.row.knows.mine, view.row.knows.known)
 
 pub tells_before : (number : ℕ) (view next now : View) → Tells number view next → told_of now ≡ told_of next → Tells number view now
 tells_before number view next now first told = record {
-  said = ap (λ (o : TellsTuple). o.0) told ∙ first.said;
+  stored = ap (λ (o : TellsTuple). o.0) told ∙ first.stored;
   ids = ap (λ (o : TellsTuple). o.1) told ∙ first.ids;
   known = ap (λ (o : TellsTuple). o.3) told ∙ first.known;
   calls = by first.calls;
@@ -191,7 +191,7 @@ tells_before number view next now first told = record {
 
 pub tells_after : (number : ℕ) (view next now : View) → told_of next ≡ told_of view → Tells number next now → Tells number view now
 tells_after number view next now told second = record {
-  said = second.said ∙ ap (λ (o : TellsTuple). o.0) told;
+  stored = second.stored ∙ ap (λ (o : TellsTuple). o.0) told;
   ids = second.ids ∙ ap (λ (o : TellsTuple). o.1) told;
   known = second.known ∙ ap (λ (o : TellsTuple). o.3) told;
   calls = by second.calls;

@@ -26,7 +26,7 @@ missed_holds tries view now missed = slabs_misses_keep (λ (v : View). v.row.hol
 pub missed_tells : (number tries : ℕ) (view now : View) → MissesSlabsEachTime tries view now → Tells number view now
 missed_tells number tries view now missed =
     let told = slabs_misses_keep told_of (λ word v. refl) missed.words view now missed.misses in record {
-      said = ap (λ (o : TellsTuple). o.0) told;
+      stored = ap (λ (o : TellsTuple). o.0) told;
       ids = ap (λ (o : TellsTuple). o.1) told;
       known = ap (λ (o : TellsTuple). o.3) told;
       calls = inl (ap (λ (o : TellsTuple). o.2) told);

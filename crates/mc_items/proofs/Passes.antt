@@ -29,7 +29,7 @@ abbrev pub OwnTuple : Type 0
 OwnTuple = List Holding × List StoredItem × Ids × List Own × List KnownItem
 
 abbrev pub own_of : View → OwnTuple
-own_of view = (view.row.holdings, view.row.knows.said, view.row.ids, view.row.knows.mine, view.row.knows.known)
+own_of view = (view.row.holdings, view.row.knows.stored, view.row.ids, view.row.knows.mine, view.row.knows.known)
 
 -- this stayed, and so did what was found alive of other chunks than this
 pub record Spares (chunk : ChunkId) (view now : View) : Type 0 where

@@ -21,8 +21,8 @@ use Rattle.mc_items.specs.Storing.{IsOwnItem}
 pub popped_own : (view now : View) (slabs : SlabState) (class : ℕ) (chunk : ChunkId) → LawfulView view → view.slabs ≡ Some slabs → is_class view.setup.table class ≡ true → PopsFirst view slabs class chunk now → IsOwnItem now chunk
 popped_own view now slabs class chunk was mine is pops =
     let holding : Holding = fresh_holding chunk (pops.head.issue + 1) (room_in view.setup.table class) in
-    let near = first_near view was slabs class chunk mine is pops.first in
-    let none : holding_of chunk view.row.holdings ≡ None = not_held view now slabs mine class chunk pops.head is pops.first was near in
+    let in_range = first_near view was slabs class chunk mine is pops.first in
+    let none : holding_of chunk view.row.holdings ≡ None = not_held view now slabs mine class chunk pops.head is pops.first was in_range in
     let found : holding_of chunk now.row.holdings ≡ Some holding =
     ap (λ (v : View). holding_of chunk v.row.holdings) pops.is
     ∙ (find-append (is_of_chunk chunk) view.row.holdings (holding ∷ [])

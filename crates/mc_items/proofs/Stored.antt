@@ -43,12 +43,12 @@ module _ (number stripe key stamp : ℕ) (chunk : ChunkId) (room : ℕ) (view no
       ∙ ap (λ (mine : List Own). map (with_own_call number stripe (Set number key stamp)) mine) (waits_keep (λ (v : View). v.row.knows.mine) stripe (λ word v. refl) (λ value v. refl) view stored.stores.value stored.stores.taken stored.stores.waits)))
 
   -- and it said the item with its stamp
-  pub stored_said : now.row.knows.said ≡ view.row.knows.said ++ record { stamp = stamp; words = numbers_of_known (words_of_item (known_words_in view chunk)) } ∷ []
+  pub stored_said : now.row.knows.stored ≡ view.row.knows.stored ++ record { stamp = stamp; words = numbers_of_known (words_of_item (known_words_in view chunk)) } ∷ []
   stored_said =
-      ap (λ (v : View). v.row.knows.said) stored.dropped
-      ∙ (ap (λ (v : View). v.row.knows.said) stored.stores.done.given
-      ∙ (ap (λ (v : View). v.row.knows.said) stored.stores.done.does.0
-      ∙ ap (λ (p : List StoredItem × List Holding). p.0 ++ record { stamp = stamp; words = numbers_of_known (words_of_item (words_among chunk p.1)) } ∷ []) (waits_keep (λ (v : View). (v.row.knows.said, v.row.holdings)) stripe (λ word v. refl) (λ value v. refl) view stored.stores.value stored.stores.taken stored.stores.waits)))
+      ap (λ (v : View). v.row.knows.stored) stored.dropped
+      ∙ (ap (λ (v : View). v.row.knows.stored) stored.stores.done.given
+      ∙ (ap (λ (v : View). v.row.knows.stored) stored.stores.done.does.0
+      ∙ ap (λ (p : List StoredItem × List Holding). p.0 ++ record { stamp = stamp; words = numbers_of_known (words_of_item (words_among chunk p.1)) } ∷ []) (waits_keep (λ (v : View). (v.row.knows.stored, v.row.holdings)) stripe (λ word v. refl) (λ value v. refl) view stored.stores.value stored.stores.taken stored.stores.waits)))
 
 -- who gave its chunk up told nothing
 pub dead_told : (stripe : ℕ) (chunk : ChunkId) (view now : View) → LeavesDead stripe chunk view now → RecordsNoCall view now

@@ -27,7 +27,7 @@ module _ (number stripe key : ℕ) (view now : View) (touches : Touches number s
   gained : touches.got.row.holdings ≡ view.row.holdings ++ one ∷ []
   gained = ap (λ (k : Kept). k.0) got_one.kept
 
-  left : kept_of now ≡ (without_first (is_of_chunk chunk_of) touches.got.row.holdings, touches.got.row.knows.known, touches.got.row.knows.said, touches.got.row.ids)
+  left : kept_of now ≡ (without_first (is_of_chunk chunk_of) touches.got.row.holdings, touches.got.row.knows.known, touches.got.row.knows.stored, touches.got.row.ids)
   left =
       ap kept_of touches.released
       ∙ ap (λ (k : Kept). (without_first (is_of_chunk chunk_of) k.0, k.1, k.2, k.3)) (bumped_keeps number chunk_of touches.got touches.bumped touches.bumps)
@@ -41,14 +41,14 @@ module _ (number stripe key : ℕ) (view now : View) (touches : Touches number s
 
   pub touch_holds_no_more : length now.row.holdings ≤ length view.row.holdings
   touch_holds_no_more =
-      let many = as_many chunk_of view.row.holdings one refl in
+      let at_limit = as_many chunk_of view.row.holdings one refl in
       let same = ap (λ (l : List Holding). length l) (lost ∙ ap (without_first (is_of_chunk chunk_of)) gained) in
       omega arith
 
   pub touch_keeps_ids : now.row.ids ≡ view.row.ids
   touch_keeps_ids = ap (λ (k : Kept). k.3) left ∙ ap (λ (k : Kept). k.3) got_one.kept
 
-  pub touch_says_nothing : now.row.knows.said ≡ view.row.knows.said
+  pub touch_says_nothing : now.row.knows.stored ≡ view.row.knows.stored
   touch_says_nothing = ap (λ (k : Kept). k.2) left ∙ ap (λ (k : Kept). k.2) got_one.kept
 
   module _ (unfilled : has_fresh view.row.holdings ≡ false) where

@@ -17,7 +17,7 @@ use Rattle.mc_items.specs.Reading.{reads_of, words_seen}
 
 -- one word more is read
 pub one_more : (item : List ℕ) (place word : ℕ) → 3 + place < length item → word ≡ slice_index item (3 + place) → take place (drop 3 item) ++ word ∷ [] ≡ take (place + 1) (drop 3 item)
-one_more item place word near is =
+one_more item place word in_range is =
     let long = length-drop 3 item in
     ap (λ w. take place (drop 3 item) ++ w ∷ []) (is ∙ sym (get_or-drop 3 item place 0)) ∙ sym (take_more (drop 3 item) place 0 (omega arith))
 
@@ -39,7 +39,7 @@ one_read chunk place count view = ap (λ (events : List OwnEvent). record view {
 
 -- an item stands in the arena's table, so none of its places is large
 pub place_small : (arena : Arena) (hand : Hand) (item : Ref) (place : ℕ) → IsHandOf arena hand → IsItemRef (view hand) item → place < item.len → 3 + place < 2 ^ 63
-place_small arena hand item place of is near =
+place_small arena hand item place of is in_range =
     let ref = is.reference in
     let chunk = item.reference.chunk in
     let room = item.reference.room in

@@ -37,16 +37,16 @@ HoldsLess item view now = now.row.holdings ≡ without_first (is_of_chunk (item_
 
 -- the hand stored no words
 abbrev pub StoresNothing : View → View → Type 0
-StoresNothing view now = now.row.knows.said ≡ view.row.knows.said
+StoresNothing view now = now.row.knows.stored ≡ view.row.knows.stored
 
 -- the hand stored these words with this stamp
 abbrev pub StoresWithStamp : List ℕ → ℕ → View → View → Type 0
-StoresWithStamp words stamp view now = now.row.knows.said ≡ view.row.knows.said ++ record { stamp = stamp; words = words } ∷ []
+StoresWithStamp words stamp view now = now.row.knows.stored ≡ view.row.knows.stored ++ record { stamp = stamp; words = words } ∷ []
 
 -- some hand stored these words with the stamp; where this hand stored words with the stamp itself, they are these words
 pub record WordsWereStored (view : View) (stamp : ℕ) (words : List ℕ) : Type 0 where
-  pub by_some : (was : LawfulView view) → WasStored was.moment.past.said stamp words
-  pub own : (saying : StoredItem) → Contains view.row.knows.said saying → saying.stamp ≡ stamp → saying.words ≡ words
+  pub by_some : (was : LawfulView view) → WasStored was.moment.past.stored stamp words
+  pub own : (saying : StoredItem) → Contains view.row.knows.stored saying → saying.stamp ≡ stamp → saying.words ≡ words
 
 -- the words of the item to which the reference leads were stored with the item's stamp: key, stamp and length, and then the others
 abbrev pub HasStoredWords : View → Ref → Type 0

@@ -30,7 +30,7 @@ pub fn bump<R: Wait>(rt: &R, arena: &Arena, hand: &mut Hand, item: &Ref)
     ensures holdings { HoldsTheSame (view hand.old) (view hand.new) }
     ensures keeps { KeepsRefs (view hand.old) (view hand.new) }
     ensures calls { RecordsNoCall (view hand.old) (view hand.new) }
-    ensures unsaid { StoresNothing (view hand.old) (view hand.new) }
+    ensures stores_nothing { StoresNothing (view hand.old) (view hand.new) }
 {
     bump_chunk(rt, arena, hand, &item.reference);
 }

@@ -31,7 +31,7 @@ pub fn delete<R: Wait>(rt: &R, arena: &Arena, hand: &mut Hand, key: u64) -> Resu
     ensures no_memory { OnErr result (FindsNoRoomFor (setup_of arena.now) key hand.old hand.new) }
     ensures holdings { HoldsTheSame (view hand.old) (view hand.new) }
     ensures keeps { KeepsRefs (view hand.old) (view hand.new) }
-    ensures unsaid { StoresNothing (view hand.old) (view hand.new) }
+    ensures stores_nothing { StoresNothing (view hand.old) (view hand.new) }
 {
     let stripe = key % arena.config().stripes;
     let held = arena.lock_stripe(rt, hand, stripe);
@@ -42,7 +42,7 @@ pub fn delete<R: Wait>(rt: &R, arena: &Arena, hand: &mut Hand, key: u64) -> Resu
 fn delete_at(arena: &Arena, hand: &mut Hand, held: StripeHeld, key: u64) -> Result<bool, NoMemory>
     requires arena { IsHandOf arena.now hand.old }
     requires lent { IsLentStripe (view hand.old) (stripe_number held) (stripe_lent held) }
-    requires near { stripe_number held ≡ stripe_of_key (setup_of arena.now) key }
+    requires in_range { stripe_number held ≡ stripe_of_key (setup_of arena.now) key }
     requires fresh { has_fresh (view hand.old).row.holdings ≡ false }
     ensures arena { IsHandOf arena.now hand.new }
     ensures locks { locks_of hand.new ≡ without_stripe (locks_of hand.old) }

@@ -37,7 +37,7 @@ pub(crate) fn condemn_at(
     chunk: ChunkId,
 ) -> Result<bool, NoMemory>
     requires arena { IsHandOf arena.now hand.old }
-    requires near { has_chunk (setup_of arena.now).table chunk ≡ true }
+    requires in_range { has_chunk (setup_of arena.now).table chunk ≡ true }
     requires slabs { HasSlabs hand.old slabs.old }
     requires lent { IsLentStripe (view hand.old) (stripe_number held) (stripe_lent held) }
     requires inside { (stripe_number held) < (setup_of arena.now).config.stripes }
@@ -121,7 +121,7 @@ pub(crate) fn free_evicted(
 )
     requires arena { IsHandOf arena.now hand.old }
     requires class { is_class (setup_of arena.now).table class ≡ true }
-    requires near { has_chunk (setup_of arena.now).table chunk ≡ true }
+    requires in_range { has_chunk (setup_of arena.now).table chunk ≡ true }
     requires slabs { HasSlabs hand.old slabs.old }
     requires dead { option_map is_dead (seen_head (view hand.old).row.looks chunk) ≡ Some true }
     ensures arena { IsHandOf arena.now hand.new }

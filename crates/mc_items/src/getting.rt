@@ -54,17 +54,17 @@ pub fn get<R: Wait>(
     ensures number { hand_number hand.new ≡ hand_number hand.old }
     ensures gets { IfOk result (λ found. Gets (setup_of arena.now) key found hand.old hand.new) }
     ensures item { IfOk result (λ found. IfSome found (λ item. IsItemRef (view hand.new) item × (item_key item ≡ key))) }
-    ensures near { IfOk result (λ found. IfSome found (λ item. has_chunk (setup_of arena.now).table (item_chunk item) ≡ true)) }
-    ensures said { IfOk result (λ found. IfSome found (HasStoredWords (view hand.new))) }
+    ensures in_range { IfOk result (λ found. IfSome found (λ item. has_chunk (setup_of arena.now).table (item_chunk item) ≡ true)) }
+    ensures stores_words { IfOk result (λ found. IfSome found (HasStoredWords (view hand.new))) }
     ensures calls { IfOk result (λ found. RecordsOn (setup_of arena.now) key (λ number. call.Get number key (option_map item_stamp found)) hand.old hand.new) }
     ensures refused { OnErr result (RecordsNoCall (view hand.old) (view hand.new)) }
-    ensures many { (result ≡ Err GetError.TooManyRefs) ↔ (most_refs ≤ length (view hand.old).row.holdings) }
+    ensures at_limit { (result ≡ Err GetError.TooManyRefs) ↔ (most_refs ≤ length (view hand.old).row.holdings) }
     ensures same { result ≡ Err GetError.TooManyRefs → view hand.new ≡ view hand.old }
     ensures no_memory { result ≡ Err (GetError.NoMemory tt) → FindsNoRoomFor (setup_of arena.now) key hand.old hand.new }
     ensures holdings { IfOk result (λ found. HoldsToo found (view hand.old) (view hand.new)) }
     ensures no_more { OnErr result (HoldsTheSame (view hand.old) (view hand.new)) }
     ensures keeps { KeepsRefs (view hand.old) (view hand.new) }
-    ensures unsaid { StoresNothing (view hand.old) (view hand.new) }
+    ensures stores_nothing { StoresNothing (view hand.old) (view hand.new) }
 {
     if hand.refs() >= MOST_REFS {
         return Err(GetError::TooManyRefs);
@@ -102,18 +102,18 @@ pub fn try_get(arena: &Arena, hand: &mut Hand, key: u64) -> Result<Option<Ref>, 
     ensures number { hand_number hand.new ≡ hand_number hand.old }
     ensures gets { IfOk result (λ found. Gets (setup_of arena.now) key found hand.old hand.new) }
     ensures item { IfOk result (λ found. IfSome found (λ item. IsItemRef (view hand.new) item × (item_key item ≡ key))) }
-    ensures near { IfOk result (λ found. IfSome found (λ item. has_chunk (setup_of arena.now).table (item_chunk item) ≡ true)) }
-    ensures said { IfOk result (λ found. IfSome found (HasStoredWords (view hand.new))) }
+    ensures in_range { IfOk result (λ found. IfSome found (λ item. has_chunk (setup_of arena.now).table (item_chunk item) ≡ true)) }
+    ensures stores_words { IfOk result (λ found. IfSome found (HasStoredWords (view hand.new))) }
     ensures calls { IfOk result (λ found. RecordsOn (setup_of arena.now) key (λ number. call.Get number key (option_map item_stamp found)) hand.old hand.new) }
     ensures refused { OnErr result (RecordsNoCall (view hand.old) (view hand.new)) }
-    ensures many { (result ≡ Err TryGetError.TooManyRefs) ↔ (most_refs ≤ length (view hand.old).row.holdings) }
+    ensures at_limit { (result ≡ Err TryGetError.TooManyRefs) ↔ (most_refs ≤ length (view hand.old).row.holdings) }
     ensures same { result ≡ Err TryGetError.TooManyRefs → view hand.new ≡ view hand.old }
     ensures held { result ≡ Err TryGetError.Held → FindsStripeHeld (setup_of arena.now) key hand.old hand.new }
     ensures no_memory { result ≡ Err (TryGetError.NoMemory tt) → FindsNoRoomFor (setup_of arena.now) key hand.old hand.new }
     ensures holdings { IfOk result (λ found. HoldsToo found (view hand.old) (view hand.new)) }
     ensures no_more { OnErr result (HoldsTheSame (view hand.old) (view hand.new)) }
     ensures keeps { KeepsRefs (view hand.old) (view hand.new) }
-    ensures unsaid { StoresNothing (view hand.old) (view hand.new) }
+    ensures stores_nothing { StoresNothing (view hand.old) (view hand.new) }
 {
     if hand.refs() >= MOST_REFS {
         return Err(TryGetError::TooManyRefs);
@@ -138,8 +138,8 @@ fn look_up(
 ) -> Result<Option<Ref>, NoMemory>
     requires arena { IsHandOf arena.now hand.old }
     requires lent { IsLentStripe (view hand.old) (stripe_number held) (stripe_lent held) }
-    requires near { stripe_number held ≡ stripe_of_key (setup_of arena.now) key }
-    requires few { length (view hand.old).row.holdings < most_holdings }
+    requires in_range { stripe_number held ≡ stripe_of_key (setup_of arena.now) key }
+    requires within_limit { length (view hand.old).row.holdings < most_holdings }
     ensures arena { IsHandOf arena.now hand.new }
     ensures locks { locks_of hand.new ≡ without_stripe (locks_of hand.old) }
     ensures done { IfOk result (λ found. GetsAt held key found hand.old hand.new) }
@@ -165,8 +165,8 @@ pub(crate) fn refer_at(
 ) -> Result<Option<mc_words::Ref>, NoMemory>
     requires arena { IsHandOf arena.now hand.old }
     requires lent { IsLentStripe (view hand.old) (stripe_number held) (stripe_lent held) }
-    requires near { stripe_number held ≡ stripe_of_key (setup_of arena.now) key }
-    requires few { length (view hand.old).row.holdings < most_holdings }
+    requires in_range { stripe_number held ≡ stripe_of_key (setup_of arena.now) key }
+    requires within_limit { length (view hand.old).row.holdings < most_holdings }
     ensures arena { IsHandOf arena.now hand.new }
     ensures locks { locks_of hand.new ≡ without_stripe (locks_of hand.old) }
     ensures done { IfOk result (λ found. DoesOn (λ number stripe. LooksUp number stripe key found) hand.old held hand.new) }

@@ -31,7 +31,7 @@ pub fn hint(item: &Ref) -> Hint
 pub fn again(arena: &Arena, hand: &mut Hand, hint: Hint) -> Result<Ref, Again>
     requires arena { IsHandOf arena.now hand.old }
     requires ready { IsReady (view hand.old) }
-    requires near { has_chunk (setup_of arena.now).table (hint_chunk hint) ≡ true }
+    requires in_range { has_chunk (setup_of arena.now).table (hint_chunk hint) ≡ true }
     ensures arena { IsHandOf arena.now hand.new }
     ensures ready { IsReady (view hand.new) }
     ensures locks { locks_of hand.new ≡ locks_of hand.old }
@@ -40,16 +40,16 @@ pub fn again(arena: &Arena, hand: &mut Hand, hint: Hint) -> Result<Ref, Again>
     ensures gets { IfOk result (λ item. GetsByHint hint item (view hand.old) (view hand.new)) }
     ensures current { IfOk result (λ item. GetsCurrent hint item (view hand.old) (view hand.new)) }
     ensures item { IfOk result (λ item. IsItemRef (view hand.new) item) }
-    ensures said { IfOk result (HasStoredWords (view hand.new)) }
+    ensures stores_words { IfOk result (HasStoredWords (view hand.new)) }
     ensures known { IfOk result (λ item. IsAsKnown (view hand.old) hint (held_item (view hand.new) (item_chunk item))) }
     ensures gone { result ≡ Err Again.Gone → FindsGone (view hand.old) (hint_chunk hint) (hint_issue hint) (view hand.new) }
     ensures contended { result ≡ Err Again.Contended → FindsContended (view hand.old) (hint_chunk hint) (hint_issue hint) (view hand.new) }
-    ensures many { (result ≡ Err Again.TooManyRefs) ↔ (most_refs ≤ length (view hand.old).row.holdings) }
+    ensures at_limit { (result ≡ Err Again.TooManyRefs) ↔ (most_refs ≤ length (view hand.old).row.holdings) }
     ensures refused { result ≡ Err Again.TooManyRefs → view hand.new ≡ view hand.old }
     ensures holdings { IfOk result (λ item. HoldsToo (Some item) (view hand.old) (view hand.new)) }
     ensures no_more { OnErr result (HoldsTheSame (view hand.old) (view hand.new)) }
     ensures keeps { KeepsRefs (view hand.old) (view hand.new) }
-    ensures unsaid { StoresNothing (view hand.old) (view hand.new) }
+    ensures stores_nothing { StoresNothing (view hand.old) (view hand.new) }
 {
     match arena.again(hand, hint) {
         Ok(reference) => Ok(look_at(arena, hand, reference)),

@@ -30,10 +30,10 @@ pub fn read(alloc: Global, arena: &Arena, hand: &mut Hand, item: &Ref) -> Result
     ensures view { IfOk result (λ words. view hand.new ≡ words_seen (item_chunk item.now) 3 (item_len item.now) (view hand.old)) }
     ensures same { OnErr result (view hand.new ≡ view hand.old) }
     ensures words { IfOk result (λ words. words.items ≡ item_words (view hand.old) item.now) }
-    ensures said { IfOk result (λ words. WordsWereStored (view hand.new) (item_stamp item.now) (item_with (item_key item.now) (item_stamp item.now) words.items)) }
+    ensures stores_words { IfOk result (λ words. WordsWereStored (view hand.new) (item_stamp item.now) (item_with (item_key item.now) (item_stamp item.now) words.items)) }
     ensures holdings { HoldsTheSame (view hand.old) (view hand.new) }
     ensures keeps { KeepsRefs (view hand.old) (view hand.new) }
-    ensures unsaid { StoresNothing (view hand.old) (view hand.new) }
+    ensures stores_nothing { StoresNothing (view hand.old) (view hand.new) }
 {
     let mut words = with_capacity(alloc, item.len as usize)?;
     for place in 0..item.len {
@@ -49,7 +49,7 @@ pub fn word(arena: &Arena, hand: &mut Hand, item: &Ref, place: u64) -> u64
     requires arena { IsHandOf arena.now hand.old }
     requires ready { IsReady (view hand.old) }
     requires item { IsItemRef (view hand.old) item.now }
-    requires near { place < item_len item.now }
+    requires in_range { place < item_len item.now }
     ensures arena { IsHandOf arena.now hand.new }
     ensures ready { IsReady (view hand.new) }
     ensures locks { locks_of hand.new ≡ locks_of hand.old }
@@ -59,10 +59,10 @@ pub fn word(arena: &Arena, hand: &mut Hand, item: &Ref, place: u64) -> u64
     ensures view { view hand.new ≡ word_seen (item_chunk item.now) (3 + place) (view hand.old) }
     ensures word { result ≡ slice_index (item_words (view hand.old) item.now) place }
     ensures words { item_words (view hand.new) item.now ≡ item_words (view hand.old) item.now }
-    ensures said { WordsWereStored (view hand.new) (item_stamp item.now) (item_with (item_key item.now) (item_stamp item.now) (item_words (view hand.old) item.now)) }
+    ensures stores_words { WordsWereStored (view hand.new) (item_stamp item.now) (item_with (item_key item.now) (item_stamp item.now) (item_words (view hand.old) item.now)) }
     ensures holdings { HoldsTheSame (view hand.old) (view hand.new) }
     ensures keeps { KeepsRefs (view hand.old) (view hand.new) }
-    ensures unsaid { StoresNothing (view hand.old) (view hand.new) }
+    ensures stores_nothing { StoresNothing (view hand.old) (view hand.new) }
 {
     arena.word(hand, &item.reference, 3 + place)
 }
@@ -82,7 +82,7 @@ pub fn release(arena: &Arena, hand: &mut Hand, item: Ref)
     ensures dropped { view hand.new ≡ chunk_released (item_chunk item) (view hand.old) }
     ensures holdings { HoldsLess item (view hand.old) (view hand.new) }
     ensures keeps { KeepsRemainingRefs (view hand.old) (view hand.new) }
-    ensures unsaid { StoresNothing (view hand.old) (view hand.new) }
+    ensures stores_nothing { StoresNothing (view hand.old) (view hand.new) }
 {
     let Ref { reference, .. } = item;
     arena.release(hand, reference);

@@ -62,10 +62,10 @@ pub fn set<R: Wait>(
     ensures number { hand_number hand.new ≡ hand_number hand.old }
     ensures sets { IfOk result (λ stamp. SetsItem (hand_number hand.old) key stamp words.now (view hand.old) (view hand.new)) }
     ensures calls { IfOk result (λ stamp. RecordsSet (hand_number hand.old) key stamp (view hand.old) (view hand.new)) }
-    ensures said { IfOk result (λ stamp. StoresWithStamp (item_with key stamp words.now) stamp (view hand.old) (view hand.new)) }
+    ensures stores_words { IfOk result (λ stamp. StoresWithStamp (item_with key stamp words.now) stamp (view hand.old) (view hand.new)) }
     ensures refused { IfErr result (λ error. RefusesSet (hand_number hand.old) key words.now error (view hand.old) (view hand.new)) }
     ensures evicts { OnErr result (RecordsEviction (hand_number hand.old) (view hand.old) (view hand.new)) }
-    ensures unsaid { OnErr result (StoresNothing (view hand.old) (view hand.new)) }
+    ensures stores_nothing { OnErr result (StoresNothing (view hand.old) (view hand.new)) }
     ensures stamps { OnErr result ((view hand.new).row.ids ≡ (view hand.old).row.ids) }
     ensures holdings { HoldsTheSame (view hand.old) (view hand.new) }
     ensures keeps { KeepsRefs (view hand.old) (view hand.new) }
@@ -97,7 +97,7 @@ fn chunk_of<R: Wait>(
     requires class { is_class (setup_of arena.now).table class ≡ true }
     requires unlocked { is_unlocked (view hand.old) ≡ true }
     requires fresh { has_fresh (view hand.old).row.holdings ≡ false }
-    requires few { length (view hand.old).row.holdings ≤ most_refs }
+    requires within_limit { length (view hand.old).row.holdings ≤ most_refs }
     ensures arena { IsHandOf arena.now hand.new }
     ensures locks { locks_of hand.new ≡ locks_of hand.old }
     ensures supplies { IfOk result (λ fresh. ActsOnce (SuppliesChunk (hand_number hand.old) class (fresh_chunk fresh)) hand.old hand.new) }

@@ -44,7 +44,7 @@ pub(crate) fn store_words<R: Wait>(
     ensures locks { locks_of hand.new ≡ locks_of hand.old }
     ensures stores { OnOk result (StoresFresh (setup_of arena.now) key stamp fresh (hand_number hand.old) (filled_with fresh key stamp words.now (view hand.old)) (view hand.new)) }
     ensures calls { OnOk result (RecordsOn (setup_of arena.now) key (λ number. call.Set number key stamp) hand.old hand.new) }
-    ensures said { OnOk result (StoresWithStamp (item_with key stamp words.now) stamp (view hand.old) (view hand.new)) }
+    ensures stores_words { OnOk result (StoresWithStamp (item_with key stamp words.now) stamp (view hand.old) (view hand.new)) }
     ensures no_memory { OnErr result (LosesFresh (setup_of arena.now) key fresh (filled_with fresh key stamp words.now (view hand.old)) (view hand.new)) }
     ensures refused { OnErr result (RecordsNoCall (view hand.old) (view hand.new)) }
 {
@@ -73,7 +73,7 @@ fn store<R: Wait>(
     ensures locks { locks_of hand.new ≡ locks_of hand.old }
     ensures stores { OnOk result (StoresFresh (setup_of arena.now) key (fresh_stamp fresh) fresh (hand_number hand.old) (view hand.old) (view hand.new)) }
     ensures calls { OnOk result (RecordsOn (setup_of arena.now) key (λ number. call.Set number key (fresh_stamp fresh)) hand.old hand.new) }
-    ensures said { OnOk result (StoresWithStamp (numbers_of_known (words_of_item (known_words_in (view hand.old) (fresh_chunk fresh)))) (fresh_stamp fresh) (view hand.old) (view hand.new)) }
+    ensures stores_words { OnOk result (StoresWithStamp (numbers_of_known (words_of_item (known_words_in (view hand.old) (fresh_chunk fresh)))) (fresh_stamp fresh) (view hand.old) (view hand.new)) }
     ensures no_memory { OnErr result (LosesFresh (setup_of arena.now) key fresh (view hand.old) (view hand.new)) }
     ensures refused { OnErr result (RecordsNoCall (view hand.old) (view hand.new)) }
 {
@@ -99,7 +99,7 @@ pub(crate) fn store_at(
 ) -> Result<mc_words::Ref, NoMemory>
     requires arena { IsHandOf arena.now hand.old }
     requires lent { IsLentStripe (view hand.old) (stripe_number held) (stripe_lent held) }
-    requires near { stripe_number held ≡ stripe_of_key (setup_of arena.now) key }
+    requires in_range { stripe_number held ≡ stripe_of_key (setup_of arena.now) key }
     requires fresh { IsFreshOf (view hand.old) (fresh_chunk fresh) (fresh_room fresh) }
     requires item { IsFilledWith (view hand.old) fresh key (fresh_stamp fresh) }
     requires key { fresh_key fresh ≡ key }
@@ -127,7 +127,7 @@ pub(crate) fn store_at(
 // Unlinks the key's item, if it has one, and puts the key's entry aside, until the hand links the chunk that it fills.
 fn put_aside(arena: &Arena, hand: &mut Hand, held: &mut StripeHeld, key: u64)
     requires arena { IsHandOf arena.now hand.old }
-    requires near { stripe_of_key (setup_of arena.now) key ≡ stripe_number held.old }
+    requires in_range { stripe_of_key (setup_of arena.now) key ≡ stripe_number held.old }
     requires held { HasStripe hand.old held.old }
     requires ready { (stripe_lent held.old).ready ≡ true }
     requires whole { (stripe_lent held.old).state.aside ≡ None }

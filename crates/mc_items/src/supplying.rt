@@ -159,7 +159,7 @@ pub(crate) fn supply_chunk(
     requires held { HasSlabs hand.old held.old }
     requires one { has_no_stripes (view hand.old) ≡ true }
     requires fresh { has_fresh (view hand.old).row.holdings ≡ false }
-    requires few { length (view hand.old).row.holdings ≤ most_refs }
+    requires within_limit { length (view hand.old).row.holdings ≤ most_refs }
     requires whole { (slabs_lent held.old).uncut ≡ None }
     ensures arena { IsHandOf arena.now hand.new }
     ensures locks { locks_of hand.new ≡ locks_of hand.old }

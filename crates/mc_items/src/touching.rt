@@ -31,7 +31,7 @@ pub fn touch<R: Wait>(rt: &R, arena: &Arena, hand: &mut Hand, key: u64) -> Resul
     ensures no_memory { OnErr result (FindsNoRoomFor (setup_of arena.now) key hand.old hand.new) }
     ensures holdings { HoldsAsOften (view hand.old) (view hand.new) }
     ensures keeps { KeepsRefs (view hand.old) (view hand.new) }
-    ensures unsaid { StoresNothing (view hand.old) (view hand.new) }
+    ensures stores_nothing { StoresNothing (view hand.old) (view hand.new) }
 {
     let stripe = key % arena.config().stripes;
     let held = arena.lock_stripe(rt, hand, stripe);

@@ -62,10 +62,10 @@ pub fn set_within(
     ensures number { hand_number hand.new ≡ hand_number hand.old }
     ensures sets { IfOk result (λ stamp. SetsItem (hand_number hand.old) key stamp words.now (view hand.old) (view hand.new)) }
     ensures calls { IfOk result (λ stamp. RecordsSet (hand_number hand.old) key stamp (view hand.old) (view hand.new)) }
-    ensures said { IfOk result (λ stamp. StoresWithStamp (item_with key stamp words.now) stamp (view hand.old) (view hand.new)) }
+    ensures stores_words { IfOk result (λ stamp. StoresWithStamp (item_with key stamp words.now) stamp (view hand.old) (view hand.new)) }
     ensures refused { IfErr result (λ error. RefusesWithin (hand_number hand.old) tries key words.now error (view hand.old) (view hand.new)) }
     ensures evicts { OnErr result (RecordsEviction (hand_number hand.old) (view hand.old) (view hand.new)) }
-    ensures unsaid { OnErr result (StoresNothing (view hand.old) (view hand.new)) }
+    ensures stores_nothing { OnErr result (StoresNothing (view hand.old) (view hand.new)) }
     ensures stamps { OnErr result ((view hand.new).row.ids ≡ (view hand.old).row.ids) }
     ensures holdings { HoldsTheSame (view hand.old) (view hand.new) }
     ensures keeps { KeepsRefs (view hand.old) (view hand.new) }
@@ -99,7 +99,7 @@ fn chunk_within(
     requires class { is_class (setup_of arena.now).table class ≡ true }
     requires unlocked { is_unlocked (view hand.old) ≡ true }
     requires fresh { has_fresh (view hand.old).row.holdings ≡ false }
-    requires few { length (view hand.old).row.holdings ≤ most_refs }
+    requires within_limit { length (view hand.old).row.holdings ≤ most_refs }
     ensures arena { IsHandOf arena.now hand.new }
     ensures locks { locks_of hand.new ≡ locks_of hand.old }
     ensures supplies { IfOk result (λ supplied. IfOk supplied (λ fresh. ActsOnce (SuppliesChunk (hand_number hand.old) class (fresh_chunk fresh)) hand.old hand.new)) }
@@ -138,7 +138,7 @@ fn store_words_within(
     ensures locks { locks_of hand.new ≡ locks_of hand.old }
     ensures stores { IfOk result (λ stored. OnOk stored (StoresFresh (setup_of arena.now) key stamp fresh (hand_number hand.old) (filled_with fresh key stamp words.now (view hand.old)) (view hand.new))) }
     ensures calls { IfOk result (λ stored. OnOk stored (RecordsOn (setup_of arena.now) key (λ number. call.Set number key stamp) hand.old hand.new)) }
-    ensures said { IfOk result (λ stored. OnOk stored (StoresWithStamp (item_with key stamp words.now) stamp (view hand.old) (view hand.new))) }
+    ensures stores_words { IfOk result (λ stored. OnOk stored (StoresWithStamp (item_with key stamp words.now) stamp (view hand.old) (view hand.new))) }
     ensures no_memory { IfOk result (λ stored. OnErr stored (LosesFresh (setup_of arena.now) key fresh (filled_with fresh key stamp words.now (view hand.old)) (view hand.new))) }
     ensures refused { IfOk result (λ stored. OnErr stored (RecordsNoCall (view hand.old) (view hand.new))) }
     ensures missed { OnErr result (MissesFor (setup_of arena.now) tries key fresh (filled_with fresh key stamp words.now (view hand.old)) (view hand.new)) }
@@ -166,7 +166,7 @@ fn store_within(
     ensures locks { locks_of hand.new ≡ locks_of hand.old }
     ensures stores { IfOk result (λ stored. OnOk stored (StoresFresh (setup_of arena.now) key (fresh_stamp fresh) fresh (hand_number hand.old) (view hand.old) (view hand.new))) }
     ensures calls { IfOk result (λ stored. OnOk stored (RecordsOn (setup_of arena.now) key (λ number. call.Set number key (fresh_stamp fresh)) hand.old hand.new)) }
-    ensures said { IfOk result (λ stored. OnOk stored (StoresWithStamp (numbers_of_known (words_of_item (known_words_in (view hand.old) (fresh_chunk fresh)))) (fresh_stamp fresh) (view hand.old) (view hand.new))) }
+    ensures stores_words { IfOk result (λ stored. OnOk stored (StoresWithStamp (numbers_of_known (words_of_item (known_words_in (view hand.old) (fresh_chunk fresh)))) (fresh_stamp fresh) (view hand.old) (view hand.new))) }
     ensures no_memory { IfOk result (λ stored. OnErr stored (LosesFresh (setup_of arena.now) key fresh (view hand.old) (view hand.new))) }
     ensures refused { IfOk result (λ stored. OnErr stored (RecordsNoCall (view hand.old) (view hand.new))) }
     ensures missed { OnErr result (MissesFor (setup_of arena.now) tries key fresh (view hand.old) (view hand.new)) }

@@ -109,7 +109,7 @@ dead_in_chunks owners holds class p (e ∷ items) is once =
     parts (not e.item.linked) (not (is_held holds e.chunk)) (class_of_owner (owner_at owners e.chunk.page) == class) (is e.chunk e.item here) rest
   where
     own_once : place_count e.chunk (e ∷ items) ≤ 1 → place_count e.chunk items ≡ 0
-    own_once few = let self : is_at (chunk_cmp e.chunk) e.chunk ≡ true = rw (chunk_cmp-self e.chunk) refl in omega (arith, few, ap truth self)
+    own_once within_limit = let self : is_at (chunk_cmp e.chunk) e.chunk ≡ true = rw (chunk_cmp-self e.chunk) refl in omega (arith, within_limit, ap truth self)
 
     below : (y : ChunkId) (item : Item) → item_in_chunk items y ≡ Some item → place_count e.chunk items ≡ 0 → item_in_chunk (e ∷ items) y ≡ Some item
     below y item there none = elim (is_at-tells y e.chunk) [

@@ -120,11 +120,11 @@ risen-set (c ∷ counts) (suc place) count zero least above risen = risen
 risen-set (c ∷ counts) (suc place) count (suc other) least above risen = risen-set counts place count other least above risen
 
 small-set : (counts : List ℕ) (place count other : ℕ) → count < 2 ^ 64 → get_or counts other 0 < 2 ^ 64 → get_or (set counts place count) other 0 < 2 ^ 64
-small-set [] place count other few small = small
-small-set (c ∷ counts) zero count zero few small = few
-small-set (c ∷ counts) zero count (suc other) few small = small
-small-set (c ∷ counts) (suc place) count zero few small = small
-small-set (c ∷ counts) (suc place) count (suc other) few small = small-set counts place count other few small
+small-set [] place count other within_limit small = small
+small-set (c ∷ counts) zero count zero within_limit small = within_limit
+small-set (c ∷ counts) zero count (suc other) within_limit small = small
+small-set (c ∷ counts) (suc place) count zero within_limit small = small
+small-set (c ∷ counts) (suc place) count (suc other) within_limit small = small-set counts place count other within_limit small
 
 -- one more item of a class was evicted
 pub watched-evicted : (slabs : SlabState) (class : ℕ) (decider : DeciderState) → HasClass slabs class → IsWatched slabs decider → IsWatched (after_evicted slabs class) decider
@@ -132,7 +132,7 @@ watched-evicted slabs class decider valid was =
     let count : ℕ = (class_at slabs class).evictions in
     let inside : class - 1 < length slabs.classes = omega (arith, valid.0, valid.1) in
     let here : get_or (eviction_counts slabs) (class - 1) 0 ≡ count = get_or-map (λ (c : ClassState). c.evictions) slabs.classes (class - 1) (new_class 0 0) 0 inside in
-    let few : count < 2 ^ 64 = rw here at (was.small (class - 1)) in
+    let within_limit : count < 2 ^ 64 = rw here at (was.small (class - 1)) in
     let above : get_or (eviction_counts slabs) (class - 1) 0 ≤ counter_after count 1 = rw here (grind (arith, nat_tests)) in
     let less : counter_after count 1 < 2 ^ 64 = grind (arith, nat_tests) in
     let now : eviction_counts (after_evicted slabs class) ≡ set (eviction_counts slabs) (class - 1) (counter_after count 1)

@@ -131,7 +131,7 @@ pub(crate) fn class_line(
     cleared: u64,
 ) -> Result<ClassLine, MapError>
     requires class { HasClass keeper.now.slabs class }
-    requires few { length items.now.keys.items ≤ 2 ^ 32 }
+    requires within_limit { length items.now.keys.items ≤ 2 ^ 32 }
     ensures line { IfOk result (IsLine keeper.now items.now.keys.items) }
     ensures class { IfOk result (λ line. line.class ≡ class) }
 {

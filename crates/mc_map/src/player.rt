@@ -317,7 +317,7 @@ impl Player {
     /// What each class has that has pages, or of which an item was ever evicted.
     fn classes(&self) -> Result<Vec<ClassLine>, MapError>
         ensures lines { IfOk result (λ lines. All (IsLine self.now.keeper self.now.items.keys.items) lines.items) }
-        ensures told { IfOk result (λ lines. map (λ line. line.class) lines.items ≡ shown_classes self.now.keeper.slabs (length self.now.keeper.table.sizes)) }
+        ensures records { IfOk result (λ lines. map (λ line. line.class) lines.items ≡ shown_classes self.now.keeper.slabs (length self.now.keeper.table.sizes)) }
     {
         if self.items.keys().len() > MOST_KEYS {
             return Err(MapError::Books);

@@ -31,7 +31,7 @@ pub ready_still : (before now : Hand) → now.locks ≡ before.locks → (view n
 ready_still before now locks holdings ready = record {
   unlocked = sym (unlocked_from now.seat.me.0 now.locks now.noted.4) ∙ (ap is_neither locks ∙ (unlocked_from before.seat.me.0 before.locks before.noted.4 ∙ ready.unlocked));
   unfilled = ap has_fresh holdings ∙ ready.unfilled;
-  few = subst (λ (hs : List Holding). length hs ≤ most_refs) (sym holdings) ready.few;
+  within_limit = subst (λ (hs : List Holding). length hs ≤ most_refs) (sym holdings) ready.within_limit;
 }
 
 -- what is held stays, and what is known grows: so each reference stays
@@ -52,8 +52,8 @@ refs_stay view now same known = refs_kept view now [] same (known ∙ sym (appen
 -- of one hold of the lock of the slabs
 module _ (view taken last now : View) (found left : SlabState) (waits : WaitsForSlabs view found taken) (given : now ≡ slabs_given left last) where
   -- what was said stays, and so do number and stamps
-  pub held_said : last.row.knows.said ≡ taken.row.knows.said → now.row.knows.said ≡ view.row.knows.said
-  held_said same = ap (λ (v : View). v.row.knows.said) given ∙ (same ∙ wait_keeps (λ (v : View). v.row.knows.said) (λ word v. refl) (λ slabs v. refl) view found taken waits)
+  pub held_said : last.row.knows.stored ≡ taken.row.knows.stored → now.row.knows.stored ≡ view.row.knows.stored
+  held_said same = ap (λ (v : View). v.row.knows.stored) given ∙ (same ∙ wait_keeps (λ (v : View). v.row.knows.stored) (λ word v. refl) (λ slabs v. refl) view found taken waits)
 
   -- and so do the hand's own calls
   pub held_mine : last.row.knows.mine ≡ taken.row.knows.mine → now.row.knows.mine ≡ view.row.knows.mine
@@ -80,14 +80,14 @@ module _ (view taken last now : View) (found left : SlabState) (waits : WaitsFor
 
 -- what a call that turns leaves
 pub record Leaves (view now : View) : Type 0 where
-  pub said : now.row.knows.said ≡ view.row.knows.said
+  pub stored : now.row.knows.stored ≡ view.row.knows.stored
   pub ids : now.row.ids ≡ view.row.ids
   pub more : List KnownItem
   pub known : now.row.knows.known ≡ view.row.knows.known ++ more
 
 held_leaves : (view taken last now : View) (found left : SlabState) → WaitsForSlabs view found taken → now ≡ slabs_given left last → Grows taken last → Leaves view now
 held_leaves view taken last now found left waits given grows = record {
-  said = held_said view taken last now found left waits given (ap (λ (s : Stays). s.1) grows.stays);
+  stored = held_said view taken last now found left waits given (ap (λ (s : Stays). s.1) grows.stays);
   ids = held_ids view taken last now found left waits given (ap (λ (s : Stays). s.2) grows.stays);
   more = grows.more;
   known = held_known view taken last now found left waits given grows.more grows.known;

@@ -29,9 +29,9 @@ use Rattle.mc_mover.specs.Copying.{words_copied}
 -- a linked chunk has room for key, stamp and length, and for no more words than a page has
 three_fit : (view : View) → LawfulView view → (slabs : SlabState) → view.slabs ≡ Some slabs → (chunk : ChunkId) → has_chunk view.setup.table chunk ≡ true → was_linked view.row.looks chunk ≡ true
     → (3 ≤ room_in view.setup.table (class_of_page slabs chunk.page)) × (room_in view.setup.table (class_of_page slabs chunk.page) ≤ 2048)
-three_fit view was slabs mine chunk near linked =
+three_fit view was slabs mine chunk in_range linked =
     let m = was.moment in
-    let there = near_here view chunk near was in
+    let there = near_here view chunk in_range was in
     let held = slabs_here view was slabs mine in
     let found : is_some (fold (linked_issue chunk) None (looks_at m.state was.hand)) ≡ true =
     sym (was_linked_is (looks_at m.state was.hand) chunk) ∙ (ap (λ looks. was_linked looks chunk) (looks_here view was) ∙ linked) in
@@ -53,8 +53,8 @@ three_fit view was slabs mine chunk near linked =
 -- the same of the arena's setup, and of a fresh chunk with as much room
 pub three_places : (view : View) (setup : Setup) → LawfulView view → view.setup ≡ setup → (slabs : SlabState) → view.slabs ≡ Some slabs → (chunk : ChunkId) → has_chunk setup.table chunk ≡ true → was_linked view.row.looks chunk ≡ true → (room : ℕ) → room ≡ room_in setup.table (class_of_page slabs chunk.page)
     → (3 ≤ room) × (room ≤ 2048)
-three_places view setup was of slabs mine chunk near linked room is =
-    let fits = three_fit view was slabs mine chunk (ap (λ (s : Setup). has_chunk s.table chunk) of ∙ near) linked in
+three_places view setup was of slabs mine chunk in_range linked room is =
+    let fits = three_fit view was slabs mine chunk (ap (λ (s : Setup). has_chunk s.table chunk) of ∙ in_range) linked in
     subst (λ n. (3 ≤ n) × (n ≤ 2048)) (ap (λ (s : Setup). room_in s.table (class_of_page slabs chunk.page)) of ∙ sym is) fits
 
 -- a chunk that was found linked is so still, whatever word is read of a chunk

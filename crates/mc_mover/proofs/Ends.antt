@@ -48,10 +48,10 @@ class_finished slabs move class (low, high) =
 
 -- the page whose move ended has its destination's class, and the pool is none
 finished_page : (slabs : SlabState) (move : Moving) → move.page < length slabs.owners → class_of_page (after_move_end slabs move) move.page ≡ move.dst
-finished_page slabs move near =
+finished_page slabs move in_range =
     let long : length (slice_set slabs.owners move.page Pool) ≡ length slabs.owners = length-set slabs.owners move.page Pool in
     elim (cases_Bool (move.dst == 0)) [
-      | inl pooled ↦ ap (λ (b : Bool). class_of_page (arrived_if slabs move b) move.page) pooled ∙ (ap class_of_owner (get_or-set_same slabs.owners move.page Pool Untouched near) ∙ sym (eqb-true move.dst 0 pooled))
+      | inl pooled ↦ ap (λ (b : Bool). class_of_page (arrived_if slabs move b) move.page) pooled ∙ (ap class_of_owner (get_or-set_same slabs.owners move.page Pool Untouched in_range) ∙ sym (eqb-true move.dst 0 pooled))
       | inr given ↦
           ap (λ (b : Bool). class_of_page (arrived_if slabs move b) move.page) given
           ∙ ap class_of_owner (get_or-set_same (slice_set slabs.owners move.page Pool) move.page (Class move.dst) Untouched (omega arith))

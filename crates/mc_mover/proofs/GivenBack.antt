@@ -71,7 +71,7 @@ each_given how number from (suc count) view now (next, one, rest) =
     )
 
 pub all_given : (how : StripeChange) (number count : ℕ) (view now : View) → ChangesEach how number (range_with_len 0 count) view now → (stripe : ℕ) → stripe < count → GivesBackChanged how now stripe
-all_given how number count view now each stripe near = (each_given how number 0 count view now each).1 stripe (omega arith) (omega (arith, near))
+all_given how number count view now each stripe in_range = (each_given how number 0 count view now each).1 stripe (omega arith) (omega (arith, in_range))
 
 -- a hold of the slabs lock leaves that
 pub ledger_leaves : (number : ℕ) (view now : View) → HoldsSlabs (TrimsLedger number) view now → (stripe : ℕ) → holds_of now stripe ≡ holds_of view stripe
@@ -81,8 +81,8 @@ ledger_leaves number view now holds stripe =
     ∙ wait_keeps (λ (v : View). holds_of v stripe) (λ word v. refl) (λ slabs v. refl) view holds.found holds.taken holds.waits)
 
 pub given_behind : (how : StripeChange) (number number' count : ℕ) (view between now : View) → ChangesEach how number (range_with_len 0 count) view between → HoldsSlabs (TrimsLedger number') between now → (stripe : ℕ) → stripe < count → GivesBackChanged how now stripe
-given_behind how number number' count view between now each ledger stripe near =
-    changed_by how between now stripe (ledger_leaves number' between now ledger stripe) (all_given how number count view between each stripe near)
+given_behind how number number' count view between now each ledger stripe in_range =
+    changed_by how between now stripe (ledger_leaves number' between now ledger stripe) (all_given how number count view between each stripe in_range)
 
 -- what holds whatever the result is
 pub on_err : {A E P : Type 0} (result : Result A E) → P → OnErr result P
@@ -94,9 +94,9 @@ pub given_up_to : (number : ℕ) (view now : View) → StopsTrimming number Leav
 given_up_to number view now stops =
     let last = stops.stops in (
       stops.stripe,
-      λ below near. changed_by Trim stops.before now below
-          (other_stays Leaves leaves_leave stops.stripe stops.before now last below (λ same. absurd (omega (arith, near, same))))
-          (all_given Trim number stops.stripe view stops.before stops.trims below near),
+      λ below in_range. changed_by Trim stops.before now below
+          (other_stays Leaves leaves_leave stops.stripe stops.before now last below (λ same. absurd (omega (arith, in_range, same))))
+          (all_given Trim number stops.stripe view stops.before stops.trims below in_range),
       (last.found, own_taken Leaves leaves_leave stops.stripe stops.before now last, own_given Leaves leaves_leave stops.stripe stops.before now last ∙ ap Some last.does.0),
     )
 
@@ -110,10 +110,10 @@ taken_unfull stripe view now holds unfull = (holds.found, own_taken OnlyLeaves (
 
 -- one stripe more
 pub unfull_more : (number stripe : ℕ) (view now : View) → HoldsStripe stripe (Changes Trim number stripe) view now → ((below : ℕ) → below < stripe → TakesNotFull view below) → TakesNotFull now stripe → (below : ℕ) → below < stripe + 1 → TakesNotFull now below
-unfull_more number stripe view now holds before own below near =
+unfull_more number stripe view now holds before own below in_range =
     elim (cases_eq below stripe) [
       | inl same ↦ subst (TakesNotFull now) (sym same) own
       | inr apart ↦
-          let (value, taken, unfull) = before below (omega (arith, near, apart)) in
+          let (value, taken, unfull) = before below (omega (arith, in_range, apart)) in
           (value, ap (λ (h : StripeHold). h.found) (other_stays (Changes Trim number stripe) (changes_leave Trim number stripe) stripe view now holds below apart) ∙ taken, unfull)
     ]

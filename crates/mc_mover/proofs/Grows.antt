@@ -38,7 +38,7 @@ abbrev pub Stays : Type 0
 Stays = SlabState × List StoredItem × Ids
 
 abbrev pub stays_of : View → Stays
-stays_of view = (view.row.knows.hold.found, view.row.knows.said, view.row.ids)
+stays_of view = (view.row.knows.hold.found, view.row.knows.stored, view.row.ids)
 
 -- and the items that it ever held
 abbrev Kept : Type 0

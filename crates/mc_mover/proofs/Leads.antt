@@ -55,9 +55,9 @@ module _ (view : View) (stripe : ℕ) (value : ReadyStripe) (key : ℕ) (chunk :
   -- and stands in its class's hand-out order
   pub out_now : (slabs : SlabState) → view.slabs ≡ Some slabs → is_handed_out slabs chunk ≡ true
   out_now slabs mine =
-      let near = near_here view chunk (entry_near view stripe value key chunk stamp to was) was in
+      let in_range = near_here view chunk (entry_near view stripe value key chunk stamp to was) was in
       ap (λ (x : SlabState). is_handed_out x chunk) (sym (slabs_here view was slabs mine).1)
-      ∙ among_once (class_of_chunk m.state.slabs chunk).order chunk (placed_at m was.lawful chunk (head_at m.state chunk).issue near (inr linked_now, refl)).1
+      ∙ among_once (class_of_chunk m.state.slabs chunk).order chunk (placed_at m was.lawful chunk (head_at m.state chunk).issue in_range (inr linked_now, refl)).1
 
 linked_alive : (head : Head) → head.tag ≡ Linked → is_dead head ≡ true → ⊥
 linked_alive head linked dead =

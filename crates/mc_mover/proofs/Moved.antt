@@ -205,9 +205,9 @@ module _ (chunk copy : ChunkId) (key stamp : ℕ) (words : List ℕ) (view fille
       pub leads_nowhere : LawfulView filled → slice_index_or filled.stripes stripe None ≡ Some value → chunk_and_stamp left.state key ≡ None
       leads_nowhere was mine =
           let here = stripe_here filled stripe value mine was in
-          let near = stripe_near filled stripe value mine was in
+          let in_range = stripe_near filled stripe value mine was in
           let long = was.stripes in
-          let rising : AreRising value.state.index = subst (λ (v : ReadyStripe). AreRising v.state.index) here.1 (was.lawful.legal.legal stripe new_stripe (omega (arith, near, long))).rising in
+          let rising : AreRising value.state.index = subst (λ (v : ReadyStripe). AreRising v.state.index) here.1 (was.lawful.legal.legal stripe new_stripe (omega (arith, in_range, long))).rising in
           (λ k. chunk_and_stamp (took.left_is k).state (sym same_key k))
           ∙ (at_without_entry value.state.index took.key took.key rising ∙ ap (λ (b : Bool). cond b None (entry_at value.state.index took.key)) (nat_eq_same took.key took.key refl))
 

@@ -46,12 +46,12 @@ clear_unheld chunk view now h = by h.was.moment.state h.was.lawful.counted (head
         (is_listed state.slabs (class_of_page state.slabs chunk.page) chunk) (may_step h).allowed
 
     by : (state : State) → AreCounted state.table state.heads state.holdings → (head : Head) → head_at state chunk ≡ head → has_chunk state.table chunk ≡ true → (is_free head.tag ≡ true) ⊎ (is_free head.tag ≡ false) → (is_free head.tag || is_dead head) ≡ true → holder_count chunk state.holdings ≡ 0
-    by state counted head is near (inl free) either =
-        let sum = counted.counted chunk near in
-        let none = counted.shut chunk near (inl (ap (λ (h : Head). is_free h.tag) is ∙ free)) in
+    by state counted head is in_range (inl free) either =
+        let sum = counted.counted chunk in_range in
+        let none = counted.shut chunk in_range (inl (ap (λ (h : Head). is_free h.tag) is ∙ free)) in
         omega arith
-    by state counted head is near (inr used) either =
-        let sum = counted.counted chunk near in
+    by state counted head is in_range (inr used) either =
+        let sum = counted.counted chunk in_range in
         let dead : is_dead head ≡ true = sym (ap (λ (b : Bool). b || is_dead head) used) ∙ either in
         let zero : head.count ≡ 0 = eqb-true head.count 0 (and_parts (is_unlinked head.tag) (head.count == 0) dead).1 in
         let same : (head_at state chunk).count ≡ head.count = ap (λ (h : Head). h.count) is in
@@ -70,9 +70,9 @@ condemn_unheld chunk view now h = by h.was.moment.state h.was.lawful.counted par
         (has_reason state.table state.heads state.slabs (looks_at state h.was.hand) (holdings_at state h.was.hand) chunk) (may_step h).allowed
 
     by : (state : State) → AreCounted state.table state.heads state.holdings → has_chunk state.table chunk ≡ true → is_linked_unheld (head_at state chunk) ≡ true → holder_count chunk state.holdings ≡ 0
-    by state counted near alone =
+    by state counted in_range alone =
         let both = and_parts (is_linked (head_at state chunk).tag) ((head_at state chunk).count == 1) alone in
-        let sum = counted.counted chunk near in
+        let sum = counted.counted chunk in_range in
         let link : truth (is_linked (head_at state chunk).tag) ≡ 1 = ap truth both.0 in
         let one : (head_at state chunk).count ≡ 1 = eqb-true (head_at state chunk).count 1 both.1 in
         omega arith

@@ -33,7 +33,7 @@ abbrev pub Kept : Type 0
 Kept = List Holding × List KnownItem × List StoredItem × List Own × Ids
 
 abbrev pub kept_of : View → Kept
-kept_of view = (view.row.holdings, view.row.knows.known, view.row.knows.said, view.row.knows.mine, view.row.ids)
+kept_of view = (view.row.holdings, view.row.knows.known, view.row.knows.stored, view.row.knows.mine, view.row.ids)
 
 -- what is done on a stripe leaves these
 abbrev pub IsQuiet : Doing → Type 0
@@ -120,7 +120,7 @@ module _ (before now : Hand) (same : kept_of (view now) ≡ kept_of (view before
   pub refs_kept : KeepsRefs (view before) (view now)
   refs_kept = refs_stay (view before) (view now) holdings_kept (ap (λ (k : Kept). k.1) same)
 
-  pub said_kept : (view now).row.knows.said ≡ (view before).row.knows.said
+  pub said_kept : (view now).row.knows.stored ≡ (view before).row.knows.stored
   said_kept = ap (λ (k : Kept). k.2) same
 
   pub mine_kept : (view now).row.knows.mine ≡ (view before).row.knows.mine

@@ -184,13 +184,13 @@ gone_more number rounds counts more sweep found then next view slabs between kep
 pub lacks_next : (number rounds : ℕ) (counts : Counts) (sweep : Sweep) (move : Moving) (view : View) (slabs : SlabState) (between : View) (kept : SlabState) (now : View) (left : SlabState)
     → GoneThrough number rounds counts sweep view slabs between kept → rounds < view.setup.config.bulk → kept.moving ≡ Some move → move.at < (class_at kept move.src).per_page
     → LacksCallToSave (chunk_at_position move) between kept now left → TurnLacksMemory number view slabs now left
-lacks_next number rounds counts sweep move view slabs between kept now left gone few here within lacks =
+lacks_next number rounds counts sweep move view slabs between kept now left gone within_limit here within lacks =
     let same : move ≡ gone.next = same_Some move gone.next (sym here ∙ gone.runs_on) in
     let count : length gone.found ≡ rounds = gone.count in record {
       first = gone.move;
       began = gone.runs;
       found = gone.found;
-      few = omega arith;
+      within_limit = omega arith;
       looked = between;
       kept = kept;
       last = sweep;
@@ -238,7 +238,7 @@ module _ (setup : Setup) (view : View) (was : LawfulView view) (first : view.set
 
   pub counts_small : AreBelow (2 ^ 32) counts
   counts_small =
-      let few = few_chunks view was slabs mine gone.move gone.runs in
+      let within_limit = few_chunks view was slabs mine gone.move gone.runs in
       let within = rounds_within in
       let small = gone.small in
       (omega (arith, small.0), omega (arith, small.1), omega (arith, small.2), omega (arith, small.3), omega (arith, small.4))

@@ -39,10 +39,10 @@ module _ (view now : View) (slabs : SlabState) (mine : view.slabs ≡ Some slabs
 
   -- one that was found out
   pub out_found : LawfulView now → has_chunk now.setup.table chunk ≡ true → (class : ℕ) → HasClass slabs class → is_cut slabs class chunk ≡ true → is_out head.tag ≡ true → is_cleared slabs class chunk ≡ true
-  out_found was near class valid cut out =
+  out_found was in_range class valid cut out =
       let mine' : now.slabs ≡ Some slabs = ap (λ (v : View). v.slabs) is ∙ seen_slabs view chunk head slabs mine in
       let last : seen_head now.row.looks chunk ≡ Some head = ap (λ (v : View). seen_head v.row.looks chunk) is ∙ seen_last view chunk head slabs mine in
-      let still = (was.lawful.seen was.hand (slabs_here now was slabs mine').0).last_heads chunk head (near_here now chunk near was) (ap (λ looks. seen_head looks chunk) (looks_here now was) ∙ last) in
+      let still = (was.lawful.seen was.hand (slabs_here now was slabs mine').0).last_heads chunk head (near_here now chunk in_range was) (ap (λ looks. seen_head looks chunk) (looks_here now was) ∙ last) in
       let same : head_at was.moment.state chunk ≡ head = still.0 (or_left (is_out head.tag || is_free head.tag) (is_dead head) (or_left (is_out head.tag) (is_free head.tag) out)) in
       cleared_out now was slabs mine' class chunk valid cut (ap (λ (h : Head). is_out h.tag) same ∙ out)
 

@@ -43,7 +43,7 @@ abbrev Told : Type 0
 Told = Setup × Ids × List StoredItem × List Own
 
 abbrev told_of : View → Told
-told_of view = (view.setup, view.row.ids, view.row.knows.said, view.row.knows.mine)
+told_of view = (view.setup, view.row.ids, view.row.knows.stored, view.row.knows.mine)
 
 -- with a call more
 abbrev told_call : ℕ → ℕ → Call → Told → Told
@@ -284,7 +284,7 @@ module _ (number : ℕ) (view : View) (was : LawfulView view) (own : view.row.id
         rescued = let count = tells.rescued no_counts in let is = ap (λ (c : Counts). c.rescued) are in omega (arith, count, is);
         come = come;
         more = calls_more view now was number own tells.calls come;
-        said = ap (λ (t : Told). t.2) all;
+        stored = ap (λ (t : Told). t.2) all;
         ids = ap (λ (t : Told). t.1) all;
       }
 
@@ -299,9 +299,9 @@ module _ (number : ℕ) (view : View) (was : LawfulView view) (own : view.row.id
 
   tells_fewer : (slabs left : SlabState) → TurnLacksMemory number taken slabs last left → RecordsFewer number view now
   tells_fewer slabs left lacks =
-      let few : length lacks.found < view.setup.config.bulk = subst (λ (t : Told). length lacks.found < t.0.config.bulk) before lacks.few in
+      let within_limit : length lacks.found < view.setup.config.bulk = subst (λ (t : Told). length lacks.found < t.0.config.bulk) before lacks.within_limit in
       let given : told_of last ≡ told_of lacks.looked = ap told_of lacks.lacks.does.1.does.2.0 ∙ taken_told _ _ _ lacks.kept last left lacks.lacks.does.1 in
-      (lacks.found, few, tells_found lacks.found lacks.looked (sections_tell number Due lacks.found lacks.last taken slabs lacks.looked lacks.kept lacks.sections) given (counts_with_all lacks.found no_counts) refl)
+      (lacks.found, within_limit, tells_found lacks.found lacks.looked (sections_tell number Due lacks.found lacks.last taken slabs lacks.looked lacks.kept lacks.sections) given (counts_with_all lacks.found no_counts) refl)
 
 -- a turn tells as many evictions and rescues as it counts
 pub turn_told : (number : ℕ) (turn : Turn) (view now : View) → LawfulView view → view.row.ids.number ≡ Some number → HoldsSlabs (Turns number turn) view now → RecordsAsCounted number (counts_in turn) view now

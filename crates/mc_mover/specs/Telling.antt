@@ -59,7 +59,7 @@ pub record RecordsAsCounted (number : ℕ) (counts : Counts) (view now : View) :
   pub come : now.row.knows.mine ≡ with_own_calls number view.setup.config.stripes calls view.row.knows.mine
   -- the hand's own calls of each kind grew by those of that kind that came
   pub more : (is : Call → Bool) → count_of_calls is now ≡ count_of_calls is view + count_by is calls
-  pub said : now.row.knows.said ≡ view.row.knows.said
+  pub stored : now.row.knows.stored ≡ view.row.knows.stored
   pub ids : now.row.ids ≡ view.row.ids
 
 -- the hand's own calls have as many more evictions and rescues as counted, and as many others as before

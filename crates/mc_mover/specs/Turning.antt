@@ -116,7 +116,7 @@ pub record TurnLacksMemory (number : ℕ) (view : View) (slabs : SlabState) (now
   pub first : Moving
   pub began : slabs.moving ≡ Some first
   pub found : List Found
-  pub few : length found < view.setup.config.bulk
+  pub within_limit : length found < view.setup.config.bulk
   pub looked : View
   pub kept : SlabState
   pub last : Sweep

@@ -24,7 +24,7 @@ pub(crate) fn copy_item(
     chunk: ChunkId,
 )
     requires arena { IsHandOf arena.now hand.old }
-    requires near { has_chunk (setup_of arena.now).table chunk ≡ true }
+    requires in_range { has_chunk (setup_of arena.now).table chunk ≡ true }
     requires held { HasSlabs hand.old held.now }
     requires linked { was_linked (view hand.old).row.looks chunk ≡ true }
     requires fresh { IsFreshOf (view hand.old) (fresh_chunk fresh.old) (fresh_room fresh.old) }
@@ -56,7 +56,7 @@ fn copy_word(
     place: u64,
 ) -> u64
     requires arena { IsHandOf arena.now hand.old }
-    requires near { has_chunk (setup_of arena.now).table chunk ≡ true }
+    requires in_range { has_chunk (setup_of arena.now).table chunk ≡ true }
     requires held { HasSlabs hand.old held.now }
     requires linked { was_linked (view hand.old).row.looks chunk ≡ true }
     requires fresh { IsFreshOf (view hand.old) (fresh_chunk fresh.old) (fresh_room fresh.old) }

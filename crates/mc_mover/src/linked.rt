@@ -42,7 +42,7 @@ pub(crate) fn visit_linked(
     sweep: &mut Sweep,
 ) -> Result<Found, NoMemory>
     requires arena { IsHandOf arena.now hand.old }
-    requires near { has_chunk (setup_of arena.now).table chunk ≡ true }
+    requires in_range { has_chunk (setup_of arena.now).table chunk ≡ true }
     requires class { is_class (setup_of arena.now).table class ≡ true }
     requires held { HasSlabs hand.old held.old }
     requires own { class_of_page (slabs_lent held.old) chunk.page ≡ class }
@@ -51,7 +51,7 @@ pub(crate) fn visit_linked(
     requires linked { was_linked (view hand.old).row.looks chunk ≡ true }
     requires one { has_no_stripes (view hand.old) ≡ true }
     requires fresh { has_fresh (view hand.old).row.holdings ≡ false }
-    requires few { length (view hand.old).row.holdings ≤ most_refs }
+    requires within_limit { length (view hand.old).row.holdings ≤ most_refs }
     ensures arena { IsHandOf arena.now hand.new }
     ensures locks { locks_of hand.new ≡ locks_of hand.old }
     ensures held { HasSlabs hand.new held.new }
@@ -104,7 +104,7 @@ fn save(
     sweep: &mut Sweep,
 ) -> Result<Found, NoMemory>
     requires arena { IsHandOf arena.now hand.old }
-    requires near { has_chunk (setup_of arena.now).table chunk ≡ true }
+    requires in_range { has_chunk (setup_of arena.now).table chunk ≡ true }
     requires class { is_class (setup_of arena.now).table class ≡ true }
     requires slabs { HasSlabs hand.old slabs.old }
     requires lent { IsLentStripe (view hand.old) (stripe_number stripe) (stripe_lent stripe) }
@@ -115,7 +115,7 @@ fn save(
     requires moving { is_on_the_move (slabs_lent slabs.old) chunk.page ≡ true }
     requires linked { was_linked (view hand.old).row.looks chunk ≡ true }
     requires fresh { has_fresh (view hand.old).row.holdings ≡ false }
-    requires few { length (view hand.old).row.holdings ≤ most_refs }
+    requires within_limit { length (view hand.old).row.holdings ≤ most_refs }
     ensures arena { IsHandOf arena.now hand.new }
     ensures locks { locks_of hand.new ≡ without_stripe (locks_of hand.old) }
     ensures slabs { HasSlabs hand.new slabs.new }
@@ -159,7 +159,7 @@ fn sweep_and_save(
     chunk: ChunkId,
 ) -> Found
     requires arena { IsHandOf arena.now hand.old }
-    requires near { has_chunk (setup_of arena.now).table chunk ≡ true }
+    requires in_range { has_chunk (setup_of arena.now).table chunk ≡ true }
     requires class { is_class (setup_of arena.now).table class ≡ true }
     requires slabs { HasSlabs hand.old slabs.old }
     requires stripe { HasStripe hand.old stripe }
@@ -173,7 +173,7 @@ fn sweep_and_save(
     requires moving { is_on_the_move (slabs_lent slabs.old) chunk.page ≡ true }
     requires linked { was_linked (view hand.old).row.looks chunk ≡ true }
     requires fresh { has_fresh (view hand.old).row.holdings ≡ false }
-    requires few { length (view hand.old).row.holdings ≤ most_refs }
+    requires within_limit { length (view hand.old).row.holdings ≤ most_refs }
     ensures arena { IsHandOf arena.now hand.new }
     ensures locks { locks_of hand.new ≡ without_stripe (locks_of hand.old) }
     ensures slabs { HasSlabs hand.new slabs.new }
@@ -199,7 +199,7 @@ fn rescue_to_target(
     chunk: ChunkId,
 ) -> Result<Found, StripeHeld>
     requires arena { IsHandOf arena.now hand.old }
-    requires near { has_chunk (setup_of arena.now).table chunk ≡ true }
+    requires in_range { has_chunk (setup_of arena.now).table chunk ≡ true }
     requires slabs { HasSlabs hand.old slabs.old }
     requires stripe { HasStripe hand.old stripe }
     requires ready { (stripe_lent stripe).ready ≡ true }
@@ -211,7 +211,7 @@ fn rescue_to_target(
     requires moving { is_on_the_move (slabs_lent slabs.old) chunk.page ≡ true }
     requires linked { was_linked (view hand.old).row.looks chunk ≡ true }
     requires fresh { has_fresh (view hand.old).row.holdings ≡ false }
-    requires few { length (view hand.old).row.holdings ≤ most_refs }
+    requires within_limit { length (view hand.old).row.holdings ≤ most_refs }
     ensures arena { IsHandOf arena.now hand.new }
     ensures slabs { HasSlabs hand.new slabs.new }
     ensures locks { IfOk result (λ found. locks_of hand.new ≡ without_stripe (locks_of hand.old)) }

@@ -37,8 +37,8 @@ pub fn reassign<R: Wait>(
     ensures reassigns { ActsOnceByNumber (λ number. Reassigns number src dst result) hand.old hand.new }
     ensures holdings { (view hand.new).row.holdings ≡ (view hand.old).row.holdings }
     ensures keeps { KeepsRefs (view hand.old) (view hand.new) }
-    ensures unsaid { (view hand.new).row.knows.said ≡ (view hand.old).row.knows.said }
-    ensures untold { (view hand.new).row.knows.mine ≡ (view hand.old).row.knows.mine }
+    ensures stores_nothing { (view hand.new).row.knows.stored ≡ (view hand.old).row.knows.stored }
+    ensures records_nothing { (view hand.new).row.knows.mine ≡ (view hand.old).row.knows.mine }
 {
     let mut held = arena.lock_slabs(rt, hand);
     let answer = arena.begin_move(hand, &mut held, src, dst);
@@ -59,8 +59,8 @@ pub fn set_mode<R: Wait>(rt: &R, arena: &Arena, hand: &mut Hand, mode: u64)
     ensures sets { ActsOnceByNumber (λ number. SetsMode number mode) hand.old hand.new }
     ensures holdings { (view hand.new).row.holdings ≡ (view hand.old).row.holdings }
     ensures keeps { KeepsRefs (view hand.old) (view hand.new) }
-    ensures unsaid { (view hand.new).row.knows.said ≡ (view hand.old).row.knows.said }
-    ensures untold { (view hand.new).row.knows.mine ≡ (view hand.old).row.knows.mine }
+    ensures stores_nothing { (view hand.new).row.knows.stored ≡ (view hand.old).row.knows.stored }
+    ensures records_nothing { (view hand.new).row.knows.mine ≡ (view hand.old).row.knows.mine }
 {
     let mut held = arena.lock_slabs(rt, hand);
     arena.set_automove(hand, &mut held, mode);

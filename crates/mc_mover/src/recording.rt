@@ -35,8 +35,8 @@ pub fn trim<R: Wait>(rt: &R, arena: &Arena, hand: &mut Hand) -> Result<(), Trim>
         → StopsTrimming (hand_number hand.old) FindsNotFull (view hand.old) (view hand.new) }
     ensures holdings { (view hand.new).row.holdings ≡ (view hand.old).row.holdings }
     ensures keeps { KeepsRefs (view hand.old) (view hand.new) }
-    ensures unsaid { (view hand.new).row.knows.said ≡ (view hand.old).row.knows.said }
-    ensures untold { (view hand.new).row.knows.mine ≡ (view hand.old).row.knows.mine }
+    ensures stores_nothing { (view hand.new).row.knows.stored ≡ (view hand.old).row.knows.stored }
+    ensures records_nothing { (view hand.new).row.knows.mine ≡ (view hand.old).row.knows.mine }
 {
     trim_stripes(rt, arena, hand)?;
     trim_ledger(rt, arena, hand);
@@ -55,8 +55,8 @@ pub fn trim_ledger<R: Wait>(rt: &R, arena: &Arena, hand: &mut Hand)
     ensures trims { ActsOnceByNumber TrimsLedger hand.old hand.new }
     ensures holdings { (view hand.new).row.holdings ≡ (view hand.old).row.holdings }
     ensures keeps { KeepsRefs (view hand.old) (view hand.new) }
-    ensures unsaid { (view hand.new).row.knows.said ≡ (view hand.old).row.knows.said }
-    ensures untold { (view hand.new).row.knows.mine ≡ (view hand.old).row.knows.mine }
+    ensures stores_nothing { (view hand.new).row.knows.stored ≡ (view hand.old).row.knows.stored }
+    ensures records_nothing { (view hand.new).row.knows.mine ≡ (view hand.old).row.knows.mine }
 {
     let mut held = arena.lock_slabs(rt, hand);
     arena.trim_ledger(hand, &mut held);
@@ -77,8 +77,8 @@ pub fn forget<R: Wait>(rt: &R, arena: &Arena, hand: &mut Hand)
     ensures given { (stripe : ℕ) → stripe < (setup_of arena.now).config.stripes → GivesBackChanged Forget (view hand.new) stripe }
     ensures holdings { (view hand.new).row.holdings ≡ (view hand.old).row.holdings }
     ensures keeps { KeepsRefs (view hand.old) (view hand.new) }
-    ensures unsaid { (view hand.new).row.knows.said ≡ (view hand.old).row.knows.said }
-    ensures untold { (view hand.new).row.knows.mine ≡ (view hand.old).row.knows.mine }
+    ensures stores_nothing { (view hand.new).row.knows.stored ≡ (view hand.old).row.knows.stored }
+    ensures records_nothing { (view hand.new).row.knows.mine ≡ (view hand.old).row.knows.mine }
 {
     for stripe in 0..arena.config().stripes {
         forget_stripe(rt, arena, hand, stripe);
@@ -102,8 +102,8 @@ fn trim_stripes<R: Wait>(rt: &R, arena: &Arena, hand: &mut Hand) -> Result<(), T
         → StopsTrimming (hand_number hand.old) FindsNotFull (view hand.old) (view hand.new) }
     ensures holdings { (view hand.new).row.holdings ≡ (view hand.old).row.holdings }
     ensures keeps { KeepsRefs (view hand.old) (view hand.new) }
-    ensures unsaid { (view hand.new).row.knows.said ≡ (view hand.old).row.knows.said }
-    ensures untold { (view hand.new).row.knows.mine ≡ (view hand.old).row.knows.mine }
+    ensures stores_nothing { (view hand.new).row.knows.stored ≡ (view hand.old).row.knows.stored }
+    ensures records_nothing { (view hand.new).row.knows.mine ≡ (view hand.old).row.knows.mine }
 {
     for stripe in 0..arena.config().stripes {
         trim_stripe(rt, arena, hand, stripe)?;
@@ -115,7 +115,7 @@ fn trim_stripes<R: Wait>(rt: &R, arena: &Arena, hand: &mut Hand) -> Result<(), T
 fn trim_stripe<R: Wait>(rt: &R, arena: &Arena, hand: &mut Hand, stripe: u64) -> Result<(), Trim>
     requires arena { IsHandOf arena.now hand.old }
     requires ready { IsReady (view hand.old) }
-    requires near { stripe < (setup_of arena.now).config.stripes }
+    requires in_range { stripe < (setup_of arena.now).config.stripes }
     ensures arena { IsHandOf arena.now hand.new }
     ensures ready { IsReady (view hand.new) }
     ensures locks { locks_of hand.new ≡ locks_of hand.old }
@@ -140,7 +140,7 @@ fn trim_stripe<R: Wait>(rt: &R, arena: &Arena, hand: &mut Hand, stripe: u64) -> 
 fn forget_stripe<R: Wait>(rt: &R, arena: &Arena, hand: &mut Hand, stripe: u64)
     requires arena { IsHandOf arena.now hand.old }
     requires ready { IsReady (view hand.old) }
-    requires near { stripe < (setup_of arena.now).config.stripes }
+    requires in_range { stripe < (setup_of arena.now).config.stripes }
     ensures arena { IsHandOf arena.now hand.new }
     ensures ready { IsReady (view hand.new) }
     ensures locks { locks_of hand.new ≡ locks_of hand.old }

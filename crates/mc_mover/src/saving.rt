@@ -29,7 +29,7 @@ pub(crate) fn evict(
     chunk: ChunkId,
 ) -> Found
     requires arena { IsHandOf arena.now hand.old }
-    requires near { has_chunk (setup_of arena.now).table chunk ≡ true }
+    requires in_range { has_chunk (setup_of arena.now).table chunk ≡ true }
     requires slabs { HasSlabs hand.old slabs.old }
     requires inside { stripe_number stripe < (setup_of arena.now).config.stripes }
     requires stripe { HasStripe hand.old stripe }
@@ -67,7 +67,7 @@ pub(crate) fn rescue(
     chunk: ChunkId,
 ) -> Found
     requires arena { IsHandOf arena.now hand.old }
-    requires near { has_chunk (setup_of arena.now).table chunk ≡ true }
+    requires in_range { has_chunk (setup_of arena.now).table chunk ≡ true }
     requires near_copy { has_chunk (setup_of arena.now).table (fresh_chunk fresh) ≡ true }
     requires slabs { HasSlabs hand.old slabs.old }
     requires inside { stripe_number stripe < (setup_of arena.now).config.stripes }
@@ -116,7 +116,7 @@ pub(crate) fn move_item(
     chunk: ChunkId,
 ) -> Result<(), Moved>
     requires arena { IsHandOf arena.now hand.old }
-    requires near { has_chunk (setup_of arena.now).table chunk ≡ true }
+    requires in_range { has_chunk (setup_of arena.now).table chunk ≡ true }
     requires slabs { HasSlabs hand.old slabs.old }
     requires stripe { HasStripe hand.old stripe.old }
     requires ready { (stripe_lent stripe.old).ready ≡ true }

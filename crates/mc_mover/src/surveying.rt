@@ -37,8 +37,8 @@ pub fn survey<R: Wait>(
     ensures no_memory { OnErr result (view hand.new ≡ view hand.old) }
     ensures holdings { (view hand.new).row.holdings ≡ (view hand.old).row.holdings }
     ensures keeps { KeepsRefs (view hand.old) (view hand.new) }
-    ensures unsaid { (view hand.new).row.knows.said ≡ (view hand.old).row.knows.said }
-    ensures untold { (view hand.new).row.knows.mine ≡ (view hand.old).row.knows.mine }
+    ensures stores_nothing { (view hand.new).row.knows.stored ≡ (view hand.old).row.knows.stored }
+    ensures records_nothing { (view hand.new).row.knows.mine ≡ (view hand.old).row.knows.mine }
 {
     let count = arena.classes().count();
     let room = with_capacity(alloc, count as usize)?;

@@ -45,11 +45,11 @@ pub fn turn<R: Wait>(rt: &R, arena: &Arena, hand: &mut Hand) -> Result<Turn, NoM
     ensures turns { IfOk result (λ turn. ActsOnceByNumber (λ number. Turns number turn) hand.old hand.new) }
     ensures lacks { OnErr result (ActsOnceByNumber TurnLacksMemory hand.old hand.new) }
     ensures answers { IfOk result (AnswersMove (view hand.new)) }
-    ensures told { IfOk result (RecordsTurn hand.old hand.new) }
+    ensures records { IfOk result (RecordsTurn hand.old hand.new) }
     ensures told_before { OnErr result (RecordsUntilStopped hand.old hand.new) }
     ensures holdings { (view hand.new).row.holdings ≡ (view hand.old).row.holdings }
     ensures keeps { KeepsRefs (view hand.old) (view hand.new) }
-    ensures unsaid { (view hand.new).row.knows.said ≡ (view hand.old).row.knows.said }
+    ensures stores_nothing { (view hand.new).row.knows.stored ≡ (view hand.old).row.knows.stored }
 {
     arena.rest(rt, arena.config().bulk);
     let mut held = arena.lock_slabs(rt, hand);
@@ -70,11 +70,11 @@ pub fn try_turn(arena: &Arena, hand: &mut Hand) -> Result<Turn, TryTurn>
     ensures held { result ≡ Err TryTurn.Held → FindsSlabsHeld hand.old hand.new }
     ensures lacks { result ≡ Err (TryTurn.NoMemory tt) → ActsOnceByNumber TurnLacksMemory hand.old hand.new }
     ensures answers { IfOk result (AnswersMove (view hand.new)) }
-    ensures told { IfOk result (RecordsTurn hand.old hand.new) }
+    ensures records { IfOk result (RecordsTurn hand.old hand.new) }
     ensures told_before { result ≡ Err (TryTurn.NoMemory tt) → RecordsUntilStopped hand.old hand.new }
     ensures holdings { (view hand.new).row.holdings ≡ (view hand.old).row.holdings }
     ensures keeps { KeepsRefs (view hand.old) (view hand.new) }
-    ensures unsaid { (view hand.new).row.knows.said ≡ (view hand.old).row.knows.said }
+    ensures stores_nothing { (view hand.new).row.knows.stored ≡ (view hand.old).row.knows.stored }
 {
     let Ok(mut held) = arena.try_slabs(hand) else {
         return Err(TryTurn::Held);
@@ -94,7 +94,7 @@ fn turn_held(arena: &Arena, hand: &mut Hand, held: &mut SlabsHeld) -> Result<Tur
     requires whole { (slabs_lent held.old).uncut ≡ None }
     requires one { has_no_stripes (view hand.old) ≡ true }
     requires fresh { has_fresh (view hand.old).row.holdings ≡ false }
-    requires few { length (view hand.old).row.holdings ≤ most_refs }
+    requires within_limit { length (view hand.old).row.holdings ≤ most_refs }
     ensures arena { IsHandOf arena.now hand.new }
     ensures locks { locks_of hand.new ≡ locks_of hand.old }
     ensures held { HasSlabs hand.new held.new }

@@ -32,7 +32,7 @@ pub(crate) fn visit(
     sweep: &mut Sweep,
 ) -> Result<Found, NoMemory>
     requires arena { IsHandOf arena.now hand.old }
-    requires near { has_chunk (setup_of arena.now).table chunk ≡ true }
+    requires in_range { has_chunk (setup_of arena.now).table chunk ≡ true }
     requires class { is_class (setup_of arena.now).table class ≡ true }
     requires held { HasSlabs hand.old held.old }
     requires own { class_of_page (slabs_lent held.old) chunk.page ≡ class }
@@ -40,7 +40,7 @@ pub(crate) fn visit(
     requires cut { is_cut (slabs_lent held.old) class chunk ≡ true }
     requires one { has_no_stripes (view hand.old) ≡ true }
     requires fresh { has_fresh (view hand.old).row.holdings ≡ false }
-    requires few { length (view hand.old).row.holdings ≤ most_refs }
+    requires within_limit { length (view hand.old).row.holdings ≤ most_refs }
     ensures arena { IsHandOf arena.now hand.new }
     ensures locks { locks_of hand.new ≡ locks_of hand.old }
     ensures held { HasSlabs hand.new held.new }

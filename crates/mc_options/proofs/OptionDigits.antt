@@ -19,7 +19,7 @@ model = numerals_by_value _ tells_all_ascii_digits
 
 -- five digits are a number below 100,000
 small : (word : List ℕ) → all_ascii_digits word ≡ true → length word ≤ 5 → digits_value 10 word < 2 ^ 64
-small word digits few = lt_of_lt_of_le (digits_value_short model word 5 digits few) (lit≤ tt)
+small word digits within_limit = lt_of_lt_of_le (digits_value_short model word 5 digits within_limit) (lit≤ tt)
 
 from_result : {E : Type 0} (word : List ℕ) (r : Result ℕ E) → OkIff r ((0 < length word) × (digits_value 10 word < 2 ^ 64)) (digits_value 10 word) → is_short_number word ≡ true → result_ok r ≡ short_number_of word
 from_result word (Ok value) h short = ap Some h.1 ∙ sym (cond-true _ _ _ short)

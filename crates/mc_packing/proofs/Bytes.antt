@@ -24,7 +24,7 @@ length_bytes_in word = refl
 
 -- asked for eight of its bytes or more, a word gives all
 pub all_eight : (count word : ℕ) → 8 ≤ count → take count (bytes_of_word word) ≡ bytes_of_word word
-all_eight count word many = take_all count (bytes_of_word word) (omega (arith, length_bytes_in word))
+all_eight count word at_limit = take_all count (bytes_of_word word) (omega (arith, length_bytes_in word))
 
 pub word_again : (word : ℕ) → word < 2 ^ 64 → packed_word (bytes_of_word word) ≡ word
 unfolding packed_word bytes_of_word
@@ -105,8 +105,8 @@ front_padded : (b : List ℕ) → take (length b) (padded b) ≡ take 8 b
 unfolding padded
 front_padded b =
     ⊎_elim
-    (λ (few : length b < 8). rw (take_all 8 b (omega arith)) (take_at b (replicate (8 - length b) 0) (length b) refl))
-    (λ (many : 8 ≤ length b).
+    (λ (within_limit : length b < 8). rw (take_all 8 b (omega arith)) (take_at b (replicate (8 - length b) 0) (length b) refl))
+    (λ (at_limit : 8 ≤ length b).
     take_all (length b) (take 8 b ++ replicate (8 - length b) 0) (omega (arith, length-append (take 8 b) (replicate (8 - length b) 0), length-take 8 b, length-replicate {A = ℕ} (8 - length b) 0))
     ∙ ap (λ (more : List ℕ). take 8 b ++ more) (nil_from_length (replicate (8 - length b) 0) (omega (arith, length-replicate {A = ℕ} (8 - length b) 0)))
     ∙ append-nil (take 8 b))
@@ -122,10 +122,10 @@ word_of_eight b = same_word (take 8 b) b (λ i less. get_or-take 8 b i 0 less)
 -- bytes that were made words come back, also where other words follow
 pub bytes_back : (n : ℕ) (b more : List ℕ) → AreBytes b → length b ≤ 8 * n → bytes_of_words (length b) (packed_words_from n b ++ more) ≡ b
 unfolding bytes_of_words packed_words_from
-bytes_back zero b more h few =
+bytes_back zero b more h within_limit =
     let none : length b ≡ 0 = omega arith in
     ap (λ (k : ℕ). bytes_of_words k more) none ∙ no_bytes more ∙ sym (nil_from_length b none)
-bytes_back (suc n) b more h few =
+bytes_back (suc n) b more h within_limit =
     let len : length (drop 8 b) ≡ length b - 8 = length-drop 8 b in
     let rest : bytes_of_words (length (drop 8 b)) (packed_words_from n (drop 8 b) ++ more) ≡ drop 8 b = bytes_back n (drop 8 b) more (bytes_drop 8 b h) (omega arith) in
     let back : bytes_of_words (length b - 8) (packed_words_from n (drop 8 b) ++ more) ≡ drop 8 b = subst (λ (k : ℕ). bytes_of_words k (packed_words_from n (drop 8 b) ++ more) ≡ drop 8 b) len rest in

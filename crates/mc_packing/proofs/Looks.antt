@@ -20,7 +20,7 @@ module _ (key words : List ℕ) where
   looks_packed is =
       let count : ℕ = get_or words 1 0 in
       let whole : AreWordsOfBytes count (drop begin words) = packing_whole key words is in
-      let many : length (drop begin words) ≡ word_count_for count = as_many (drop begin words) count whole in
+      let at_limit : length (drop begin words) ≡ word_count_for count = as_many (drop begin words) count whole in
       let long = packing_len key words is in
       let len : length words ≡ begin + word_count_for count = omega (arith, length-drop begin words) in
       record {

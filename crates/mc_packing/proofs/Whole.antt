@@ -24,22 +24,22 @@ whole_bytes (word ∷ words) count h =
 rest_of : (words : List ℕ) (count word : ℕ) → drop 8 (take count (bytes_of_word word) ++ bytes_of_words (count - 8) words) ≡ bytes_of_words (count - 8) words
 rest_of words count word =
     ⊎_elim
-    (λ (few : count < 8).
+    (λ (within_limit : count < 8).
     let none : count - 8 ≡ 0 = omega arith in
     let nil : bytes_of_words (count - 8) words ≡ [] = ap (λ (k : ℕ). bytes_of_words k words) none ∙ no_bytes words in
     ap (λ (more : List ℕ). drop 8 (take count (bytes_of_word word) ++ more)) nil
     ∙ drop_all 8 (take count (bytes_of_word word) ++ []) (omega (arith, length-append {A = ℕ} (take count (bytes_of_word word)) [], length_front count word)) ∙ sym nil)
-    (λ (many : 8 ≤ count). drop_at (take count (bytes_of_word word)) (bytes_of_words (count - 8) words) 8 (omega (arith, length_front count word)))
+    (λ (at_limit : 8 ≤ count). drop_at (take count (bytes_of_word word)) (bytes_of_words (count - 8) words) 8 (omega (arith, length_front count word)))
     (cases_lt count 8)
 
 first_of : (words : List ℕ) (count word : ℕ) → packed_word (take count (bytes_of_word word) ++ bytes_of_words (count - 8) words) ≡ packed_word (take count (bytes_of_word word))
 first_of words count word =
     ⊎_elim
-    (λ (few : count < 8).
+    (λ (within_limit : count < 8).
     let none : count - 8 ≡ 0 = omega arith in
     let nil : bytes_of_words (count - 8) words ≡ [] = ap (λ (k : ℕ). bytes_of_words k words) none ∙ no_bytes words in
     ap (λ (more : List ℕ). packed_word (take count (bytes_of_word word) ++ more)) nil ∙ ap packed_word (append-nil (take count (bytes_of_word word))))
-    (λ (many : 8 ≤ count).
+    (λ (at_limit : 8 ≤ count).
     same_word (take count (bytes_of_word word) ++ bytes_of_words (count - 8) words) (take count (bytes_of_word word))
     (λ i less. get_or_append_left (take count (bytes_of_word word)) (bytes_of_words (count - 8) words) 0 i (omega (arith, length_front count word))))
     (cases_lt count 8)
@@ -99,12 +99,12 @@ whole_by_end (word ∷ words) count fits len ends =
     let some : 0 < count = omega arith in
     let fewer : length words ≡ word_count_for (count - 8) = omega arith in
     ⊎_elim
-    (λ (few : count < 8).
+    (λ (within_limit : count < 8).
     let more : count % 8 ≡ count = omega arith in
     let full : count / 8 ≡ 0 = omega arith in
     let own : packed_word (take count (bytes_of_word word)) ≡ word = rw (full, more) at (ends (omega arith)) in
     (some, own, whole_by_end words (count - 8) (λ k. fits (suc k)) fewer (λ left. absurd (omega arith))))
-    (λ (many : 8 ≤ count).
+    (λ (at_limit : 8 ≤ count).
     let more : (count - 8) % 8 ≡ count % 8 = omega arith in
     let full : count / 8 ≡ suc ((count - 8) / 8) = omega arith in
     let own : packed_word (take count (bytes_of_word word)) ≡ word = ap packed_word (take_all count (bytes_of_word word) (omega (arith, length_bytes_in word))) ∙ word_again word (fits 0) in
@@ -117,11 +117,11 @@ unfolding Whole EndsWhole last_at
 end_of_whole [] count h = λ left. absurd (omega arith)
 end_of_whole (word ∷ words) count h =
     ⊎_elim
-    (λ (few : count < 8).
+    (λ (within_limit : count < 8).
     let more : count % 8 ≡ count = omega arith in
     let full : count / 8 ≡ 0 = omega arith in
     λ left. rw (full, more) (h.1))
-    (λ (many : 8 ≤ count).
+    (λ (at_limit : 8 ≤ count).
     let more : (count - 8) % 8 ≡ count % 8 = omega arith in
     let full : count / 8 ≡ suc ((count - 8) / 8) = omega arith in
     let next : EndsWhole (count - 8) words = end_of_whole words (count - 8) h.2 in

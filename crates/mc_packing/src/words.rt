@@ -120,8 +120,8 @@ pub fn write_word(into: &mut [u8], place: usize, word: u64)
 
 /// Writes the first bytes of the word over those from this place on, of which there are eight at most.
 pub fn write_part(into: &mut [u8], place: usize, word: u64)
-    requires near { place ≤ length into.old }
-    requires few { length into.old ≤ place + 8 }
+    requires in_range { place ≤ length into.old }
+    requires within_limit { length into.old ≤ place + 8 }
     ensures { into.new ≡ take place into.old ++ take (length into.old - place) (bytes_of_word word) }
 {
     let part = into.len() - place;

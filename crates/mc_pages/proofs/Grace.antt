@@ -34,8 +34,8 @@ limit-entry slabs entry all left =
     let more = ordinary_count-push slabs.ledger entry in
     elim (cases_Bool (is_ordinary entry)) [
       | inl ordinary ↦
-          let few = ltb-true (ordinary_count slabs.ledger) (slabs.limit / slabs.page) (left ordinary) in
-          omega (arith, more, ap truth ordinary, few)
+          let within_limit = ltb-true (ordinary_count slabs.ledger) (slabs.limit / slabs.page) (left ordinary) in
+          omega (arith, more, ap truth ordinary, within_limit)
       | inr other ↦ omega (arith, more, ap truth other, all.limit)
     ]
 

@@ -124,8 +124,8 @@ IsInOrder-in_class slabs granted moved move kept whole can to =
     let once = set-set slabs.owners move.page Pool (Class move.dst) in
     let at = IsClass-with_class pool move.dst slabs.cursor (with_page (class_at pool move.dst) move.page) (cursor-in_pool slabs move all) in
     let placed = subst (λ (os : List Owner). ArePlaced (record new { owners = os })) once (ArePlaced-in_class slabs move (ArePlaced_from slabs all) whole can class) in
-    let many = length-with_class pool move.dst (with_page (class_at pool move.dst) move.page) ∙ length-with_class slabs move.src (without_page (class_at slabs move.src) move.page) in
-    let entry = IsAccounted-entry slabs new (Ended move.page move.dst) (Class move.dst) all within (fits-ended slabs move is) leaves placed at all.mode (λ e. absurd (false≢true e)) (grace-ended slabs move (Class move.dst) all is) many in
+    let at_limit = length-with_class pool move.dst (with_page (class_at pool move.dst) move.page) ∙ length-with_class slabs move.src (without_page (class_at slabs move.src) move.page) in
+    let entry = IsAccounted-entry slabs new (Ended move.page move.dst) (Class move.dst) all within (fits-ended slabs move is) leaves placed at all.mode (λ e. absurd (false≢true e)) (grace-ended slabs move (Class move.dst) all is) at_limit in
     let after = subst (λ (os : List Owner). IsAccounted (record new { owners = os; ledger = ledger_ended slabs move })) (sym once) entry in
     let numbered = IsAccounted-numbers (record new { ledger = ledger_ended slabs move }) slabs.cursor moved slabs.rescues slabs.evictions_nomem slabs.busy slabs.automove after at all.mode in
     let inside : move.page < length pool.owners = omega (arith, within, length-set slabs.owners move.page Pool) in

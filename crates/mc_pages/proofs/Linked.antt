@@ -43,31 +43,31 @@ head_in n p from (c ∷ cs) run = inr (c, run.0, omega (arith, times-head c cs))
 
 -- no link is to a chunk of a list that doesn't have it
 near_apart : (link : Option ChunkId) (chunks : List ChunkId) (chunk : ChunkId) → IsNear link chunks → times_in chunk chunks ≡ 0 → link ≢ Some chunk
-near_apart link chunks chunk near absent h =
-    elim near [
+near_apart link chunks chunk in_range absent h =
+    elim in_range [
       | inl none ↦ None≢Some chunk (sym none ∙ h)
       | inr (c, is, within) ↦ absurd (omega (arith, within, absent, ap (λ (x : ChunkId). times_in x chunks) (same_Some c chunk (sym is ∙ h))))
     ]
 
 -- the fields of the links of a list
 near_forth : {loose : Option ChunkId} (rows : RowsState) (lists : ListName → List ChunkId) (list : ListName) (link : Option ChunkId) → IsLinked rows lists loose → IsList rows list → IsNear link (lists list) → IsField rows (forth list link)
-near_forth rows lists list link is there near =
-    elim near [
+near_forth rows lists list link is there in_range =
+    elim in_range [
       | inl none ↦ subst (λ (l : Option ChunkId). IsField rows (forth list l)) (sym none) there
       | inr (c, h, within) ↦ subst (λ (l : Option ChunkId). IsField rows (forth list l)) (sym h) (is.placed list c within)
     ]
 
 near_back : {loose : Option ChunkId} (rows : RowsState) (lists : ListName → List ChunkId) (list : ListName) (link : Option ChunkId) → IsLinked rows lists loose → IsList rows list → IsNear link (lists list) → IsField rows (back list link)
-near_back rows lists list link is there near =
-    elim near [
+near_back rows lists list link is there in_range =
+    elim in_range [
       | inl none ↦ subst (λ (l : Option ChunkId). IsField rows (back list l)) (sym none) there
       | inr (c, h, within) ↦ subst (λ (l : Option ChunkId). IsField rows (back list l)) (sym h) (is.placed list c within)
     ]
 
 -- they are to no chunk of another list
 near_outside : {loose : Option ChunkId} (rows : RowsState) (lists : ListName → List ChunkId) (list other : ListName) (link : Option ChunkId) → IsLinked rows lists loose → other ≢ list → IsNear link (lists list) → IsOutside link (lists other)
-near_outside rows lists list other link is differs near c there h =
-    elim near [
+near_outside rows lists list other link is differs in_range c there h =
+    elim in_range [
       | inl none ↦ Some≢None c (h ∙ none)
       | inr (x, e, within) ↦ absurd (omega (arith, is.apart list other x differs within, there, ap (λ (y : ChunkId). times_in y (lists other)) (same_Some c x (h ∙ e))))
     ]
@@ -163,9 +163,9 @@ unlinked_linked rows lists list chunk is there within =
     let p = back_in rows list in
     let a = field_of rows (Previous chunk) in
     let b = field_of rows (Next chunk) in
-    let near : IsNear a (lists list) = before_in n p None (lists list) chunk (is.runs list) within in
+    let in_range : IsNear a (lists list) = before_in n p None (lists list) chunk (is.runs list) within in
     let near-2 : IsNear b (lists list) = behind_in n p None (lists list) chunk (is.runs list) within in
-    let field = near_forth rows lists list a is there near in
+    let field = near_forth rows lists list a is there in_range in
     let field-2 = near_back rows lists list b is there near-2 in
     let between = with_neighbours rows list a b in
     let sizes = sizes-joined rows list a b in
@@ -176,7 +176,7 @@ unlinked_linked rows lists list chunk is there within =
     let side : (x : ChunkId) → (row_of_chunk after x).mark ≡ (row_of_chunk rows x).mark = λ x. mark-with_length between list count x ∙ mark-joined rows list a b x field field-2 in
     relinked rows after lists list (without chunk (lists list)) is (sizes-with_length between list count ∙ sizes)
     (run-with_length between list list count None _ left)
-    (λ other differs. run-with_length between list other count None _ (run-joined rows list other a b (lists other) field field-2 differs (near_outside rows lists list other a is differs near) (near_outside rows lists list other b is differs near-2) (is.runs other)))
+    (λ other differs. run-with_length between list other count None _ (run-joined rows list other a b (lists other) field field-2 differs (near_outside rows lists list other a is differs in_range) (near_outside rows lists list other b is differs near-2) (is.runs other)))
     (omega (arith, length-same between list count here, length-joined rows list list a b, is.long list, length-without chunk (lists list) within))
     (λ other differs. length-other between list other count differs ∙ length-joined rows list other a b)
     (λ x. omega (arith, times-without x chunk (lists list) within, is.once list x))
@@ -191,8 +191,8 @@ unlinked_linked rows lists list chunk is there within =
 
 -- a chunk has come into a list
 come_linked : (rows : RowsState) (lists : ListName → List ChunkId) (list : ListName) (a : Option ChunkId) (chunk : ChunkId) (b : Option ChunkId) (chunks : List ChunkId) → IsLinked rows lists (Some chunk) → IsList rows list → IsRow rows chunk → ((other : ListName) → times_in chunk (lists other) ≡ 0) → IsNear a (lists list) → IsNear b (lists list) → ((n p : Links) → Comes (forth_in rows list) (back_in rows list) n p a chunk b → IsChain n p None chunks) → ((x : ChunkId) → times_in x chunks ≡ times_in x (lists list) + truth (is_chunk chunk x)) → length chunks ≡ length (lists list) + 1 → IsLinked (with_chunk_between rows list a chunk b) (with_list lists list chunks) None
-come_linked rows lists list a chunk b chunks is there row absent near near-2 runs counts longer =
-    let field = near_forth rows lists list a is there near in
+come_linked rows lists list a chunk b chunks is there row absent in_range near-2 runs counts longer =
+    let field = near_forth rows lists list a is there in_range in
     let field-2 = near_back rows lists list b is there near-2 in
     let first = with_neighbours rows list a (Some chunk) in
     let sizes = sizes-joined rows list a (Some chunk) in
@@ -205,7 +205,7 @@ come_linked rows lists list a chunk b chunks is there row absent near near-2 run
     let field-3 = IsField-sizes rows first (back list b) sizes field-2 in
     let count = list_length between list + 1 in
     let after = with_length between list count in
-    let comes = joins_comes (forth_in rows list) (back_in rows list) (forth_in first list) (back_in first list) (forth_in both list) (back_in both list) a chunk b (near_apart a (lists list) chunk near (absent list)) (near_apart b (lists list) chunk near-2 (absent list))
+    let comes = joins_comes (forth_in rows list) (back_in rows list) (forth_in first list) (back_in first list) (forth_in both list) (back_in both list) a chunk b (near_apart a (lists list) chunk in_range (absent list)) (near_apart b (lists list) chunk near-2 (absent list))
     (joined_joins rows list a (Some chunk) field row) (joined_joins first list (Some chunk) b row-2 field-3) in
     let out : (other : ListName) → IsOutside (Some chunk) (lists other) = λ other c within h. absurd (omega (arith, within, absent other, ap (λ (x : ChunkId). times_in x (lists other)) (same_Some c chunk h))) in
     let side : (x : ChunkId) → x ≢ chunk → (row_of_chunk after x).mark ≡ (row_of_chunk rows x).mark =
@@ -214,7 +214,7 @@ come_linked rows lists list a chunk b chunks is there row absent near near-2 run
     (run-with_length between list list count None _ (run-with_mark both chunk (list_mark list) list _ row-3 (runs _ _ comes)))
     (λ other differs. run-with_length between list other count None _ (run-with_mark both chunk (list_mark list) other _ row-3
     (run-joined first list other (Some chunk) b (lists other) row-2 field-3 differs (out other) (near_outside rows lists list other b is differs near-2)
-    (run-joined rows list other a (Some chunk) (lists other) field row differs (near_outside rows lists list other a is differs near) (out other) (is.runs other)))))
+    (run-joined rows list other a (Some chunk) (lists other) field row differs (near_outside rows lists list other a is differs in_range) (out other) (is.runs other)))))
     (omega (arith, length-same between list count (IsList-sizes rows between list sizes-3 there), length-with_mark both chunk (list_mark list) list, length-joined first list list (Some chunk) b, length-joined rows list list a (Some chunk), is.long list, longer))
     (λ other differs. length-other between list other count differs ∙ (length-with_mark both chunk (list_mark list) other ∙ (length-joined first list other (Some chunk) b ∙ length-joined rows list other a (Some chunk))))
     (λ x. elim (cases_Bool (is_chunk chunk x)) [

@@ -8,8 +8,8 @@ use Rattle.mc_pages.specs.Rows.{RowsState, IsRow}
 use Rattle.mc_pages.specs.Links.{HasNumber}
 
 pub numbered : (rows : RowsState) (link : Option ChunkId) → IfSome link (IsRow rows) → length rows.rows ≤ most_arena_pages * most_page_chunks → rows.most ≤ most_page_chunks → HasNumber link
-numbered rows None row few most = tt
-numbered rows (Some chunk) row few most =
+numbered rows None row within_limit most = tt
+numbered rows (Some chunk) row within_limit most =
     let some : 1 ≤ rows.most = omega (arith, row.0) in
     let wide : chunk.page * 1 ≤ chunk.page * rows.most = mul-le-mul_left chunk.page some in
-    (omega (arith, row.1, few, wide), omega (arith, row.0, most))
+    (omega (arith, row.1, within_limit, wide), omega (arith, row.0, most))

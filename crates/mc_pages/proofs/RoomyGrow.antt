@@ -52,14 +52,14 @@ next_pooled slabs class page some next =
 -- a class that may get a page that was never granted finds one
 pub granted_within : (slabs : SlabState) (granted class : ℕ) → AreSlabsInOrder slabs granted → HasClass slabs class → may_be_granted slabs class ≡ true → granted < length slabs.owners
 granted_within slabs granted class kept is may =
-    let many = length-owners slabs kept.accounted in
+    let at_limit = length-owners slabs kept.accounted in
     elim (cases_Bool (has_ordinary_page slabs)) [
       | inl left ↦
-          let few = ltb-true (ordinary_count slabs.ledger) (slabs.limit / slabs.page) left in
-          omega (arith, many, few, kept.graced, populated-le slabs)
+          let within_limit = ltb-true (ordinary_count slabs.ledger) (slabs.limit / slabs.page) left in
+          omega (arith, at_limit, within_limit, kept.graced, populated-le slabs)
       | inr none ↦
           let first = eqb-true (length (class_at slabs class).pages) 0 (sym (ap (λ b. b || is_without_page slabs class) none) ∙ may) in
-          omega (arith, many, kept.graced, kept.accounted.limit, populated-lt slabs class is first)
+          omega (arith, at_limit, kept.graced, kept.accounted.limit, populated-lt slabs class is first)
     ]
 
 -- the page that is granted to it

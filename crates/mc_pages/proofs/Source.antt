@@ -42,7 +42,7 @@ IsSource_from slabs dst source (Some src) h =
           let tests = or_parts _ _ good in
           let first = or_parts _ _ tests.0 in
           elim (cases_Bool (nat_lt (length (class_at slabs src).pages) 2)) [
-            | inl few ↦ absurd (refused NoSpare source (rw few at rest))
+            | inl within_limit ↦ absurd (refused NoSpare source (rw within_limit at rest))
             | inr more ↦
                 let same : src ≡ source = same_Ok src source (rw more at rest) in
                 let named = ltb-false (length slabs.classes) src first.1 in

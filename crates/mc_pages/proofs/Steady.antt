@@ -112,7 +112,7 @@ IsBeingCut-given slabs given page is within some =
 
 -- a page is given to a class, and all stays accounted for and granted as it should
 pub IsInOrder-given : (slabs : SlabState) (granted given page moved : ℕ) (pool : List ℕ) (ledger : List Entry) → IsSteady slabs → HasClass slabs given → page < length slabs.owners → IsAccounted (record (with_given slabs given page) { pool = pool; ledger = ledger; moved = moved }) → AreGranted (with_given slabs given page).owners granted → granted ≤ ordinary_count ledger + populated_count (with_given slabs given page).classes → AreSlabsInOrder (record (with_given slabs given page) { pool = pool; ledger = ledger; moved = moved }) granted
-IsInOrder-given slabs granted given page moved pool ledger steady is within all are few =
+IsInOrder-given slabs granted given page moved pool ledger steady is within all are within_limit =
     let new : SlabState = record (with_given slabs given page) { pool = pool; ledger = ledger; moved = moved } in
     let state = with_page (class_at slabs given) page in
     let after = IsSteady-changed slabs given state (with_given slabs given page).owners steady is refl (length-set slabs.owners page (Class given)) in
@@ -121,7 +121,7 @@ IsInOrder-given slabs granted given page moved pool ledger steady is within all 
     record {
       accounted = all;
       lowest = are;
-      graced = few;
+      graced = within_limit;
       pages = after.pages;
       per_page = after.per_page;
       at_most = after.at_most;

@@ -58,7 +58,7 @@ impl Recorded {
     /// The entry comes behind the others.
     pub(crate) fn tell(&mut self, entry: Entry)
         requires { 1 ≤ self.old.room }
-        ensures told { self.new ≡ record self.old { all = self.old.all ++ entry ∷ []; room = self.new.room } }
+        ensures records { self.new ≡ record self.old { all = self.old.all ++ entry ∷ []; room = self.new.room } }
         ensures room { self.old.room ≤ self.new.room + 1 }
     {
         self.tail.push(entry).unwrap();

@@ -9,5 +9,5 @@ use Rattle.mc_picture.specs.Rows.{row_of, class_table_rows}
 pub few_rows : (table : Classes) (rows : List ClassRow) → rows ≡ class_table_rows table (length table.sizes) → IsSound table → length rows ≤ 63
 few_rows table rows is sound =
     let as_many : length rows ≡ length table.sizes = ap length is ∙ length-map-range_with_len (λ (k : ℕ). row_of table (k + 1)) 0 (length table.sizes) in
-    let few : length table.sizes ≤ 63 = sound.count.1 in
-    omega (arith, as_many, few)
+    let within_limit : length table.sizes ≤ 63 = sound.count.1 in
+    omega (arith, as_many, within_limit)

@@ -42,7 +42,7 @@ fn class_row(table: &ClassTable, class: ClassId) -> ClassRow
 /// What is known of all classes, class 1 first.
 pub fn class_rows(alloc: Global, table: &ClassTable) -> Result<Vec<ClassRow>, Refused>
     ensures rows { IfOk result (λ rows. rows.items ≡ class_table_rows table.now (length table.now.sizes)) }
-    ensures few { IfOk result (λ rows. length rows.items ≤ 63) }
+    ensures within_limit { IfOk result (λ rows. length rows.items ≤ 63) }
 {
     let mut rows = Vec::new(alloc);
     for place in 0..table.count() {

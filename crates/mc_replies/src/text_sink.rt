@@ -54,7 +54,7 @@ impl<L: Ledger> TextSink<L> {
     /// The text so far, and the evidence where a write failed.
     fn into_parts(self) -> (Vec<u8>, Option<Refused>)
         ensures text { result.0 ≡ self.text }
-        ensures told { 0 < self.refusals → IsSome result.1 }
+        ensures records { 0 < self.refusals → IsSome result.1 }
     {
         let TextSink {
             text,

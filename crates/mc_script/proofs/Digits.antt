@@ -21,7 +21,7 @@ number_parts word h =
 
 -- and these make a number
 pub number_from_parts : (word : List ℕ) → 1 ≤ length word → length word ≤ 20 → all_ascii_digits word ≡ true → digits_value 10 word < 2 ^ 64 → is_number word ≡ true
-number_from_parts word some few digits fits = and_from _ _ (and_from _ _ (and_from _ _ (le-leb _ _ some) (le-leb _ _ few)) digits) (lt-ltb _ _ fits)
+number_from_parts word some within_limit digits fits = and_from _ _ (and_from _ _ (and_from _ _ (le-leb _ _ some) (le-leb _ _ within_limit)) digits) (lt-ltb _ _ fits)
 
 -- a word that lacks one of these is none
 pub no_number : (word : List ℕ) → (is_number word ≡ true → ⊥) → None ≡ parsed_number word
@@ -56,7 +56,7 @@ stops_there value c rest word none digits told =
 -- all bytes are read
 pub all_read : (value : ℕ) (rest word : List ℕ) → rest ≡ [] → 0 < length word → length word ≤ 20 → value < 2 ^ 64 → all_ascii_digits rest ≡ all_ascii_digits word
     → digits_value_after 10 value rest ≡ digits_value 10 word → Some value ≡ parsed_number word
-all_read value rest word none some few fits digits told =
+all_read value rest word none some within_limit fits digits told =
     let is : value ≡ digits_value 10 word = sym (ap (digits_value_after 10 value) none) ∙ told in
     ap Some is
-    ∙ sym (cond-true _ _ _ (number_from_parts word (omega arith) few (sym digits ∙ ap all_ascii_digits none) (omega arith)))
+    ∙ sym (cond-true _ _ _ (number_from_parts word (omega arith) within_limit (sym digits ∙ ap all_ascii_digits none) (omega arith)))

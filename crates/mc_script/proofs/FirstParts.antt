@@ -124,4 +124,4 @@ six_first front rest all long is = sym (subst (λ (n : ℕ). take n (front ++ re
 
 -- the first six of a list with no more
 pub no_more : (front all : List (List ℕ)) → length front ≤ 6 → front ++ [] ≡ all → front ≡ take 6 all
-no_more front all few is = let same = sym (append-nil front) ∙ is in same ∙ sym (take_all 6 all (let e = ap length same in omega arith))
+no_more front all within_limit is = let same = sym (append-nil front) ∙ is in same ∙ sym (take_all 6 all (let e = ap length same in omega arith))

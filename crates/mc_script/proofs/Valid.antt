@@ -69,8 +69,8 @@ set_valid : (words : List (List ℕ)) → IfSome (set_of words) IsValid
 unfolding set_of
 set_valid (worker ∷ verb ∷ key ∷ words ∷ base ∷ []) =
     form_valid (bytes_eq verb (codes "set")) _
-    (between_then IsValid 1 63 worker _ (λ w is_worker. number_then IsValid key _ (λ k key_fits. between_then IsValid 0 4096 words _ (λ n few. number_then IsValid base _ (λ b base_fits.
-    let valid : IsValid (Set w k n b) = (is_worker, key_fits, few.1, base_fits) in valid)))))
+    (between_then IsValid 1 63 worker _ (λ w is_worker. number_then IsValid key _ (λ k key_fits. between_then IsValid 0 4096 words _ (λ n within_limit. number_then IsValid base _ (λ b base_fits.
+    let valid : IsValid (Set w k n b) = (is_worker, key_fits, within_limit.1, base_fits) in valid)))))
 set_valid words = tt
 
 -- a verb, a worker and a key

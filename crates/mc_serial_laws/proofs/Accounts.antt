@@ -39,9 +39,9 @@ populated (class ∷ classes) =
 -- granted bytes are within the limit, but for one page of each class that has one
 within_limit : (slabs : SlabState) (granted : ℕ) → AreSlabsInOrder slabs granted → granted_count slabs * slabs.page ≤ slabs.limit + count_by (nat_lt 0) (class_page_counts slabs) * slabs.page
 within_limit slabs granted order =
-    let many = count_by-AreGranted slabs.owners granted order.lowest in
+    let at_limit = count_by-AreGranted slabs.owners granted order.lowest in
     let first = count_by (nat_lt 0) (class_page_counts slabs) in
-    let most : granted_count slabs ≤ slabs.limit / slabs.page + first = omega (arith, many, order.graced, order.accounted.limit, populated slabs.classes) in
+    let most : granted_count slabs ≤ slabs.limit / slabs.page + first = omega (arith, at_limit, order.graced, order.accounted.limit, populated slabs.classes) in
     let bytes = mul-le-mul_right slabs.page most in
     let split : (slabs.limit / slabs.page + first) * slabs.page ≡ slabs.limit / slabs.page * slabs.page + first * slabs.page = add-mul (slabs.limit / slabs.page) first slabs.page in
     omega (arith, bytes, split, div-mul-le_self slabs.limit slabs.page)

@@ -27,7 +27,7 @@ pub record HasItem (items : Items) (key : ℕ) : Type 0 where
 -- the worker holds it so many times at least
 pub record HoldsItem (m : Machine) (worker key count : ℕ) : Type 0 where
   pub has : HasItem m.items key
-  pub many : count ≤ times_in has.chunk (held_by m.holds worker)
+  pub at_limit : count ≤ times_in has.chunk (held_by m.holds worker)
 
 pub record AreKnown (m : Machine) (answers : List AnsweredCommand) : Type 0 where
   pub seen : (key : ℕ) → is_seen key answers ≡ true → HasItem m.items key
@@ -83,10 +83,10 @@ holds_still old new worker key count goes some holds = record {
   has = record {
     chunk = holds.has.chunk;
     item = holds.has.item;
-    there = goes.held worker holds.has.chunk (omega (arith, some, holds.many)) ∙ holds.has.there;
+    there = goes.held worker holds.has.chunk (omega (arith, some, holds.at_limit)) ∙ holds.has.there;
     linked = holds.has.linked;
   };
-  many = rw goes.holds holds.many;
+  at_limit = rw goes.holds holds.at_limit;
 }
 
 -- the machine went on, took nothing away, and each hold is as it was

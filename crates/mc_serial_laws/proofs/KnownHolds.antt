@@ -53,8 +53,8 @@ module _ (m : Machine) (answers : List AnsweredCommand) (all : AreTold m answers
       → HasItem m.items q
   read_shows key q true chunk leads shown =
       let tests = and_parts (key == q) _ shown in
-      let few = and_parts (not (bytes_eq (key_line (codes "TOO_MANY_REFS") key) (key_line (codes "NOT_FOUND") q))) _ tests.1 in
-      absurd (false≢true (sym (not-true _ few.1) ∙ one_text (codes "TOO_MANY_REFS") key q tests.0))
+      let within_limit = and_parts (not (bytes_eq (key_line (codes "TOO_MANY_REFS") key) (key_line (codes "NOT_FOUND") q))) _ tests.1 in
+      absurd (false≢true (sym (not-true _ within_limit.1) ∙ one_text (codes "TOO_MANY_REFS") key q tests.0))
   read_shows key q false None leads shown =
       let tests = and_parts (key == q) _ shown in
       let found = and_parts (not (bytes_eq (key_line (codes "NOT_FOUND") key) (key_line (codes "NOT_FOUND") q))) _ tests.1 in
@@ -100,9 +100,9 @@ times-without-ge other chunk (c ∷ chunks) = times_step (is_chunk c chunk) refl
     times_step false apart more = rw apart (omega (arith, more, times-cons other c chunks, times-cons other c (without chunk chunks)))
 
 -- what a worker holds when its list changes
-module _ (m : Machine) (worker : ℕ) (chunks : List ChunkId) (lawful : IsLawful m) (few : worker ≤ 63) where
+module _ (m : Machine) (worker : ℕ) (chunks : List ChunkId) (lawful : IsLawful m) (within_limit : worker ≤ 63) where
   own_list : held_by (slice_set m.holds worker chunks) worker ≡ chunks
-  own_list = get_or-set_same m.holds worker chunks [] (omega (arith, few, lawful.workers))
+  own_list = get_or-set_same m.holds worker chunks [] (omega (arith, within_limit, lawful.workers))
 
   other_list : (w : ℕ) → w ≢ worker → held_by (slice_set m.holds worker chunks) w ≡ held_by m.holds w
   other_list w apart = get_or-set_other m.holds worker w chunks [] apart
@@ -116,7 +116,7 @@ module _ (m : Machine) (worker : ℕ) (chunks : List ChunkId) (lawful : IsLawful
 
 -- a hold that found its key
 module _ (m : Machine) (answers : List AnsweredCommand) (all : AreTold m answers) (known : AreKnown m answers) (worker key : ℕ) (chunk : ChunkId)
-    (few : worker ≤ 63) (leads : linked_chunk m.items key ≡ Some chunk) where
+    (within_limit : worker ≤ 63) (leads : linked_chunk m.items key ≡ Some chunk) where
   abbrev now : Machine
   now = (hold_outcome_at m worker key (Some chunk)).machine
 
@@ -134,7 +134,7 @@ module _ (m : Machine) (answers : List AnsweredCommand) (all : AreTold m answers
         let there : linked_chunk m.items key ≡ Some holds.has.chunk
         = leads_there holds.has.chunk holds.has.item key m.items holds.has.there holds.has.linked (all.lawful.kept.one_link key) in
         let one : holds.has.chunk ≡ chunk = same_Some holds.has.chunk chunk (sym there ∙ leads) in
-        rw (← one) holds.many
+        rw (← one) holds.at_limit
     | inr none ↦ omega (arith, none)
   ]
 
@@ -148,18 +148,18 @@ module _ (m : Machine) (answers : List AnsweredCommand) (all : AreTold m answers
       let there : LinkedIn key chunk m.items = linked_now m answers all key chunk leads in
       let count : n ≤ times_in chunk (held_by m.holds worker) = times_before n (λ some. rw (who, what) (before some)) in
       let own : times_in chunk (held_by now.holds worker) ≡ times_in chunk (chunk ∷ held_by m.holds worker)
-      = ap (λ (cs : List ChunkId). times_in chunk cs) (own_list m worker (chunk ∷ held_by m.holds worker) all.lawful few) in
+      = ap (λ (cs : List ChunkId). times_in chunk cs) (own_list m worker (chunk ∷ held_by m.holds worker) all.lawful within_limit) in
       let more : n + 1 ≤ times_in chunk (held_by now.holds worker)
       = omega (arith, count, own, times-cons chunk chunk (held_by m.holds worker), ap truth (is_chunk-same chunk)) in
       record {
         has = record { chunk = chunk; item = there.item; there = there.there; linked = rw (← what) there.linked };
-        many = rw (← who) more;
+        at_limit = rw (← who) more;
       }
   hold_way false w q n is before some =
       let holds : HoldsItem m w q n = before some in
       record {
         has = holds.has;
-        many = omega (arith, holds.many, more_held m worker (chunk ∷ held_by m.holds worker) all.lawful few holds.has.chunk w (omega (arith, times-cons holds.has.chunk chunk (held_by m.holds worker))));
+        at_limit = omega (arith, holds.at_limit, more_held m worker (chunk ∷ held_by m.holds worker) all.lawful within_limit holds.has.chunk w (omega (arith, times-cons holds.has.chunk chunk (held_by m.holds worker))));
       }
 
   pub known_found : AreKnown now (record { command = Hold worker key; reply = key_line (codes "HELD") key } ∷ answers)
@@ -174,9 +174,9 @@ pub known_hold : (m : Machine) (answers : List AnsweredCommand) (worker key : �
     → worker ≤ 63 → linked_chunk m.items key ≡ found
     → let served : Outcome = if full then reply_only m (key_line (codes "TOO_MANY_REFS") key) else hold_outcome_at m worker key found in
     AreKnown served.machine (answered_by (Hold worker key) served ∷ answers)
-known_hold m answers worker key true found all known few leads = hold_refused m answers all known worker key
-known_hold m answers worker key false None all known few leads = hold_absent m answers all known worker key
-known_hold m answers worker key false (Some chunk) all known few leads = known_found m answers all known worker key chunk few leads
+known_hold m answers worker key true found all known within_limit leads = hold_refused m answers all known worker key
+known_hold m answers worker key false None all known within_limit leads = hold_absent m answers all known worker key
+known_hold m answers worker key false (Some chunk) all known within_limit leads = known_found m answers all known worker key chunk within_limit leads
 
 -- a drop that is refused
 drop_refused : (m : Machine) (answers : List AnsweredCommand) (worker key : ℕ) → AreKnown m answers
@@ -189,7 +189,7 @@ drop_refused m answers worker key known = record {
     fewer_way : (b : Bool) (w q n : ℕ) → (1 ≤ n → HoldsItem m w q n) → 1 ≤ (if b then n - 1 else n) → HoldsItem m w q (if b then n - 1 else n)
     fewer_way true w q n before some =
         let holds : HoldsItem m w q n = before (omega (arith, some)) in
-        record { has = holds.has; many = omega (arith, holds.many) }
+        record { has = holds.has; at_limit = omega (arith, holds.at_limit) }
     fewer_way false w q n before some = before some
 
 -- where the first of two tests passes and both don't, the second fails
@@ -212,7 +212,7 @@ other_chunk m key q chunk c item has_it there linked apart = elim (cases_Bool (i
 
 -- and one that gives back the chunk of an item of the key
 module _ (m : Machine) (answers : List AnsweredCommand) (all : AreTold m answers) (known : AreKnown m answers) (worker key : ℕ) (chunk : ChunkId)
-    (few : worker ≤ 63) (has_it : has_key m.items key chunk ≡ true) where
+    (within_limit : worker ≤ 63) (has_it : has_key m.items key chunk ≡ true) where
   abbrev less : List ChunkId
   less = without chunk (held_by m.holds worker)
 
@@ -225,25 +225,25 @@ module _ (m : Machine) (answers : List AnsweredCommand) (all : AreTold m answers
       let who : worker ≡ w = eqb-true worker w (and_parts (worker == w) _ is).0 in
       let holds : HoldsItem m w q n = before (omega (arith, some)) in
       let c : ChunkId = holds.has.chunk in
-      let were : n ≤ times_in c (held_by m.holds worker) = rw who holds.many in
-      let own : times_in c (held_by after.holds worker) ≡ times_in c less = ap (λ (cs : List ChunkId). times_in c cs) (own_list m worker less all.lawful few) in
+      let were : n ≤ times_in c (held_by m.holds worker) = rw who holds.at_limit in
+      let own : times_in c (held_by after.holds worker) ≡ times_in c less = ap (λ (cs : List ChunkId). times_in c cs) (own_list m worker less all.lawful within_limit) in
       let left : n - 1 ≤ times_in c (held_by after.holds worker)
       = omega (arith, were, own, times-without-ge c chunk (held_by m.holds worker), truth-le_one (is_chunk chunk c)) in
-      record { has = holds.has; many = rw (← who) left }
+      record { has = holds.has; at_limit = rw (← who) left }
   drop_way false w q n is before some =
       let holds : HoldsItem m w q n = before some in
       let c : ChunkId = holds.has.chunk in
-      let many : n ≤ times_in c (held_by after.holds w) = elim (cases_eq w worker) [
+      let at_limit : n ≤ times_in c (held_by after.holds w) = elim (cases_eq w worker) [
         | inl same ↦
             let own_key : (key == q) ≡ false = second_failed (worker == w) (key == q) (eq-eqb worker w (sym same)) is in
             let other : is_chunk chunk c ≡ false = other_chunk m key q chunk c holds.has.item has_it holds.has.there holds.has.linked own_key in
             let own : times_in c (held_by after.holds w) ≡ times_in c less
-            = ap (λ (v : ℕ). times_in c (held_by after.holds v)) same ∙ ap (λ (cs : List ChunkId). times_in c cs) (own_list m worker less all.lawful few) in
-            let were : n ≤ times_in c (held_by m.holds worker) = rw (← same) holds.many in
+            = ap (λ (v : ℕ). times_in c (held_by after.holds v)) same ∙ ap (λ (cs : List ChunkId). times_in c cs) (own_list m worker less all.lawful within_limit) in
+            let were : n ≤ times_in c (held_by m.holds worker) = rw (← same) holds.at_limit in
             omega (arith, were, own, times-without-ge c chunk (held_by m.holds worker), ap truth other)
-        | inr apart ↦ omega (arith, holds.many, ap (λ (cs : List ChunkId). times_in c cs) (other_list m worker less all.lawful few w apart))
+        | inr apart ↦ omega (arith, holds.at_limit, ap (λ (cs : List ChunkId). times_in c cs) (other_list m worker less all.lawful within_limit w apart))
       ] in
-      record { has = holds.has; many = many }
+      record { has = holds.has; at_limit = at_limit }
 
   pub known_let_go : (words : List ℕ) → AreKnown after (record { command = Drop worker key; reply = words_line (codes "DROPPED") key words } ∷ answers)
   known_let_go words = record {
@@ -255,13 +255,13 @@ let_go_known : (m : Machine) (answers : List AnsweredCommand) (worker key : ℕ)
     → last_hold m worker key ≡ Some chunk
     → let served : Outcome = release_outcome_at m worker key chunk found in
     AreKnown served.machine (answered_by (Drop worker key) served ∷ answers)
-let_go_known m answers worker key chunk None all known few last = drop_refused m answers worker key known
-let_go_known m answers worker key chunk (Some item) all known few last =
-    known_let_go m answers all known worker key chunk few (finds_passing (has_key m.items key) (held_by m.holds worker) chunk last) item.words
+let_go_known m answers worker key chunk None all known within_limit last = drop_refused m answers worker key known
+let_go_known m answers worker key chunk (Some item) all known within_limit last =
+    known_let_go m answers all known worker key chunk within_limit (finds_passing (has_key m.items key) (held_by m.holds worker) chunk last) item.words
 
 pub known_drop : (m : Machine) (answers : List AnsweredCommand) (worker key : ℕ) (found : Option ChunkId) → AreTold m answers → AreKnown m answers → worker ≤ 63
     → last_hold m worker key ≡ found
     → let served : Outcome = release_outcome m worker key found in
     AreKnown served.machine (answered_by (Drop worker key) served ∷ answers)
-known_drop m answers worker key None all known few last = drop_refused m answers worker key known
-known_drop m answers worker key (Some chunk) all known few last = let_go_known m answers worker key chunk (item_in_chunk m.items chunk) all known few last
+known_drop m answers worker key None all known within_limit last = drop_refused m answers worker key known
+known_drop m answers worker key (Some chunk) all known within_limit last = let_go_known m answers worker key chunk (item_in_chunk m.items chunk) all known within_limit last

@@ -97,7 +97,7 @@ known_serve m before (Automove mode) served all known valid is =
     subst (λ (s : Outcome). AreKnown s.machine (answered_by (Automove mode) s ∷ before)) (same_Some _ served is)
     (record {
       seen = λ q seen. known.seen q seen;
-      held = λ w q some. let holds = known.held w q some in record { has = holds.has; many = holds.many };
+      held = λ w q some. let holds = known.held w q some in record { has = holds.has; at_limit = holds.at_limit };
     })
 known_serve m before Window served all known valid is =
     subst (λ (s : Outcome). AreKnown s.machine (answered_by Window s ∷ before)) (same_Some _ served is)

@@ -119,7 +119,7 @@ module _ (m : Machine) (answers : List AnsweredCommand) (worker key count base c
   held_then w q some =
       let left = some_left (key == q) (bytes_eq (key_line (codes "STORED") key) (key_line (codes "STORED") q)) (holds_now w q answers) (one_text (codes "STORED") key q) some in
       let before : HoldsItem m w q (holds_now w q answers) = held w q (rw (← left.1) some) in
-      let holding : 1 ≤ times_in before.has.chunk (held_by m.holds w) = omega (arith, before.many, ap (λ (n : ℕ). n) left.1, some) in
+      let holding : 1 ≤ times_in before.has.chunk (held_by m.holds w) = omega (arith, before.at_limit, ap (λ (n : ℕ). n) left.1, some) in
       rw left.1 (record {
         has = record {
           chunk = before.has.chunk;
@@ -127,7 +127,7 @@ module _ (m : Machine) (answers : List AnsweredCommand) (worker key count base c
           there = elsewhere w before.has.chunk holding ∙ other_unlinked key q m.items before.has.chunk before.has.item left.0 before.has.there before.has.linked;
           linked = before.has.linked;
         };
-        many = before.many;
+        at_limit = before.at_limit;
       })
 
   pub known_stored : AreKnown now (record { command = Set worker key count base; reply = key_line (codes "STORED") key } ∷ answers)
@@ -186,6 +186,6 @@ known_delete m answers worker key (Some chunk) lawful known is = record {
       let has : HasItem m.items q = before.has in
       rw left.1 (record {
         has = record { chunk = has.chunk; item = has.item; there = other_unlinked key q m.items has.chunk has.item left.0 has.there has.linked; linked = has.linked };
-        many = before.many;
+        at_limit = before.at_limit;
       });
 }

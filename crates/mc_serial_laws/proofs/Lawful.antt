@@ -35,7 +35,7 @@ pub record IsLawful (m : Machine) : Type 0 where
   pub granted : ℕ
   pub order : AreSlabsInOrder (off m.slabs) granted
   pub workers : length m.holds ≡ 64
-  pub few : (worker : ℕ) → length (held_by m.holds worker) ≤ most_refs
+  pub within_limit : (worker : ℕ) → length (held_by m.holds worker) ≤ most_refs
   -- a chunk that a worker holds has an item
   pub stored : (worker : ℕ) (chunk : ChunkId) → 1 ≤ times_in chunk (held_by m.holds worker) → 1 ≤ place_count chunk m.items
 
@@ -109,7 +109,7 @@ lawful_from old new granted lawful kept order holds stands = record {
   granted = granted;
   order = order;
   workers = ap (λ (h : Holds). length h) holds ∙ lawful.workers;
-  few = λ worker. rw holds (lawful.few worker);
+  within_limit = λ worker. rw holds (lawful.within_limit worker);
   stored = λ worker chunk held.
       let held_before : 1 ≤ times_in chunk (held_by old.holds worker) = rw (← holds) held in
       stored_still old.items new.items chunk (stands worker chunk held_before) (lawful.stored worker chunk held_before);

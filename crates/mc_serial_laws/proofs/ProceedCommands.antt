@@ -55,7 +55,7 @@ lawful_automove m mode lawful = record {
   granted = lawful.granted;
   order = lawful.order;
   workers = lawful.workers;
-  few = lawful.few;
+  within_limit = lawful.within_limit;
   stored = lawful.stored;
 }
 

@@ -105,7 +105,7 @@ module _ (m : Machine) (class key : ℕ) (words : List ℕ) (chunk : ChunkId) (l
         granted = lawful.granted;
         order = order;
         workers = lawful.workers;
-        few = lawful.few;
+        within_limit = lawful.within_limit;
         stored = λ worker c held. omega (arith, lawful.stored worker c held, places-with_item c chunk (new_item key words) m.items none_there);
       }
 

@@ -27,13 +27,13 @@ use Rattle.mc_serial_laws.proofs.Told.{AreTold, told_on}
 use Rattle.mc_serial_laws.proofs.ToldSets.{answered_by, both_pass, first_fails, same_text, second_fails}
 
 -- a worker holds other chunks, and one more answer tells what they store
-module _ (m : Machine) (answers : List AnsweredCommand) (answered : AnsweredCommand) (worker : ℕ) (chunks : List ChunkId) (told : AreTold m answers) (few : worker ≤ 63)
+module _ (m : Machine) (answers : List AnsweredCommand) (answered : AnsweredCommand) (worker : ℕ) (chunks : List ChunkId) (told : AreTold m answers) (within_limit : worker ≤ 63)
     (there : (c : ChunkId) → 1 ≤ times_in c chunks → 1 ≤ place_count c m.items) (short : length chunks ≤ most_refs)
     (same_words : (key : ℕ) → last_words key (answered ∷ answers) ≡ last_words key answers)
     (same_held : (w : ℕ) → (worker == w) ≡ false → held_words w (answered ∷ answers) ≡ held_words w answers)
     (stands : Stand m.items chunks (held_words worker (answered ∷ answers))) where
   held_now : held_by (slice_set m.holds worker chunks) worker ≡ chunks
-  held_now = get_or-set_same m.holds worker chunks [] (omega (arith, few, told.lawful.workers))
+  held_now = get_or-set_same m.holds worker chunks [] (omega (arith, within_limit, told.lawful.workers))
 
   held_other : (w : ℕ) → w ≢ worker → held_by (slice_set m.holds worker chunks) w ≡ held_by m.holds w
   held_other w apart = get_or-set_other m.holds worker w chunks [] apart
@@ -44,11 +44,11 @@ module _ (m : Machine) (answers : List AnsweredCommand) (answered : AnsweredComm
     granted = told.lawful.granted;
     order = told.lawful.order;
     workers = length-set m.holds worker chunks ∙ told.lawful.workers;
-    few = λ w. elim (cases_eq w worker) [
+    within_limit = λ w. elim (cases_eq w worker) [
       | inl same ↦
           let here : held_by (slice_set m.holds worker chunks) w ≡ chunks = ap (held_by (slice_set m.holds worker chunks)) same ∙ held_now in
           omega (arith, short, ap (λ (cs : List ChunkId). length cs) here)
-      | inr apart ↦ omega (arith, told.lawful.few w, ap (λ (cs : List ChunkId). length cs) (held_other w apart))
+      | inr apart ↦ omega (arith, told.lawful.within_limit w, ap (λ (cs : List ChunkId). length cs) (held_other w apart))
     ];
     stored = λ w c holds. elim (cases_eq w worker) [
       | inl same ↦
@@ -74,9 +74,9 @@ told_found : (m : Machine) (answers : List AnsweredCommand) (worker key : ℕ) (
     → is_full m.holds worker ≡ false → linked_chunk m.items key ≡ found
     → let served : Outcome = hold_outcome_at m worker key found in
     AreTold served.machine (answered_by (Hold worker key) served ∷ answers)
-told_found m answers worker key None told few room leads =
+told_found m answers worker key None told within_limit room leads =
     told_on m m answers _ told (proceeds_same m told.lawful) (λ q. refl) (λ w. second_fails (worker == w) _ _)
-told_found m answers worker key (Some chunk) told few room leads =
+told_found m answers worker key (Some chunk) told within_limit room leads =
     let answered : AnsweredCommand = answered_by (Hold worker key) (hold_outcome_at m worker key (Some chunk)) in
     let in_chunk : LinkedIn key chunk m.items
     = linked_in key chunk m.items leads (place_once m.table (off m.slabs) m.items chunk told.lawful.kept) (told.lawful.kept.one_link key) in
@@ -89,7 +89,7 @@ told_found m answers worker key (Some chunk) told few room leads =
     ∙ ap (λ (o : Option (List ℕ)). with_held key o (held_words worker answers)) words in
     let stands : stored_as m.items chunk ≡ Some (record { key = key; words = item.words })
     = ap (option_map as_held) in_chunk.there ∙ ap (λ (n : ℕ). Some (record { key = n; words = item.words })) its in
-    told_holds m answers answered worker (chunk ∷ held_by m.holds worker) told few
+    told_holds m answers answered worker (chunk ∷ held_by m.holds worker) told within_limit
     (λ c there. elim (cases_Bool (is_chunk chunk c)) [
       | inl same ↦ rw (← same_from_is_chunk chunk c same) (some_places chunk item m.items in_chunk.there)
       | inr other ↦ told.lawful.stored worker c (omega (arith, there, times-cons c chunk (held_by m.holds worker), ap truth other))
@@ -100,9 +100,9 @@ told_found m answers worker key (Some chunk) told few room leads =
 pub told_hold : (m : Machine) (answers : List AnsweredCommand) (worker key : ℕ) (full : Bool) → AreTold m answers → worker ≤ 63 → is_full m.holds worker ≡ full
     → let served : Outcome = if full then told_line m (key_line (codes "TOO_MANY_REFS") key) else hold_outcome_at m worker key (linked_chunk m.items key) in
     AreTold served.machine (answered_by (Hold worker key) served ∷ answers)
-told_hold m answers worker key true told few is =
+told_hold m answers worker key true told within_limit is =
     told_on m m answers _ told (proceeds_same m told.lawful) (λ q. refl) (λ w. second_fails (worker == w) _ _)
-told_hold m answers worker key false told few is = told_found m answers worker key (linked_chunk m.items key) told few is refl
+told_hold m answers worker key false told within_limit is = told_found m answers worker key (linked_chunk m.items key) told within_limit is refl
 
 -- a drop that is refused
 told_refused : (m : Machine) (answers : List AnsweredCommand) (worker key : ℕ) → AreTold m answers
@@ -117,15 +117,15 @@ told_let_go : (m : Machine) (answers : List AnsweredCommand) (worker key : ℕ) 
     → last_hold m worker key ≡ Some chunk
     → let served : Outcome = release_outcome_at m worker key chunk found in
     AreTold served.machine (answered_by (Drop worker key) served ∷ answers)
-told_let_go m answers worker key chunk None told few last = told_refused m answers worker key told
-told_let_go m answers worker key chunk (Some item) told few last =
+told_let_go m answers worker key chunk None told within_limit last = told_refused m answers worker key told
+told_let_go m answers worker key chunk (Some item) told within_limit last =
     let answered : AnsweredCommand = answered_by (Drop worker key) (release_outcome_at m worker key chunk (Some item)) in
     let has : has_key m.items key chunk ≡ true = finds_passing (has_key m.items key) (held_by m.holds worker) chunk last in
     let now : held_words worker (answered ∷ answers) ≡ without_held key (held_words worker answers)
     = both_pass (worker == worker) _ _ _ (eq-eqb worker worker refl) refl in
-    told_holds m answers answered worker (without chunk (held_by m.holds worker)) told few
+    told_holds m answers answered worker (without chunk (held_by m.holds worker)) told within_limit
     (λ c there. told.lawful.stored worker c (omega (arith, there, times-without-le c chunk (held_by m.holds worker))))
-    (omega (arith, told.lawful.few worker, length-without-le chunk (held_by m.holds worker)))
+    (omega (arith, told.lawful.within_limit worker, length-without-le chunk (held_by m.holds worker)))
     (λ q. refl) (λ w other. first_fails (worker == w) _ _ _ other)
     (rw now (stand_without m.items key chunk (held_by m.holds worker) (held_words worker answers) has (told.holds worker) last))
 
@@ -133,5 +133,5 @@ pub told_drop : (m : Machine) (answers : List AnsweredCommand) (worker key : ℕ
     → last_hold m worker key ≡ found
     → let served : Outcome = release_outcome m worker key found in
     AreTold served.machine (answered_by (Drop worker key) served ∷ answers)
-told_drop m answers worker key None told few last = told_refused m answers worker key told
-told_drop m answers worker key (Some chunk) told few last = told_let_go m answers worker key chunk (item_in_chunk m.items chunk) told few last
+told_drop m answers worker key None told within_limit last = told_refused m answers worker key told
+told_drop m answers worker key (Some chunk) told within_limit last = told_let_go m answers worker key chunk (item_in_chunk m.items chunk) told within_limit last

@@ -26,7 +26,7 @@ module _ (m : Machine) (answers : List AnsweredCommand) (all : AreTold m answers
   full_told worker =
       let same : holds_by_answers worker answers ≡ length (held_by m.holds worker)
       = length-stand m.items (held_by m.holds worker) (held_words worker answers) (all.holds worker) in
-      grind (arith, nat_tests, same, all.lawful.few worker)
+      grind (arith, nat_tests, same, all.lawful.within_limit worker)
 
   get_way : (b : Bool) (key : ℕ) (found : Option Item)
       → (if b then reply_only m (key_line (codes "TOO_MANY_REFS") key) else get_outcome m key found).reply

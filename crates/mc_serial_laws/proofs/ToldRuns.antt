@@ -49,7 +49,7 @@ told_fresh table bulk mode sound =
         granted = 0;
         order = order;
         workers = refl;
-        few = λ worker. omega (arith, ap (λ (cs : List ChunkId). length cs) (none_held 64 worker));
+        within_limit = λ worker. omega (arith, ap (λ (cs : List ChunkId). length cs) (none_held 64 worker));
         stored = λ worker chunk held. absurd (omega (arith, held, ap (λ (cs : List ChunkId). times_in chunk cs) (none_held 64 worker)));
       };
       words = λ key chunk item at to. absurd (none-some item at);

@@ -21,9 +21,9 @@ module _ (holds : Holds) (worker : ℕ) (x : ChunkId) (inside : worker < length 
       omega (arith, sum_by-set (times_in y) holds worker (x ∷ held_by holds worker) [] inside, times-cons y x (held_by holds worker))
 
   pub few_with : is_full holds worker ≡ false → AreFew holds → AreFew (with_hold holds worker x)
-  few_with room few =
+  few_with room within_limit =
       let short : length (held_by holds worker) < most_holds = grind (arith, nat_tests, room) in
-      All-set (λ (chunks : List ChunkId). length chunks ≤ most_holds) holds worker (x ∷ held_by holds worker) (omega (arith, short)) few
+      All-set (λ (chunks : List ChunkId). length chunks ≤ most_holds) holds worker (x ∷ held_by holds worker) (omega (arith, short)) within_limit
 
   module _ (there : Contains (held_by holds worker) x) where
     some : 1 ≤ times_in x (held_by holds worker)
@@ -34,14 +34,14 @@ module _ (holds : Holds) (worker : ℕ) (x : ChunkId) (inside : worker < length 
         omega (arith, sum_by-set (times_in y) holds worker (without x (held_by holds worker)) [] inside, times-without y x (held_by holds worker) some)
 
     pub few_without : AreFew holds → AreFew (without_hold holds worker x)
-    few_without few =
+    few_without within_limit =
         All-set (λ (chunks : List ChunkId). length chunks ≤ most_holds) holds worker (without x (held_by holds worker))
-        (omega (arith, length-without x (held_by holds worker) some, few worker [] inside)) few
+        (omega (arith, length-without x (held_by holds worker) some, within_limit worker [] inside)) within_limit
 
 -- there are few holds of one chunk
 pub holds_few : (holds : Holds) (y : ChunkId) → length holds ≡ 64 → AreFew holds → hold_count holds y < 65535
-holds_few holds y of_each few =
+holds_few holds y of_each within_limit =
     let most : sum_by (times_in y) holds ≤ length holds * most_refs
-    = sum_by-le (times_in y) most_refs holds (λ k d within. omega (arith, count_by-le-length (λ (c : ChunkId). is_chunk c y) (get_or holds k d), few k d within)) in
+    = sum_by-le (times_in y) most_refs holds (λ k d within. omega (arith, count_by-le-length (λ (c : ChunkId). is_chunk c y) (get_or holds k d), within_limit k d within)) in
     let in_all : sum_by (times_in y) holds ≤ 64 * most_refs = subst (λ (n : ℕ). sum_by (times_in y) holds ≤ n * most_refs) of_each most in
     omega (arith, in_all)

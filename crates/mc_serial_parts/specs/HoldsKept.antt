@@ -12,5 +12,5 @@ stored_holds holds = map (λ chunks. reverse chunks.items) holds.by_worker.items
 -- the holds have a list for each worker, none is too long, and each chunk's holds are counted
 pub record AreHolds (holds : Inside) : Type 0 where
   pub of_each : length holds.by_worker.items ≡ 64
-  pub few : All (λ chunks. length chunks ≤ most_holds) (stored_holds holds)
+  pub within_limit : All (λ chunks. length chunks ≤ most_holds) (stored_holds holds)
   pub counted : (chunk : ChunkId) → count_at holds.counts chunk ≡ hold_count (stored_holds holds) chunk

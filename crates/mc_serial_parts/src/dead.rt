@@ -48,7 +48,7 @@ impl DeadCounts {
     pub fn increment(&mut self, class: ClassId)
         requires first { 1 ≤ class }
         requires last { class ≤ length self.old }
-        requires few { slice_index_or self.old (class - 1) 0 < 65536 }
+        requires within_limit { slice_index_or self.old (class - 1) 0 < 65536 }
         ensures incremented { self.new ≡ slice_set self.old (class - 1) (slice_index_or self.old (class - 1) 0 + 1) }
     {
         self.by_class[class as usize - 1] += 1;
@@ -113,7 +113,7 @@ impl LastDead {
 pub fn count_unheld(dead: &mut DeadCounts, holds: &Holds, slabs: &Slabs, chunk: ChunkId)
     requires class { HasClass slabs.now.state (class_of_page slabs.now.state chunk.page) }
     requires of_each { length dead.old ≡ length slabs.now.state.classes }
-    requires few { slice_index_or dead.old (class_of_page slabs.now.state chunk.page - 1) 0 < 65536 }
+    requires within_limit { slice_index_or dead.old (class_of_page slabs.now.state chunk.page - 1) 0 < 65536 }
     ensures counts { dead.new ≡ (if is_held holds.now chunk then dead.old else slice_set dead.old (class_of_page slabs.now.state chunk.page - 1) (slice_index_or dead.old (class_of_page slabs.now.state chunk.page - 1) 0 + 1)) }
 {
     if !holds.is_held(chunk) {

@@ -64,7 +64,7 @@ impl HoldCounts {
     /// Counts one more hold of the chunk.
     pub(crate) fn increment(&mut self, chunk: ChunkId)
         requires there { IsReached self.old chunk }
-        requires few { count_at self.old chunk < 65535 }
+        requires within_limit { count_at self.old chunk < 65535 }
         ensures incremented { (other : ChunkId) → count_at self.new other ≡ count_at self.old other + truth (is_chunk chunk other) }
     {
         self.pages[chunk.page as usize][chunk.index as usize] += 1;

@@ -65,7 +65,7 @@ module _ (table : Classes) (slabs : SlabState) (items : Items) (kept : IsConsist
   are_counts = record {
     pages_of_each = length-map slabs.classes (λ (class : ClassState). length class.pages) ∙ kept.classes;
     free_of_each = length-map slabs.classes (λ (class : ClassState). length class.free) ∙ kept.classes;
-    few = λ class valid.
+    within_limit = λ class valid.
         let there : HasClass slabs class = (valid.0, rw kept.classes valid.1) in
         rw (count_of_class (λ (c : ClassState). length c.pages) class valid) (omega (arith, pages_few table slabs items class kept there));
     within = λ class valid.

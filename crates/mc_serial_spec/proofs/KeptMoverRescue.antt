@@ -111,7 +111,7 @@ pub leads_from : (key : ℕ) (chunk : ChunkId) (item : Item) (items : Items) →
 leads_from key chunk item [] at to one = cc
 leads_from key chunk item (e ∷ items) at to one =
     leads_step (is_linked_to key e.item) (is_chunk e.chunk chunk) key chunk item e items refl refl at to one
-    (λ below few. leads_from key chunk item items below to few)
+    (λ below within_limit. leads_from key chunk item items below to within_limit)
 
 -- an item comes from one chunk into a free one of the same class, in its place of the hand-out order
 module _ (table : Classes) (slabs : SlabState) (items : Items) (old new : ChunkId) (item : Item)

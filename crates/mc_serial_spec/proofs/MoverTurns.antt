@@ -42,8 +42,8 @@ chunks_done count done c now within so_far same =
     ap (λ n. with_chunks n c) split ∙ chunks_then done (count - done) c ∙ ap (with_chunks (count - done)) (sym so_far) ∙ still (count - done) now same
 
 -- counts that are at most so many are at most more
-pub at_most_more : (few many : ℕ) (counts : Counts) → AreAtMost few counts → few ≤ many → AreAtMost many counts
-at_most_more few many counts most more = record {
+pub at_most_more : (within_limit at_limit : ℕ) (counts : Counts) → AreAtMost within_limit counts → within_limit ≤ at_limit → AreAtMost at_limit counts
+at_most_more within_limit at_limit counts most more = record {
   cleared = omega (arith, most.cleared);
   rescued = omega (arith, most.rescued);
   evicted = omega (arith, most.evicted);
@@ -87,10 +87,10 @@ counts-end c None = refl
 counts-end c (Some move) = end_ways _ (nat_lt 0 move.busy) c.machine _ _ _ c.counts refl refl refl
 
 pub most_turned : (m : Machine) (counts : Counts) (n : ℕ) → m.bulk ≤ 256 → AreAtMost n counts → AreAtMost (n + 256) (turns_after_one m counts).counts
-most_turned m counts n few most =
+most_turned m counts n within_limit most =
     let c : MoverCount = with_chunks m.bulk (record { machine = record m { turns = m.turns + 1 }; counts = counts }) in
     let looked : AreAtMost (n + m.bulk) c.counts = most_chunks m.bulk n (record { machine = record m { turns = m.turns + 1 }; counts = counts }) most in
-    rw (counts-end c c.machine.slabs.moving) (at_most_more (n + m.bulk) (n + 256) c.counts looked (omega (arith, few)))
+    rw (counts-end c c.machine.slabs.moving) (at_most_more (n + m.bulk) (n + 256) c.counts looked (omega (arith, within_limit)))
 
 -- the turns that are left, one of them done
 left_suc : (count done : ℕ) → done < count → count - done ≡ suc (count - (done + 1))

@@ -21,7 +21,7 @@ IsLegal-new = record { rising = tt; apart = λ entry is. absurd cc; replayed = r
 -- one more call, of which no more are trimmed
 trimmed-told : (history : List Call) (call : Call) (from : Option ℕ) → count_trimmed history from ≤ length history → count_trimmed (history ++ call ∷ []) from ≤ length (history ++ call ∷ [])
 trimmed-told history call None none = omega arith
-trimmed-told history call (Some from) few = omega (arith, few, length-append history (call ∷ []))
+trimmed-told history call (Some from) within_limit = omega (arith, within_limit, length-append history (call ∷ []))
 
 -- all that there were are trimmed, if any are recorded
 all_trimmed : (history : List Call) (from : Option ℕ) → count_trimmed history (recorded_behind from (length history)) ≤ length history

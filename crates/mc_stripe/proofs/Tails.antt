@@ -37,6 +37,6 @@ filter-behind test count history = ap (filter test) (sym (take-append-drop count
 
 -- what comes behind a place of a beginning
 pub drop-beginning : (count : ℕ) (seen more : List Call) → count ≤ length seen → drop count (seen ++ more) ≡ drop count seen ++ more
-drop-beginning zero seen more few = refl
-drop-beginning (suc count) [] more few = absurd (omega (arith, few))
-drop-beginning (suc count) (call ∷ seen) more few = drop-beginning count seen more (omega (arith, few))
+drop-beginning zero seen more within_limit = refl
+drop-beginning (suc count) [] more within_limit = absurd (omega (arith, within_limit))
+drop-beginning (suc count) (call ∷ seen) more within_limit = drop-beginning count seen more (omega (arith, within_limit))

@@ -152,7 +152,7 @@ impl Stripe {
         requires ready { self.old.ready ≡ true }
         requires found { found ≡ chunk_and_stamp self.old.state key }
         requires aside { IfSome (key_aside self.old.state) (λ other. other ≢ key) }
-        ensures told { self.new ≡ used_up (after_got self.old.state hand key) }
+        ensures records { self.new ≡ used_up (after_got self.old.state hand key) }
         ensures legal { IsLegal self.new.state }
     {
         let stamp = index::stamp_of(found);

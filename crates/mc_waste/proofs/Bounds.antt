@@ -40,11 +40,11 @@ module _ (config : Config) (raws sizes : List ℕ) (acc : IsAccepted config) (co
 
   -- the last size, where it isn't the 63rd
   pub last_of_few : (i : ℕ) → (i + 1) + 1 ≡ length sizes → length sizes < 63 → get_or sizes (i + 1) 0 ≤ scaled_size config (scaled_size config (get_or sizes i 0))
-  last_of_few i h few =
+  last_of_few i h within_limit =
       let grown_is : get_or raws (i + 1) 0 ≡ scaled_size config (get_or sizes i 0) = (comes.steps i (omega arith)).grown in
       let at : length raws - 1 ≡ i + 1 = omega (arith, comes.paired) in
       let raw : get_or raws (length raws - 1) 0 ≡ scaled_size config (get_or sizes i 0) = ap (λ (k : ℕ). get_or raws k 0) at ∙ grown_is in
-      let ends : config.max * config.den ≤ scaled_size config (get_or sizes i 0) * config.num = subst (λ (r : ℕ). config.max * config.den ≤ r * config.num) raw (comes.ends few) in
+      let ends : config.max * config.den ≤ scaled_size config (get_or sizes i 0) * config.num = subst (λ (r : ℕ). config.max * config.den ≤ r * config.num) raw (comes.ends within_limit) in
       let top : get_or sizes (i + 1) 0 ≡ config.max = ap (λ (k : ℕ). get_or sizes k 0) (omega arith) ∙ last_size config raws sizes acc comes in
       rw top (le-div config.max (scaled_size config (get_or sizes i 0) * config.num) config.den acc.factor.0 ends)
 
@@ -90,8 +90,8 @@ module _ (config : Config) (raws sizes : List ℕ) (acc : IsAccepted config) (co
       rw (five, four, next) (omega arith)
 
   -- where the factor is 5/4 or more there are never 63 classes
-  pub few : config.den * 5 ≤ config.num * 4 → length sizes < 63
-  few factor =
+  pub within_limit : config.den * 5 ≤ config.num * 4 → length sizes < 63
+  within_limit factor =
       ⊎_elim
       (λ lt. lt)
       (λ (le : 63 ≤ length sizes).

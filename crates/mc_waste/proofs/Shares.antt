@@ -10,7 +10,7 @@ use Rattle.mc_classes.proofs.Accepted.{IsAccepted, accepted}
 use Rattle.mc_classes.proofs.ClassOf.{class_fits, class_least}
 use Rattle.mc_classes.proofs.Sizes.{at_most_max}
 use Rattle.mc_waste.specs.Waste.{GoesTo, WastesLessThan, scaled_size, item_bytes, most_chunk}
-use Rattle.mc_waste.proofs.Bounds.{between, few, first_is, grown_more, last_of_few, multiple, rounded_more}
+use Rattle.mc_waste.proofs.Bounds.{between, within_limit, first_is, grown_more, last_of_few, multiple, rounded_more}
 
 -- the most bytes of a chunk, case by case
 most_first : (config : Config) (table : Classes) (bytes : ℕ) → most_chunk config table 1 bytes ≡ first_size config
@@ -118,7 +118,7 @@ above_below config table words class h above =
     (class_least table (item_bytes words) class (class - 1) h.goes (omega arith) (omega arith))
 
 pub no_63 : (config : Config) (table : Classes) → config_refusal config ≡ None → IsTableOf config table → config.num * 4 ≡ config.den * 5 → length table.sizes < 63
-no_63 config table h of factor = few config of.raws table.sizes (accepted config h) of.comes (omega arith)
+no_63 config table h of factor = within_limit config of.raws table.sizes (accepted config h) of.comes (omega arith)
 
 one_or_more : (class : ℕ) → 1 ≤ class → (class ≡ 1) ⊎ (1 < class)
 one_or_more class some = ⊎_elim (λ (le : class < 2). inl (omega arith)) (λ (more : 2 ≤ class). inr (omega arith)) (cases_lt class 2)

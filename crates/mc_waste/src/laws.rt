@@ -27,7 +27,7 @@ pub fn waste_is_a_share()
 /// 24 bytes; a larger one less than 20 of each 100 bytes of its chunk unused, or, in the last class, less than 36.
 pub fn five_quarters()
     ensures first { (config : Config) (table : Classes) (words : ℕ) → GoesTo config table words 1 → size_of table 1 - item_bytes words ≤ first_size config - 24 }
-    ensures few { (config : Config) (table : Classes) → config_refusal config ≡ None → IsTableOf config table → config.num * 4 ≡ config.den * 5 → length table.sizes < 63 }
+    ensures within_limit { (config : Config) (table : Classes) → config_refusal config ≡ None → IsTableOf config table → config.num * 4 ≡ config.den * 5 → length table.sizes < 63 }
     ensures between { (config : Config) (table : Classes) (words class : ℕ) → GoesTo config table words class → config.num * 4 ≡ config.den * 5 → 1 < class → class < length table.sizes → WastesLessThan 20 (item_bytes words) (size_of table class) }
     ensures last { (config : Config) (table : Classes) (words class : ℕ) → GoesTo config table words class → config.num * 4 ≡ config.den * 5 → 1 < class → WastesLessThan 36 (item_bytes words) (size_of table class) }
 {}

@@ -58,5 +58,5 @@ general_text pool running moved rescues evictions_nomem busy =
 pub record AreCounts (table : Classes) (pages free : List ℕ) : Type 0 where
   pub pages_of_each : length pages ≡ length table.sizes
   pub free_of_each : length free ≡ length table.sizes
-  pub few : (class : ℕ) → IsClass table class → slice_index pages (class - 1) ≤ 127
+  pub within_limit : (class : ℕ) → IsClass table class → slice_index pages (class - 1) ≤ 127
   pub within : (class : ℕ) → IsClass table class → slice_index free (class - 1) ≤ slice_index pages (class - 1) * per_page_of table class

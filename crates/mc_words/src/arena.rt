@@ -41,7 +41,7 @@ pub struct Arena {
     ghost slots: { table.shared.table_id.slots ≡ slot_count plan.config.stripes },
     ghost sound: { IsSound plan.table },
     ghost some: { 1 ≤ plan.config.stripes },
-    ghost few: { plan.config.stripes ≤ 64 },
+    ghost within_limit: { plan.config.stripes ≤ 64 },
     ghost hands: { (1 ≤ plan.hands) × (plan.hands ≤ 64) },
     ghost begun: { plan.start ≤ most_issue },
     ghost places: { (first_page ≡ pages_from plan) × (first_head ≡ heads_from plan) × (first_data ≡ data_from plan) },

@@ -20,7 +20,7 @@ ready_idle : (view : View) → is_idle view ≡ true → IsReady view
 ready_idle view idle =
     let parts = and_parts _ _ idle in
     let none = eqb-true _ _ parts.1 in
-    record { unlocked = parts.0; unfilled = ap has_fresh (nil_from_length view.row.holdings none); few = omega arith }
+    record { unlocked = parts.0; unfilled = ap has_fresh (nil_from_length view.row.holdings none); within_limit = omega arith }
 
 -- a worker and the others
 pub all_done : (arena : Arena) (worker : ℕ) (commands : List Command) (hand : Hand) (hands : List Hand) (mover : Hand) (own : Served) (others joined : Joined)

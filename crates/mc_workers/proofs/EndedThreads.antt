@@ -15,26 +15,26 @@ use Rattle.mc_workers.specs.Spending.{StopsMoves}
 -- what holds of a worker and of so many behind it
 each_of : (P : ℕ → Type 0) (worker count : ℕ) → P worker → ((own : ℕ) → worker + 1 ≤ own → own < (worker + 1) + count → P own)
     → (own : ℕ) → worker ≤ own → own < worker + suc count → P own
-each_of P worker count first others own some few = from (cases_lt worker own)
+each_of P worker count first others own some within_limit = from (cases_lt worker own)
   where
     from : (worker < own) ⊎ (own ≤ worker) → P own
-    from (inl later) = others own (omega (arith, later)) (omega (arith, few))
+    from (inl later) = others own (omega (arith, later)) (omega (arith, within_limit))
     from (inr here) = let same : own ≡ worker = omega (arith, some, here) in subst P (sym same) first
 
 module _ (lets_on : LetsOn) (stops : Stops) (commands : List Command) (worker : ℕ) where
   -- the mover alone
   pub passes_alone : PassesMoves lets_on commands → LetsAllOn lets_on commands worker 0
-  passes_alone mover = record { workers = λ own some few. absurd (omega (arith, some, few)); mover = mover }
+  passes_alone mover = record { workers = λ own some within_limit. absurd (omega (arith, some, within_limit)); mover = mover }
 
   pub stops_alone : StopsMoves lets_on stops 0 commands → StopsSome lets_on stops commands worker 0
-  stops_alone mover = record { workers = λ own some few. absurd (omega (arith, some, few)); mover = inr mover; one = inr mover }
+  stops_alone mover = record { workers = λ own some within_limit. absurd (omega (arith, some, within_limit)); mover = inr mover; one = inr mover }
 
   -- a worker and the others
   pub passes_with : (count : ℕ) → PassesLines lets_on commands worker → LetsAllOn lets_on commands (worker + 1) count → LetsAllOn lets_on commands worker (suc count)
   passes_with count own others = record { workers = each_of (PassesLines lets_on commands) worker count own others.workers; mover = others.mover }
 
   one_later : (count : ℕ) → StopsOne lets_on stops commands (worker + 1) count → StopsOne lets_on stops commands worker (suc count)
-  one_later count (inl (own, some, few, here)) = inl (own, omega (arith, some), omega (arith, few), here)
+  one_later count (inl (own, some, within_limit, here)) = inl (own, omega (arith, some), omega (arith, within_limit), here)
   one_later count (inr mover) = inr mover
 
   abbrev EndsLines : ℕ → Type 0
@@ -45,7 +45,7 @@ module _ (lets_on : LetsOn) (stops : Stops) (commands : List Command) (worker : 
 
   stops_first : (count : ℕ) → StopsLines lets_on stops commands worker → LetsAllOn lets_on commands (worker + 1) count → StopsSome lets_on stops commands worker (suc count)
   stops_first count own others = record {
-    workers = each_of EndsLines worker count (inr own) (λ at some few. inl (others.workers at some few));
+    workers = each_of EndsLines worker count (inr own) (λ at some within_limit. inl (others.workers at some within_limit));
     mover = inl others.mover;
     one = inl (worker, omega arith, omega arith, own);
   }

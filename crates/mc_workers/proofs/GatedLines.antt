@@ -10,11 +10,11 @@ use Rattle.mc_workers.specs.Gates.{LetsOn, IsLetOn, PassedEach, IsStopped, Stopp
 -- of the first lines so many are the thread's own, and it counted each
 pub record AreCounted (lets_on : LetsOn) (worker index own nth : ℕ) : Type 0 where
   pub count : nth ≡ own
-  pub few : nth ≤ index
+  pub within_limit : nth ≤ index
   pub passed : PassedEach lets_on worker nth
 
 pub none_counted : (lets_on : LetsOn) (worker : ℕ) → AreCounted lets_on worker 0 0 0
-none_counted lets_on worker = record { count = refl; few = omega arith; passed = λ nth some few. absurd (omega (arith, some, few)) }
+none_counted lets_on worker = record { count = refl; within_limit = omega arith; passed = λ nth some within_limit. absurd (omega (arith, some, within_limit)) }
 
 -- one line more, of those that a thread does
 module _ (lets_on : LetsOn) (worker : ℕ) (is_own : Command → Bool) (commands : List Command) (i : ℕ) (other : Command) (within : i < length commands) (nth : ℕ) (are : AreCounted lets_on worker i (length (filter is_own (take i commands))) nth) where
@@ -30,14 +30,14 @@ module _ (lets_on : LetsOn) (worker : ℕ) (is_own : Command → Bool) (commands
       let longer = ap length (more true is) ∙ length_push (filter is_own (take i commands)) (get_or commands i other) in
       record {
         count = omega (arith, are.count, longer);
-        few = omega (arith, are.few);
+        within_limit = omega (arith, are.within_limit);
         passed = λ at some most. passed_one one at some most (cases_lt at (nth + 1));
       }
 
   pub line_uncounted : is_own (get_or commands i other) ≡ false → AreCounted lets_on worker (i + 1) (length (filter is_own (take (i + 1) commands))) nth
   line_uncounted isnt =
       let same = ap length (more false isnt ∙ append-nil (filter is_own (take i commands))) in
-      record { count = are.count ∙ sym same; few = omega (arith, are.few); passed = are.passed }
+      record { count = are.count ∙ sym same; within_limit = omega (arith, are.within_limit); passed = are.passed }
 
   -- the lines up to this one are one more than those so far
   longer : is_own (get_or commands i other) ≡ true → length (filter is_own (take (i + 1) commands)) ≡ nth + 1

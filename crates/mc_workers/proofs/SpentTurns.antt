@@ -19,7 +19,7 @@ none_begun mover = omega arith
 
 -- one line more
 module _ (lets_on : LetsOn) (begun : ℕ) (commands : List Command) (i : ℕ) (other : Command) (within : i < length commands) (nth : ℕ)
-    (are : AreCounted lets_on 0 i (length (lines_of_mover (take i commands))) nth) (left : Mover) (few : BeginsAtMost begun (take i commands) left) where
+    (are : AreCounted lets_on 0 i (length (lines_of_mover (take i commands))) nth) (left : Mover) (within_limit : BeginsAtMost begun (take i commands) left) where
   more : (b : Bool) → is_movers (get_or commands i other) ≡ b → lines_of_mover (take (i + 1) commands) ≡ lines_of_mover (take i commands) ++ cond b (get_or commands i other ∷ []) []
   more b is = filter_more is_movers commands i other within ∙ ap (λ (b : Bool). lines_of_mover (take i commands) ++ cond b (get_or commands i other ∷ []) []) is
 
@@ -28,11 +28,11 @@ module _ (lets_on : LetsOn) (begun : ℕ) (commands : List Command) (i : ℕ) (o
   asked_more is = ap (sum_by turns_asked) (more true is) ∙ sum_by_push turns_asked (lines_of_mover (take i commands)) (get_or commands i other)
 
   pub begun_more : (after : Mover) → is_movers (get_or commands i other) ≡ true → turns_of after ≤ turns_of left + turns_asked (get_or commands i other) → BeginsAtMost begun (take (i + 1) commands) after
-  begun_more after is most = let asked = asked_more is in omega (arith, few, most, asked)
+  begun_more after is most = let asked = asked_more is in omega (arith, within_limit, most, asked)
 
   pub begun_same : is_movers (get_or commands i other) ≡ false → BeginsAtMost begun (take (i + 1) commands) left
   begun_same isnt =
-      subst (λ (lines : List Command). turns_of left ≤ begun + sum_by turns_asked lines) (sym (more false isnt ∙ append-nil (lines_of_mover (take i commands)))) few
+      subst (λ (lines : List Command). turns_of left ≤ begun + sum_by turns_asked lines) (sym (more false isnt ∙ append-nil (lines_of_mover (take i commands)))) within_limit
 
   -- the mover was stopped at it
   pub move_stopped : (stops : Stops) → is_movers (get_or commands i other) ≡ true → StopsMove lets_on stops (nth + 1) (get_or commands i other) left → StopsMoves lets_on stops begun commands
@@ -43,5 +43,5 @@ module _ (lets_on : LetsOn) (begun : ℕ) (commands : List Command) (i : ℕ) (o
     passed = are.passed;
     here = here;
     spent = subst (λ (lines : List Command). 1000000 < begun + sum_by turns_asked lines) (sym (lines_until lets_on 0 is_movers commands i other within nth are is))
-        (let asked = asked_more is in omega (arith, few, past, asked));
+        (let asked = asked_more is in omega (arith, within_limit, past, asked));
   })

@@ -124,7 +124,7 @@ module _ (table : Classes) (slabs : SlabState) (sound : IsSound table) (of : IsO
   are_counts = record {
     pages_of_each = length-map slabs.classes page_count ∙ class_count table slabs of;
     free_of_each = length-map slabs.classes free_count ∙ class_count table slabs of;
-    few = λ class valid. rw (number_of_class page_count class valid) (omega (arith, pages_few class (there class valid)));
+    within_limit = λ class valid. rw (number_of_class page_count class valid) (omega (arith, pages_few class (there class valid)));
     within = λ class valid. rw (number_of_class page_count class valid, number_of_class free_count class valid) (free_within class (there class valid));
   }
 
@@ -132,7 +132,7 @@ module _ (table : Classes) (slabs : SlabState) (sound : IsSound table) (of : IsO
   are_tellable : (survey : Survey) → IsSurvey slabs survey → ArePrintable table survey
   are_tellable survey is = record {
     counts = subst (λ (p : List ℕ × List ℕ). AreCounts table p.0 p.1) (λ k. (sym pages k, sym free k)) are_counts;
-    granted = omega (arith, bytes, few);
+    granted = omega (arith, bytes, within_limit);
   }
     where
       pages : pages_in survey ≡ map page_count slabs.classes
@@ -141,8 +141,8 @@ module _ (table : Classes) (slabs : SlabState) (sound : IsSound table) (of : IsO
       free : free_in survey ≡ map free_count slabs.classes
       free = ap (λ (ns : List Numbers). map (λ (n : Numbers). n.free) ns) is.classes ∙ map-map (λ (n : Numbers). n.free) numbers_of slabs.classes
 
-      few : granted_count slabs * slabs.page ≤ 127 * 16384
-      few =
+      within_limit : granted_count slabs * slabs.page ≤ 127 * 16384
+      within_limit =
           let pages = count_by-le-length (λ (owner : Owner). not (is_untouched owner)) slabs.owners in
           mul-le (granted_count slabs) slabs.page 127 16384 (omega (arith, pages, of.owners, sound.pages.1, sound.count.1)) (omega (arith, of.page, sound.page.1))
 

@@ -27,8 +27,8 @@ one_more most Busy counts (a, b, c, d, e) = (omega (arith, a), omega (arith, b),
 one_more most Locked counts (a, b, c, d, e) = (omega (arith, a), omega (arith, b), omega (arith, c), omega (arith, d), omega (arith, e))
 one_more most Already counts (a, b, c, d, e) = (omega (arith, a), omega (arith, b), omega (arith, c), omega (arith, d), omega (arith, e))
 
-below_more : (few many : ℕ) (counts : mover.Counts) → AreBelow few counts → few ≤ many → AreBelow many counts
-below_more few many counts (a, b, c, d, e) more = (omega (arith, a), omega (arith, b), omega (arith, c), omega (arith, d), omega (arith, e))
+below_more : (within_limit at_limit : ℕ) (counts : mover.Counts) → AreBelow within_limit counts → within_limit ≤ at_limit → AreBelow at_limit counts
+below_more within_limit at_limit counts (a, b, c, d, e) more = (omega (arith, a), omega (arith, b), omega (arith, c), omega (arith, d), omega (arith, e))
 
 -- each number is at most that of the chunks
 all_counted : (found : List Found) (most : ℕ) (counts : mover.Counts) → AreBelow most counts → AreBelow (most + length found) (counts_with_all found counts)
@@ -43,8 +43,8 @@ looks_few number counts view slabs now left of sound looks =
     let chunks = (sound.chunks looks.move.src source).1 in
     let same = per_page_is view.setup.table slabs looks.move.src of (of.accounted.move looks.move looks.runs).src in
     let count = looks.count in
-    let few : 1 + length looks.found ≤ 257 = omega arith in
-    subst (AreBelow 257) (sym looks.counts_are) (below_more (1 + length looks.found) 257 (counts_with_all looks.found no_counts) (all_counted looks.found 1 no_counts (omega arith, omega arith, omega arith, omega arith, omega arith)) few)
+    let within_limit : 1 + length looks.found ≤ 257 = omega arith in
+    subst (AreBelow 257) (sym looks.counts_are) (below_more (1 + length looks.found) 257 (counts_with_all looks.found no_counts) (all_counted looks.found 1 no_counts (omega arith, omega arith, omega arith, omega arith, omega arith)) within_limit)
 
 -- so a turn counts at most 256 of each kind
 pub turn_few : (number : ℕ) (turn : Turn) (view now : View) → HoldsSlabs (Turns number turn) view now → AreBelow 257 (counts_in turn)

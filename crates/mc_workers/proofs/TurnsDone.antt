@@ -31,7 +31,7 @@ pub record HaveGone (count : ℕ) (counts : Counts) (mover : Mover) (before : Ha
   pub does : TurnsEach turns before now
   pub sums : counts ≡ counts_of_all turns
   pub begun : left ≡ record mover { turns = mover.turns + count }
-  pub few : 1 ≤ count → left.turns ≤ 1000000
+  pub within_limit : 1 ≤ count → left.turns ≤ 1000000
   pub most : AreAtMost (256 * count) counts
 
 -- at first
@@ -43,7 +43,7 @@ gone_none counts mover hand none = record {
   does = refl;
   sums = none;
   begun = let none_more : mover.turns ≡ mover.turns + 0 = omega arith in λ k. record mover { turns = none_more k };
-  few = λ some. absurd (omega (arith, some));
+  within_limit = λ some. absurd (omega (arith, some));
   most = subst (AreAtMost 0) (sym none) (record { cleared = omega arith; rescued = omega arith; evicted = omega arith; busy = omega arith; locked = omega arith });
 }
 
@@ -75,7 +75,7 @@ gone_all asked count ending counts mover before left now gone all some went = by
           does = does;
           sums = sums;
           begun = gone.begun ∙ ap (λ (n : ℕ). record mover { turns = mover.turns + n }) (sym count_is);
-          few = gone.few some;
+          within_limit = gone.within_limit some;
         }
 
 -- the run has no turns left for one more that was asked for
@@ -117,7 +117,7 @@ module _ (asked count : ℕ) (counts more : Counts) (turn : Turn) (mover : Mover
     does = each_more gone.turns turn before hand now gone.does does;
     sums = sums_are;
     begun = left_is;
-    few = λ some. left_few;
+    within_limit = λ some. left_few;
     most = subst (λ (n : ℕ). AreAtMost n more) (omega arith) (subst (AreAtMost (256 * count + 256)) (sym added) (more_counts (256 * count) turn counts gone.most (turn_few hand.number turn hand.seat.me.0 now.seat.me.0 does.0)));
   }
 
@@ -137,5 +137,5 @@ module _ (asked count : ℕ) (counts more : Counts) (turn : Turn) (mover : Mover
     does = each_more gone.turns turn before hand now gone.does does;
     sums = sums_are;
     begun = left_is ∙ ap (λ (n : ℕ). record mover { turns = mover.turns + n }) (sym length_is);
-    few = left_few;
+    within_limit = left_few;
   }

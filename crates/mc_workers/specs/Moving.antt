@@ -144,7 +144,7 @@ pub record DoesTurnsInRun (asked : ℕ) (ending : Ending) (counts : Counts) (mov
   pub does : TurnsEach turns before now
   pub sums : counts ≡ counts_of_all turns
   pub begun : left ≡ record mover { turns = mover.turns + length turns }
-  pub few : left.turns ≤ 1000000
+  pub within_limit : left.turns ≤ 1000000
 
 -- the run had no turns left for the next one: those before it were done, and each went on
 pub record RunsOutOfTurns (asked : ℕ) (mover : Mover) (before : Hand) (left : Mover) (now : Hand) : Type 0 where

@@ -53,7 +53,7 @@ pub fn serve_script<R: Threads + Wait + Sync, G: Gate + Sync>(
 fn greatest_worker(commands: &[Command]) -> u64
     requires valid { All IsValid commands.now }
     ensures greatest { result ≡ greatest_worker commands.now }
-    ensures few { result ≤ 63 }
+    ensures within_limit { result ≤ 63 }
 {
     commands.iter().map(worker_of).max().unwrap_or(0)
 }
@@ -84,7 +84,7 @@ fn open_arena<R: Wait>(
     requires accepted { config_refusal config.now ≡ None }
     requires mode { mode ≤ 2 }
     requires some { 1 ≤ hands }
-    requires few { hands ≤ 64 }
+    requires within_limit { hands ≤ 64 }
     ensures opened { IfOk result (λ opened. IsOpened config.now mode hands opened.0 opened.1 opened.2.items) }
     ensures mover { IfOk result (λ opened. IsReadyHandOf opened.0 opened.1) }
     ensures none { IfOk result (λ opened. (view opened.1).row.holdings ≡ []) }

@@ -73,7 +73,7 @@ pub fn run_workers<R: Threads + Wait + Sync, G: Gate + Sync>(
     mover: Hand,
 ) -> Result<Joined, Ended>
     requires hands { AreHandsFrom arena.now worker hands.items }
-    requires few { worker + vec_len hands ≤ 64 }
+    requires within_limit { worker + vec_len hands ≤ 64 }
     requires ready { IsReadyHandOf arena.now mover }
     requires none { (view mover).row.holdings ≡ [] }
     requires valid { All IsValid commands.now }

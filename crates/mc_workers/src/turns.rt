@@ -65,7 +65,7 @@ fn ending_of(turn: Turn) -> Ending
 // Counts what the turn did, too.
 fn add_counts(counts: &mut Counts, turn: Turn)
     requires room { AreAtMost (2 ^ 63) counts.old }
-    requires few { AreBelow 257 (counts_in turn) }
+    requires within_limit { AreBelow 257 (counts_in turn) }
     ensures added { counts.new ≡ counts_with turn counts.old }
 {
     let done = match turn {

@@ -14,7 +14,7 @@ pub fn lines_come_apart()
 
 /// Replies are printed one behind the other, each about the key of its line; and no line has the reply of another one.
 pub fn replies_to_workers_fit()
-    ensures told { RepliesArePrinted }
+    ensures records { RepliesArePrinted }
     ensures fit { RepliesFitTheirLines }
 {}
 

@@ -14,7 +14,7 @@ use Rattle.mc_words.specs.lock.Lent.{IsLentStripe}
 
 -- the stripe is one of the arena's, and that of the key which the hand read in the chunk
 pub record IsKeysStripe (arena : Arena) (hand : Hand) (held : StripeHeld) (chunk : ChunkId) : Type 0 where
-  pub near : has_chunk (setup_of arena).table chunk ≡ true
+  pub in_range : has_chunk (setup_of arena).table chunk ≡ true
   pub inside : stripe_number held < (setup_of arena).config.stripes
   pub key : stripe_read (view hand) chunk ≡ Some (stripe_number held)
 

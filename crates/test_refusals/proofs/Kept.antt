@@ -28,14 +28,14 @@ all_hands arena hands are = hands_from arena 0 hands are.1
 
 -- a hand that saw a header holds what it held, and has the same locks
 pub ready_behind_head : (view now : View) (chunk : ChunkId) (head : Head) → now ≡ head_seen chunk head view → IsReady view → IsReady now
-ready_behind_head view now chunk head seen ready = subst IsReady (sym seen) (record { unlocked = ready.unlocked; unfilled = ready.unfilled; few = ready.few })
+ready_behind_head view now chunk head seen ready = subst IsReady (sym seen) (record { unlocked = ready.unlocked; unfilled = ready.unfilled; within_limit = ready.within_limit })
 
 -- a hand with the locks and the holdings of a ready one is ready
 ready_still : (before now : Hand) → now.locks ≡ before.locks → (view now).row.holdings ≡ (view before).row.holdings → IsReady (view before) → IsReady (view now)
 ready_still before now locks holdings ready = record {
   unlocked = sym (unlocked_from now.seat.me.0 now.locks now.noted.4) ∙ (ap is_neither locks ∙ (unlocked_from before.seat.me.0 before.locks before.noted.4 ∙ ready.unlocked));
   unfilled = ap has_fresh holdings ∙ ready.unfilled;
-  few = subst (λ (hs : List Holding). length hs ≤ 255) (sym holdings) ready.few;
+  within_limit = subst (λ (hs : List Holding). length hs ≤ 255) (sym holdings) ready.within_limit;
 }
 
 -- so is one that took the lock of the slabs, and gave it back

@@ -26,7 +26,7 @@ all_hands arena hands are = hands_from arena 0 hands are.1
 
 -- a hand that saw a header holds what it held, and has the same locks
 pub ready_behind_head : (view now : View) (chunk : ChunkId) (head : Head) → now ≡ head_seen chunk head view → IsReady view → IsReady now
-ready_behind_head view now chunk head seen ready = subst IsReady (sym seen) (record { unlocked = ready.unlocked; unfilled = ready.unfilled; few = ready.few })
+ready_behind_head view now chunk head seen ready = subst IsReady (sym seen) (record { unlocked = ready.unlocked; unfilled = ready.unfilled; within_limit = ready.within_limit })
 
 -- a hand that holds nothing is idle
 pub idle : (view : View) → IsReady view → HoldsNothing view → is_idle view ≡ true
@@ -34,7 +34,7 @@ idle view ready none = λ k. ready.unlocked k && (length (none k) == 0)
 
 -- a hand that took another one over has the locks and holds the chunks that it had
 pub ready_of_both : (kept spent now : View) → now ≡ both_views kept spent → IsReady kept → IsReady now
-ready_of_both kept spent now both ready = subst IsReady (sym both) (record { unlocked = ready.unlocked; unfilled = ready.unfilled; few = ready.few })
+ready_of_both kept spent now both ready = subst IsReady (sym both) (record { unlocked = ready.unlocked; unfilled = ready.unfilled; within_limit = ready.within_limit })
 
 pub nothing_of_both : (kept spent now : View) → now ≡ both_views kept spent → HoldsNothing kept → HoldsNothing now
 nothing_of_both kept spent now both none = ap (λ (v : View). v.row.holdings) both ∙ none

@@ -15,7 +15,7 @@ use std::sync::Wait;
 pub fn hint_of<R: Wait>(rt: &R, arena: &Arena, hand: &mut Hand, key: Key) -> Option<Hint>
     requires arena { IsReadyHandOf arena.now hand.old }
     ensures arena { IsReadyHandOf arena.now hand.new }
-    ensures near { IfSome result (λ hint. has_chunk (setup_of arena.now).table (hint_chunk hint) ≡ true) }
+    ensures in_range { IfSome result (λ hint. has_chunk (setup_of arena.now).table (hint_chunk hint) ≡ true) }
 {
     let item = get_key(rt, arena, hand, key)?;
     let hint = hint(&item);
@@ -26,7 +26,7 @@ pub fn hint_of<R: Wait>(rt: &R, arena: &Arena, hand: &mut Hand, key: Key) -> Opt
 /// The hint's refusal, if there is one; else its item is had again, and the reference given up.
 pub fn follow(arena: &Arena, hand: &mut Hand, hint: Hint) -> Option<Again>
     requires arena { IsReadyHandOf arena.now hand.old }
-    requires near { has_chunk (setup_of arena.now).table (hint_chunk hint) ≡ true }
+    requires in_range { has_chunk (setup_of arena.now).table (hint_chunk hint) ≡ true }
     ensures arena { IsReadyHandOf arena.now hand.new }
 {
     match again(arena, hand, hint) {

@@ -22,10 +22,10 @@ returns-then-own g c =
     let stamp = c.in_ok-stamp.stamp in
     let item = c.in-Ok-Some.item in
     let saying : StoredItem = record { stamp = stamp; words = item_with 3 stamp (7 ∷ 8 ∷ 9 ∷ []) } in
-    let set_said = at_value _ c.set.result c.ok.result stamp c.ok.ensures.value c.in_ok-stamp.was c.set.ensures.said in
-    let said = c.read-found.ensures.unsaid ∙ (c.get.ensures.unsaid ∙ set_said) in
+    let set_said = at_value _ c.set.result c.ok.result stamp c.ok.ensures.value c.in_ok-stamp.was c.set.ensures.stores_words in
+    let said = c.read-found.ensures.stores_nothing ∙ (c.get.ensures.stores_nothing ∙ set_said) in
     let among = subst (λ (l : List StoredItem). Contains l saying) (sym said) (Contains-push _ saying) in
     let Read = λ (read : Vec ℕ Global). WordsWereStored (view c.read-found.new.hand) (item_stamp item) (item_with (item_key item) (item_stamp item) read.items) in
     let Own = λ (read : Vec ℕ Global). read.items ≡ 7 ∷ 8 ∷ 9 ∷ [] in
-    let own = IfOk-weaker c.read-found.result Read Own (λ read are. ap (drop 3) (sym (are.own saying among (sym c.if-own.true ∙ c.stamp.ensures.stamp)))) c.read-found.ensures.said in
+    let own = IfOk-weaker c.read-found.result Read Own (λ read are. ap (drop 3) (sym (are.own saying among (sym c.if-own.true ∙ c.stamp.ensures.stamp)))) c.read-found.ensures.stores_words in
     record { words = subst (λ (o : Option (Vec ℕ Global)). IfSome o Own) (sym c.ok-then-own.ensures.value) (behind_ok Own c.read-found.result own) }

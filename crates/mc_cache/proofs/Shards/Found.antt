@@ -20,7 +20,7 @@ use Rattle.mc_cache.proofs.Shards.Idle.{alone}
 
 -- the words of an item that was got were said
 were_said : (arena : Arena) (before got : Hand) (item : Ref) → IsHandOf arena got → StoresNothing (view before) (view got) → IsItemRef (view got) item → WereStored (setup_of arena) (items_stored_by before) (item_stamp item) (item_with (item_key item) (item_stamp item) (item_words (view got) item))
-were_said arena before got item of unsaid is = record { seen = view got; setup_is = of.setup; lawful = of.lawful; own_is = unsaid; said = words_said (view got) of.lawful item is }
+were_said arena before got item of stores_nothing is = record { seen = view got; setup_is = of.setup; lawful = of.lawful; own_is = stores_nothing; stored = words_said (view got) of.lawful item is }
 
 -- these words of an item under the hash were said
 abbrev SaidOf : Setup → ℕ → Hand → List ℕ → Type 0
@@ -33,7 +33,7 @@ no_hint hash before = record { number = refl; did = inl refl }
 -- an item was got
 pub finds_item : (arena : Arena) (hash : ℕ) (before tried got : Hand) (found : Option Ref) (item : Ref) → TriesHint hash before tried → IsHandOf arena got → StoresNothing (view before) (view got) → found ≡ Some item → GetsUnder (setup_of arena) hash found tried got
     → IfSome found (λ item. IsItemRef (view got) item × (item_key item ≡ hash)) → FindsWords (setup_of arena) hash before (Some (item_words (view got) item))
-finds_item arena hash before tried got found item tries of unsaid some gets is =
+finds_item arena hash before tried got found item tries of stores_nothing some gets is =
     let own : IsItemRef (view got) item × (item_key item ≡ hash) = subst (λ (o : Option Ref). IfSome o (λ item. IsItemRef (view got) item × (item_key item ≡ hash))) some is in
     record {
       tried = tried;
@@ -42,9 +42,9 @@ finds_item arena hash before tried got found item tries of unsaid some gets is =
       item = Some item;
       gets = subst (λ (o : Option Ref). GetsUnder (setup_of arena) hash o tried got) some gets;
       words_are = refl;
-      said = (
+      stored = (
         item_stamp item,
-        subst (λ (k : ℕ). WereStored (setup_of arena) (items_stored_by before) (item_stamp item) (item_with k (item_stamp item) (item_words (view got) item))) own.1 (were_said arena before got item of unsaid own.0),
+        subst (λ (k : ℕ). WereStored (setup_of arena) (items_stored_by before) (item_stamp item) (item_with k (item_stamp item) (item_words (view got) item))) own.1 (were_said arena before got item of stores_nothing own.0),
       );
     }
 
@@ -63,9 +63,9 @@ module _ (setup : Setup) (hash : ℕ) (key : List ℕ) (before : Hand) (words : 
 pub found_item : (arena : Arena) (hash : ℕ) (before tried got : Hand) (found : Option Ref) → TriesHint hash before tried → IsHandOf arena got → IsReady (view got) → StoresNothing (view before) (view got) → GetsUnder (setup_of arena) hash found tried got
     → IfSome found (λ item. IsItemRef (view got) item × (item_key item ≡ hash)) → (view tried).row.holdings ≡ [] → HoldsToo found (view tried) (view got) → IfSome found (λ item. FindsItem arena hash item before got)
 unfolding finds_item
-found_item arena hash before tried got None tries of ready unsaid gets is none more = tt
-found_item arena hash before tried got (Some item) tries of ready unsaid gets is none more = record {
-  finds = finds_item arena hash before tried got (Some item) item tries of unsaid refl gets is;
+found_item arena hash before tried got None tries of ready stores_nothing gets is none more = tt
+found_item arena hash before tried got (Some item) tries of ready stores_nothing gets is none more = record {
+  finds = finds_item arena hash before tried got (Some item) item tries of stores_nothing refl gets is;
   is_item = refl;
   refers = record { of_arena = of; ready = ready; refers = is.0 };
   alone = alone (view tried) (view got) item none more;
@@ -76,7 +76,7 @@ the_item arena hash before got found item some is = subst (λ (o : Option Ref). 
 
 -- none was got
 pub none_words : (setup : Setup) (hash : ℕ) (before tried got : Hand) (found : Option Ref) → TriesHint hash before tried → found ≡ None → Gets setup hash found tried got → FindsWords setup hash before None
-none_words setup hash before tried got found tries none gets = record { tried = tried; tries = tries; got = got; item = None; gets = inl (subst (λ (o : Option Ref). Gets setup hash o tried got) none gets); words_are = refl; said = tt }
+none_words setup hash before tried got found tries none gets = record { tried = tried; tries = tries; got = got; item = None; gets = inl (subst (λ (o : Option Ref). Gets setup hash o tried got) none gets); words_are = refl; stored = tt }
 
 pub finds_none : (setup : Setup) (hash : ℕ) (key : List ℕ) (before got : Hand) (found : Option Ref) → found ≡ None → Gets setup hash found before got → FindsOtherKey setup hash key before
 finds_none setup hash key before got found none gets = record { words = None; finds = none_words setup hash before before got found (no_hint hash before) none gets; other = tt }
@@ -95,7 +95,7 @@ module _ (arena : Arena) (hash : ℕ) (key : List ℕ) (before got : Hand) (item
   touches_words : (value : List ℕ) → item_words (view got) item ≡ packed_item key value → (now : Hand) → BumpsItem (hand_number before) item now → TouchesValue (setup_of arena) hash key value before now
   touches_words value same now bumps =
       let finds = found.finds in record {
-        finds = record { tried = finds.tried; tries = finds.tries; got = finds.got; item = finds.item; gets = finds.gets; words_are = ap Some (sym same) ∙ finds.words_are; said = subst (SaidOf (setup_of arena) hash before) same finds.said };
+        finds = record { tried = finds.tried; tries = finds.tries; got = finds.got; item = finds.item; gets = finds.gets; words_are = ap Some (sym same) ∙ finds.words_are; stored = subst (SaidOf (setup_of arena) hash before) same finds.stored };
         item = item;
         is_item = found.is_item;
         bumps = bumps;

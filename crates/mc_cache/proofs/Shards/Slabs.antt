@@ -70,16 +70,16 @@ refusal e = Err e
 
 -- a hint that led nowhere
 pub missed_leaves : (e : Again) (chunk : ChunkId) (issue : ℕ) (before now : View) → (refusal e ≡ Err Gone → FindsGone before chunk issue now) → (refusal e ≡ Err Contended → FindsContended before chunk issue now) → (refusal e ≡ Err TooManyRefs → now ≡ before) → LeavesSlabs before now
-missed_leaves Gone chunk issue before now gone contended many = elim (gone refl) [
+missed_leaves Gone chunk issue before now gone contended at_limit = elim (gone refl) [
   | inl other ↦ ap count_of other.is
   | inr finds ↦ other_leaves chunk issue _ before now finds
 ]
-missed_leaves Contended chunk issue before now gone contended many = other_leaves chunk issue _ before now (contended refl)
-missed_leaves TooManyRefs chunk issue before now gone contended many = ap count_of (many refl)
+missed_leaves Contended chunk issue before now gone contended at_limit = other_leaves chunk issue _ before now (contended refl)
+missed_leaves TooManyRefs chunk issue before now gone contended at_limit = ap count_of (at_limit refl)
 
 -- and what it did
 pub missed_in_vain : (e : Again) (hash : ℕ) (hint : Hint) (before now : View) → (refusal e ≡ Err Gone → FindsGone before hint.chunk hint.issue now) → (refusal e ≡ Err Contended → FindsContended before hint.chunk hint.issue now) → (refusal e ≡ Err TooManyRefs → now ≡ before)
     → (now ≡ before) ⊎ ((hint : Hint) × FollowsInVain hint hash before now)
-missed_in_vain Gone hash hint before now gone contended many = inr (hint, inl (gone refl))
-missed_in_vain Contended hash hint before now gone contended many = inr (hint, inr (inl (contended refl)))
-missed_in_vain TooManyRefs hash hint before now gone contended many = inl (many refl)
+missed_in_vain Gone hash hint before now gone contended at_limit = inr (hint, inl (gone refl))
+missed_in_vain Contended hash hint before now gone contended at_limit = inr (hint, inr (inl (contended refl)))
+missed_in_vain TooManyRefs hash hint before now gone contended at_limit = inl (at_limit refl)

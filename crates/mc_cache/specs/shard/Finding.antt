@@ -51,7 +51,7 @@ pub record FindsWords (setup : Setup) (hash : ℕ) (before : Hand) (words : Opti
   pub item : Option Ref
   pub gets : GetsUnder setup hash item tried got
   pub words_are : words ≡ option_map (item_words (view got)) item
-  pub said : IfSome words (λ words. (stamp : ℕ) × WereStored setup (items_stored_by before) stamp (item_with hash stamp words))
+  pub stored : IfSome words (λ words. (stamp : ℕ) × WereStored setup (items_stored_by before) stamp (item_with hash stamp words))
 
 -- some item was under the hash
 abbrev pub FindsSome : Setup → ℕ → Hand → Type 0

@@ -17,12 +17,12 @@ pub record IsIdleHandOf (arena : Arena) (hand : Hand) : Type 0 where
 
 -- the words that the hand stored so far, with their stamps
 abbrev pub items_stored_by : Hand → List StoredItem
-items_stored_by hand = (view hand).row.knows.said
+items_stored_by hand = (view hand).row.knows.stored
 
 -- a hand that had stored this much saw, in a lawful moment of such an arena, that these words were stored with the stamp
 pub record WereStored (setup : Setup) (own : List StoredItem) (stamp : ℕ) (words : List ℕ) : Type 0 where
   pub seen : View
   pub setup_is : seen.setup ≡ setup
   pub lawful : LawfulView seen
-  pub own_is : seen.row.knows.said ≡ own
-  pub said : WordsWereStored seen stamp words
+  pub own_is : seen.row.knows.stored ≡ own
+  pub stored : WordsWereStored seen stamp words

@@ -26,5 +26,5 @@ pub record OnlyReads (arena : Arena) (item : Ref) (before now : Hand) : Type 0 w
   pub number : hand_number now ≡ hand_number before
   pub words : item_words (view now) item ≡ item_words (view before) item
   pub holdings : HoldsTheSame (view before) (view now)
-  pub unsaid : StoresNothing (view before) (view now)
+  pub stores_nothing : StoresNothing (view before) (view now)
   pub slabs : LeavesSlabs (view before) (view now)

@@ -29,7 +29,7 @@ pub fn delete<R: Wait>(
     ensures deletes { result ≡ Ok true → DeletesKey (setup_of arena.now) at.entry.hash at.entry.key.now true hand.old hand.new }
     ensures none { result ≡ Ok false → DeletesNone (setup_of arena.now) at.entry.hash at.entry.key.now hand.old hand.new }
     ensures full { OnErr result ((between : Hand) × FindsFull (setup_of arena.now) at.entry.hash between hand.new) }
-    ensures unsaid { StoresNothing (view hand.old) (view hand.new) }
+    ensures stores_nothing { StoresNothing (view hand.old) (view hand.new) }
 {
     match contains(rt, arena, hints, hand, at) {
         Ok(true) => mc_items::delete(rt, arena, hand, at.hash),

@@ -41,7 +41,7 @@ pub fn get<R: Wait>(
     ensures other { result ≡ Ok false → FindsOtherKey (setup_of arena.now) at.entry.hash at.entry.key.now hand.old }
     ensures kept { (result ≡ Ok true → ⊥) → into.new.items ≡ into.old.items }
     ensures full { OnErr result (FindsFull (setup_of arena.now) at.entry.hash hand.old hand.new ⊎ FindsSome (setup_of arena.now) at.entry.hash hand.old) }
-    ensures unsaid { StoresNothing (view hand.old) (view hand.new) }
+    ensures stores_nothing { StoresNothing (view hand.old) (view hand.new) }
     ensures unasked { touches ≡ false → LeavesSlabs (view hand.old) (view hand.new) }
 {
     let Some(item) = get_item(rt, arena, hints, hand, at.hash)? else {
@@ -65,7 +65,7 @@ pub fn touch<R: Wait>(
     ensures touches { result ≡ Ok true → TouchesKey (setup_of arena.now) at.entry.hash at.entry.key.now hand.old hand.new }
     ensures none { result ≡ Ok false → FindsOtherKey (setup_of arena.now) at.entry.hash at.entry.key.now hand.old }
     ensures full { OnErr result (FindsFull (setup_of arena.now) at.entry.hash hand.old hand.new) }
-    ensures unsaid { StoresNothing (view hand.old) (view hand.new) }
+    ensures stores_nothing { StoresNothing (view hand.old) (view hand.new) }
 {
     let Some(item) = get_item(rt, arena, hints, hand, at.hash)? else {
         return Ok(false);
@@ -92,7 +92,7 @@ fn give_and_touch<R: Wait>(
     ensures bumps { result ≡ Ok true → touches ≡ true → BumpsItem (hand_number hand.old) item hand.new }
     ensures other { result ≡ Ok false → ¬ IsPackingOf key.now (item_words (view hand.old) item) }
     ensures kept { (result ≡ Ok true → ⊥) → into.new.items ≡ into.old.items }
-    ensures unsaid { StoresNothing (view hand.old) (view hand.new) }
+    ensures stores_nothing { StoresNothing (view hand.old) (view hand.new) }
     ensures unasked { touches ≡ false → LeavesSlabs (view hand.old) (view hand.new) }
 {
     if !touches {
@@ -119,7 +119,7 @@ fn touch_own<R: Wait>(rt: &R, arena: &Arena, hand: &mut Hand, item: Ref, key: &[
     ensures own { result ≡ true → IsPackingOf key.now (item_words (view hand.old) item) }
     ensures bumps { result ≡ true → BumpsItem (hand_number hand.old) item hand.new }
     ensures other { result ≡ false → ¬ IsPackingOf key.now (item_words (view hand.old) item) }
-    ensures unsaid { StoresNothing (view hand.old) (view hand.new) }
+    ensures stores_nothing { StoresNothing (view hand.old) (view hand.new) }
 {
     let own = is_of(arena, hand, &item, key);
     let_go(rt, arena, hand, item, own);
@@ -133,7 +133,7 @@ fn let_go<R: Wait>(rt: &R, arena: &Arena, hand: &mut Hand, item: Ref, touches: b
     ensures idle { IsIdleHandOf arena.now hand.new }
     ensures number { hand_number hand.new ≡ hand_number hand.old }
     ensures bumps { touches ≡ true → BumpsItem (hand_number hand.old) item hand.new }
-    ensures unsaid { StoresNothing (view hand.old) (view hand.new) }
+    ensures stores_nothing { StoresNothing (view hand.old) (view hand.new) }
 {
     if touches {
         bump(rt, arena, hand, &item);

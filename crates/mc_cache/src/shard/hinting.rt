@@ -25,7 +25,7 @@ pub(crate) fn get_hinted(
     ensures none { result ≡ None → IsIdleHandOf arena.now hand.new }
     ensures tries { result ≡ None → TriesHint hash hand.old hand.new }
     ensures number { hand_number hand.new ≡ hand_number hand.old }
-    ensures unsaid { StoresNothing (view hand.old) (view hand.new) }
+    ensures stores_nothing { StoresNothing (view hand.old) (view hand.new) }
     ensures slabs { LeavesSlabs (view hand.old) (view hand.new) }
 {
     let hint = hints.load(arena, hash)?;

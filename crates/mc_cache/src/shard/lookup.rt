@@ -30,7 +30,7 @@ pub(crate) fn get_item<R: Wait>(
     ensures refused { OnErr result (IsIdleHandOf arena.now hand.new) }
     ensures full { OnErr result (FindsFull (setup_of arena.now) hash hand.old hand.new) }
     ensures number { hand_number hand.new ≡ hand_number hand.old }
-    ensures unsaid { StoresNothing (view hand.old) (view hand.new) }
+    ensures stores_nothing { StoresNothing (view hand.old) (view hand.new) }
     ensures slabs { LeavesSlabs (view hand.old) (view hand.new) }
 {
     if let Some(item) = get_hinted(arena, hints, hand, hash) {

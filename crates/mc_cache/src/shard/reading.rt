@@ -95,7 +95,7 @@ fn value_len(arena: &Arena, hand: &mut Hand, item: &Ref, key: &[u8]) -> Option<u
 fn is_filled_from(arena: &Arena, hand: &mut Hand, item: &Ref, place: u64, count: u64) -> bool
     requires item { RefersTo arena.now item.now hand.old }
     requires some { 1 ≤ place }
-    requires near { place ≤ item_len item.now }
+    requires in_range { place ≤ item_len item.now }
     ensures reads { OnlyReads arena.now item.now hand.old hand.new }
     ensures fills { result ≡ true → FillsFrom place count (item_words (view hand.old) item.now) }
     ensures other { result ≡ false → ¬ FillsFrom place count (item_words (view hand.old) item.now) }
@@ -114,7 +114,7 @@ fn is_filled_from(arena: &Arena, hand: &mut Hand, item: &Ref, place: u64, count:
 /// Whether the item's words behind the two lengths are the key's. It reads no further than the first that differs.
 fn has_key(arena: &Arena, hand: &mut Hand, item: &Ref, key: &[u8]) -> bool
     requires item { RefersTo arena.now item.now hand.old }
-    requires near { 2 + word_count_for (length key.now) ≤ item_len item.now }
+    requires in_range { 2 + word_count_for (length key.now) ≤ item_len item.now }
     ensures reads { OnlyReads arena.now item.now hand.old hand.new }
     ensures same { result ≡ true → key_words key.now (item_words (view hand.old) item.now) ≡ packed_words key.now }
     ensures other { result ≡ false → key_words key.now (item_words (view hand.old) item.now) ≢ packed_words key.now }
@@ -152,7 +152,7 @@ fn write_value(arena: &Arena, hand: &mut Hand, item: &Ref, begin: u64, room: &mu
 /// Reads the item's words from this place on. All of them are below 2^64, which is known of a word that was read.
 fn pass_words(arena: &Arena, hand: &mut Hand, item: &Ref, begin: u64)
     requires item { RefersTo arena.now item.now hand.old }
-    requires near { begin ≤ item_len item.now }
+    requires in_range { begin ≤ item_len item.now }
     ensures reads { OnlyReads arena.now item.now hand.old hand.new }
     ensures words { AreWords (drop begin (item_words (view hand.old) item.now)) }
 {
@@ -165,7 +165,7 @@ fn pass_words(arena: &Arena, hand: &mut Hand, item: &Ref, begin: u64)
 #[inline(always)]
 fn read_word(arena: &Arena, hand: &mut Hand, item: &Ref, place: u64) -> u64
     requires item { RefersTo arena.now item.now hand.old }
-    requires near { place < item_len item.now }
+    requires in_range { place < item_len item.now }
     ensures reads { OnlyReads arena.now item.now hand.old hand.new }
     ensures word { result ≡ slice_index (item_words (view hand.old) item.now) place }
 {

@@ -32,9 +32,9 @@ pub fn set<R: Wait>(
     ensures idle { IsIdleHandOf arena.now hand.new }
     ensures number { hand_number hand.new ≡ hand_number hand.old }
     ensures sets { IfOk result (λ stamp. SetsItem (hand_number hand.old) at.entry.hash stamp (packed_item at.entry.key.now value.now) (view hand.old) (view hand.new)) }
-    ensures said { IfOk result (λ stamp. StoresWithStamp (item_with at.entry.hash stamp (packed_item at.entry.key.now value.now)) stamp (view hand.old) (view hand.new)) }
+    ensures stores_words { IfOk result (λ stamp. StoresWithStamp (item_with at.entry.hash stamp (packed_item at.entry.key.now value.now)) stamp (view hand.old) (view hand.new)) }
     ensures refused { IfErr result (λ error. RefusesBytes (hand_number hand.old) at.entry.hash (packed_item at.entry.key.now value.now) error (view hand.old) (view hand.new)) }
-    ensures unsaid { OnErr result (StoresNothing (view hand.old) (view hand.new)) }
+    ensures stores_nothing { OnErr result (StoresNothing (view hand.old) (view hand.new)) }
 {
     match pack(words, at.key, value) {
         Ok(()) => mc_items::set(rt, arena, hand, at.hash, words),

@@ -47,7 +47,7 @@ pub fn try_get(
     ensures kept { (result ≡ Ok true → ⊥) → into.new.items ≡ into.old.items }
     ensures held { result ≡ Err try_error.Held → FindsStripeHeld (setup_of arena.now) at.entry.hash hand.old hand.new }
     ensures full { result ≡ Err (try_error.NoMemory tt) → FindsFull (setup_of arena.now) at.entry.hash hand.old hand.new ⊎ FindsSome (setup_of arena.now) at.entry.hash hand.old }
-    ensures unsaid { StoresNothing (view hand.old) (view hand.new) }
+    ensures stores_nothing { StoresNothing (view hand.old) (view hand.new) }
     ensures slabs { LeavesSlabs (view hand.old) (view hand.new) }
 {
     match mc_items::try_get(arena, hand, at.hash) {
@@ -76,7 +76,7 @@ pub fn contains<R: Wait>(
     ensures key { result ≡ Ok true → FindsKey (setup_of arena.now) at.entry.hash at.entry.key.now hand.old }
     ensures other { result ≡ Ok false → FindsOtherKey (setup_of arena.now) at.entry.hash at.entry.key.now hand.old }
     ensures full { OnErr result (FindsFull (setup_of arena.now) at.entry.hash hand.old hand.new) }
-    ensures unsaid { StoresNothing (view hand.old) (view hand.new) }
+    ensures stores_nothing { StoresNothing (view hand.old) (view hand.new) }
     ensures slabs { LeavesSlabs (view hand.old) (view hand.new) }
 {
     let Some(item) = get_item(rt, arena, hints, hand, at.hash)? else {
@@ -101,7 +101,7 @@ pub(crate) fn give_value(
     ensures value { result ≡ Ok true → PutsValue key.now (item_words (view hand.old) item) into.old.items into.new.items }
     ensures other { result ≡ Ok false → ¬ IsPackingOf key.now (item_words (view hand.old) item) }
     ensures kept { (result ≡ Ok true → ⊥) → into.new.items ≡ into.old.items }
-    ensures unsaid { StoresNothing (view hand.old) (view hand.new) }
+    ensures stores_nothing { StoresNothing (view hand.old) (view hand.new) }
     ensures slabs { LeavesSlabs (view hand.old) (view hand.new) }
 {
     let given = push_value(arena, hand, &item, key, into);
@@ -117,7 +117,7 @@ fn tell_key(arena: &Arena, hand: &mut Hand, item: Ref, key: &[u8]) -> bool
     ensures number { hand_number hand.new ≡ hand_number hand.old }
     ensures own { result ≡ true → IsPackingOf key.now (item_words (view hand.old) item) }
     ensures other { result ≡ false → ¬ IsPackingOf key.now (item_words (view hand.old) item) }
-    ensures unsaid { StoresNothing (view hand.old) (view hand.new) }
+    ensures stores_nothing { StoresNothing (view hand.old) (view hand.new) }
     ensures slabs { LeavesSlabs (view hand.old) (view hand.new) }
 {
     let own = is_of(arena, hand, &item, key);

@@ -31,16 +31,16 @@ use Rattle.mc_words.proofs.Pages.Owners.{fits_here, judged, looks_here, slabs_he
 
 -- what a tag's number tells
 free_one : (tag : ℕ) → tag < 4 → is_free (tag_of tag) ≡ true → tag ≡ 1
-free_one zero near is = absurd (cc)
-free_one (suc zero) near is = refl
-free_one (suc (suc zero)) near is = absurd (cc)
-free_one (suc (suc (suc tag))) near is = absurd (cc)
+free_one zero in_range is = absurd (cc)
+free_one (suc zero) in_range is = refl
+free_one (suc (suc zero)) in_range is = absurd (cc)
+free_one (suc (suc (suc tag))) in_range is = absurd (cc)
 
 dead_two : (tag : ℕ) → tag < 4 → is_unlinked (tag_of tag) ≡ true → tag ≡ 2
-dead_two zero near is = absurd (cc)
-dead_two (suc zero) near is = absurd (cc)
-dead_two (suc (suc zero)) near is = refl
-dead_two (suc (suc (suc tag))) near is = absurd (cc)
+dead_two zero in_range is = absurd (cc)
+dead_two (suc zero) in_range is = absurd (cc)
+dead_two (suc (suc zero)) in_range is = refl
+dead_two (suc (suc (suc tag))) in_range is = absurd (cc)
 
 free_tag : (tag : Tag) → is_free tag ≡ true → tag ≡ Free
 free_tag Free is = refl
@@ -77,26 +77,26 @@ unused_sum word fits small unused = elim (cases_Bool (is_free (decode word).tag)
       (all_are_sums (decode word) small).clear_dead dead ∙ ap (λ (n : ℕ). word_minus (n * 65536) (code (decode word))) (sym tag)
 ]
 
-module _ (view : View) (slabs : SlabState) (chunk : ChunkId) (seen : ℕ) (mine : view.slabs ≡ Some slabs) (near : has_chunk view.setup.table chunk ≡ true) (moves : is_on_the_move slabs chunk.page ≡ true) (last : seen_head view.row.looks chunk ≡ Some (decode seen)) (unused : is_unused (decode seen) ≡ true) where
+module _ (view : View) (slabs : SlabState) (chunk : ChunkId) (seen : ℕ) (mine : view.slabs ≡ Some slabs) (in_range : has_chunk view.setup.table chunk ≡ true) (moves : is_on_the_move slabs chunk.page ≡ true) (last : seen_head view.row.looks chunk ≡ Some (decode seen)) (unused : is_unused (decode seen) ≡ true) where
   -- what was seen is so, and may be cleared
   judged_clear : (was : LawfulView view) → (head_at was.moment.state chunk ≡ decode seen) × (can_clear was.moment.state was.hand chunk ≡ true)
   judged_clear was =
       let held = slabs_here view was slabs mine in
-      (judged view was slabs mine).clear chunk (decode seen) (near_here view chunk near was) (ap (λ (x : SlabState). is_on_the_move x chunk.page) held.1 ∙ moves) (ap (λ looks. seen_head looks chunk) (looks_here view was) ∙ last) unused
+      (judged view was slabs mine).clear chunk (decode seen) (near_here view chunk in_range was) (ap (λ (x : SlabState). is_on_the_move x chunk.page) held.1 ∙ moves) (ap (λ looks. seen_head looks chunk) (looks_here view was) ∙ last) unused
 
   pub may_clear : MayWrite view (core.Clear chunk) (head_word view.setup chunk) (word_minus (seen / 65536 % 4 * 65536))
   may_clear was fits =
       let word = slice_index was.words (head_word view.setup chunk) in
       let judge = judged_clear was in
-      let is_word : head_at was.moment.state chunk ≡ decode word = head_is view chunk near was in
+      let is_word : head_at was.moment.state chunk ≡ decode word = head_is view chunk in_range was in
       let same : word ≡ seen = sym (are_one_word.again word) ∙ (ap code (sym is_word ∙ judge.0) ∙ are_one_word.again seen) in
-      let small : FitsBits (decode word) = subst FitsBits is_word (fits_here view was chunk near) in
+      let small : FitsBits (decode word) = subst FitsBits is_word (fits_here view was chunk in_range) in
       let unused' : is_unused (decode word) ≡ true = ap (λ (n : ℕ). is_unused (decode n)) same ∙ unused in
       let less : code (with_tag_out (decode word)) ≡ word_minus (seen / 65536 % 4 * 65536) (code (decode word)) = unused_sum word fits small unused' ∙ ap (λ (n : ℕ). word_minus (n / 65536 % 4 * 65536) (code (decode word))) same in
       let out : decode (word_minus (seen / 65536 % 4 * 65536) word) ≡ with_tag_out (head_at was.moment.state chunk) =
       summed word fits with_tag_out (word_minus (seen / 65536 % 4 * 65536)) less (record { issue = small.issue; count = small.count }) ∙ ap with_tag_out (sym is_word) in (
         judge.1,
-        header_written view chunk near was (word_minus (seen / 65536 % 4 * 65536) word) (with_tag_out (head_at was.moment.state chunk)) out,
+        header_written view chunk in_range was (word_minus (seen / 65536 % 4 * 65536) word) (with_tag_out (head_at was.moment.state chunk)) out,
       )
 
   pub clears_it : (now : View) → Happens view [] (core.Clear chunk) now → now ≡ chunk_cleared slabs chunk (decode seen) view
@@ -112,12 +112,12 @@ module _ (view : View) (slabs : SlabState) (chunk : ChunkId) (seen : ℕ) (mine 
 -- a look, and the clear that follows it
 module _ (view seen now : View) (slabs : SlabState) (chunk : ChunkId) (word : ℕ) (mine : view.slabs ≡ Some slabs) (is : seen ≡ head_seen chunk (decode word) view) (looks : Happens view [] (core.Head chunk) seen) where
   pub clear_after : has_chunk seen.setup.table chunk ≡ true → is_on_the_move slabs chunk.page ≡ true → is_unused (decode word) ≡ true → Happens seen [] (core.Clear chunk) now → Clears view slabs chunk now
-  clear_after near moves unused h = record {
+  clear_after in_range moves unused h = record {
     head = decode word;
     unused = unused;
     looks = subst (Happens view [] (core.Head chunk)) is looks;
     happens = subst (λ (v : View). Happens v [] (core.Clear chunk) now) is h;
-    is = clears_it seen slabs chunk word (after_slabs view seen now slabs chunk (decode word) mine is looks) near moves (after_last view seen now slabs chunk (decode word) mine is looks) unused now h
+    is = clears_it seen slabs chunk word (after_slabs view seen now slabs chunk (decode word) mine is looks) in_range moves (after_last view seen now slabs chunk (decode word) mine is looks) unused now h
         ∙ ap (chunk_cleared slabs chunk (decode word)) is;
   }
 
@@ -132,13 +132,13 @@ same_head a b e = cc
 -- what was seen free or dead is found so again
 pub found_unused : (view now : View) (slabs : SlabState) (chunk : ChunkId) (head : Head) → view.slabs ≡ Some slabs → has_chunk view.setup.table chunk ≡ true → is_on_the_move slabs chunk.page ≡ true → option_map is_unused (seen_head view.row.looks chunk) ≡ Some true
     → Happens view [] (core.Head chunk) now → now ≡ head_seen chunk head view → is_unused head ≡ true
-found_unused view now slabs chunk head mine near moves unused h is =
+found_unused view now slabs chunk head mine in_range moves unused h is =
     let (seen, last, so) = seen_unused (seen_head view.row.looks chunk) unused in
     let word = slice_index h.was.words (head_word view.setup chunk) in
     let held = slabs_here view h.was slabs mine in
     let still : head_at h.was.moment.state chunk ≡ seen =
-    ((judged view h.was slabs mine).clear chunk seen (near_here view chunk near h.was) (ap (λ (x : SlabState). is_on_the_move x chunk.page) held.1 ∙ moves) (ap (λ looks. seen_head looks chunk) (looks_here view h.was) ∙ last) so).0 in
-    let found : now ≡ head_seen chunk (decode word) view = views.seen_head view now chunk word near (h, refl) in
+    ((judged view h.was slabs mine).clear chunk seen (near_here view chunk in_range h.was) (ap (λ (x : SlabState). is_on_the_move x chunk.page) held.1 ∙ moves) (ap (λ looks. seen_head looks chunk) (looks_here view h.was) ∙ last) so).0 in
+    let found : now ≡ head_seen chunk (decode word) view = views.seen_head view now chunk word in_range (h, refl) in
     let same : head ≡ decode word =
     same_head head (decode word) (sym (seen_last view chunk head slabs mine) ∙ (ap (λ (v : View). seen_head v.row.looks chunk) (sym is ∙ found) ∙ seen_last view chunk (decode word) slabs mine)) in
-    ap is_unused (same ∙ (sym (head_is view chunk near h.was) ∙ still)) ∙ so
+    ap is_unused (same ∙ (sym (head_is view chunk in_range h.was) ∙ still)) ∙ so

@@ -102,17 +102,17 @@ module _ (view : View) (slabs : SlabState) (old chunk : ChunkId) (mine : view.sl
         none_found chunk view.row.holdings (subst (All (λ holding. is_of_chunk chunk holding ≡ false)) (holdings_here view was) (none_held chunk m.state.holdings none was.hand [] (holding_rows view was)))
 
   pub may_pop_off : is_handed_out slabs old ≡ true → length view.row.holdings < most_holdings → MayWrite view (core.PopOff old) (head_word view.setup chunk) (word_plus 327681)
-  may_pop_off out few was fits =
+  may_pop_off out within_limit was fits =
       let m = was.moment in
       let word = slice_index was.words (head_word view.setup chunk) in
       let found = found_here was in
-      let near = target_near was in
+      let in_range = target_near was in
       let place : has_place m.state was.hand ≡ true = lt-ltb (length (holdings_at m.state was.hand)) most_holdings (let e = ap length (holdings_here view was) in omega arith) in
       let out_here : is_handed_out m.state.slabs old ≡ true = ap (λ (x : SlabState). is_handed_out x old) (slabs_here view was slabs mine).1 ∙ out in
       let free : (head_at m.state chunk).tag ≡ Free = (free_here was).1 in
-      let count : (head_at m.state chunk).count ≡ 0 = was.lawful.counted.shut chunk (near_here view chunk near was) (inl (ap is_free free)) in
-      let is_word : head_at m.state chunk ≡ decode word = head_is view chunk near was in
-      let small : FitsBits (decode word) = subst FitsBits is_word (fits_here view was chunk near) in
+      let count : (head_at m.state chunk).count ≡ 0 = was.lawful.counted.shut chunk (near_here view chunk in_range was) (inl (ap is_free free)) in
+      let is_word : head_at m.state chunk ≡ decode word = head_is view chunk in_range was in
+      let small : FitsBits (decode word) = subst FitsBits is_word (fits_here view was chunk in_range) in
       let left : (decode word).issue < most_issue = subst (λ (h : Head). h.issue < most_issue) (sym found.1 ∙ is_word) sees.unused in
       let taken : decode (word_plus 327681 word) ≡ head_after_hand_out (head_at m.state chunk) =
       summed word fits head_after_hand_out (word_plus 327681) ((all_are_sums (decode word) small).hand_out (sym (ap (λ (h : Head). h.tag) is_word) ∙ free) (sym (ap (λ (h : Head). h.count) is_word) ∙ count) left) (record { issue = omega arith; count = omega arith })
@@ -120,7 +120,7 @@ module _ (view : View) (slabs : SlabState) (old chunk : ChunkId) (mine : view.sl
       let after : columns (chunks.after_pop_off m.state was.hand old) ≡ (m.state.slabs_lock, m.state.stripe_locks, slice_set m.state.heads (head_place m.state.table chunk) (head_after_hand_out (head_at m.state chunk)), m.state.words) =
       ap (λ o. columns (popped_off m.state was.hand old o)) found.0 in (
         (judged view was slabs mine).pop_off old chunk (moves_here was) out_here place (target_here was),
-        subst (AreAll view.setup was.cuts (slice_set was.words (head_word view.setup chunk) (word_plus 327681 word))) (sym after) (header_written view chunk near was (word_plus 327681 word) (head_after_hand_out (head_at m.state chunk)) taken),
+        subst (AreAll view.setup was.cuts (slice_set was.words (head_word view.setup chunk) (word_plus 327681 word))) (sym after) (header_written view chunk in_range was (word_plus 327681 word) (head_after_hand_out (head_at m.state chunk)) taken),
       )
 
   -- what the hand has then

@@ -27,12 +27,12 @@ same_head a b e = cc
 
 pub found_dead : (view now : View) (slabs : SlabState) (chunk : ChunkId) (head : Head) → view.slabs ≡ Some slabs → has_chunk view.setup.table chunk ≡ true → option_map is_dead (seen_head view.row.looks chunk) ≡ Some true
     → Happens view [] (core.Head chunk) now → now ≡ head_seen chunk head view → is_dead head ≡ true
-found_dead view now slabs chunk head mine near dead h is =
+found_dead view now slabs chunk head mine in_range dead h is =
     let (seen, last, gone) = seen_dead (seen_head view.row.looks chunk) dead in
     let word = slice_index h.was.words (head_word view.setup chunk) in
     let still : head_at h.was.moment.state chunk ≡ seen =
-    ((judged view h.was slabs mine).put_back chunk seen (near_here view chunk near h.was) (ap (λ looks. seen_head looks chunk) (looks_here view h.was) ∙ last) gone).0 in
-    let found : now ≡ head_seen chunk (decode word) view = views.seen_head view now chunk word near (h, refl) in
+    ((judged view h.was slabs mine).put_back chunk seen (near_here view chunk in_range h.was) (ap (λ looks. seen_head looks chunk) (looks_here view h.was) ∙ last) gone).0 in
+    let found : now ≡ head_seen chunk (decode word) view = views.seen_head view now chunk word in_range (h, refl) in
     let same : head ≡ decode word =
     same_head head (decode word) (sym (seen_last view chunk head slabs mine) ∙ (ap (λ (v : View). seen_head v.row.looks chunk) (sym is ∙ found) ∙ seen_last view chunk (decode word) slabs mine)) in
-    ap is_dead (same ∙ (sym (head_is view chunk near h.was) ∙ still)) ∙ gone
+    ap is_dead (same ∙ (sym (head_is view chunk in_range h.was) ∙ still)) ∙ gone

@@ -33,7 +33,7 @@ use Rattle.mc_words.proofs.Chunks.Sweeps.{elsewhere, other_first}
 -- a chunk of a class's free list
 pub record StandsFree (view : View) (slabs : SlabState) (class : ℕ) (chunk : ChunkId) : Type 0 where
   pub own : class_of_page slabs chunk.page ≡ class
-  pub near : has_chunk view.setup.table chunk ≡ true
+  pub in_range : has_chunk view.setup.table chunk ≡ true
   pub listed : Contains (class_of_chunk slabs chunk).free chunk
 
 -- what stands in a list with these before it is among its chunks
@@ -62,7 +62,7 @@ module _ (view : View) (was : LawfulView view) (slabs : SlabState) (mine : view.
       let placed = free_placed was.moment was.lawful class chunk class_there some in
       let own : class_of_page slabs chunk.page ≡ class = ap (λ (x : SlabState). class_of_page x chunk.page) (sym same) ∙ placed.0 in record {
         own = own;
-        near = ap (λ table. has_chunk table chunk) (sym was.same_table) ∙ near_placed was.moment was.lawful chunk placed.1;
+        in_range = ap (λ table. has_chunk table chunk) (sym was.same_table) ∙ near_placed was.moment was.lawful chunk placed.1;
         listed = subst (λ (n : ℕ). Contains (class_at slabs n).free chunk) (sym own) there;
       }
 

@@ -28,7 +28,7 @@ pub held_is_out : (view : View) → LawfulView view → (slabs : SlabState) → 
 held_is_out view was slabs mine chunk holding found =
     let m : Moment = was.moment in
     let here = ap (holding_of chunk) (holdings_here view was) ∙ found in
-    let near = held_near m was.lawful was.hand chunk holding here in
+    let in_range = held_near m was.lawful was.hand chunk holding here in
     let out = held_handed_out m was.lawful was.hand chunk holding here in
     ap (λ (x : SlabState). is_handed_out x chunk) (sym (slabs_here view was slabs mine).1)
-    ∙ among_if (class_of_chunk m.state.slabs chunk).order chunk (placed_at m was.lawful chunk holding.issue near out).1
+    ∙ among_if (class_of_chunk m.state.slabs chunk).order chunk (placed_at m was.lawful chunk holding.issue in_range out).1

@@ -78,10 +78,10 @@ unfolding decode
 issue_worn word worn = omega arith
 
 unlinked_two : (tag : ℕ) → tag < 4 → is_unlinked (tag_of tag) ≡ true → tag ≡ 2
-unlinked_two zero near is = absurd (cc)
-unlinked_two (suc zero) near is = absurd (cc)
-unlinked_two (suc (suc zero)) near is = refl
-unlinked_two (suc (suc (suc tag))) near is = absurd (cc)
+unlinked_two zero in_range is = absurd (cc)
+unlinked_two (suc zero) in_range is = absurd (cc)
+unlinked_two (suc (suc zero)) in_range is = refl
+unlinked_two (suc (suc (suc tag))) in_range is = absurd (cc)
 
 pub word_dead : (word : ℕ) → word % 262144 ≡ 131072 → is_dead (decode word) ≡ true
 unfolding decode
@@ -133,8 +133,8 @@ module _ (view now : View) (slabs : SlabState) (mine : view.slabs ≡ Some slabs
 
     -- nobody has it
     pub not_held : has_chunk view.setup.table chunk ≡ true → holding_of chunk view.row.holdings ≡ None
-    not_held near =
-        let here = near_here view chunk near was in
+    not_held in_range =
+        let here = near_here view chunk in_range was in
         let free = (first_placed m was.lawful class chunk class_in next_here).2 in
         let count = was.lawful.counted.counted chunk here in
         let shut = was.lawful.counted.shut chunk here (inl free) in
@@ -145,21 +145,21 @@ module _ (view now : View) (slabs : SlabState) (mine : view.slabs ≡ Some slabs
   pops last h = popped_chunk view now slabs mine class chunk head h first (on_class h.was) (still h.was last)
 
   pub is_fresh_of : LawfulView view → has_chunk view.setup.table chunk ≡ true → now ≡ chunk_popped slabs class chunk head view → IsFreshOf now chunk (room_in view.setup.table class)
-  is_fresh_of was near popped =
+  is_fresh_of was in_range popped =
       let holding : Holding = fresh_holding chunk (head.issue + 1) (room_in view.setup.table class) in record {
         holding = holding;
         found = ap (λ (v : View). holding_of chunk v.row.holdings) popped
             ∙ (find-append (is_of_chunk chunk) view.row.holdings (holding ∷ [])
-            ∙ (ap (λ found. Rattle.std.specs.Option.option_or found (holding_of chunk (holding ∷ []))) (not_held was near) ∙ ap (λ (b : Bool). if b then Some holding else None) (is_chunk-same chunk)));
+            ∙ (ap (λ found. Rattle.std.specs.Option.option_or found (holding_of chunk (holding ∷ []))) (not_held was in_range) ∙ ap (λ (b : Bool). if b then Some holding else None) (is_chunk-same chunk)));
         fresh = refl;
         room_is = length-replicate (room_in view.setup.table class) None;
       }
 
 -- a dead chunk was put back
-module _ (view now : View) (slabs : SlabState) (mine : view.slabs ≡ Some slabs) (chunk : ChunkId) (head : Head) (near : has_chunk view.setup.table chunk ≡ true) (last : seen_head view.row.looks chunk ≡ Some head) (dead : is_dead head ≡ true) where
+module _ (view now : View) (slabs : SlabState) (mine : view.slabs ≡ Some slabs) (chunk : ChunkId) (head : Head) (in_range : has_chunk view.setup.table chunk ≡ true) (last : seen_head view.row.looks chunk ≡ Some head) (dead : is_dead head ≡ true) where
   judged_back : (was : LawfulView view) → (head_at was.moment.state chunk ≡ head) × (Rattle.mc_core.specs.Chunks.can_put_back was.moment.state was.hand chunk ≡ true)
   judged_back was =
-      (all_are_judged was.moment was.lawful was.hand (slabs_here view was slabs mine).0).put_back chunk head (near_here view chunk near was) (ap (λ looks. seen_head looks chunk) (looks_here view was) ∙ last) dead
+      (all_are_judged was.moment was.lawful was.hand (slabs_here view was slabs mine).0).put_back chunk head (near_here view chunk in_range was) (ap (λ looks. seen_head looks chunk) (looks_here view was) ∙ last) dead
 
   pub puts_back : Happens view [] (core.PutBack chunk) now → now ≡ chunk_put_back slabs chunk head view
   puts_back h = put_back_chunk view now slabs mine chunk head h (judged_back h.was).0
@@ -195,12 +195,12 @@ module _ (view seen now : View) (slabs : SlabState) (chunk : ChunkId) (head : He
   after_holds = ap (λ (v : View). v.row.holdings) is ∙ seen_holds view chunk head slabs mine
 
   pub put_back_after : has_chunk seen.setup.table chunk ≡ true → is_dead head ≡ true → Happens seen [] (core.PutBack chunk) now → PutsBack view slabs chunk now
-  put_back_after near dead h = record {
+  put_back_after in_range dead h = record {
     head = head;
     dead = dead;
     looks = subst (Happens view [] (core.Head chunk)) is looks;
     happens = subst (λ (v : View). Happens v [] (core.PutBack chunk) now) is h;
-    is = puts_back seen now slabs after_slabs chunk head near after_last dead h ∙ ap (chunk_put_back slabs chunk head) is;
+    is = puts_back seen now slabs after_slabs chunk head in_range after_last dead h ∙ ap (chunk_put_back slabs chunk head) is;
   }
 
   pub pop_after : (class : ℕ) → is_class seen.setup.table class ≡ true → first_free (class_at slabs class) ≡ Some chunk → head.issue < most_issue → Happens seen [] (core.Pop class) now → PopsFirst view slabs class chunk now

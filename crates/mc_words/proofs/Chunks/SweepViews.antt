@@ -29,7 +29,7 @@ use Rattle.mc_words.proofs.Chunks.Sweeps.{GoesOn, IsSweptTo, sweep_passes, sweep
 -- a chunk of a class's hand-out order
 pub record StandsOut (view : View) (slabs : SlabState) (class : ℕ) (chunk : ChunkId) : Type 0 where
   pub own : class_of_page slabs chunk.page ≡ class
-  pub near : has_chunk view.setup.table chunk ≡ true
+  pub in_range : has_chunk view.setup.table chunk ≡ true
   pub within : chunk.index < (class_at slabs class).per_page
   pub listed : Contains (class_of_chunk slabs chunk).order chunk
 
@@ -66,7 +66,7 @@ module _ (view : View) (was : LawfulView view) (slabs : SlabState) (mine : view.
       let placed = placed_in m was.lawful class chunk class_there cut in
       let own : class_of_page slabs chunk.page ≡ class = ap (λ (x : SlabState). class_of_page x chunk.page) (sym same) ∙ placed.0 in record {
         own = own;
-        near = ap (λ table. has_chunk table chunk) (sym was.same_table) ∙ near_placed m was.lawful chunk placed.1;
+        in_range = ap (λ table. has_chunk table chunk) (sym was.same_table) ∙ near_placed m was.lawful chunk placed.1;
         within = subst (λ (n : ℕ). chunk.index < (class_at slabs n).per_page) own (subst (λ (x : SlabState). chunk.index < (class_of_chunk x chunk).per_page) same placed.1.within);
         listed = subst (λ (n : ℕ). Contains (class_at slabs n).order chunk) (sym own) there;
       }
@@ -79,8 +79,8 @@ module _ (view : View) (was : LawfulView view) (slabs : SlabState) (mine : view.
         let there : class_of_page m.state.slabs page ≡ class = ap (λ (x : SlabState). class_of_page x page) same ∙ own in
         let below : last.index < (class_at slabs class).per_page = omega (arith, some) in
         let below' : last.index < (class_at m.state.slabs (class_of_page m.state.slabs page)).per_page = subst (λ (n : ℕ). last.index < (class_at m.state.slabs n).per_page) (sym there) (subst (λ (x : SlabState). last.index < (class_at x class).per_page) (sym same) below) in
-        let near = near_in m was.lawful last (subst (λ (n : ℕ). HasClass m.state.slabs n) (sym there) class_there) below' in
-        let near' : has_chunk view.setup.table last ≡ true = ap (λ table. has_chunk table last) (sym was.same_table) ∙ near in
+        let in_range = near_in m was.lawful last (subst (λ (n : ℕ). HasClass m.state.slabs n) (sym there) class_there) below' in
+        let near' : has_chunk view.setup.table last ≡ true = ap (λ table. has_chunk table last) (sym was.same_table) ∙ in_range in
         let index = ltb-true last.index (most_of view.setup.table) (and_parts (nat_lt last.page (arena_pages_of view.setup.table)) (nat_lt last.index (most_of view.setup.table)) near').1 in
         omega (arith, index, some)
     | inr none ↦ omega (arith, none)

@@ -51,13 +51,13 @@ none_held false x e = refl
 
 all_from : (p : ℕ → Bool) (xs : List ℕ) → ((i : ℕ) → i < length xs → p (slice_index xs i) ≡ true) → list_all p xs ≡ true
 all_from p [] each = refl
-all_from p (x ∷ xs) each = and_from (p x) (list_all p xs) (each 0 (omega arith)) (all_from p xs (λ i near. each (suc i) (omega arith)))
+all_from p (x ∷ xs) each = and_from (p x) (list_all p xs) (each 0 (omega arith)) (all_from p xs (λ i in_range. each (suc i) (omega arith)))
 
 -- what holds of each number of a range
 each_in : (p : ℕ → Bool) (first count : ℕ) → list_all p (range_with_len first count) ≡ true → (i : ℕ) → i < count → p (first + i) ≡ true
-each_in p first zero all i near = absurd (omega arith)
-each_in p first (suc count) all zero near = let e : first + 0 ≡ first = omega arith in ap p e ∙ (and_parts (p first) (list_all p (range_with_len (first + 1) count)) all).0
-each_in p first (suc count) all (suc i) near =
+each_in p first zero all i in_range = absurd (omega arith)
+each_in p first (suc count) all zero in_range = let e : first + 0 ≡ first = omega arith in ap p e ∙ (and_parts (p first) (list_all p (range_with_len (first + 1) count)) all).0
+each_in p first (suc count) all (suc i) in_range =
     let e : first + suc i ≡ (first + 1) + i = omega arith in
     ap p e ∙ each_in p (first + 1) count (and_parts (p first) (list_all p (range_with_len (first + 1) count)) all).1 i (omega arith)
 
@@ -79,7 +79,7 @@ idle_from setup events m hand v count is idle =
     let all : list_all (λ stripe. is_none (held_stripe m.state hand stripe)) (range_with_len 0 setup.config.stripes) ≡ true =
     sym (list_all-map is_none (held_stripe m.state hand) (range_with_len 0 setup.config.stripes)) ∙ (ap (λ (u : View). list_all is_none u.stripes) (sym is) ∙ locks.1) in
     let stripes = all_from (λ word. not (is_held_by word (number_at m.state hand))) m.state.stripe_locks
-    (λ i near.
+    (λ i in_range.
     let each = each_in (λ stripe. is_none (held_stripe m.state hand stripe)) 0 setup.config.stripes all i (omega arith) in
     ap not (none_held (has_stripe m.state hand i) (stripe_at m.state i) (ap (λ j. is_none (held_stripe m.state hand j)) (sym (zero-add i)) ∙ each))) in
     let none : (length (holdings_at m.state hand) == 0) ≡ true = ap (λ (u : View). length u.row.holdings == 0) (sym is) ∙ parts.1 in
@@ -202,7 +202,7 @@ module _ (setup : Setup) (t : WordsOfTable) (r : IsRuled setup t) (id other : �
           stripes = means.stripes;
           words = means.words;
           cut = means.cut;
-          homes = λ lock near free. let (slot, home, has) = means.homes lock near free in (slot, home, has_same m.state after.state refl refl lock slot has);
+          homes = λ lock in_range free. let (slot, home, has) = means.homes lock in_range free in (slot, home, has_same m.state after.state refl refl lock slot has);
           slots = means.slots;
           views = λ hand view at_view. elim (which hand view at_view) [
             | inl last ↦ subst (λ (p : ℕ × View). IsViewOf setup (r.run ++ event ∷ []) after p.0 p.1) (λ k. (sym last.0 k, last.1 k)) is_spent
@@ -211,7 +211,7 @@ module _ (setup : Setup) (t : WordsOfTable) (r : IsRuled setup t) (id other : �
               | inr neither ↦ is_else hand view neither.0 neither.1 (means.views hand view neither.2)
             ]
           ];
-          most = let few = means.most in omega arith;
+          most = let within_limit = means.most in omega arith;
           made = λ hand view at_view more. elim (which hand view at_view) [
             | inl last ↦ absurd (let e : 0 ≡ view.spare = ap (λ (x : View). x.spare) last.1 in omega arith)
             | inr rest ↦ elim rest [
@@ -221,8 +221,8 @@ module _ (setup : Setup) (t : WordsOfTable) (r : IsRuled setup t) (id other : �
               | inr neither ↦ let old = means.made hand view neither.2 more in (old.0, (let sum = old.1 in omega arith))
             ]
           ];
-          unmade = λ hand past few. let a = within t.views id v at in let b = within t.views other w at_other in
-              is_else hand (new_view setup hand 0) (λ e. omega arith) (λ e. omega arith) (means.unmade hand (omega arith) few);
+          unmade = λ hand past within_limit. let a = within t.views id v at in let b = within t.views other w at_other in
+              is_else hand (new_view setup hand 0) (λ e. omega arith) (λ e. omega arith) (means.unmade hand (omega arith) within_limit);
         };
       }
 
@@ -307,11 +307,11 @@ empty (entry ∷ out) is = absurd (cc)
 
 module _ (me : Sits) (number chunks : ℕ) (locks : Locks) (noted : IsNoted me number chunks locks) (idle : is_idle me.0 ≡ true) where
   no_lock : locks ≡ Neither
-  no_lock = let (is, few, count, slots, had) = noted in neither locks (unlocked_from me.0 locks had ∙ (and_parts (is_unlocked me.0) (length me.0.row.holdings == 0) idle).0)
+  no_lock = let (is, within_limit, count, slots, had) = noted in neither locks (unlocked_from me.0 locks had ∙ (and_parts (is_unlocked me.0) (length me.0.row.holdings == 0) idle).0)
 
   -- no value is out with it
   pub none_out : me.1 ≡ []
-  none_out = let (is, few, count, slots, had) = noted in empty me.1 (slots ∙ ap slots_in no_lock)
+  none_out = let (is, within_limit, count, slots, had) = noted in empty me.1 (slots ∙ ap slots_in no_lock)
 
 -- its notes after it took another one over
 pub noted_both : (me now : Sits) (other : View) (number chunks : ℕ) (locks : Locks) → IsNoted me number chunks locks → is_idle me.0 ≡ true → now.1 ≡ me.1 → now.0 ≡ both_views me.0 other → IsNoted now number chunks Neither
@@ -322,12 +322,12 @@ noted_both me now other number chunks locks noted idle out view =
 -- what the hand of a lawful moment said and knows agrees
 agrees_at : (m : Moment) → IsLawful m → (hand : ℕ) → joining.KnowledgeAgrees (knowledge_at m.past hand)
 agrees_at m l hand = record {
-  said = λ a b in_a in_b same. said_one m.past.said b.stamp a.words b.words (l.known.once b.stamp) (hand, a, in_a, same, refl) (hand, b, in_b, refl, refl);
+  stored = λ a b in_a in_b same. said_one m.past.stored b.stamp a.words b.words (l.known.once b.stamp) (hand, a, in_a, same, refl) (hand, b, in_b, refl, refl);
   known = λ a b in_a in_b chunk issue.
       sym (each_contained (λ other. other.chunk ≡ a.chunk → other.issue ≡ a.issue → other.words ≡ a.words) m.past.known hand b
       (each_contained (λ k. Each (λ other. other.chunk ≡ k.chunk → other.issue ≡ k.issue → other.words ≡ k.words) m.past.known) m.past.known hand a l.known.one in_a) in_b (sym chunk) (sym issue));
   both = λ s k in_s in_k stamp.
-      each_contained (λ k. (words : List ℕ) → WasStored m.past.said (stamp_in_words k.words) words → words ≡ k.words) m.past.known hand k l.known.agree in_k s.words (hand, s, in_s, stamp, refl);
+      each_contained (λ k. (words : List ℕ) → WasStored m.past.stored (stamp_in_words k.words) words → words ≡ k.words) m.past.known hand k l.known.agree in_k s.words (hand, s, in_s, stamp, refl);
 }
 
 pub agrees : (view : View) → LawfulView view → joining.KnowledgeAgrees view.row.knows

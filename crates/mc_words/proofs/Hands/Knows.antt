@@ -45,11 +45,11 @@ no_join step alone kept spent e = absurd (let both : true ≡ false = ap is_join
 -- it saw, says and knows more, its hold and what it saw of histories follow the step, and it made no call
 abbrev pub known_after : Moment → ℕ → Step → Knowledge → Knowledge
 known_after m id step knew = record {
-  saw = knew.saw ++ seen_words_of m.state step;
+  seen_words = knew.seen_words ++ seen_words_of m.state step;
   hold = hold_after m.state step knew.hold;
   mine = knew.mine;
   seen = seen_after m.state step knew.seen;
-  said = knew.said ++ items_stored_by_step m.state id step;
+  stored = knew.stored ++ items_stored_by_step m.state id step;
   known = knew.known ++ known_of m.state id step;
 }
 
@@ -60,11 +60,11 @@ knows_after m id step alone may same =
 
 -- of what is said and known, nothing is new
 abbrev pub more_seen : List SeenWord → Hold → List (List Call) → Knowledge → Knowledge
-more_seen saw hold seen knows = record { saw = saw; hold = hold; mine = knows.mine; seen = seen; said = knows.said ++ []; known = knows.known ++ [] }
+more_seen saw hold seen knows = record { seen_words = saw; hold = hold; mine = knows.mine; seen = seen; stored = knows.stored ++ []; known = knows.known ++ [] }
 
-pub said_none : (saw : List SeenWord) (knows : Knowledge) (hold : Hold) (seen : List (List Call)) → more_seen saw hold seen knows ≡ record knows { saw = saw; hold = hold; seen = seen }
-said_none saw knows hold seen = λ k. record { saw = saw; hold = hold; mine = knows.mine; seen = seen; said = append-nil knows.said k; known = append-nil knows.known k }
+pub said_none : (saw : List SeenWord) (knows : Knowledge) (hold : Hold) (seen : List (List Call)) → more_seen saw hold seen knows ≡ record knows { seen_words = saw; hold = hold; seen = seen }
+said_none saw knows hold seen = λ k. record { seen_words = saw; hold = hold; mine = knows.mine; seen = seen; stored = append-nil knows.stored k; known = append-nil knows.known k }
 
 -- nor was anything found
-pub knows_same : (knows : Knowledge) → more_seen (knows.saw ++ []) knows.hold knows.seen knows ≡ knows
-knows_same knows = λ k. record { saw = append-nil knows.saw k; hold = knows.hold; mine = knows.mine; seen = knows.seen; said = append-nil knows.said k; known = append-nil knows.known k }
+pub knows_same : (knows : Knowledge) → more_seen (knows.seen_words ++ []) knows.hold knows.seen knows ≡ knows
+knows_same knows = λ k. record { seen_words = append-nil knows.seen_words k; hold = knows.hold; mine = knows.mine; seen = knows.seen; stored = append-nil knows.stored k; known = append-nil knows.known k }

@@ -128,7 +128,7 @@ all_none [] = refl
 all_none (stripe ∷ stripes) = all_none stripes
 
 new_ready : (setup : Setup) (number spare : ℕ) → IsReady (new_view setup number spare)
-new_ready setup number spare = record { unlocked = all_none (range_with_len 0 setup.config.stripes); unfilled = refl; few = omega arith }
+new_ready setup number spare = record { unlocked = all_none (range_with_len 0 setup.config.stripes); unfilled = refl; within_limit = omega arith }
 
 pub new_hand : (arena : Arena) (number : ℕ) (hand : Hand) → IsHandOf arena hand → view hand ≡ new_view (setup_of arena) number 0 → IsNewHand arena number hand
 new_hand arena number hand of is = record { of_arena = of; new = is; ready = subst IsReady (sym is) (new_ready (setup_of arena) number 0) }

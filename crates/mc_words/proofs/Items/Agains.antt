@@ -33,11 +33,11 @@ use Rattle.mc_words.proofs.Items.References.{is_ref, is_issue, is_item, is_whole
 
 -- what a header's word tells
 pub three_linked : (tag : ℕ) → tag < 4 → nat_eq tag 3 ≡ is_linked (tag_of tag)
-three_linked zero near = refl
-three_linked (suc zero) near = refl
-three_linked (suc (suc zero)) near = refl
-three_linked (suc (suc (suc zero))) near = refl
-three_linked (suc (suc (suc (suc tag)))) near = absurd (omega arith)
+three_linked zero in_range = refl
+three_linked (suc zero) in_range = refl
+three_linked (suc (suc zero)) in_range = refl
+three_linked (suc (suc (suc zero))) in_range = refl
+three_linked (suc (suc (suc (suc tag)))) in_range = absurd (omega arith)
 
 pub word_there : (word issue : ℕ) → is_there issue (decode word) ≡ (nat_eq (word / 65536 % 4) 3 && nat_eq (word / 262144) issue)
 unfolding decode
@@ -52,10 +52,10 @@ pub seen_is : (view now : View) (chunk : ChunkId) (head : Head) (h : Happens vie
 seen_is view now chunk head h is =
     let m : Moment = h.was.moment in
     let knows = knows_after m h.was.hand (core.Head chunk) refl (may_step h) (looked_keeps (λ s. s.stripes) m.state h.was.hand _ refl) in
-    let saws : view.row.knows.saw ++ header chunk (head_at m.state chunk) ∷ [] ≡ view.row.knows.saw ++ header chunk head ∷ [] =
-    sym (ap (λ (k : Knowledge). k.saw) knows ∙ ap (λ (k : Knowledge). k.saw ++ header chunk (head_at m.state chunk) ∷ []) (knew view view h.was))
-    ∙ (ap (λ (v : View). v.row.knows.saw) (sym h.is) ∙ ap (λ (v : View). v.row.knows.saw) is) in
-    same_last view.row.knows.saw chunk (head_at m.state chunk) head saws
+    let saws : view.row.knows.seen_words ++ header chunk (head_at m.state chunk) ∷ [] ≡ view.row.knows.seen_words ++ header chunk head ∷ [] =
+    sym (ap (λ (k : Knowledge). k.seen_words) knows ∙ ap (λ (k : Knowledge). k.seen_words ++ header chunk (head_at m.state chunk) ∷ []) (knew view view h.was))
+    ∙ (ap (λ (v : View). v.row.knows.seen_words) (sym h.is) ∙ ap (λ (v : View). v.row.knows.seen_words) is) in
+    same_last view.row.knows.seen_words chunk (head_at m.state chunk) head saws
 
 -- and one more fits into it
 small_word : (word : ℕ) → (decode word).issue < 2 ^ 46 → (decode word).count ≤ 16385 → word + 1 < 2 ^ 64
@@ -63,30 +63,30 @@ unfolding decode
 small_word word issue count = omega arith
 
 pub seen_small : (view now : View) (chunk : ChunkId) (word : ℕ) → has_chunk view.setup.table chunk ≡ true → Happens view [] (core.Head chunk) now → now ≡ head_seen chunk (decode word) view → word + 1 < 2 ^ 64
-seen_small view now chunk word near h is =
+seen_small view now chunk word in_range h is =
     let same = seen_is view now chunk (decode word) h is in
-    let here = near_here view chunk near h.was in
-    let fit : FitsBits (decode word) = subst FitsBits same (fits_here view h.was chunk near) in
+    let here = near_here view chunk in_range h.was in
+    let fit : FitsBits (decode word) = subst FitsBits same (fits_here view h.was chunk in_range) in
     small_word word fit.issue (subst (λ (h : Head). h.count ≤ 16385) same ((needless view h.was).most chunk here))
 
 -- the header is as it was seen
 pub may_again : (view : View) (chunk : ChunkId) (issue head : ℕ) → has_chunk view.setup.table chunk ≡ true → length view.row.holdings < most_refs → is_there issue (decode head) ≡ true → head + 1 < 2 ^ 64 → MayExchange view (core.Again chunk issue) (head_word view.setup chunk) head (head + 1)
-may_again view chunk issue head near few there small was fits hit =
+may_again view chunk issue head in_range within_limit there small was fits hit =
     let s : State = was.moment.state in
-    let here = near_here view chunk near was in
-    let is : head_at s chunk ≡ decode head = head_is view chunk near was ∙ ap decode hit in
+    let here = near_here view chunk in_range was in
+    let is : head_at s chunk ≡ decode head = head_is view chunk in_range was ∙ ap decode hit in
     let parts = and_parts (is_linked (decode head).tag) ((decode head).issue == issue) there in
     let tag : is_linked (head_at s chunk).tag ≡ true = ap (λ (h : Head). is_linked h.tag) is ∙ parts.0 in
     let same : ((head_at s chunk).issue == issue) ≡ true = ap (λ (h : Head). h.issue == issue) is ∙ parts.1 in
     let place : has_place_unlocked s was.hand ≡ true = lt-ltb (length (holdings_at s was.hand)) most_refs (let e = ap length (holdings_here view was) in omega arith) in
     let all = needless view was in
-    let fit : FitsBits (decode head) = subst FitsBits is (fits_here view was chunk near) in
+    let fit : FitsBits (decode head) = subst FitsBits is (fits_here view was chunk in_range) in
     let most : (decode head).count ≤ 16385 = subst (λ (h : Head). h.count ≤ 16385) is (all.most chunk here) in
     let sum : word_plus 1 head ≡ head + 1 = omega arith in
     let more : decode (head + 1) ≡ head_after_refer (head_at s chunk) =
     ap decode (sym sum) ∙ (summed head (omega arith) head_after_refer (word_plus 1) ((all_are_sums (decode head) fit).refer (omega arith)) (record { issue = fit.issue; count = omega arith }) ∙ ap head_after_refer (sym is)) in (
       and_from _ _ (and_from _ _ (and_from _ _ (and_from _ _ here place) tag) same) (all.room chunk here),
-      header_written view chunk near was (head + 1) (head_after_refer (head_at s chunk)) more,
+      header_written view chunk in_range was (head + 1) (head_after_refer (head_at s chunk)) more,
     )
 
 -- other words are other headers
@@ -140,11 +140,11 @@ module _ (view now : View) (chunk : ChunkId) (issue : ℕ) (h : Happens view [] 
   knows_again =
       knows_after m id (core.Again chunk issue) refl (may_step h) refl
       ∙ (λ k. let knows : Knowledge = knew view view h.was k in record {
-        saw = append-nil knows.saw k;
+        seen_words = append-nil knows.seen_words k;
         hold = knows.hold;
         mine = knows.mine;
         seen = knows.seen;
-        said = append-nil knows.said k;
+        stored = append-nil knows.stored k;
         known = knows.known ++ known_by again_room again_one ∷ [];
       })
 

@@ -44,10 +44,10 @@ use Rattle.mc_words.proofs.Locks.StripeChanges.{inside}
 
 -- what a header's word tells
 linked_three : (tag : ℕ) → tag < 4 → is_linked (tag_of tag) ≡ true → tag ≡ 3
-linked_three zero near is = absurd (cc)
-linked_three (suc zero) near is = absurd (cc)
-linked_three (suc (suc zero)) near is = absurd (cc)
-linked_three (suc (suc (suc tag))) near is = omega arith
+linked_three zero in_range is = absurd (cc)
+linked_three (suc zero) in_range is = absurd (cc)
+linked_three (suc (suc zero)) in_range is = absurd (cc)
+linked_three (suc (suc (suc tag))) in_range is = omega arith
 
 pub word_unheld : (word : ℕ) → word % 262144 ≡ 196609 → is_linked_unheld (decode word) ≡ true
 unfolding decode
@@ -83,13 +83,13 @@ same_unheld a b issue one two =
 -- what was seen linked and unheld under this hold of the slabs lock, and is found otherwise, isn't so
 pub other_held : (view : View) (slabs : SlabState) (chunk : ChunkId) (word found : ℕ) → view.slabs ≡ Some slabs → has_chunk view.setup.table chunk ≡ true → seen_head view.row.looks chunk ≡ Some (decode word) → is_linked_unheld (decode word) ≡ true
     → (was : LawfulView view) → slice_index was.words (head_word view.setup chunk) ≡ found → found ≢ word → is_linked_unheld (decode found) ≡ false
-other_held view slabs chunk word found mine near last unheld was at apart = elim (cases_Bool (is_linked_unheld (decode found))) [
+other_held view slabs chunk word found mine in_range last unheld was at apart = elim (cases_Bool (is_linked_unheld (decode found))) [
   | inl again ↦
       let s : State = was.moment.state in
-      let is : head_at s chunk ≡ decode found = head_is view chunk near was ∙ ap decode at in
+      let is : head_at s chunk ≡ decode found = head_is view chunk in_range was ∙ ap decode at in
       let tag : (decode word).tag ≡ Linked = tag_linked (decode word).tag (and_parts _ _ unheld).0 in
       let still : IsStill (head_at s chunk) (decode word) =
-      (was.lawful.seen was.hand (slabs_here view was slabs mine).0).last_heads chunk (decode word) (near_here view chunk near was) (ap (λ looks. seen_head looks chunk) (looks_here view was) ∙ last) in
+      (was.lawful.seen was.hand (slabs_here view was slabs mine).0).last_heads chunk (decode word) (near_here view chunk in_range was) (ap (λ looks. seen_head looks chunk) (looks_here view was) ∙ last) in
       let issue : (head_at s chunk).issue ≡ (decode word).issue = (still.1 (ap (λ (t : Tag). is_out t || is_free t || is_unlinked t && (decode word).count == 0) tag)).1 in
       let same : decode found ≡ decode word = same_unheld (decode found) (decode word) (ap (λ (h : Head). h.issue) (sym is) ∙ issue) again unheld in
       absurd (apart (sym (are_one_word.again found) ∙ (ap code same ∙ are_one_word.again word)))
@@ -106,7 +106,7 @@ stripe_key view chunk stripe is = some_number (key_read view chunk) stripe view.
 
 -- what the call asks
 pub record Asks (view : View) (slabs : SlabState) (stripe : ℕ) (value : ReadyStripe) (chunk : ChunkId) : Type 0 where
-  pub near : has_chunk view.setup.table chunk ≡ true
+  pub in_range : has_chunk view.setup.table chunk ≡ true
   pub mine : view.slabs ≡ Some slabs
   pub held : slice_index_or view.stripes stripe None ≡ Some value
   pub ready : value.ready ≡ true
@@ -116,8 +116,8 @@ pub record Asks (view : View) (slabs : SlabState) (stripe : ℕ) (value : ReadyS
 -- as it is asked, of the arena's setup
 pub asks : (view : View) (setup : Setup) (slabs : SlabState) (stripe : ℕ) (value : ReadyStripe) (chunk : ChunkId) → view.setup ≡ setup → has_chunk setup.table chunk ≡ true → view.slabs ≡ Some slabs → slice_index_or view.stripes stripe None ≡ Some value
     → value.ready ≡ true → stripe_read view chunk ≡ Some stripe → knows_reason slabs view.row.looks view.row.holdings chunk ≡ true → Asks view slabs stripe value chunk
-asks view setup slabs stripe value chunk of near mine held ready key reason = record {
-  near = ap (λ (s : Setup). has_chunk s.table chunk) of ∙ near;
+asks view setup slabs stripe value chunk of in_range mine held ready key reason = record {
+  in_range = ap (λ (s : Setup). has_chunk s.table chunk) of ∙ in_range;
   mine = mine;
   held = held;
   ready = ready;
@@ -132,7 +132,7 @@ module _ (view : View) (slabs : SlabState) (stripe : ℕ) (value : ReadyStripe) 
       let m = was.moment in
       let held = slabs_here view was slabs ask.mine in
       let (key, is, of) = stripe_key view chunk stripe ask.key in
-      let read = (was.lawful.seen was.hand held.0).read_words chunk 0 key (near_here view chunk ask.near was) (ap (λ looks. fold (last_read chunk 0) None looks) (looks_here view was) ∙ is) in
+      let read = (was.lawful.seen was.hand held.0).read_words chunk 0 key (near_here view chunk ask.in_range was) (ap (λ looks. fold (last_read chunk 0) None looks) (looks_here view was) ∙ is) in
       let room : room_in m.state.table (class_of_page m.state.slabs chunk.page) ≡ room_in view.setup.table (class_of_page slabs chunk.page) = (λ k. room_in (was.same_table k) (class_of_page (held.1 k) chunk.page)) in (
         ap (λ looks. was_linked looks chunk) (sym (looks_here view was)) ∙ (was_linked_is (looks_at m.state was.hand) chunk ∙ read.linked),
         subst (λ (n : ℕ). 0 < n) room read.within,
@@ -143,7 +143,7 @@ module _ (view : View) (slabs : SlabState) (stripe : ℕ) (value : ReadyStripe) 
   key_found key again =
       let (before, is, of) = stripe_key view chunk stripe ask.key in
       let same : key ≡ before = subst (λ (o : Option ℕ). IfSome o (λ before. key ≡ before)) is again in record {
-        near = ask.near;
+        in_range = ask.in_range;
         mine = ask.mine;
         held = ask.held;
         read = is ∙ ap Some (sym same);
@@ -169,7 +169,7 @@ module _ (view read seen : View) (slabs : SlabState) (stripe : ℕ) (value : Rea
       ∙ ap (λ (b : Bool). if b && true then Some key else fold (last_read chunk 0) None view.row.looks) (is_chunk-same chunk))
 
   pub has_still : HasBoth seen slabs stripe value chunk key
-  has_still = subst (λ (v : View). HasBoth v slabs stripe value chunk key) (sym seen_plain) (record { near = has.near; mine = has.mine; held = has.held; read = key_again; of_key = has.of_key })
+  has_still = subst (λ (v : View). HasBoth v slabs stripe value chunk key) (sym seen_plain) (record { in_range = has.in_range; mine = has.mine; held = has.held; read = key_again; of_key = has.of_key })
 
   pub copy_still : has_copy view.row.holdings chunk ≡ true → has_copy seen.row.holdings chunk ≡ true
   copy_still copies = ap (λ (v : View). has_copy v.row.holdings chunk) seen_plain ∙ copies
@@ -211,7 +211,7 @@ module _ (view read seen : View) (slabs : SlabState) (stripe : ℕ) (value : Rea
     pub led_there : (now : View) (at : HappensAt (head_word seen.setup chunk) word seen [] (core.Condemn chunk) now) → chunk_and_stamp value.state key ≡ Some (chunk, word_at at.0.was.moment.state chunk 1)
     led_there now at =
         let h = at.0 in
-        let is : head_at h.was.moment.state chunk ≡ decode word = head_is seen chunk has_still.near h.was ∙ ap decode at.1 in
+        let is : head_at h.was.moment.state chunk ≡ decode word = head_is seen chunk has_still.in_range h.was ∙ ap decode at.1 in
         leads_there seen slabs stripe value chunk key has_still h.was (ap (λ (h : Head). h.tag) is ∙ tag_linked (decode word).tag (and_parts _ _ unheld).0)
 
     module _ (reads : Happens view [] (core.WordHeld chunk 0) read) (looks : Happens read [] (core.Head chunk) seen) where
@@ -220,7 +220,7 @@ module _ (view read seen : View) (slabs : SlabState) (stripe : ℕ) (value : Rea
           → HappensAt (head_word seen.setup chunk) word seen [] (core.Condemn chunk) now → Condemns number stripe chunk value view left now
       condemns number now left numbered none left_is at =
           let h = at.0 in
-          let is : head_at h.was.moment.state chunk ≡ decode word = head_is seen chunk has_still.near h.was ∙ ap decode at.1 in record {
+          let is : head_at h.was.moment.state chunk ≡ decode word = head_is seen chunk has_still.in_range h.was ∙ ap decode at.1 in record {
             key = key;
             is_key = has.read;
             stamp = word_at h.was.moment.state chunk 1;
@@ -239,7 +239,7 @@ module _ (view read seen : View) (slabs : SlabState) (stripe : ℕ) (value : Rea
           → CondemnsOriginal stripe chunk value view left now
       condemns_original now left copies left_is at =
           let h = at.0 in
-          let is : head_at h.was.moment.state chunk ≡ decode word = head_is seen chunk has_still.near h.was ∙ ap decode at.1 in
+          let is : head_at h.was.moment.state chunk ≡ decode word = head_is seen chunk has_still.in_range h.was ∙ ap decode at.1 in
           let tag : (head_at h.was.moment.state chunk).tag ≡ Linked = ap (λ (h : Head). h.tag) is ∙ tag_linked (decode word).tag (and_parts _ _ unheld).0 in record {
             key = key;
             is_key = has.read;
@@ -272,9 +272,9 @@ module _ (view read seen : View) (slabs : SlabState) (stripe : ℕ) (value : Rea
             chunk = chunk;
             is_asked = refl;
             head = decode found;
-            other = other_held seen slabs chunk word found has_still.mine has_still.near last_seen unheld at.0.was at.1 apart;
+            other = other_held seen slabs chunk word found has_still.mine has_still.in_range last_seen unheld at.0.was at.1 apart;
             happens = at.0;
-            is = seen_views.seen_head seen now chunk found has_still.near at;
+            is = seen_views.seen_head seen now chunk found has_still.in_range at;
           }),
         );
       }
@@ -298,7 +298,7 @@ module _ (view read seen : View) (slabs : SlabState) (stripe : ℕ) (value : Rea
         let is = condemned_view seen slabs stripe value chunk key has_still number numbered (none_still none) now (head_at h.was.moment.state chunk) h refl in
         (ap (λ (v : View). v.row.ids) is, ap (λ (v : View). v.row.holdings) is)
     | inr miss ↦
-        let is = seen_views.seen_head seen now chunk found has_still.near (misses miss) in
+        let is = seen_views.seen_head seen now chunk found has_still.in_range (misses miss) in
         (ap (λ (v : View). v.row.ids) is, ap (λ (v : View). v.row.holdings) is)
   ]
 
@@ -316,14 +316,14 @@ module _ (view read seen : View) (slabs : SlabState) (stripe : ℕ) (value : Rea
           ap (λ (v : View). fresh_count v.row.holdings) is ∙ bound_count chunk item seen.row.holdings,
         )
     | inr miss ↦
-        let is = seen_views.seen_head seen now chunk found has_still.near (misses miss) in
+        let is = seen_views.seen_head seen now chunk found has_still.in_range (misses miss) in
         (ap (λ (v : View). v.row.ids) is, ap (λ (v : View). length v.row.holdings) is, ap (λ (v : View). fresh_count v.row.holdings) is)
   ]
 
   -- a miss leaves the values
   pub left_by_miss : (found : ℕ) (now : View) → HappensAt (head_word seen.setup chunk) found seen [] (core.Head chunk) now → (now.slabs ≡ Some slabs) × (slice_index_or now.stripes stripe None ≡ Some value)
   left_by_miss found now at =
-      let is = seen_views.seen_head seen now chunk found has_still.near at in
+      let is = seen_views.seen_head seen now chunk found has_still.in_range at in
       (ap (λ (v : View). v.slabs) is ∙ has_still.mine, ap (λ (v : View). slice_index_or v.stripes stripe None) is ∙ has_still.held)
 
   -- it is held, as the look tells

@@ -61,7 +61,7 @@ no_copies chunk change (holding ∷ holdings) none =
 
 -- the hand has pages and lists, and the stripe of the key that it read of the chunk
 pub record HasBoth (view : View) (slabs : SlabState) (stripe : ℕ) (value : ReadyStripe) (chunk : ChunkId) (key : ℕ) : Type 0 where
-  pub near : has_chunk view.setup.table chunk ≡ true
+  pub in_range : has_chunk view.setup.table chunk ≡ true
   pub mine : view.slabs ≡ Some slabs
   pub held : slice_index_or view.stripes stripe None ≡ Some value
   pub read : key_read view chunk ≡ Some key
@@ -73,7 +73,7 @@ module _ (view : View) (slabs : SlabState) (stripe : ℕ) (value : ReadyStripe) 
     s = was.moment.state
 
     near_there : has_chunk s.table chunk ≡ true
-    near_there = near_here view chunk has.near was
+    near_there = near_here view chunk has.in_range was
 
     -- it is still the key
     pub key_is : key_at s chunk ≡ key
@@ -96,10 +96,10 @@ module _ (view : View) (slabs : SlabState) (stripe : ℕ) (value : ReadyStripe) 
       let m : Moment = was.moment in
       let held = slabs_here view was slabs has.mine in
       let fits' : word < 2 ^ 64 = subst (λ (n : ℕ). n < 2 ^ 64) hit fits in
-      let is : head_at m.state chunk ≡ decode word = head_is view chunk has.near was ∙ ap decode hit in
+      let is : head_at m.state chunk ≡ decode word = head_is view chunk has.in_range was ∙ ap decode hit in
       let unheld' : is_linked_unheld (head_at m.state chunk) ≡ true = ap is_linked_unheld is ∙ unheld in
       let tag : (head_at m.state chunk).tag ≡ Linked = tag_linked (head_at m.state chunk).tag (and_parts _ _ unheld').0 in
-      let small : FitsBits (decode word) = subst FitsBits is (fits_here view was chunk has.near) in
+      let small : FitsBits (decode word) = subst FitsBits is (fits_here view was chunk has.in_range) in
       let less : decode (word_minus 65537 word) ≡ head_after_condemn (head_at m.state chunk) =
       summed word fits' head_after_condemn (word_minus 65537) ((all_are_sums (decode word) small).condemn unheld) (record { issue = small.issue; count = omega arith }) ∙ ap head_after_condemn (sym is) in
       let stripe_held : has_stripe m.state was.hand (stripe_of m.state (key_at m.state chunk)) ≡ true = ap (has_stripe m.state was.hand) (stripe_is was) ∙ (stripe_here view stripe value has.held was).0 in
@@ -108,7 +108,7 @@ module _ (view : View) (slabs : SlabState) (stripe : ℕ) (value : ReadyStripe) 
       let why : has_reason m.state.table m.state.heads m.state.slabs (looks_at m.state was.hand) (holdings_at m.state was.hand) chunk ≡ true =
       reason_here m was.hand (judged view was slabs has.mine) chunk ((λ k. knows_reason (held.1 k) (looks_here view was k) (holdings_here view was k) chunk) ∙ reason) in (
         and_from _ _ (and_from _ _ (and_from _ _ (and_from _ _ (and_from _ _ held.0 (near_there was)) unheld') stripe_held) loses) why,
-        header_written view chunk has.near was (word_minus 65537 word) (head_after_condemn (head_at m.state chunk)) less,
+        header_written view chunk has.in_range was (word_minus 65537 word) (head_after_condemn (head_at m.state chunk)) less,
       )
 
   pub may_condemn : value.ready ≡ true → has_copy view.row.holdings chunk ≡ false → knows_reason slabs view.row.looks view.row.holdings chunk ≡ true → (word : ℕ) → is_linked_unheld (decode word) ≡ true
@@ -152,7 +152,7 @@ module _ (view : View) (slabs : SlabState) (stripe : ℕ) (value : ReadyStripe) 
     left_here : stripe_at next stripe ≡ left
     left_here =
         ap (λ (i : ℕ). slice_index_or (slice_set m.state.stripes i told_there) stripe new_stripe) (stripe_is h.was)
-        ∙ (get_or-set_same m.state.stripes stripe told_there new_stripe (let near = stripe_near view stripe value has.held h.was in let count = h.was.stripes in omega arith) ∙ told_is)
+        ∙ (get_or-set_same m.state.stripes stripe told_there new_stripe (let in_range = stripe_near view stripe value has.held h.was in let count = h.was.stripes in omega arith) ∙ told_is)
 
     left_other : (i : ℕ) → i ≢ stripe → stripe_at next i ≡ stripe_at m.state i
     left_other i apart =
@@ -185,11 +185,11 @@ module _ (view : View) (slabs : SlabState) (stripe : ℕ) (value : ReadyStripe) 
     knows_left =
         are_learned.steps m id (core.Condemn chunk) (may_step h) (λ kept spent e. absurd (cc))
         ∙ (λ k. let knows : Knowledge = knew view view h.was k in record {
-          saw = append-nil knows.saw k;
+          seen_words = append-nil knows.seen_words k;
           hold = knows.hold;
           mine = mine_left knows.mine k;
           seen = knows.seen;
-          said = append-nil knows.said k;
+          stored = append-nil knows.stored k;
           known = append-nil knows.known k;
         })
 
@@ -231,7 +231,7 @@ module _ (view : View) (slabs : SlabState) (stripe : ℕ) (value : ReadyStripe) 
 
     -- what was read of it is so still
     pub item_read : (place word : ℕ) → fold (last_read chunk place) None view.row.looks ≡ Some word → place < length item → slice_index item place ≡ word
-    item_read place word read near =
+    item_read place word read in_range =
         let held = slabs_here view was slabs has.mine in
         let still = (was.lawful.seen was.hand held.0).read_words chunk place word (near_there was) (ap (λ (looks : List Look). fold (last_read chunk place) None looks) (looks_here view was) ∙ read) in
         let long = item_long in
@@ -261,7 +261,7 @@ module _ (view : View) (slabs : SlabState) (stripe : ℕ) (value : ReadyStripe) 
     lifted_here : stripe_at then_state stripe ≡ lifted
     lifted_here =
         ap (λ (i : ℕ). slice_index_or (slice_set mc.state.stripes i told_stripe) stripe new_stripe) (stripe_is h.was)
-        ∙ (get_or-set_same mc.state.stripes stripe told_stripe new_stripe (let near = stripe_near view stripe value has.held h.was in let count = h.was.stripes in omega arith) ∙ told_lifted)
+        ∙ (get_or-set_same mc.state.stripes stripe told_stripe new_stripe (let in_range = stripe_near view stripe value has.held h.was in let count = h.was.stripes in omega arith) ∙ told_lifted)
 
     lifted_other : (i : ℕ) → i ≢ stripe → stripe_at then_state i ≡ stripe_at mc.state i
     lifted_other i apart =
@@ -291,11 +291,11 @@ module _ (view : View) (slabs : SlabState) (stripe : ℕ) (value : ReadyStripe) 
     knows_lifted =
         are_learned.steps mc hand (core.Condemn chunk) (may_step h) (λ kept spent e. absurd (cc))
         ∙ (λ k. let knows : Knowledge = knew view view h.was k in record {
-          saw = append-nil knows.saw k;
+          seen_words = append-nil knows.seen_words k;
           hold = knows.hold;
           mine = mine_alike mc.state then_state histories_same hand knows.mine k;
           seen = knows.seen;
-          said = append-nil knows.said k;
+          stored = append-nil knows.stored k;
           known = append-nil knows.known k;
         })
 

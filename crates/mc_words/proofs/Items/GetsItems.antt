@@ -24,7 +24,7 @@ use Rattle.mc_words.proofs.Items.Refers.{LeadsTo, leads_here, entry_near, new_on
 
 -- the first words of an item are those of its chunk
 pub item_word : (s : State) (chunk : ChunkId) (place : ℕ) → place < 3 → 3 + word_at s chunk 2 ≤ chunk_room s chunk → slice_index (item_at s chunk) place ≡ word_at s chunk place
-item_word s chunk place near fits = get_or-map-range_with_len (word_at s chunk) 0 (min (3 + word_at s chunk 2) (chunk_room s chunk)) place place 0 (omega arith) (zero-add place)
+item_word s chunk place in_range fits = get_or-map-range_with_len (word_at s chunk) 0 (min (3 + word_at s chunk 2) (chunk_room s chunk)) place place 0 (omega arith) (zero-add place)
 
 -- the issue number of a header's word
 pub word_issue : (word : ℕ) → (decode word).issue ≡ word / 262144

@@ -39,7 +39,7 @@ use Rattle.mc_words.proofs.Pages.OwnerViews.{learned_none}
 
 -- there is room in chunks of a class alone
 class_if_room : (table : Classes) (class place : ℕ) → place < room_in table class → is_class table class ≡ true
-class_if_room table class place near = elim (cases_Bool (is_class table class)) [
+class_if_room table class place in_range = elim (cases_Bool (is_class table class)) [
   | inl is ↦ is
   | inr isnt ↦ absurd (let none : room_in table class ≡ 0 = ap (λ (b : Bool). if b then size_of table class / 8 else 0) isnt in omega arith)
 ]
@@ -51,14 +51,14 @@ held_room setup seen table slabs page class size place seen_is table_is class_he
     let is : is_class table class ≡ true = (λ k. is_class (table_is k) (class_here k)) ∙ class_if_room setup.table (class_of_page slabs page) place inside in
     (is, λ size_is. room_of table class size is size_is ∙ ap₂ room_in (table_is ∙ ap (λ (s : Setup). s.table) (sym seen_is)) class_here)
 
-module _ (view : View) (slabs : SlabState) (mine : view.slabs ≡ Some slabs) (chunk : ChunkId) (near : has_chunk view.setup.table chunk ≡ true) where
+module _ (view : View) (slabs : SlabState) (mine : view.slabs ≡ Some slabs) (chunk : ChunkId) (in_range : has_chunk view.setup.table chunk ≡ true) where
   -- its page has an owner
   pub owner_near : LawfulView view → chunk.page < length slabs.owners
   owner_near was =
       let s : State = was.moment.state in
       let pages : length s.slabs.owners ≡ arena_pages_of view.setup.table = was.lawful.paged.of_table.owners ∙ ap arena_pages_of was.same_table in
       let owners : length s.slabs.owners ≡ length slabs.owners = ap (λ (x : SlabState). length x.owners) (slabs_here view was slabs mine).1 in
-      let within = (chunk_within view.setup.table chunk near).0 in
+      let within = (chunk_within view.setup.table chunk in_range).0 in
       omega arith
 
   module _ (linked : was_linked view.row.looks chunk ≡ true) (place : ℕ) (inside : place < room_in view.setup.table (class_of_page slabs chunk.page)) where
@@ -67,7 +67,7 @@ module _ (view : View) (slabs : SlabState) (mine : view.slabs ≡ Some slabs) (c
       m = was.moment
 
       near_there : has_chunk m.state.table chunk ≡ true
-      near_there = near_here view chunk near was
+      near_there = near_here view chunk in_range was
 
       -- it was handed out, and is so still
       placed : IsPlaced m.state.slabs chunk
@@ -97,7 +97,7 @@ module _ (view : View) (slabs : SlabState) (mine : view.slabs ≡ Some slabs) (c
 
       -- it is a data word
       pub held_near : data_word view.setup (room_in view.setup.table (class_of_page slabs chunk.page)) chunk place < config_from view.setup
-      held_near = let is = stands_at in let near = within in omega arith
+      held_near = let is = stands_at in let in_range = within in omega arith
 
       -- and that of the chunk
       held_word : slice_index was.words (data_word view.setup (room_in view.setup.table (class_of_page slabs chunk.page)) chunk place) ≡ word_at m.state chunk place
@@ -144,7 +144,7 @@ module _ (view : View) (slabs : SlabState) (mine : view.slabs ≡ Some slabs) (c
             item = k;
             known = has;
             there = same.0;
-            said = each_contained (λ (known : KnownItem). WasStored was.moment.past.said (stamp_in_words known.words) known.words) was.moment.past.known hand k was.lawful.known.said_by_some has;
+            stored = each_contained (λ (known : KnownItem). WasStored was.moment.past.stored (stamp_in_words known.words) known.words) was.moment.past.known hand k was.lawful.known.said_by_some has;
             is_word = λ within. sym (known_at k.words place)
                 ∙ (sym (here.known_words place (word_in (all_known k.words) place) (whole_word (all_known k.words) place whole (omega arith))) ∙ (sym (held_word was) ∙ at.1));
           },

@@ -90,12 +90,12 @@ may_link view stripe value key stamp number chunk issue words may item numbered 
     let m = was.moment in
     let s : State = m.state in
     let word = slice_index was.words (head_word view.setup chunk) in
-    let near = holding_near view was chunk (own_item chunk issue words) item.found refl in
-    let here = near_here view chunk near was in
+    let in_range = holding_near view was chunk (own_item chunk issue words) item.found refl in
+    let here = near_here view chunk in_range was in
     let all = needless view was in
     let found : holding_of chunk (holdings_at s was.hand) ≡ Some (own_item chunk issue words) = ap (holding_of chunk) (holdings_here view was) ∙ item.found in
-    let is : head_at s chunk ≡ decode word = head_is view chunk near was in
-    let small : FitsBits (decode word) = subst FitsBits is (fits_here view was chunk near) in
+    let is : head_at s chunk ≡ decode word = head_is view chunk in_range was in
+    let small : FitsBits (decode word) = subst FitsBits is (fits_here view was chunk in_range) in
     let most : (decode word).count ≤ 16385 = subst (λ (h : Head). h.count ≤ 16385) is (all.most chunk here) in
     let fresh = (all.fresh was.hand chunk (own_item chunk issue words) found refl).1 in
     let more : decode (word_plus 65537 word) ≡ head_after_link (head_at s chunk) =
@@ -114,7 +114,7 @@ may_link view stripe value key stamp number chunk issue words may item numbered 
     let after : columns (items.state_after_link s was.hand chunk) ≡ (s.slabs_lock, s.stripe_locks, slice_set s.heads (head_place s.table chunk) (head_after_link (head_at s chunk)), s.words) =
     ap (λ (o : Option Holding). columns (after_link_of (without_holding s was.hand (is_of_chunk chunk)) was.hand chunk o)) found in (
       can,
-      subst (AreAll view.setup was.cuts (slice_set was.words (head_word view.setup chunk) (word_plus 65537 word))) (sym after) (header_written view chunk near was (word_plus 65537 word) (head_after_link (head_at s chunk)) more),
+      subst (AreAll view.setup was.cuts (slice_set was.words (head_word view.setup chunk) (word_plus 65537 word))) (sym after) (header_written view chunk in_range was (word_plus 65537 word) (head_after_link (head_at s chunk)) more),
     )
 
 -- what the hand has and knows after it linked the item
@@ -164,7 +164,7 @@ module _ (view : View) (stripe : ℕ) (value : ReadyStripe) (key stamp number : 
   stored_here =
       ap (λ (s : State). stripe_at s stripe) next_is_of
       ∙ (ap (λ (i : ℕ). slice_index_or (slice_set m.state.stripes i told_value) stripe new_stripe) key_at
-      ∙ (get_or-set_same m.state.stripes stripe told_value new_stripe (let near = stripe_near view stripe value may.mine h.was in let count = h.was.stripes in omega arith) ∙ told_is))
+      ∙ (get_or-set_same m.state.stripes stripe told_value new_stripe (let in_range = stripe_near view stripe value may.mine h.was in let count = h.was.stripes in omega arith) ∙ told_is))
 
   stored_other : (i : ℕ) → i ≢ stripe → stripe_at next i ≡ stripe_at m.state i
   stored_other i apart =
@@ -216,20 +216,20 @@ module _ (view : View) (stripe : ℕ) (value : ReadyStripe) (key stamp number : 
   knows_linked =
       are_learned.steps m id (core.Link chunk) (may_step h) (λ kept spent e. absurd (cc))
       ∙ (λ k. let knows : Knowledge = knew view view h.was k in record {
-        saw = append-nil knows.saw k;
+        seen_words = append-nil knows.seen_words k;
         hold = knows.hold;
         mine = mine_stored knows.mine k;
         seen = knows.seen;
-        said = knows.said ++ said_is k;
+        stored = knows.stored ++ said_is k;
         known = knows.known ++ known_of_holding linked_room (found k);
       })
 
   holdings_linked : holdings_at next id ≡ told.row.holdings
   holdings_linked =
       let lost_row = get_or-set_same m.state.holdings id (without_first (is_of_chunk chunk) (holdings_at m.state id)) [] (holding_rows view h.was) in
-      let near : id < length lost.holdings = let near = holding_rows view h.was in let long = length-set m.state.holdings id (without_first (is_of_chunk chunk) (holdings_at m.state id)) in omega arith in
+      let in_range : id < length lost.holdings = let in_range = holding_rows view h.was in let long = length-set m.state.holdings id (without_first (is_of_chunk chunk) (holdings_at m.state id)) in omega arith in
       ap (λ (s : State). holdings_at s id) next_is_of
-      ∙ (get_or-set_same lost.holdings id (holdings_at lost id ++ reference_to chunk issue (numbers_of_known (words_of_item words)) ∷ []) [] near
+      ∙ (get_or-set_same lost.holdings id (holdings_at lost id ++ reference_to chunk issue (numbers_of_known (words_of_item words)) ∷ []) [] in_range
       ∙ ap (λ (l : List Holding). l ++ reference_to chunk issue (numbers_of_known (words_of_item words)) ∷ []) (lost_row ∙ ap (without_first (is_of_chunk chunk)) (holdings_were view view h.was)))
 
   -- all that the hand has then
@@ -282,9 +282,9 @@ module _ (view : View) (stripe : ℕ) (value : ReadyStripe) (key stamp number : 
   -- the issue number that the header had
   pub issue_was : (word : ℕ) → slice_index h.was.words (head_word view.setup chunk) ≡ word → word / 262144 ≡ issue
   issue_was word at =
-      let near = holding_near view h.was chunk (own_item chunk issue words) item.found refl in
+      let in_range = holding_near view h.was chunk (own_item chunk issue words) item.found refl in
       let out = held_handed_out m h.was.lawful id chunk (own_item chunk issue words) found in
-      sym (ap (λ (head : Head). head.issue) (head_is view chunk near h.was) ∙ (ap (λ (n : ℕ). (decode n).issue) at ∙ word_issue word)) ∙ out.1
+      sym (ap (λ (head : Head). head.issue) (head_is view chunk in_range h.was) ∙ (ap (λ (n : ℕ). (decode n).issue) at ∙ word_issue word)) ∙ out.1
 
 -- where no other key is aside, one that is aside is this key
 pub alone_from : (state : StripeState) (key : ℕ) → is_none_else_aside state key ≡ true → IfSome (key_aside state) (λ other. other ≡ key)

@@ -48,7 +48,7 @@ module _ (view : View) (number stripe : ℕ) (value : ReadyStripe) (change : Cha
   may_write = record {
     allowed = w.allowed;
     step_allowed = λ was.
-        let near = stripe_near view stripe value w.mine was in
+        let in_range = stripe_near view stripe value w.mine was in
         let count = lock_count view view was in
         let same : length (after_change was.moment.state was.hand change).stripe_locks ≡ length was.moment.state.stripe_locks = ap (λ (s : State). length s.stripe_locks) (w.changes was) in
         lt-ltb stripe (length (after_change was.moment.state was.hand change).stripe_locks) (omega arith);
@@ -86,7 +86,7 @@ module _ (view : View) (number stripe : ℕ) (value : ReadyStripe) (change : Cha
     made_here : stripe_at changed.state stripe ≡ next
     made_here =
         ap (λ (s : State). stripe_at s stripe) state_is
-        ∙ get_or-set_same s.stripes stripe next new_stripe (let near = stripe_near view stripe value w.mine was in let count = was.stripes in omega arith)
+        ∙ get_or-set_same s.stripes stripe next new_stripe (let in_range = stripe_near view stripe value w.mine was in let count = was.stripes in omega arith)
 
     made_other : (i : ℕ) → i ≢ stripe → stripe_at changed.state i ≡ stripe_at s i
     made_other i apart = ap (λ (s : State). stripe_at s i) state_is ∙ get_or-set_other s.stripes stripe i next new_stripe apart

@@ -56,18 +56,18 @@ module _ (view : View) (stripe : ℕ) (value : ReadyStripe) (key : ℕ) (chunk :
 -- a reference is taken
 pub may_refer : (view : View) (stripe : ℕ) (value : ReadyStripe) (key : ℕ) (chunk : ChunkId) (stamp : ℕ) → LeadsTo view stripe value key chunk stamp → value.ready ≡ true → is_aside value.state key ≡ false → length view.row.holdings < most_holdings
     → MayWrite view (core.Refer key) (head_word view.setup chunk) (word_plus 1)
-may_refer view stripe value key chunk stamp to ready inside few was fits =
+may_refer view stripe value key chunk stamp to ready inside within_limit was fits =
     let m = was.moment in
     let s : State = m.state in
     let word = slice_index was.words (head_word view.setup chunk) in
-    let near = entry_near view stripe value key chunk stamp to was in
-    let here = near_here view chunk near was in
+    let in_range = entry_near view stripe value key chunk stamp to was in
+    let here = near_here view chunk in_range was in
     let leads = leads_here view stripe value key chunk stamp to was in
     let same = value_is view stripe value key chunk stamp to was in
     let all = needless view was in
     let linked = (all.entry key (chunk, stamp) leads).1 in
-    let is : head_at s chunk ≡ decode word = head_is view chunk near was in
-    let small : FitsBits (decode word) = subst FitsBits is (fits_here view was chunk near) in
+    let is : head_at s chunk ≡ decode word = head_is view chunk in_range was in
+    let small : FitsBits (decode word) = subst FitsBits is (fits_here view was chunk in_range) in
     let most : (decode word).count ≤ 16385 = subst (λ (h : Head). h.count ≤ 16385) is (all.most chunk here) in
     let more : decode (word_plus 1 word) ≡ head_after_refer (head_at s chunk) =
     summed word fits head_after_refer (word_plus 1) ((all_are_sums (decode word) small).refer (omega arith)) (record { issue = small.issue; count = omega arith }) ∙ ap head_after_refer (sym is) in
@@ -79,7 +79,7 @@ may_refer view stripe value key chunk stamp to ready inside few was fits =
     let after : columns (after_refer s was.hand key) ≡ (s.slabs_lock, s.stripe_locks, slice_set s.heads (head_place s.table chunk) (head_after_refer (head_at s chunk)), s.words) =
     ap (λ (o : Option (ChunkId × ℕ)). columns (referred_to (with_got s was.hand key) was.hand o)) leads in (
       and_from _ _ (and_from _ _ look place) can,
-      subst (AreAll view.setup was.cuts (slice_set was.words (head_word view.setup chunk) (word_plus 1 word))) (sym after) (header_written view chunk near was (word_plus 1 word) (head_after_refer (head_at s chunk)) more),
+      subst (AreAll view.setup was.cuts (slice_set was.words (head_word view.setup chunk) (word_plus 1 word))) (sym after) (header_written view chunk in_range was (word_plus 1 word) (head_after_refer (head_at s chunk)) more),
     )
 
 -- what the hand has of the key's stripe, and what it knows, after it looked the key up and got a reference
@@ -120,7 +120,7 @@ module _ (view : View) (stripe : ℕ) (value : ReadyStripe) (key : ℕ) (chunk :
       let at = stripe_is view stripe value key chunk stamp to h.was in
       ap (λ (s : State). stripe_at s stripe) next_is
       ∙ (ap (λ (i : ℕ). slice_index_or (slice_set m.state.stripes i (used_up (after_got (stripe_at m.state (stripe_of m.state key)).state (writer_of m.state id) key))) stripe new_stripe) at
-      ∙ (get_or-set_same m.state.stripes stripe (used_up (after_got (stripe_at m.state (stripe_of m.state key)).state (writer_of m.state id) key)) new_stripe (let near = stripe_near view stripe value to.mine h.was in let count = h.was.stripes in omega arith)
+      ∙ (get_or-set_same m.state.stripes stripe (used_up (after_got (stripe_at m.state (stripe_of m.state key)).state (writer_of m.state id) key)) new_stripe (let in_range = stripe_near view stripe value to.mine h.was in let count = h.was.stripes in omega arith)
       ∙ (λ k. used_up (after_got (value_is view stripe value key chunk stamp to h.was k).state (writer k) key))))
 
   got_other : (i : ℕ) → i ≢ stripe → stripe_at next i ≡ stripe_at m.state i
@@ -157,11 +157,11 @@ module _ (view : View) (stripe : ℕ) (value : ReadyStripe) (key : ℕ) (chunk :
   knows_got =
       are_learned.steps m id (core.Refer key) (may_step h) (λ kept spent e. absurd (cc))
       ∙ (λ k. let knows : Knowledge = knew view view h.was k in record {
-        saw = append-nil knows.saw k;
+        seen_words = append-nil knows.seen_words k;
         hold = knows.hold;
         mine = mine_got knows.mine k;
         seen = knows.seen;
-        said = append-nil knows.said k;
+        stored = append-nil knows.stored k;
         known = knows.known ++ known_of_place m.state (leads k);
       })
 

@@ -28,17 +28,17 @@ held_is_near view was chunk holding found =
 
 -- a reference is given up
 pub may_release : (view : View) (chunk : ChunkId) (holding : Holding) → has_chunk view.setup.table chunk ≡ true → holding_of chunk view.row.holdings ≡ Some holding → is_fresh holding ≡ false → MayWrite view (core.Release chunk) (head_word view.setup chunk) (word_minus 1)
-may_release view chunk holding near found linked was fits =
+may_release view chunk holding in_range found linked was fits =
     let m = was.moment in
     let word = slice_index was.words (head_word view.setup chunk) in
     let here : holding_of chunk (holdings_at m.state was.hand) ≡ Some holding = ap (holding_of chunk) (holdings_here view was) ∙ found in
-    let is : head_at m.state chunk ≡ decode word = head_is view chunk near was in
+    let is : head_at m.state chunk ≡ decode word = head_is view chunk in_range was in
     let count : 1 ≤ (decode word).count = subst (λ (h : Head). 1 ≤ h.count) is (held_count m was.lawful was.hand chunk holding here) in
-    let small : FitsBits (decode word) = subst FitsBits is (fits_here view was chunk near) in
+    let small : FitsBits (decode word) = subst FitsBits is (fits_here view was chunk in_range) in
     let gone : decode (word_minus 1 word) ≡ head_after_release (head_at m.state chunk) =
     summed word fits head_after_release (word_minus 1) ((all_are_sums (decode word) small).release count) (record { issue = small.issue; count = let c = small.count in omega arith }) ∙ ap head_after_release (sym is) in (
       ap (holds_as false) here ∙ ap (λ b. b && false || not b && not false) linked,
-      header_written view chunk near was (word_minus 1 word) (head_after_release (head_at m.state chunk)) gone,
+      header_written view chunk in_range was (word_minus 1 word) (head_after_release (head_at m.state chunk)) gone,
     )
 
 -- the hand has it no more

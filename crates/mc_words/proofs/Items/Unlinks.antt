@@ -49,13 +49,13 @@ may_unlink view stripe value key chunk stamp to ready inside free was fits =
     let m = was.moment in
     let s : State = m.state in
     let word = slice_index was.words (head_word view.setup chunk) in
-    let near = entry_near view stripe value key chunk stamp to was in
-    let here = near_here view chunk near was in
+    let in_range = entry_near view stripe value key chunk stamp to was in
+    let here = near_here view chunk in_range was in
     let leads = leads_here view stripe value key chunk stamp to was in
     let same = value_is view stripe value key chunk stamp to was in
     let linked : (head_at s chunk).tag ≡ Linked = ((needless view was).entry key (chunk, stamp) leads).1 in
-    let is : head_at s chunk ≡ decode word = head_is view chunk near was in
-    let small : FitsBits (decode word) = subst FitsBits is (fits_here view was chunk near) in
+    let is : head_at s chunk ≡ decode word = head_is view chunk in_range was in
+    let small : FitsBits (decode word) = subst FitsBits is (fits_here view was chunk in_range) in
     let count : 1 ≤ (decode word).count = subst (λ (h : Head). 1 ≤ h.count) is (link_counts (head_at s chunk).tag (head_at s chunk).count (holder_count chunk s.holdings) linked (was.lawful.counted.counted chunk here)) in
     let less : decode (word_minus 65537 word) ≡ head_after_unlink (head_at s chunk) =
     summed word fits head_after_unlink (word_minus 65537) ((all_are_sums (decode word) small).unlink (sym (ap (λ (h : Head). h.tag) is) ∙ linked) count) (record { issue = small.issue; count = let c = small.count in omega arith }) ∙ ap head_after_unlink (sym is) in
@@ -69,7 +69,7 @@ may_unlink view stripe value key chunk stamp to ready inside free was fits =
     let after : columns (state_after_unlink s was.hand key) ≡ (s.slabs_lock, s.stripe_locks, slice_set s.heads (head_place s.table chunk) (head_after_unlink (head_at s chunk)), s.words) =
     ap (λ (o : Option (ChunkId × ℕ)). columns (with_unlinked (with_stripe s (stripe_of s key) (stripe_unlinked (stripe_at s (stripe_of s key)) (has_fresh (holdings_at s was.hand)) (writer_of s was.hand) key)) o)) leads in (
       and_from _ _ (and_from _ _ look lift) there,
-      subst (AreAll view.setup was.cuts (slice_set was.words (head_word view.setup chunk) (word_minus 65537 word))) (sym after) (header_written view chunk near was (word_minus 65537 word) (head_after_unlink (head_at s chunk)) less),
+      subst (AreAll view.setup was.cuts (slice_set was.words (head_word view.setup chunk) (word_minus 65537 word))) (sym after) (header_written view chunk in_range was (word_minus 65537 word) (head_after_unlink (head_at s chunk)) less),
     )
 
 module _ (view : View) (stripe : ℕ) (value : ReadyStripe) (key : ℕ) (chunk : ChunkId) (stamp : ℕ) (to : LeadsTo view stripe value key chunk stamp) (number : ℕ) (numbered : view.row.ids.number ≡ Some number) (now : View) (h : Happens view [] (core.Unlink key) now) where
@@ -103,7 +103,7 @@ module _ (view : View) (stripe : ℕ) (value : ReadyStripe) (key : ℕ) (chunk :
 
     stripe_then : stripe_at next stripe ≡ then_stripe
     stripe_then =
-        ap (λ (s : State). stripe_at s stripe) next_is ∙ get_or-set_same m.state.stripes stripe then_stripe new_stripe (let near = stripe_near view stripe value to.mine h.was in let count = h.was.stripes in omega arith)
+        ap (λ (s : State). stripe_at s stripe) next_is ∙ get_or-set_same m.state.stripes stripe then_stripe new_stripe (let in_range = stripe_near view stripe value to.mine h.was in let count = h.was.stripes in omega arith)
 
     other_then : (i : ℕ) → i ≢ stripe → stripe_at next i ≡ stripe_at m.state i
     other_then i apart = ap (λ (s : State). stripe_at s i) next_is ∙ get_or-set_other m.state.stripes stripe i then_stripe new_stripe apart
@@ -124,11 +124,11 @@ module _ (view : View) (stripe : ℕ) (value : ReadyStripe) (key : ℕ) (chunk :
     knows_then mine are =
         are_learned.steps m id (core.Unlink key) (may_step h) (λ kept spent e. absurd (cc))
         ∙ (λ k. let knows : Knowledge = knew view view h.was k in record {
-          saw = append-nil knows.saw k;
+          seen_words = append-nil knows.seen_words k;
           hold = knows.hold;
           mine = own_calls_after m.state next id knows.mine;
           seen = knows.seen;
-          said = append-nil knows.said k;
+          stored = append-nil knows.stored k;
           known = append-nil knows.known k;
         })
         ∙ ap (λ (own : List Own). record view.row.knows { mine = own }) are

@@ -35,8 +35,8 @@ use Rattle.mc_words.proofs.Pages.OwnerViews.{learned_none}
 
 -- of a reference each word of its item is known
 item_known : (kind : Kind) (place : ℕ) → is_fresh_kind kind ≡ false → place < length (item_of_kind kind) → slice_get (words_of_kind kind) place ≡ Some (Some (slice_index (item_of_kind kind) place))
-item_known (Reference item) place old near = slice_get-map (λ word. Some word) item place ∙ ap (option_map (λ word. Some word)) (slice_get-get_or item place 0 near)
-item_known (Fresh purpose words) place old near = absurd (cc)
+item_known (Reference item) place old in_range = slice_get-map (λ word. Some word) item place ∙ ap (option_map (λ word. Some word)) (slice_get-get_or item place 0 in_range)
+item_known (Fresh purpose words) place old in_range = absurd (cc)
 
 item_long : (kind : Kind) → is_fresh_kind kind ≡ false → length (words_of_kind kind) ≡ length (item_of_kind kind)
 item_long (Reference item) old = length-map item (λ word. Some word)
@@ -78,7 +78,7 @@ module _ (view : View) (chunk : ChunkId) (room : ℕ) (ref : IsRefOf view chunk 
       let out' : IsHandedOut (head_in m.state.table m.state.heads holding.chunk) holding.issue = subst (λ (c : ChunkId). IsHandedOut (head_in m.state.table m.state.heads c) holding.issue) (sym same_chunk) out in
       ap (λ (c : ChunkId). room_in m.state.table (class_of_page m.state.slabs c.page)) (sym same_chunk) ∙ still.room out'
 
-  module _ (place : ℕ) (near : place < length (item_of ref.holding)) where
+  module _ (place : ℕ) (in_range : place < length (item_of ref.holding)) where
     on_page : place < room_in m.state.table (class_of_page m.state.slabs chunk.page)
     on_page = let fits = shows.fits in let long = item_long holding.kind ref.linked in omega arith
 
@@ -95,20 +95,20 @@ module _ (view : View) (chunk : ChunkId) (room : ℕ) (ref : IsRefOf view chunk 
 
     -- it is a data word
     pub word_near : data_word view.setup room chunk place < config_from view.setup
-    word_near = let is = stands_at in let near = within in omega arith
+    word_near = let is = stands_at in let in_range = within in omega arith
 
     -- and the item's
     pub word_is : slice_index was.words (data_word view.setup room chunk place) ≡ slice_index (item_of holding) place
     word_is =
         ap (slice_index was.words) stands_at
         ∙ (data_read view.setup was.cuts was.words m.state.slabs_lock m.state.stripe_locks m.state.heads m.state.words was.are (place_in m.state.table m.state.slabs chunk place) within
-        ∙ shows.known_words place (slice_index (item_of holding) place) (item_known holding.kind place ref.linked near))
+        ∙ shows.known_words place (slice_index (item_of holding) place) (item_known holding.kind place ref.linked in_range))
 
 -- a word of the item is read
 pub may_read : (view : View) (chunk : ChunkId) (room place : ℕ) (ref : IsRefOf view chunk room) → place < length (item_of ref.holding) → (at : ℕ) → MayWrite view (core.Word chunk place) at (λ found. found)
-may_read view chunk room place ref near at was fits =
+may_read view chunk room place ref in_range at was fits =
     let s : State = was.moment.state in (
-      ap (can_read_in place) (ap (holding_of chunk) (holdings_here view was) ∙ ref.found) ∙ and_from _ _ (ap not ref.linked) (lt-ltb place (length (item_of ref.holding)) near),
+      ap (can_read_in place) (ap (holding_of chunk) (holdings_here view was) ∙ ref.found) ∙ and_from _ _ (ap not ref.linked) (lt-ltb place (length (item_of ref.holding)) in_range),
       unwritten view.setup was.cuts was.words s.slabs_lock s.stripe_locks s.heads s.words was.are at,
     )
 

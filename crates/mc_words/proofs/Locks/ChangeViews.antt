@@ -45,14 +45,14 @@ changed_slabs view now slabs change number of mine numbered h =
     let first : knowledge_at changed.past id ≡ view.row.knows =
     are_learned.changes m id change may
     ∙ (ap (λ (mine : List Own). record (knowledge_at m.past id) { mine = mine }) (mine_same m.state changed.state (ap (λ (s : State). s.stripes) is) id (knowledge_at m.past id).mine) ∙ knew view now h.was) in
-    let knows : knowledge_at after.past id ≡ record view.row.knows { saw = view.row.knows.saw ++ slabs_word (number + 1) ∷ [] } =
+    let knows : knowledge_at after.past id ≡ record view.row.knows { seen_words = view.row.knows.seen_words ++ slabs_word (number + 1) ∷ [] } =
     knows_after changed id core.MissSlabs refl then_may refl
-    ∙ (said_none ((knowledge_at changed.past id).saw ++ slabs_word changed.state.slabs_lock ∷ []) (knowledge_at changed.past id) (knowledge_at changed.past id).hold (knowledge_at changed.past id).seen
-    ∙ (λ k. let knows = first k in record knows { saw = knows.saw ++ slabs_word (lock k) ∷ [] })) in
+    ∙ (said_none ((knowledge_at changed.past id).seen_words ++ slabs_word changed.state.slabs_lock ∷ []) (knowledge_at changed.past id) (knowledge_at changed.past id).hold (knowledge_at changed.past id).seen
+    ∙ (λ k. let knows = first k in record knows { seen_words = knows.seen_words ++ slabs_word (lock k) ∷ [] })) in
     h.is
     ∙ view_from view h.was _ after (ap (λ (s : State). Rattle.mc_core.specs.State.ids_at s id) is) view.row.holdings (ap (λ (s : State). Rattle.mc_core.specs.State.holdings_at s id) is ∙ holdings_were view now h.was)
     (view.row.looks ++ Changed change ∷ [])
     (ap (λ (s : State). looks_at s id) is ∙ (get_or-set_same m.state.looks id (looks_at m.state id ++ Changed change ∷ []) [] (rows view now h.was) ∙ ap (λ (looks : List Look). looks ++ Changed change ∷ []) (looks_were view now h.was)))
-    (record view.row.knows { saw = view.row.knows.saw ++ slabs_word (number + 1) ∷ [] }) knows
+    (record view.row.knows { seen_words = view.row.knows.seen_words ++ slabs_word (number + 1) ∷ [] }) knows
     (Some (slabs_after slabs change)) (ap (λ (s : State). held_slabs s id) is ∙ (λ k. if held.0 k then Some (slabs_after (held.1 k) change) else None))
     view.stripes (ap (λ (s : State). Rattle.mc_words.specs.hand.View.held_stripes view.setup s id) is ∙ stripes_were view now h.was)

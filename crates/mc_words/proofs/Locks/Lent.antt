@@ -60,13 +60,13 @@ lent_stripe view now stripe value h mine =
     let after : Moment = moment_stepped m id (core.TakeStripe stripe) in
     let can = and_parts (has_stripes m.state stripe) (slice_index m.state.stripe_locks stripe == 0) (may_step h).allowed in
     let count = lock_count view now h.was in
-    let near : stripe < length m.state.stripe_locks = ltb-true stripe (length m.state.stripe_locks) can.0 in
+    let in_range : stripe < length m.state.stripe_locks = ltb-true stripe (length m.state.stripe_locks) can.0 in
     let long = h.was.stripes in
     let held : held_stripe after.state id stripe ≡ Some value =
     sym (get_or-map-range_with_len (held_stripe after.state id) 0 view.setup.config.stripes stripe stripe None (omega arith) (zero-add stripe)) ∙ (ap (λ (v : View). slice_index_or v.stripes stripe None) (sym h.is) ∙ mine) in
     let same : stripe_at m.state stripe ≡ value = (held_from (has_stripe after.state id stripe) (stripe_at m.state stripe) value held).1 in
     let here : slice_get m.state.stripes stripe ≡ Some value = slice_get-get_or m.state.stripes stripe new_stripe (omega arith) ∙ ap Some same in
-    let free : slice_get m.state.stripe_locks stripe ≡ Some 0 = slice_get-get_or m.state.stripe_locks stripe 0 near ∙ ap Some (eqb-true (slice_index m.state.stripe_locks stripe) 0 can.1) in
+    let free : slice_get m.state.stripe_locks stripe ≡ Some 0 = slice_get-get_or m.state.stripe_locks stripe 0 in_range ∙ ap Some (eqb-true (slice_index m.state.stripe_locks stripe) 0 can.1) in
     let stripes : length m.state.stripes ≡ now.setup.config.stripes = h.was.stripes ∙ ap (λ (v : View). v.setup.config.stripes) (sym h.is) in
     let calls_of : ℕ → ReadyStripe → List Call = λ number value. filter (λ call. hand_of call == number) value.state.history in
     let own_row : All (λ (own : Own). own.calls ≡ map (calls_of own.number) m.state.stripes) (slice_index_or m.past.mine id []) =
@@ -93,7 +93,7 @@ begins_with_seen view now stripe value h mine seen is =
     let after : Moment = moment_stepped m id (core.TakeStripe stripe) in
     let can = and_parts (has_stripes m.state stripe) (slice_index m.state.stripe_locks stripe == 0) (may_step h).allowed in
     let count = lock_count view now h.was in
-    let near : stripe < length m.state.stripe_locks = ltb-true stripe (length m.state.stripe_locks) can.0 in
+    let in_range : stripe < length m.state.stripe_locks = ltb-true stripe (length m.state.stripe_locks) can.0 in
     let long = h.was.stripes in
     let held : held_stripe after.state id stripe ≡ Some value =
     sym (get_or-map-range_with_len (held_stripe after.state id) 0 view.setup.config.stripes stripe stripe None (omega arith) (zero-add stripe)) ∙ (ap (λ (v : View). slice_index_or v.stripes stripe None) (sym h.is) ∙ mine) in

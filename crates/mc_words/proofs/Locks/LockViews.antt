@@ -43,7 +43,7 @@ rows_there view was = hand_there was.moment.state was.hand was.there
 -- of each stripe its value, where one stripe's alone may be another
 pub stripes_set : (setup : Setup) (before now : State) (id stripe : ℕ) (value : Option ReadyStripe) → stripe < setup.config.stripes → held_stripe now id stripe ≡ value
     → ((i : ℕ) → i ≢ stripe → held_stripe now id i ≡ held_stripe before id i) → held_stripes setup now id ≡ slice_set (held_stripes setup before id) stripe value
-stripes_set setup before now id stripe value near here others =
+stripes_set setup before now id stripe value in_range here others =
     let old = length-map-range_with_len (held_stripe before id) 0 setup.config.stripes in
     let new = length-map-range_with_len (held_stripe now id) 0 setup.config.stripes in
     ext_get_or None (held_stripes setup now id) (slice_set (held_stripes setup before id) stripe value) (new ∙ sym (length-set (held_stripes setup before id) stripe value ∙ old))
@@ -92,7 +92,7 @@ module _ (view now : View) where
     lock_count = was.lawful.legal.lock_count ∙ was.stripes
 
     pub rows : was.hand < length was.moment.state.looks
-    rows = let near = rows_there view was in let count = was.lawful.hands.look_rows in omega arith
+    rows = let in_range = rows_there view was in let count = was.lawful.hands.look_rows in omega arith
 
   -- the slabs lock was taken, and these are its pages and lists
   pub taken_slabs : Happens view [] core.TakeSlabs now → (slabs : SlabState) → now.slabs ≡ Some slabs → now ≡ slabs_taken slabs view
@@ -103,8 +103,8 @@ module _ (view now : View) where
       let held : held_slabs after.state id ≡ Some slabs = ap (λ (v : View). v.slabs) (sym h.is) ∙ mine in
       let same : m.state.slabs ≡ slabs = (held_from (has_slabs after.state id) m.state.slabs slabs held).1 in
       let knows = knows_after m id core.TakeSlabs refl (may_step h) refl
-      ∙ (said_none ((knowledge_at m.past id).saw ++ []) (knowledge_at m.past id) (record (knowledge_at m.past id).hold { found = m.state.slabs; count = (knowledge_at m.past id).hold.count + 1 }) (knowledge_at m.past id).seen
-      ∙ (λ k. let knows = knew h.was k in record knows { saw = append-nil knows.saw k; hold = record knows.hold { found = same k; count = knows.hold.count + 1 } })) in
+      ∙ (said_none ((knowledge_at m.past id).seen_words ++ []) (knowledge_at m.past id) (record (knowledge_at m.past id).hold { found = m.state.slabs; count = (knowledge_at m.past id).hold.count + 1 }) (knowledge_at m.past id).seen
+      ∙ (λ k. let knows = knew h.was k in record knows { seen_words = append-nil knows.seen_words k; hold = record knows.hold { found = same k; count = knows.hold.count + 1 } })) in
       h.is ∙ view_from view h.was _ after refl view.row.holdings (holdings_were h.was) [] (get_or-set_same m.state.looks id [] [] (rows h.was)) (slabs_taken slabs view).row.knows knows (Some slabs) held view.stripes (stripes_were h.was)
 
   -- it was given back, with these
@@ -116,8 +116,8 @@ module _ (view now : View) where
       let same : m.state.slabs ≡ slabs = (held_from (has_slabs m.state id) m.state.slabs slabs (slabs_were h.was ∙ mine)).1 in
       let none : held_slabs after.state id ≡ None = ap (λ b. if b then Some m.state.slabs else None) (free_lock (number_at m.state id)) in
       let knows = knows_after m id core.GiveSlabs refl (may_step h) refl
-      ∙ (said_none ((knowledge_at m.past id).saw ++ []) (knowledge_at m.past id) (record (knowledge_at m.past id).hold { left = m.state.slabs }) (knowledge_at m.past id).seen
-      ∙ (λ k. let knows = knew h.was k in record knows { saw = append-nil knows.saw k; hold = record knows.hold { left = same k } })) in
+      ∙ (said_none ((knowledge_at m.past id).seen_words ++ []) (knowledge_at m.past id) (record (knowledge_at m.past id).hold { left = m.state.slabs }) (knowledge_at m.past id).seen
+      ∙ (λ k. let knows = knew h.was k in record knows { seen_words = append-nil knows.seen_words k; hold = record knows.hold { left = same k } })) in
       h.is ∙ view_from view h.was _ after refl view.row.holdings (holdings_were h.was) view.row.looks (looks_were h.was) (slabs_given slabs view).row.knows knows None none view.stripes (stripes_were h.was)
 
   -- its word was seen
@@ -129,8 +129,8 @@ module _ (view now : View) where
       let after : Moment = moment_stepped m id core.MissSlabs in
       let is : m.state.slabs_lock ≡ word = sym (slabs_lock_read view.setup h.was.cuts h.was.words m.state.slabs_lock m.state.stripe_locks m.state.heads m.state.words h.was.are) ∙ at.1 in
       let knows = knows_after m id core.MissSlabs refl (may_step h) refl
-      ∙ (said_none ((knowledge_at m.past id).saw ++ slabs_word m.state.slabs_lock ∷ []) (knowledge_at m.past id) (knowledge_at m.past id).hold (knowledge_at m.past id).seen
-      ∙ (λ k. let knows = knew h.was k in record knows { saw = knows.saw ++ slabs_word (is k) ∷ [] })) in
+      ∙ (said_none ((knowledge_at m.past id).seen_words ++ slabs_word m.state.slabs_lock ∷ []) (knowledge_at m.past id) (knowledge_at m.past id).hold (knowledge_at m.past id).seen
+      ∙ (λ k. let knows = knew h.was k in record knows { seen_words = knows.seen_words ++ slabs_word (is k) ∷ [] })) in
       h.is ∙ view_from view h.was _ after refl view.row.holdings (holdings_were h.was) view.row.looks (looks_were h.was) (slabs_missed word view).row.knows knows view.slabs (slabs_were h.was) view.stripes (stripes_were h.was)
 
   module _ (stripe : ℕ) (value : ReadyStripe) where
@@ -141,7 +141,7 @@ module _ (view now : View) where
         let id : ℕ = h.was.hand in
         let after : Moment = moment_stepped m id (core.TakeStripe stripe) in
         let count = lock_count h.was in
-        let near : stripe < length m.state.stripe_locks = ltb-true stripe (length m.state.stripe_locks) (and_parts _ _ (may_step h).allowed).0 in
+        let in_range : stripe < length m.state.stripe_locks = ltb-true stripe (length m.state.stripe_locks) (and_parts _ _ (may_step h).allowed).0 in
         let held : held_stripe after.state id stripe ≡ Some value =
         sym (get_or-map-range_with_len (held_stripe after.state id) 0 view.setup.config.stripes stripe stripe None (omega arith) (zero-add stripe)) ∙ (ap (λ (v : View). slice_index_or v.stripes stripe None) (sym h.is) ∙ mine) in
         let same : stripe_at m.state stripe ≡ value = (held_from (has_stripe after.state id stripe) (stripe_at m.state stripe) value held).1 in
@@ -149,28 +149,28 @@ module _ (view now : View) where
         stripes_set view.setup m.state after.state id stripe (Some value) (omega arith) held (λ i apart. ap (λ w. if is_held_by w (number_at m.state id) then Some (stripe_at m.state i) else None) (get_or-set_other m.state.stripe_locks stripe i (core_locks.lock_word m.state id) 0 apart))
         ∙ ap (λ (all : List (Option ReadyStripe)). slice_set all stripe (Some value)) (stripes_were h.was) in
         let knows = knows_after m id (core.TakeStripe stripe) refl (may_step h) refl
-        ∙ (said_none ((knowledge_at m.past id).saw ++ []) (knowledge_at m.past id) (begin_hold stripe (stripe_at m.state stripe) (knowledge_at m.past id).hold) (slice_set (knowledge_at m.past id).seen stripe (history_at m.state stripe))
-        ∙ (λ k. let knows = knew h.was k in record knows { saw = append-nil knows.saw k; hold = begin_hold stripe (same k) knows.hold; seen = slice_set knows.seen stripe (same k).state.history })) in
+        ∙ (said_none ((knowledge_at m.past id).seen_words ++ []) (knowledge_at m.past id) (begin_hold stripe (stripe_at m.state stripe) (knowledge_at m.past id).hold) (slice_set (knowledge_at m.past id).seen stripe (history_at m.state stripe))
+        ∙ (λ k. let knows = knew h.was k in record knows { seen_words = append-nil knows.seen_words k; hold = begin_hold stripe (same k) knows.hold; seen = slice_set knows.seen stripe (same k).state.history })) in
         h.is ∙ view_from view h.was _ after refl view.row.holdings (holdings_were h.was) view.row.looks (looks_were h.was) (stripe_taken stripe value view).row.knows knows view.slabs (slabs_were h.was) (slice_set view.stripes stripe (Some value)) stripes
 
     -- it was given back, with this
     pub given_stripe : stripe < view.setup.config.stripes → Happens view [] (core.GiveStripe stripe) now → slice_index_or view.stripes stripe None ≡ Some value → now ≡ stripe_given stripe value view
-    given_stripe near h mine =
+    given_stripe in_range h mine =
         let m : Moment = h.was.moment in
         let id : ℕ = h.was.hand in
         let after : Moment = moment_stepped m id (core.GiveStripe stripe) in
         let count = lock_count h.was in
         let held : held_stripe m.state id stripe ≡ Some value =
-        sym (get_or-map-range_with_len (held_stripe m.state id) 0 view.setup.config.stripes stripe stripe None near (zero-add stripe)) ∙ (ap (λ (all : List (Option ReadyStripe)). slice_index_or all stripe None) (stripes_were h.was) ∙ mine) in
+        sym (get_or-map-range_with_len (held_stripe m.state id) 0 view.setup.config.stripes stripe stripe None in_range (zero-add stripe)) ∙ (ap (λ (all : List (Option ReadyStripe)). slice_index_or all stripe None) (stripes_were h.was) ∙ mine) in
         let same : stripe_at m.state stripe ≡ value = (held_from (has_stripe m.state id stripe) (stripe_at m.state stripe) value held).1 in
         let none : held_stripe after.state id stripe ≡ None =
         ap (λ w. if is_held_by w (number_at m.state id) then Some (stripe_at m.state stripe) else None) (get_or-set_same m.state.stripe_locks stripe 0 0 (omega arith)) ∙ ap (λ b. if b then Some (stripe_at m.state stripe) else None) (free_lock (number_at m.state id)) in
         let stripes : held_stripes view.setup after.state id ≡ slice_set view.stripes stripe None =
-        stripes_set view.setup m.state after.state id stripe None near none (λ i apart. ap (λ w. if is_held_by w (number_at m.state id) then Some (stripe_at m.state i) else None) (get_or-set_other m.state.stripe_locks stripe i 0 0 apart))
+        stripes_set view.setup m.state after.state id stripe None in_range none (λ i apart. ap (λ w. if is_held_by w (number_at m.state id) then Some (stripe_at m.state i) else None) (get_or-set_other m.state.stripe_locks stripe i 0 0 apart))
         ∙ ap (λ (all : List (Option ReadyStripe)). slice_set all stripe None) (stripes_were h.was) in
         let knows = knows_after m id (core.GiveStripe stripe) refl (may_step h) refl
-        ∙ (said_none ((knowledge_at m.past id).saw ++ []) (knowledge_at m.past id) (end_hold stripe (stripe_at m.state stripe) (knowledge_at m.past id).hold) (slice_set (knowledge_at m.past id).seen stripe (history_at m.state stripe))
-        ∙ (λ k. let knows = knew h.was k in record knows { saw = append-nil knows.saw k; hold = end_hold stripe (same k) knows.hold; seen = slice_set knows.seen stripe (same k).state.history })) in
+        ∙ (said_none ((knowledge_at m.past id).seen_words ++ []) (knowledge_at m.past id) (end_hold stripe (stripe_at m.state stripe) (knowledge_at m.past id).hold) (slice_set (knowledge_at m.past id).seen stripe (history_at m.state stripe))
+        ∙ (λ k. let knows = knew h.was k in record knows { seen_words = append-nil knows.seen_words k; hold = end_hold stripe (same k) knows.hold; seen = slice_set knows.seen stripe (same k).state.history })) in
         h.is ∙ view_from view h.was _ after refl view.row.holdings (holdings_were h.was) view.row.looks (looks_were h.was) (stripe_given stripe value view).row.knows knows view.slabs (slabs_were h.was) (slice_set view.stripes stripe None) stripes
 
 -- what a look leaves: it counts under the slabs lock alone
@@ -186,8 +186,8 @@ look_holds look view = refl
 
 -- what a moment that looked has of the hand
 looked_from : (view : View) (m : Moment) (id : ℕ) (events now_made : List OwnEvent) → view ≡ view_at view.setup view.spare events m id → id < length m.state.looks → (after : Moment) (look : Look) (sight : SeenWord) → after.state ≡ state_after_look m.state id look
-    → knowledge_at after.past id ≡ record view.row.knows { saw = view.row.knows.saw ++ sight ∷ [] } → view_at view.setup view.spare now_made after id ≡ record (looked_if_held look (views.view_after_sight sight view)) { events = now_made }
-looked_from view m id events now_made is near after look sight state_is knows =
+    → knowledge_at after.past id ≡ record view.row.knows { seen_words = view.row.knows.seen_words ++ sight ∷ [] } → view_at view.setup view.spare now_made after id ≡ record (looked_if_held look (views.view_after_sight sight view)) { events = now_made }
+looked_from view m id events now_made is in_range after look sight state_is knows =
     let kept : (T : Type 0) (part : State → T) → part (with_look m.state id look) ≡ part m.state → part after.state ≡ part m.state = λ T part same. ap part state_is ∙ looked_keeps part m.state id look same in
     let looks : List Look = if has_slabs m.state id then looks_at m.state id ++ look ∷ [] else looks_at m.state id in
     let seen : View = record (views.view_after_sight sight view) { events = now_made } in
@@ -198,7 +198,7 @@ looked_from view m id events now_made is near after look sight state_is knows =
       row = record {
         ids = (kept Ids (λ s. ids_at s id) refl ∙ ap (λ (v : View). v.row.ids) (sym is)) k;
         holdings = (kept (List Holding) (λ s. holdings_at s id) refl ∙ ap (λ (v : View). v.row.holdings) (sym is)) k;
-        looks = (ap (λ (s : State). looks_at s id) state_is ∙ looks_after m id look near) k;
+        looks = (ap (λ (s : State). looks_at s id) state_is ∙ looks_after m id look in_range) k;
         knows = knows k;
       };
       slabs = (kept (Option SlabState) (λ s. held_slabs s id) refl ∙ ap (λ (v : View). v.slabs) (sym is)) k;
@@ -211,7 +211,7 @@ looked_from view m id events now_made is near after look sight state_is knows =
 
 -- a view after a step that looks
 view_looked : (view now : View) (step : Step) (h : Happens view [] step now) (look : Look) (sight : SeenWord) → (moment_stepped h.was.moment h.was.hand step).state ≡ state_after_look h.was.moment.state h.was.hand look
-    → knowledge_at (moment_stepped h.was.moment h.was.hand step).past h.was.hand ≡ record view.row.knows { saw = view.row.knows.saw ++ sight ∷ [] } → now ≡ record (looked_if_held look (views.view_after_sight sight view)) { events = view.events ++ own_event [] step ∷ [] }
+    → knowledge_at (moment_stepped h.was.moment h.was.hand step).past h.was.hand ≡ record view.row.knows { seen_words = view.row.knows.seen_words ++ sight ∷ [] } → now ≡ record (looked_if_held look (views.view_after_sight sight view)) { events = view.events ++ own_event [] step ∷ [] }
 view_looked view now step h look sight state_is knows =
     h.is ∙ looked_from view h.was.moment h.was.hand (events_of h.was.hand h.was.run) (view.events ++ own_event [] step ∷ []) h.was.is (rows view now h.was) (moment_stepped h.was.moment h.was.hand step) look sight state_is knows
 
@@ -219,30 +219,30 @@ view_looked view now step h look sight state_is knows =
 pub missed_from : (view : View) (m : Moment) (id : ℕ) (events now_made : List OwnEvent) → view ≡ view_at view.setup view.spare events m id → (stripe word : ℕ) → MayStep m id (core.MissStripe stripe) → slice_index m.state.stripe_locks stripe ≡ word
     → view_at view.setup view.spare now_made (moment_stepped m id (core.MissStripe stripe)) id ≡ record (looked_if_held (SawStripe stripe word) (views.view_after_sight (stripe_word stripe word) view)) { events = now_made }
 missed_from view m id events now_made is stripe word may lock =
-    let near : id < length m.state.looks = let near = hand_there m.state id may.there in let count = may.lawful.hands.look_rows in omega arith in
+    let in_range : id < length m.state.looks = let in_range = hand_there m.state id may.there in let count = may.lawful.hands.look_rows in omega arith in
     let knows = knows_after m id (core.MissStripe stripe) refl may (looked_keeps (λ s. s.stripes) m.state id _ refl)
-    ∙ (said_none ((knowledge_at m.past id).saw ++ stripe_word stripe (slice_index m.state.stripe_locks stripe) ∷ []) (knowledge_at m.past id) (knowledge_at m.past id).hold (knowledge_at m.past id).seen
-    ∙ (λ k. let knows = ap (λ (v : View). v.row.knows) (sym is) k in record knows { saw = knows.saw ++ stripe_word stripe (lock k) ∷ [] })) in
-    looked_from view m id events now_made is near (moment_stepped m id (core.MissStripe stripe)) (SawStripe stripe word) (stripe_word stripe word) (ap (λ n. state_after_look m.state id (SawStripe stripe n)) lock) knows
+    ∙ (said_none ((knowledge_at m.past id).seen_words ++ stripe_word stripe (slice_index m.state.stripe_locks stripe) ∷ []) (knowledge_at m.past id) (knowledge_at m.past id).hold (knowledge_at m.past id).seen
+    ∙ (λ k. let knows = ap (λ (v : View). v.row.knows) (sym is) k in record knows { seen_words = knows.seen_words ++ stripe_word stripe (lock k) ∷ [] })) in
+    looked_from view m id events now_made is in_range (moment_stepped m id (core.MissStripe stripe)) (SawStripe stripe word) (stripe_word stripe word) (ap (λ n. state_after_look m.state id (SawStripe stripe n)) lock) knows
 
 -- the word of a stripe's lock was seen
 pub missed_stripe : (view now : View) (stripe word : ℕ) → stripe < view.setup.config.stripes → HappensAt (lock_address (suc stripe)) word view [] (core.MissStripe stripe) now → now ≡ stripe_missed stripe word view
-missed_stripe view now stripe word near at =
+missed_stripe view now stripe word in_range at =
     let h = at.0 in
     let m : Moment = h.was.moment in
-    let is : slice_index m.state.stripe_locks stripe ≡ word = sym (lock_read view.setup h.was.cuts h.was.words m.state.slabs_lock m.state.stripe_locks m.state.heads m.state.words h.was.are stripe near) ∙ at.1 in
+    let is : slice_index m.state.stripe_locks stripe ≡ word = sym (lock_read view.setup h.was.cuts h.was.words m.state.slabs_lock m.state.stripe_locks m.state.heads m.state.words h.was.are stripe in_range) ∙ at.1 in
     h.is ∙ missed_from view m h.was.hand (events_of h.was.hand h.was.run) (view.events ++ own_event [] (core.MissStripe stripe) ∷ []) h.was.is stripe word (may_step h) is
 
 -- a header was seen
 pub seen_head : (view now : View) (chunk : ChunkId) (word : ℕ) → has_chunk view.setup.table chunk ≡ true → HappensAt (head_word view.setup chunk) word view [] (core.Head chunk) now → now ≡ head_seen chunk (decode word) view
-seen_head view now chunk word near at =
+seen_head view now chunk word in_range at =
     let h = at.0 in
     let m : Moment = h.was.moment in
     let id : ℕ = h.was.hand in
     let is : head_at m.state chunk ≡ decode word =
     ap (λ table. slice_index_or m.state.heads (head_place table chunk) never_cut) h.was.same_table
-    ∙ (head_read view.setup h.was.cuts h.was.words m.state.slabs_lock m.state.stripe_locks m.state.heads m.state.words h.was.are (head_place view.setup.table chunk) never_cut (head_near view.setup chunk near) ∙ ap decode at.1) in
+    ∙ (head_read view.setup h.was.cuts h.was.words m.state.slabs_lock m.state.stripe_locks m.state.heads m.state.words h.was.are (head_place view.setup.table chunk) never_cut (head_near view.setup chunk in_range) ∙ ap decode at.1) in
     let knows = knows_after m id (core.Head chunk) refl (may_step h) (looked_keeps (λ s. s.stripes) m.state id _ refl)
-    ∙ (said_none ((knowledge_at m.past id).saw ++ header chunk (head_at m.state chunk) ∷ []) (knowledge_at m.past id) (knowledge_at m.past id).hold (knowledge_at m.past id).seen
-    ∙ (λ k. let knows = knew view now h.was k in record knows { saw = knows.saw ++ header chunk (is k) ∷ [] })) in
+    ∙ (said_none ((knowledge_at m.past id).seen_words ++ header chunk (head_at m.state chunk) ∷ []) (knowledge_at m.past id) (knowledge_at m.past id).hold (knowledge_at m.past id).seen
+    ∙ (λ k. let knows = knew view now h.was k in record knows { seen_words = knows.seen_words ++ header chunk (is k) ∷ [] })) in
     view_looked view now (core.Head chunk) h (Saw chunk (decode word)) (header chunk (decode word)) (ap (λ head. state_after_look m.state id (Saw chunk head)) is) knows

@@ -53,11 +53,11 @@ within_without stripes (StripeLast stripe) within = within
 
 -- and a stripe that comes, or goes
 within_stripe : (stripes stripe : ℕ) (locks : Locks) → nat_lt stripe stripes ≡ true → is_within stripes locks ≡ true → is_within stripes (locks_with_stripe stripe locks) ≡ true
-within_stripe stripes stripe Neither near within = near
-within_stripe stripes stripe Slabs near within = near
-within_stripe stripes stripe (Stripe other) near within = within
-within_stripe stripes stripe (SlabsLast other) near within = within
-within_stripe stripes stripe (StripeLast other) near within = within
+within_stripe stripes stripe Neither in_range within = in_range
+within_stripe stripes stripe Slabs in_range within = in_range
+within_stripe stripes stripe (Stripe other) in_range within = within
+within_stripe stripes stripe (SlabsLast other) in_range within = within
+within_stripe stripes stripe (StripeLast other) in_range within = within
 
 within_no_stripe : (stripes : ℕ) (locks : Locks) → is_within stripes (without_stripe locks) ≡ true
 within_no_stripe stripes Neither = refl
@@ -96,21 +96,21 @@ module _ (view now : View) (locks : Locks) (had : HasLocks view locks) (same : I
 
   -- and with that of a stripe
   pub gained_stripe : (stripe : ℕ) → locks_have_no_stripe locks ≡ true → nat_lt stripe view.setup.config.stripes ≡ true → Gains (StripeLock stripe) view now → HasLocks now (locks_with_stripe stripe locks) × (slot_at (suc stripe) ∷ slots_in locks ≡ slots_in (locks_with_stripe stripe locks))
-  gained_stripe stripe none near gains =
+  gained_stripe stripe none in_range gains =
       let (old, slabs, new, slots) = none_with locks none stripe (range_with_len 0 view.setup.config.stripes) in (
         (
           gains.0 ∙ (had.0 ∙ sym slabs),
           gains.1 (had.1 ∙ old) ∙ (ap (map (λ other. stripe == other)) (sym range_same) ∙ (sym new ∙ ap (map (has_stripe_in (locks_with_stripe stripe locks))) range_same)),
-          sym (within_same (locks_with_stripe stripe locks)) ∙ within_stripe view.setup.config.stripes stripe locks near had.2,
+          sym (within_same (locks_with_stripe stripe locks)) ∙ within_stripe view.setup.config.stripes stripe locks in_range had.2,
         ),
         sym slots,
       )
 
 -- notes after a step that takes and gives no lock
 pub noted_same : (me now : Sits) (number chunks chunks' : ℕ) (locks : Locks) → IsNoted me number chunks locks → now.1 ≡ me.1 → IsSameHand me.0 now.0 → chunks' ≡ length now.0.row.holdings → IsNoted now number chunks' locks
-noted_same me now number chunks chunks' locks (is, few, count, slots, had) out same count' = (
+noted_same me now number chunks chunks' locks (is, within_limit, count, slots, had) out same count' = (
   same.number ∙ is,
-  few,
+  within_limit,
   count',
   ap slots_out out ∙ slots,
   (
@@ -122,10 +122,10 @@ noted_same me now number chunks chunks' locks (is, few, count, slots, had) out s
 
 -- after the lock of the slabs was taken
 pub noted_slabs : (me now : Sits) (number chunks : ℕ) (locks : Locks) → IsNoted me number chunks locks → IsOneHand me.0 now.0 → Gains SlabsLock me.0 now.0 → slots_out now.1 ≡ zero ∷ slots_out me.1 → now.0.row.holdings ≡ me.0.row.holdings → IsNoted now number chunks (locks_with_slabs locks)
-noted_slabs me now number chunks locks (is, few, count, slots, had) same gains out holdings =
+noted_slabs me now number chunks locks (is, within_limit, count, slots, had) same gains out holdings =
     let (locked, front) = gained_slabs me.0 now.0 locks had same gains in (
       same.2 ∙ is,
-      few,
+      within_limit,
       count ∙ ap length (sym holdings),
       out ∙ (ap (λ l. zero ∷ l) slots ∙ front),
       locked,
@@ -134,10 +134,10 @@ noted_slabs me now number chunks locks (is, few, count, slots, had) same gains o
 -- after a stripe's was
 pub noted_stripe : (me now : Sits) (number chunks stripe : ℕ) (locks : Locks) → locks_have_no_stripe locks ≡ true → nat_lt stripe me.0.setup.config.stripes ≡ true → IsNoted me number chunks locks → IsOneHand me.0 now.0 → Gains (StripeLock stripe) me.0 now.0 → slots_out now.1 ≡ slot_at (suc stripe) ∷ slots_out me.1 → now.0.row.holdings ≡ me.0.row.holdings
     → IsNoted now number chunks (locks_with_stripe stripe locks)
-noted_stripe me now number chunks stripe locks none near (is, few, count, slots, had) same gains out holdings =
-    let (locked, front) = gained_stripe me.0 now.0 locks had same stripe none near gains in (
+noted_stripe me now number chunks stripe locks none in_range (is, within_limit, count, slots, had) same gains out holdings =
+    let (locked, front) = gained_stripe me.0 now.0 locks had same stripe none in_range gains in (
       same.2 ∙ is,
-      few,
+      within_limit,
       count ∙ ap length (sym holdings),
       out ∙ (ap (λ l. slot_at (suc stripe) ∷ l) slots ∙ front),
       locked,
@@ -202,18 +202,18 @@ pub has_slabs_lock : (view : View) (locks : Locks) (slabs : SlabState) → HasLo
 has_slabs_lock view locks slabs had mine = sym had.0 ∙ ap is_some mine
 
 pub has_stripe_lock : (view : View) (locks : Locks) (stripe : ℕ) (value : ReadyStripe) → HasLocks view locks → stripe < view.setup.config.stripes → slice_index_or view.stripes stripe None ≡ Some value → has_stripe_in locks stripe ≡ true
-has_stripe_lock view locks stripe value had near mine =
+has_stripe_lock view locks stripe value had in_range mine =
     let long : length view.stripes ≡ view.setup.config.stripes = sym (length-map view.stripes is_some) ∙ (ap length had.1 ∙ length-map-range_with_len (has_stripe_in locks) 0 view.setup.config.stripes) in
-    sym (get_or-map-range_with_len (has_stripe_in locks) 0 view.setup.config.stripes stripe stripe false near (zero-add stripe))
+    sym (get_or-map-range_with_len (has_stripe_in locks) 0 view.setup.config.stripes stripe stripe false in_range (zero-add stripe))
     ∙ (ap (λ (bs : List Bool). slice_index_or bs stripe false) (sym had.1) ∙ (get_or-map is_some view.stripes stripe None false (omega arith) ∙ ap is_some mine))
 
 module _ (me now : Sits) (number chunks : ℕ) (locks : Locks) (same : IsOneHand me.0 now.0) (holdings : now.0.row.holdings ≡ me.0.row.holdings) where
   -- notes after the lock of the slabs was given, which was taken last
   pub noted_gave_slabs : IsNoted me number chunks (with_last zero locks) → HasLocks me.0 locks → has_slabs_in locks ≡ true → Loses SlabsLock me.0 now.0 → slots_out me.1 ≡ zero ∷ slots_out now.1 → IsNoted now number chunks (without_slabs locks)
-  noted_gave_slabs (is, few, count, slots, _) had has loses out =
+  noted_gave_slabs (is, within_limit, count, slots, _) had has loses out =
       let left = none_left locks (range_with_len 0 me.0.setup.config.stripes) in (
         same.2 ∙ is,
-        few,
+        within_limit,
         count ∙ ap length (sym holdings),
         rest_same zero zero (slots_out now.1) (slots_in (without_slabs locks)) (sym out ∙ (slots ∙ slabs_last locks has)),
         (
@@ -226,11 +226,11 @@ module _ (me now : Sits) (number chunks : ℕ) (locks : Locks) (same : IsOneHand
   -- and after a stripe's was
   pub noted_gave_stripe : (stripe : ℕ) → IsNoted me number chunks (with_last (suc stripe) locks) → HasLocks me.0 locks → has_stripe_in locks stripe ≡ true → Loses (StripeLock stripe) me.0 now.0 → slots_out me.1 ≡ slot_at (suc stripe) ∷ slots_out now.1
       → IsNoted now number chunks (without_stripe locks)
-  noted_gave_stripe stripe (is, few, count, slots, _) had has loses out =
+  noted_gave_stripe stripe (is, within_limit, count, slots, _) had has loses out =
       let stripes = range_with_len 0 me.0.setup.config.stripes in
       let left = no_stripe_left locks stripes in (
         same.2 ∙ is,
-        few,
+        within_limit,
         count ∙ ap length (sym holdings),
         rest_same (slot_at (suc stripe)) (slot_at (suc stripe)) (slots_out now.1) (slots_in (without_stripe locks)) (sym out ∙ (slots ∙ stripe_last locks stripe has)),
         (

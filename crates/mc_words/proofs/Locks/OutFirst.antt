@@ -19,7 +19,7 @@ first_slot (x ∷ xs) slot more e = (x.1, ap (λ (j : ℕ). (j, x.1) ∷ xs) (ap
 
 -- an arena's locks are few
 pub few_locks : (setup plan : Setup) (lock told : Lock) → setup ≡ plan → plan.config.stripes ≤ 64 → told ≡ lock → IsLockOf setup told → lock_number lock < 2 ^ 59
-few_locks setup plan lock told planned few is near =
+few_locks setup plan lock told planned within_limit is in_range =
     let same = ap lock_number is in
     let stripes : setup.config.stripes ≡ plan.config.stripes = ap (λ (s : Setup). s.config.stripes) planned in
     omega arith

@@ -78,7 +78,7 @@ module _ (view : View) (stripe : ℕ) (value : ReadyStripe) (mine : slice_index_
     pub may_change : AllowsStep view (OfStripe stripe how) (core.MissStripe stripe) (lock_address (suc stripe)) (λ found. found)
     may_change = record {
       allowed = may_so;
-      step_allowed = λ was. let near = stripe_near was in let count = lock_count view view was in lt-ltb stripe (length was.moment.state.stripe_locks) (omega arith);
+      step_allowed = λ was. let in_range = stripe_near was in let count = lock_count view view was in lt-ltb stripe (length was.moment.state.stripe_locks) (omega arith);
       writes = λ was.
           let s : State = was.moment.state in
           let changed : State = after_change s was.hand (OfStripe stripe how) in (
@@ -108,7 +108,7 @@ module _ (view : View) (stripe : ℕ) (value : ReadyStripe) (mine : slice_index_
 
       -- this stripe alone is changed
       made_here : stripe_at changed.state stripe ≡ stripe_after how value
-      made_here = get_or-set_same s.stripes stripe (stripe_after how (stripe_at s stripe)) new_stripe (let near = stripe_near was in let count = was.stripes in omega arith) ∙ ap (stripe_after how) (stripe_here was).1
+      made_here = get_or-set_same s.stripes stripe (stripe_after how (stripe_at s stripe)) new_stripe (let in_range = stripe_near was in let count = was.stripes in omega arith) ∙ ap (stripe_after how) (stripe_here was).1
 
       made_other : (i : ℕ) → i ≢ stripe → stripe_at changed.state i ≡ stripe_at s i
       made_other i apart = get_or-set_other s.stripes stripe i (stripe_after how (stripe_at s stripe)) new_stripe apart

@@ -99,19 +99,19 @@ word_of s (StripeLock stripe) = slice_index s.stripe_locks stripe
 
 module _ (setup : Setup) (cuts words : List ℕ) (s : State) (are : WordsOf setup cuts words s) where
   word_read : (lock : Lock) → IsLockOf setup lock → slice_index words (lock_address (lock_number lock)) ≡ word_of s lock
-  word_read SlabsLock near = slabs_lock_read setup cuts words s.slabs_lock s.stripe_locks s.heads s.words are
-  word_read (StripeLock stripe) near = lock_read setup cuts words s.slabs_lock s.stripe_locks s.heads s.words are stripe (omega arith)
+  word_read SlabsLock in_range = slabs_lock_read setup cuts words s.slabs_lock s.stripe_locks s.heads s.words are
+  word_read (StripeLock stripe) in_range = lock_read setup cuts words s.slabs_lock s.stripe_locks s.heads s.words are stripe (omega arith)
 
   take_words : (id word : ℕ) (lock : Lock) → IsLockOf setup lock → core_locks.lock_word s id ≡ word → WordsOf setup cuts (slice_set words (lock_address (lock_number lock)) word) (after_step s id (take_of lock))
-  take_words id word SlabsLock near is =
+  take_words id word SlabsLock in_range is =
       subst (λ (n : ℕ). WordsOf setup cuts (slice_set words slabs_word n) (after_step s id (take_of SlabsLock))) is (slabs_lock_written setup cuts words s.slabs_lock s.stripe_locks s.heads s.words are (core_locks.lock_word s id))
-  take_words id word (StripeLock stripe) near is =
+  take_words id word (StripeLock stripe) in_range is =
       subst (λ (n : ℕ). WordsOf setup cuts (slice_set words (lock_address (suc stripe)) n) (after_step s id (take_of (StripeLock stripe)))) is
       (lock_written setup cuts words s.slabs_lock s.stripe_locks s.heads s.words are stripe (core_locks.lock_word s id) (omega arith))
 
   give_words : (id : ℕ) (lock : Lock) → IsLockOf setup lock → WordsOf setup cuts (slice_set words (lock_address (lock_number lock)) 0) (after_step s id (give_of lock))
-  give_words id SlabsLock near = slabs_lock_written setup cuts words s.slabs_lock s.stripe_locks s.heads s.words are 0
-  give_words id (StripeLock stripe) near = lock_written setup cuts words s.slabs_lock s.stripe_locks s.heads s.words are stripe 0 (omega arith)
+  give_words id SlabsLock in_range = slabs_lock_written setup cuts words s.slabs_lock s.stripe_locks s.heads s.words are 0
+  give_words id (StripeLock stripe) in_range = lock_written setup cuts words s.slabs_lock s.stripe_locks s.heads s.words are stripe 0 (omega arith)
 
   miss_words : (id : ℕ) (lock : Lock) → WordsOf setup cuts (slice_set words (lock_address (lock_number lock)) (slice_index words (lock_address (lock_number lock)))) (after_step s id (miss_of lock))
   miss_words id SlabsLock = unwritten setup cuts words s.slabs_lock s.stripe_locks s.heads s.words are slabs_word
@@ -119,7 +119,7 @@ module _ (setup : Setup) (cuts words : List ℕ) (s : State) (are : WordsOf setu
       subst (λ (c : Columns). WordsAreColumns setup cuts (slice_set words (lock_address (suc stripe)) (slice_index words (lock_address (suc stripe)))) c.0 c.1 c.2 c.3) (sym (looked_keeps columns s id _ refl))
       (unwritten setup cuts words s.slabs_lock s.stripe_locks s.heads s.words are (lock_address (suc stripe)))
 
-module _ (setup : Setup) (slots id : ℕ) (me : Sits) (live : IsSettled me.0) (of : me.0.setup ≡ setup) (lock : Lock) (near : IsLockOf setup lock) where
+module _ (setup : Setup) (slots id : ℕ) (me : Sits) (live : IsSettled me.0) (of : me.0.setup ≡ setup) (lock : Lock) (in_range : IsLockOf setup lock) where
   -- the lock's number, slot and word
   abbrev which : ℕ
   which = lock_number lock
@@ -201,7 +201,7 @@ module _ (setup : Setup) (slots id : ℕ) (me : Sits) (live : IsSettled me.0) (o
 
     module _ (number : ℕ) (number_is : number_at m.state id ≡ Some number) (free : slice_index t.words place ≡ 0) where
       word_free : word_of m.state lock ≡ 0
-      word_free = sym (word_read setup r.cuts t.words m.state r.means.words lock near) ∙ free
+      word_free = sym (word_read setup r.cuts t.words m.state r.means.words lock in_range) ∙ free
 
       allowed_take : (l : Lock) → IsLockOf setup l → word_of m.state l ≡ 0 → allows_step m.state id (take_of l) ≡ true
       allowed_take SlabsLock within zero_is = eq-eqb m.state.slabs_lock 0 zero_is
@@ -210,7 +210,7 @@ module _ (setup : Setup) (slots id : ℕ) (me : Sits) (live : IsSettled me.0) (o
           and_from _ _ (lt-ltb stripe (length m.state.stripe_locks) (omega arith)) (eq-eqb (slice_index m.state.stripe_locks stripe) 0 zero_is)
 
       can_take : MayStep m id (take_of lock)
-      can_take = may (take_of lock) (allowed_take lock near word_free)
+      can_take = may (take_of lock) (allowed_take lock in_range word_free)
 
       abbrev taken : Moment
       taken = moment_stepped m id (take_of lock)
@@ -222,7 +222,7 @@ module _ (setup : Setup) (slots id : ℕ) (me : Sits) (live : IsSettled me.0) (o
       take_next = step_next m id (take_of lock) (take_alone lock) can_take
 
       written : WordsOf setup r.cuts (slice_set t.words place (number + 1)) taken.state
-      written = take_words setup r.cuts t.words m.state r.means.words id (number + 1) lock near word_is
+      written = take_words setup r.cuts t.words m.state r.means.words id (number + 1) lock in_range word_is
 
       has_it : is_held_by (number + 1) (number_at m.state id) ≡ true
       has_it = ap (is_held_by (number + 1)) number_is ∙ eq-eqb (number + 1) (number + 1) refl
@@ -266,7 +266,7 @@ module _ (setup : Setup) (slots id : ℕ) (me : Sits) (live : IsSettled me.0) (o
 
       pub take_goes : (told : ℕ → Sits → Type 0) → ((now : Sits) → TakesValue lock me now → told (slice_index t.words place) now) → Goes setup slots id me live of t place told (number + 1)
       take_goes told tells =
-          let (slot, home, has) = r.means.homes which near free in
+          let (slot, home, has) = r.means.homes which in_range free in
           let w : View = view_at setup me.0.spare (made_with (take_of lock)) taken id in (
             w,
             takes home_at slot,
@@ -276,8 +276,8 @@ module _ (setup : Setup) (slots id : ℕ) (me : Sits) (live : IsSettled me.0) (o
             tells (w, (home_at, slot) ∷ me.1) (record {
               slot = slot;
               out = refl;
-              value = has_value lock slot near has;
-              gains = gains lock near word_free;
+              value = has_value lock slot in_range has;
+              gains = gains lock in_range word_free;
               same = one_hand (made_with (take_of lock)) taken take_next;
               lawful = lawful_next (take_of lock) can_take (slice_set t.words place (number + 1)) take_next written (take_slabs m.state id lock);
               happens = happens_by (take_of lock) can_take;
@@ -323,13 +323,13 @@ module _ (setup : Setup) (slots id : ℕ) (me : Sits) (live : IsSettled me.0) (o
       allowed_give (StripeLock stripe) (OfStripe y) has held can = and_from _ _ held (ap (λ (v : ReadyStripe). is_none v.state.aside) (sym has) ∙ can)
 
       can_give_it : MayStep m id (give_of lock)
-      can_give_it = let held = is_held lock near own_value in may (give_of lock) (allowed_give lock slot held.1 held.0 whole)
+      can_give_it = let held = is_held lock in_range own_value in may (give_of lock) (allowed_give lock slot held.1 held.0 whole)
 
       give_next : IsNext m given id
       give_next = step_next m id (give_of lock) (give_alone lock) can_give_it
 
       written_back : WordsOf setup r.cuts (slice_set t.words place 0) given.state
-      written_back = give_words setup r.cuts t.words m.state r.means.words id lock near
+      written_back = give_words setup r.cuts t.words m.state r.means.words id lock in_range
 
       loses : (l : Lock) → IsLockOf setup l → Loses l me.0 (view_at setup me.0.spare (made_with (give_of l)) (moment_stepped m id (give_of l)) id)
       loses SlabsLock within = (
@@ -368,7 +368,7 @@ module _ (setup : Setup) (slots id : ℕ) (me : Sits) (live : IsSettled me.0) (o
             subst (λ (homes : List (maybe.Option Slot)). IsRuled setup (record { words = slice_set t.words place 0; homes = homes; views = slice_set t.views id w })) (sym back) rule,
             record {
               out = refl;
-              loses = loses lock near;
+              loses = loses lock in_range;
               same = one_hand (made_with (give_of lock)) given give_next;
               lawful = lawful_next (give_of lock) can_give_it (slice_set t.words place 0) give_next written_back (give_slabs m.state id lock);
               happens = happens_by (give_of lock) can_give_it;
@@ -380,7 +380,7 @@ module _ (setup : Setup) (slots id : ℕ) (me : Sits) (live : IsSettled me.0) (o
             | inl same ↦
                 let count = r.means.slots in
                 subst (λ (j : ℕ). (y : Slot) × (get_elem? (slice_set t.homes home_at (some slot)) (slot_at j) ≡ some (some y)) × Has given.state j y) (sym same)
-                (slot, set_here t.homes home_at (some slot) (omega arith), has_same m.state given.state (give_slabs m.state id lock) (give_stripes m.state id lock) which slot (is_held lock near own_value).1)
+                (slot, set_here t.homes home_at (some slot) (omega arith), has_same m.state given.state (give_slabs m.state id lock) (give_stripes m.state id lock) which slot (is_held lock in_range own_value).1)
             | inr differs ↦ home_elsewhere given.state (slice_set t.homes home_at (some slot)) 0 (give_slabs m.state id lock) (give_stripes m.state id lock) (λ j apart. set_else t.homes home_at j (some slot) apart) k within differs zero_is
           ]
 
@@ -395,7 +395,7 @@ module _ (setup : Setup) (slots id : ℕ) (me : Sits) (live : IsSettled me.0) (o
       exchanged (slice_index t.words place) 0 (number + 1) (Goes setup slots id me live of t place told)
       (λ free. take_goes t r at number number_is free told (λ now takes. ((λ _. takes), λ busy. absurd (busy free))))
       (λ busy.
-      goes setup slots id me live of t r at (miss_of lock) (miss_quiet lock) place (slice_index t.words place) (allowed_miss t r at lock near) (miss_words setup r.cuts t.words m.state r.means.words id lock) told
+      goes setup slots id me live of t r at (miss_of lock) (miss_quiet lock) place (slice_index t.words place) (allowed_miss t r at lock in_range) (miss_words setup r.cuts t.words m.state r.means.words id lock) told
       (λ out happens. ((λ free. absurd (busy free)), λ _. (out, happens)))))
     where
       allowed_miss : (t : WordsOfTable) (r : IsRuled setup t) (at : get_elem? t.views id ≡ some me.0) (l : Lock) → IsLockOf setup l → allows_step r.moment.state id (miss_of l) ≡ true

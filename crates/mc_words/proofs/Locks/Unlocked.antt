@@ -34,10 +34,10 @@ some_of (Some x) some = refl
 
 -- a stripe of the arena that the locks have
 there_in : (view : View) (locks : Locks) (stripe : ℕ) → HasLocks view locks → nat_lt stripe view.setup.config.stripes ≡ true → has_stripe_in locks stripe ≡ true → list_all is_none view.stripes ≡ false
-there_in view locks stripe had near has =
+there_in view locks stripe had in_range has =
     one_there view.stripes stripe
     (ap (λ (bs : List Bool). slice_index_or bs stripe false) had.1
-    ∙ (get_or-map-range_with_len (has_stripe_in locks) 0 view.setup.config.stripes stripe stripe false (ltb-true stripe view.setup.config.stripes near) (zero-add stripe) ∙ has))
+    ∙ (get_or-map-range_with_len (has_stripe_in locks) 0 view.setup.config.stripes stripe stripe false (ltb-true stripe view.setup.config.stripes in_range) (zero-add stripe) ∙ has))
 
 and_false : (b : Bool) → (b && false) ≡ false
 and_false true = refl

@@ -60,7 +60,7 @@ may_look_at_slabs view was fits =
     (refl, unwritten view.setup was.cuts was.words s.slabs_lock s.stripe_locks s.heads s.words was.are (lock_address 0))
 
 pub may_look_at_stripe : (view : View) (stripe : ℕ) → stripe < view.setup.config.stripes → MayWrite view (core.MissStripe stripe) (lock_address (suc stripe)) (λ found. found)
-may_look_at_stripe view stripe near was fits =
+may_look_at_stripe view stripe in_range was fits =
     let s : State = was.moment.state in
     let count = lock_count view view was in (
       lt-ltb stripe (length s.stripe_locks) (omega arith),

@@ -35,9 +35,9 @@ module _ (looks : List Look) (chunk : ChunkId) (head : Head) where
 
   -- whatever was found, the others are judged as before
   pub other_kept : (dead : NotedChunks) (other : ChunkId) → (other ≡ chunk → ⊥) → IsAliveOrNoted looks dead other → IsAliveOrNoted (looks ++ Saw chunk head ∷ []) dead other
-  other_kept dead other apart judged few = elim (cases_Bool (is_chunk other chunk)) [
+  other_kept dead other apart judged within_limit = elim (cases_Bool (is_chunk other chunk)) [
     | inl same ↦ absurd (apart (same_from_is_chunk other chunk same))
-    | inr differs ↦ elim (judged few) [
+    | inr differs ↦ elim (judged within_limit) [
       | inl found ↦ inl (other_alive looks chunk head other differs ∙ found)
       | inr among ↦ inr among
     ]
@@ -49,12 +49,12 @@ module _ (looks : List Look) (chunk : ChunkId) (head : Head) (dead : NotedChunks
 
   -- it was found alive
   pub alive_judged : is_dead head ≡ false → IsAliveOrNoted after dead chunk
-  alive_judged alive few = inl (chunk_alive looks chunk head alive)
+  alive_judged alive within_limit = inl (chunk_alive looks chunk head alive)
 
   pub alive_kept : is_dead head ≡ false → (other : ChunkId) → IsAliveOrNoted looks dead other → IsAliveOrNoted after dead other
-  alive_kept alive other judged few = elim (cases_Bool (is_chunk other chunk)) [
+  alive_kept alive other judged within_limit = elim (cases_Bool (is_chunk other chunk)) [
     | inl same ↦ inl (ap (is_found_alive after) (same_from_is_chunk other chunk same) ∙ chunk_alive looks chunk head alive)
-    | inr apart ↦ elim (judged few) [
+    | inr apart ↦ elim (judged within_limit) [
       | inl found ↦ inl (other_alive looks chunk head other apart ∙ found)
       | inr among ↦ inr among
     ]
@@ -63,21 +63,21 @@ module _ (looks : List Look) (chunk : ChunkId) (head : Head) (dead : NotedChunks
   -- it was found dead, and noted
   module _ (now : NotedChunks) (notes : Notes chunk dead now) where
     pub noted_judged : IsAliveOrNoted after now chunk
-    noted_judged few = elim notes [
+    noted_judged within_limit = elim notes [
       | inl is ↦ inr (subst (λ (d : NotedChunks). Contains d.chunks chunk) (sym is) (Contains-push dead.chunks chunk))
-      | inr is ↦ absurd (let never : true ≡ false = sym (ap (λ (d : NotedChunks). d.are_more) is) ∙ few in cc)
+      | inr is ↦ absurd (let never : true ≡ false = sym (ap (λ (d : NotedChunks). d.are_more) is) ∙ within_limit in cc)
     ]
 
     pub noted_kept : (other : ChunkId) → IsAliveOrNoted looks dead other → IsAliveOrNoted after now other
-    noted_kept other judged few = elim notes [
-      | inl is ↦ elim (judged (sym (ap (λ (d : NotedChunks). d.are_more) is) ∙ few)) [
+    noted_kept other judged within_limit = elim notes [
+      | inl is ↦ elim (judged (sym (ap (λ (d : NotedChunks). d.are_more) is) ∙ within_limit)) [
         | inl found ↦ elim (cases_Bool (is_chunk other chunk)) [
           | inl alike ↦ inr (subst (λ (c : ChunkId). Contains now.chunks c) (sym (same_from_is_chunk other chunk alike)) (subst (λ (d : NotedChunks). Contains d.chunks chunk) (sym is) (Contains-push dead.chunks chunk)))
           | inr apart ↦ inl (other_alive looks chunk head other apart ∙ found)
         ]
         | inr among ↦ inr (subst (λ (d : NotedChunks). Contains d.chunks other) (sym is) (Contains-append_left dead.chunks (chunk ∷ []) other among))
       ]
-      | inr is ↦ absurd (let never : true ≡ false = sym (ap (λ (d : NotedChunks). d.are_more) is) ∙ few in cc)
+      | inr is ↦ absurd (let never : true ≡ false = sym (ap (λ (d : NotedChunks). d.are_more) is) ∙ within_limit in cc)
     ]
 
 -- one more that the class handed out
@@ -122,7 +122,7 @@ not_outside page from until other chunk same on past below outside =
 
 -- a bit that two words have in common each of them has
 both_one : (a b : ℕ) → a < 2 → b < 2 → min a b ≡ 1 → (a ≡ 1) × (b ≡ 1)
-both_one a b low few least = (omega (arith, low, few, least), omega (arith, low, few, least))
+both_one a b low within_limit least = (omega (arith, low, within_limit, least), omega (arith, low, within_limit, least))
 
 pub both_odd : (one other : ℕ) → bit_and one other / 65536 % 2 ≡ 1 → (one / 65536 % 2 ≡ 1) × (other / 65536 % 2 ≡ 1)
 both_odd one other odd = both_one (one / 65536 % 2) (other / 65536 % 2) (omega arith) (omega arith) (sym (bit_at_and one other 16) ∙ odd)

@@ -70,10 +70,10 @@ may_wrap view slabs mine can = record {
 
 -- the page whose move ended has its destination's class, and the pool is none
 finished_page : (slabs : SlabState) (move : Moving) → move.page < length slabs.owners → class_of_page (after_move_end slabs move) move.page ≡ move.dst
-finished_page slabs move near =
+finished_page slabs move in_range =
     let long : length (slice_set slabs.owners move.page Pool) ≡ length slabs.owners = length-set slabs.owners move.page Pool in
     elim (cases_Bool (move.dst == 0)) [
-      | inl pooled ↦ ap (λ (b : Bool). class_of_page (arrived_if slabs move b) move.page) pooled ∙ (ap class_of_owner (get_or-set_same slabs.owners move.page Pool Untouched near) ∙ sym (eqb-true move.dst 0 pooled))
+      | inl pooled ↦ ap (λ (b : Bool). class_of_page (arrived_if slabs move b) move.page) pooled ∙ (ap class_of_owner (get_or-set_same slabs.owners move.page Pool Untouched in_range) ∙ sym (eqb-true move.dst 0 pooled))
       | inr given ↦
           ap (λ (b : Bool). class_of_page (arrived_if slabs move b) move.page) given
           ∙ ap class_of_owner (get_or-set_same (slice_set slabs.owners move.page Pool) move.page (Class move.dst) Untouched (omega arith))
@@ -81,9 +81,9 @@ finished_page slabs move near =
 
 -- its word says so
 finished_cut : (cuts : List ℕ) (slabs : SlabState) (move : Moving) → move.page < length cuts → move.page < length slabs.owners → AreCut cuts slabs → AreCut (slice_set cuts move.page move.dst) (after_move_end slabs move)
-finished_cut cuts slabs move within near cut other = elim (cases_eq other move.page) [
+finished_cut cuts slabs move within in_range cut other = elim (cases_eq other move.page) [
   | inl same ↦
-      subst (λ (p : ℕ). slice_index (slice_set cuts move.page move.dst) p ≡ class_of_page (after_move_end slabs move) p) (sym same) (get_or-set_same cuts move.page move.dst 0 within ∙ sym (finished_page slabs move near))
+      subst (λ (p : ℕ). slice_index (slice_set cuts move.page move.dst) p ≡ class_of_page (after_move_end slabs move) p) (sym same) (get_or-set_same cuts move.page move.dst 0 within ∙ sym (finished_page slabs move in_range))
   | inr apart ↦
       let stays : class_of_page (after_move_end slabs move) other ≡ class_of_page slabs other = ap class_of_owner (finished_other slabs move other apart) in
       get_or-set_other cuts move.page other move.dst 0 apart ∙ (cut other ∙ sym stays)
@@ -101,7 +101,7 @@ move_near view was slabs move mine runs =
 -- a move ends
 pub may_finish : (view : View) (slabs : SlabState) (move : Moving) → view.slabs ≡ Some slabs → slabs.moving ≡ Some move → can_finish slabs slabs.moving ≡ true → move.page < arena_pages_of view.setup.table → move.page < length slabs.owners
     → AllowsStep view FinishMove core.MissSlabs (page_word view.setup move.page) (λ found. move.dst)
-may_finish view slabs move mine runs can near owned = record {
+may_finish view slabs move mine runs can in_range owned = record {
   allowed = λ was.
       let held = slabs_here view was slabs mine in
       and_from _ _ held.0 (ap (λ (x : SlabState). can_finish x x.moving) held.1 ∙ can);
@@ -113,7 +113,7 @@ may_finish view slabs move mine runs can near owned = record {
       let cut : AreCut was.cuts slabs = subst (AreCut was.cuts) same was.cut in
       let is : after_finish s.slabs s.slabs.moving ≡ after_move_end slabs move = ap (λ (x : SlabState). after_finish x x.moving) same ∙ ap (after_finish slabs) runs in (
         slice_set was.cuts move.page move.dst,
-        page_written view.setup was.cuts was.words s.slabs_lock s.stripe_locks s.heads s.words was.are move.page move.dst near,
+        page_written view.setup was.cuts was.words s.slabs_lock s.stripe_locks s.heads s.words was.are move.page move.dst in_range,
         subst (AreCut (slice_set was.cuts move.page move.dst)) (sym is) (finished_cut was.cuts slabs move (omega arith) owned cut),
       );
 }

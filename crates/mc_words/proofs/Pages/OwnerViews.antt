@@ -26,12 +26,12 @@ use Rattle.mc_words.proofs.Pages.Owners.{slabs_here}
 
 -- there is a row of holdings
 pub holding_rows : (view : View) (was : LawfulView view) → was.hand < length was.moment.state.holdings
-holding_rows view was = let near = rows_there view was in let count = was.lawful.hands.holding_rows in omega arith
+holding_rows view was = let in_range = rows_there view was in let count = was.lawful.hands.holding_rows in omega arith
 
 module _ (view now : View) where
   -- nothing was learned
   pub learned_none : (step : Step) (h : Happens view [] step now) → is_join step ≡ false → (after_step h.was.moment.state h.was.hand step).stripes ≡ h.was.moment.state.stripes
-      → ((knows : Knowledge) → known_after h.was.moment h.was.hand step knows ≡ more_seen (knows.saw ++ []) knows.hold knows.seen knows)
+      → ((knows : Knowledge) → known_after h.was.moment h.was.hand step knows ≡ more_seen (knows.seen_words ++ []) knows.hold knows.seen knows)
       → knowledge_at (moment_stepped h.was.moment h.was.hand step).past h.was.hand ≡ view.row.knows
   learned_none step h alone same none =
       let m : Moment = h.was.moment in

@@ -65,30 +65,30 @@ module _ (view : View) (was : LawfulView view) where
   needless = are_needless was.moment was.lawful
 
   pub fits_here : (chunk : ChunkId) → has_chunk view.setup.table chunk ≡ true → FitsBits (head_at s chunk)
-  fits_here chunk near = needless.fits chunk (near_here view chunk near was)
+  fits_here chunk in_range = needless.fits chunk (near_here view chunk in_range was)
 
 -- a fresh chunk is given up
 pub may_discard : (view : View) (chunk : ChunkId) (holding : Holding) → has_chunk view.setup.table chunk ≡ true → holding_of chunk view.row.holdings ≡ Some holding → is_fresh holding ≡ true → MayWrite view (core.Discard chunk) (head_word view.setup chunk) (word_minus 1)
-may_discard view chunk holding near found fresh was fits =
+may_discard view chunk holding in_range found fresh was fits =
     let m = was.moment in
     let word = slice_index was.words (head_word view.setup chunk) in
     let here : holding_of chunk (holdings_at m.state was.hand) ≡ Some holding = ap (holding_of chunk) (holdings_here view was) ∙ found in
-    let is : head_at m.state chunk ≡ decode word = head_is view chunk near was in
+    let is : head_at m.state chunk ≡ decode word = head_is view chunk in_range was in
     let count : 1 ≤ (decode word).count = subst (λ (h : Head). 1 ≤ h.count) is (held_count m was.lawful was.hand chunk holding here) in
-    let small : FitsBits (decode word) = subst FitsBits is (fits_here view was chunk near) in
+    let small : FitsBits (decode word) = subst FitsBits is (fits_here view was chunk in_range) in
     let gone : decode (word_minus 1 word) ≡ head_after_release (head_at m.state chunk) =
     summed word fits head_after_release (word_minus 1) ((all_are_sums (decode word) small).release count) (record { issue = small.issue; count = let c = small.count in omega arith }) ∙ ap head_after_release (sym is) in (
       ap (holds_as true) here ∙ ap (λ b. b && true || not b && not true) fresh,
-      header_written view chunk near was (word_minus 1 word) (head_after_release (head_at m.state chunk)) gone,
+      header_written view chunk in_range was (word_minus 1 word) (head_after_release (head_at m.state chunk)) gone,
     )
 
 -- a word of it is written
-module _ (view : View) (chunk : ChunkId) (holding : Holding) (place : ℕ) (found : holding_of chunk view.row.holdings ≡ Some holding) (fresh : is_fresh holding ≡ true) (near : place < length (holding_words holding)) (was : LawfulView view) where
+module _ (view : View) (chunk : ChunkId) (holding : Holding) (place : ℕ) (found : holding_of chunk view.row.holdings ≡ Some holding) (fresh : is_fresh holding ≡ true) (in_range : place < length (holding_words holding)) (was : LawfulView view) where
   filled_here : holding_of chunk (holdings_at was.moment.state was.hand) ≡ Some holding
   filled_here = ap (holding_of chunk) (holdings_here view was) ∙ found
 
   filled_can : can_fill_in place (Some holding) ≡ true
-  filled_can = and_from _ _ fresh (lt-ltb place (length (holding_words holding)) near)
+  filled_can = and_from _ _ fresh (lt-ltb place (length (holding_words holding)) in_range)
 
   -- how many words it has
   pub room_is : chunk_room was.moment.state chunk ≡ length (holding_words holding)
@@ -112,7 +112,7 @@ module _ (view : View) (chunk : ChunkId) (holding : Holding) (place : ℕ) (foun
 
   -- it is a data word
   pub fill_near : data_word view.setup (length (holding_words holding)) chunk place < config_from view.setup
-  fill_near = let is = place_is in let near = place_near in omega arith
+  fill_near = let is = place_is in let in_range = place_near in omega arith
 
   pub can_fill_here : (word : ℕ) → (chunks.can_fill was.moment.state was.hand chunk place ≡ true) × AreAll view.setup was.cuts (slice_set was.words (data_word view.setup (length (holding_words holding)) chunk place) word) (columns (after_fill was.moment.state was.hand chunk place word))
   can_fill_here word =
@@ -124,12 +124,12 @@ module _ (view : View) (chunk : ChunkId) (holding : Holding) (place : ℕ) (foun
 
 pub may_fill : (view : View) (chunk : ChunkId) (holding : Holding) (place word : ℕ) → holding_of chunk view.row.holdings ≡ Some holding → is_fresh holding ≡ true → place < length (holding_words holding)
     → MayWrite view (core.Fill chunk place word) (data_word view.setup (length (holding_words holding)) chunk place) (λ found. word)
-may_fill view chunk holding place word found fresh near was fits = can_fill_here view chunk holding place found fresh near was word
+may_fill view chunk holding place word found fresh in_range was fits = can_fill_here view chunk holding place found fresh in_range was word
 
 -- the next free chunk of a class is handed out
 pub may_pop : (view : View) (slabs : SlabState) (class : ℕ) (chunk : ChunkId) (seen : Head) → view.slabs ≡ Some slabs → is_class view.setup.table class ≡ true → first_free (class_at slabs class) ≡ Some chunk → has_chunk view.setup.table chunk ≡ true
     → length view.row.holdings < most_holdings → seen_head view.row.looks chunk ≡ Some seen → seen.issue < most_issue → MayWrite view (core.Pop class) (head_word view.setup chunk) (word_plus 327681)
-may_pop view slabs class chunk seen mine is first near few last left was fits =
+may_pop view slabs class chunk seen mine is first in_range within_limit last left was fits =
     let m = was.moment in
     let word = slice_index was.words (head_word view.setup chunk) in
     let held = slabs_here view was slabs mine in
@@ -140,9 +140,9 @@ may_pop view slabs class chunk seen mine is first near few last left was fits =
     let judge = judged view was slabs mine in
     let still : head_at m.state chunk ≡ seen = judge.next class chunk seen class_is next looked in
     let free : (head_at m.state chunk).tag ≡ Free = ((needless view was).next class chunk class_is next).1 in
-    let count : (head_at m.state chunk).count ≡ 0 = was.lawful.counted.shut chunk (near_here view chunk near was) (inl (ap is_free free)) in
-    let is_word : head_at m.state chunk ≡ decode word = head_is view chunk near was in
-    let small : FitsBits (decode word) = subst FitsBits is_word (fits_here view was chunk near) in
+    let count : (head_at m.state chunk).count ≡ 0 = was.lawful.counted.shut chunk (near_here view chunk in_range was) (inl (ap is_free free)) in
+    let is_word : head_at m.state chunk ≡ decode word = head_is view chunk in_range was in
+    let small : FitsBits (decode word) = subst FitsBits is_word (fits_here view was chunk in_range) in
     let left' : (decode word).issue < most_issue = subst (λ (h : Head). h.issue < most_issue) (sym still ∙ is_word) left in
     let out : decode (word_plus 327681 word) ≡ head_after_hand_out (head_at m.state chunk) =
     summed word fits head_after_hand_out (word_plus 327681) ((all_are_sums (decode word) small).hand_out (sym (ap (λ (h : Head). h.tag) is_word) ∙ free) (sym (ap (λ (h : Head). h.count) is_word) ∙ count) left') (record { issue = omega arith; count = omega arith })
@@ -150,41 +150,41 @@ may_pop view slabs class chunk seen mine is first near few last left was fits =
     let after : columns (chunks.state_after_pop m.state was.hand class) ≡ (m.state.slabs_lock, m.state.stripe_locks, slice_set m.state.heads (head_place m.state.table chunk) (head_after_hand_out (head_at m.state chunk)), m.state.words) =
     ap (λ o. columns (state_after_pop_of (with_slabs m.state (slabs_changes.after_pop m.state.slabs class)) was.hand o)) next in (
       judge.pop class chunk seen class_is place next looked left,
-      subst (AreAll view.setup was.cuts (slice_set was.words (head_word view.setup chunk) (word_plus 327681 word))) (sym after) (header_written view chunk near was (word_plus 327681 word) (head_after_hand_out (head_at m.state chunk)) out),
+      subst (AreAll view.setup was.cuts (slice_set was.words (head_word view.setup chunk) (word_plus 327681 word))) (sym after) (header_written view chunk in_range was (word_plus 327681 word) (head_after_hand_out (head_at m.state chunk)) out),
     )
 
 -- a dead chunk is put back
 pub may_put_back : (view : View) (slabs : SlabState) (chunk : ChunkId) (seen : Head) → view.slabs ≡ Some slabs → has_chunk view.setup.table chunk ≡ true → seen_head view.row.looks chunk ≡ Some seen → is_dead seen ≡ true → MayWrite view (core.PutBack chunk) (head_word view.setup chunk) (word_minus 65536)
-may_put_back view slabs chunk seen mine near last dead was fits =
+may_put_back view slabs chunk seen mine in_range last dead was fits =
     let m = was.moment in
     let word = slice_index was.words (head_word view.setup chunk) in
     let looked : seen_head (looks_at m.state was.hand) chunk ≡ Some seen = ap (λ looks. seen_head looks chunk) (looks_here view was) ∙ last in
-    let judge = (judged view was slabs mine).put_back chunk seen (near_here view chunk near was) looked dead in
-    let is_word : head_at m.state chunk ≡ decode word = head_is view chunk near was in
-    let small : FitsBits (decode word) = subst FitsBits is_word (fits_here view was chunk near) in
+    let judge = (judged view was slabs mine).put_back chunk seen (near_here view chunk in_range was) looked dead in
+    let is_word : head_at m.state chunk ≡ decode word = head_is view chunk in_range was in
+    let small : FitsBits (decode word) = subst FitsBits is_word (fits_here view was chunk in_range) in
     let dead' : is_dead (decode word) ≡ true = subst (λ (h : Head). is_dead h ≡ true) (sym judge.0 ∙ is_word) dead in
     let back : decode (word_minus 65536 word) ≡ with_tag_free (head_at m.state chunk) =
     summed word fits with_tag_free (word_minus 65536) ((all_are_sums (decode word) small).put_back dead') (record { issue = small.issue; count = small.count }) ∙ ap with_tag_free (sym is_word) in (
       judge.1,
-      header_written view chunk near was (word_minus 65536 word) (with_tag_free (head_at m.state chunk)) back,
+      header_written view chunk in_range was (word_minus 65536 word) (with_tag_free (head_at m.state chunk)) back,
     )
 
 -- the lowest uncut chunk is cut
 pub may_cut : (view : View) (slabs : SlabState) (page index : ℕ) → view.slabs ≡ Some slabs → has_chunk view.setup.table (record { page = page; index = index }) ≡ true → slabs.uncut ≡ Some (record { page = page; index = index })
     → MayWrite view (core.Cut page index) (head_word view.setup (record { page = page; index = index })) (word_plus 65536)
-may_cut view slabs page index mine near next was fits =
+may_cut view slabs page index mine in_range next was fits =
     let m = was.moment in
     let chunk : ChunkId = record { page = page; index = index } in
     let word = slice_index was.words (head_word view.setup chunk) in
     let held = slabs_here view was slabs mine in
     let uncut : m.state.slabs.uncut ≡ Some chunk = ap (λ (x : SlabState). x.uncut) held.1 ∙ next in
-    let is_word : head_at m.state chunk ≡ decode word = head_is view chunk near was in
-    let small : FitsBits (decode word) = subst FitsBits is_word (fits_here view was chunk near) in
+    let is_word : head_at m.state chunk ≡ decode word = head_is view chunk in_range was in
+    let small : FitsBits (decode word) = subst FitsBits is_word (fits_here view was chunk in_range) in
     let out : (decode word).tag ≡ Out = sym (ap (λ (h : Head). h.tag) is_word) ∙ ((needless view was).uncut chunk uncut).1 in
     let cut : decode (word_plus 65536 word) ≡ with_tag_free (head_at m.state chunk) =
     summed word fits with_tag_free (word_plus 65536) ((all_are_sums (decode word) small).cut out) (record { issue = small.issue; count = small.count }) ∙ ap with_tag_free (sym is_word) in (
       (judged view was slabs mine).cut chunk uncut,
-      header_written view chunk near was (word_plus 65536 word) (with_tag_free (head_at m.state chunk)) cut,
+      header_written view chunk in_range was (word_plus 65536 word) (with_tag_free (head_at m.state chunk)) cut,
     )
 
 -- chunks that the values name are near

@@ -37,7 +37,7 @@ cut_written cuts x page class within owned cut other = elim (cases_eq other page
 -- a class gets the next page, whose word tells that
 pub may_grow : (view : View) (slabs : SlabState) (class page : ℕ) → view.slabs ≡ Some slabs → can_change_slabs view.setup.table slabs (Grow class) ≡ true → next_page slabs class ≡ Some page → page < arena_pages_of view.setup.table → page < length slabs.owners
     → AllowsStep view (Grow class) core.MissSlabs (page_word view.setup page) (λ found. class)
-may_grow view slabs class page mine can next near owned = record {
+may_grow view slabs class page mine can next in_range owned = record {
   allowed = λ was.
       let held = slabs_here view was slabs mine in
       and_from _ _ held.0 (ap (λ table. can_change_slabs table was.moment.state.slabs (Grow class)) was.same_table ∙ (ap (λ slabs. can_change_slabs view.setup.table slabs (Grow class)) held.1 ∙ can));
@@ -49,7 +49,7 @@ may_grow view slabs class page mine can next near owned = record {
       let cut : AreCut was.cuts slabs = subst (AreCut was.cuts) same was.cut in
       let is : after_growth s.slabs class (next_page s.slabs class) ≡ after_grow slabs class page = ap (λ slabs. after_growth slabs class (next_page slabs class)) same ∙ ap (after_growth slabs class) next in (
         slice_set was.cuts page class,
-        page_written view.setup was.cuts was.words s.slabs_lock s.stripe_locks s.heads s.words was.are page class near,
+        page_written view.setup was.cuts was.words s.slabs_lock s.stripe_locks s.heads s.words was.are page class in_range,
         subst (AreCut (slice_set was.cuts page class)) (sym is) (cut_written was.cuts slabs page class (omega arith) owned cut),
       );
 }

@@ -36,7 +36,7 @@ maps_alike f g first zero each = refl
 maps_alike f g first (suc count) each =
     let here : first + 0 ≡ first = omega arith in
     ap₂ (λ x xs. x ∷ xs) (sym (ap f here) ∙ (each 0 (omega arith) ∙ ap g here))
-    (maps_alike f g (first + 1) count (λ i near. let next : first + suc i ≡ (first + 1) + i = omega arith in sym (ap f next) ∙ (each (suc i) (omega arith) ∙ ap g next)))
+    (maps_alike f g (first + 1) count (λ i in_range. let next : first + suc i ≡ (first + 1) + i = omega arith in sym (ap f next) ∙ (each (suc i) (omega arith) ∙ ap g next)))
 
 read : {A : Type 0} (xs : List A) (i : ℕ) (x default : A) → get_elem? xs i ≡ some x → slice_index_or xs i default ≡ x
 read [] i x default at = absurd (maybe.some-ne-none x (sym at))
@@ -73,9 +73,9 @@ module _ (setup : Setup) (t : WordsOfTable) (r : IsRuled setup t) (slots : List 
       ap slabs_in (read slots (slot_at zero) slot Empty (last (slot_at zero) slot home)) ∙ slabs_of s slot has)
 
   stripe_is : (stripe : ℕ) → stripe < setup.config.stripes → stripe_left t.words slots stripe ≡ at_home (slice_index s.stripe_locks stripe) (stripe_at s stripe)
-  stripe_is stripe near =
+  stripe_is stripe in_range =
       left_by (slice_index t.words (lock_address (suc stripe))) (slice_index s.stripe_locks stripe) (stripe_in (slice_index_or slots (slot_at (suc stripe)) Empty)) (stripe_at s stripe)
-      (lock_read setup r.cuts t.words s.slabs_lock s.stripe_locks s.heads s.words r.means.words stripe near)
+      (lock_read setup r.cuts t.words s.slabs_lock s.stripe_locks s.heads s.words r.means.words stripe in_range)
       (λ free.
       let (slot, home, has) = r.means.homes (suc stripe) (omega arith) free in
       ap stripe_in (read slots (slot_at (suc stripe)) slot Empty (last (slot_at (suc stripe)) slot home)) ∙ stripe_of s stripe slot has)
@@ -105,8 +105,8 @@ closed_by view t slots last id mine live rule =
       heads = rule.ruled.means.words.heads;
       slabs = slabs_is view.setup (all_settled t) rule.ruled slots last;
       stripes = maps_alike (stripe_left t.words slots) (λ stripe. at_home (slice_index s.stripe_locks stripe) (stripe_at s stripe)) 0 view.setup.config.stripes
-          (λ i near. let e = zero-add i in
-          ap (stripe_left t.words slots) e ∙ (stripe_is view.setup (all_settled t) rule.ruled slots last i near ∙ sym (ap (λ stripe. at_home (slice_index s.stripe_locks stripe) (stripe_at s stripe)) e)));
+          (λ i in_range. let e = zero-add i in
+          ap (stripe_left t.words slots) e ∙ (stripe_is view.setup (all_settled t) rule.ruled slots last i in_range ∙ sym (ap (λ stripe. at_home (slice_index s.stripe_locks stripe) (stripe_at s stripe)) e)));
     }
 
 -- as the table tells it when it is closed
@@ -124,8 +124,8 @@ module _ (setup plan : Setup) (planned : setup ≡ plan) (id : ℕ) (view : View
 -- as it is read
 module _ (setup : Setup) (words : List ℕ) (slots : List Slot) (left : IsLeftOf setup words slots) where
   pub head_told : (chunk : ChunkId) (place word : ℕ) → has_chunk setup.table chunk ≡ true → place ≡ head_word setup chunk → get_elem? words place ≡ some word → word ≡ slice_index (left_of setup words slots).heads (head_place setup.table chunk)
-  head_told chunk place word near is at =
-      sym (get_or-take (head_count setup) (drop (heads_from setup) words) (head_place setup.table chunk) 0 (head_near setup chunk near)
+  head_told chunk place word in_range is at =
+      sym (get_or-take (head_count setup) (drop (heads_from setup) words) (head_place setup.table chunk) 0 (head_near setup chunk in_range)
       ∙ (get_or-drop (heads_from setup) words (head_place setup.table chunk) 0 ∙ (ap (slice_index words) (sym is) ∙ read words place word 0 at)))
 
   -- pages and lists, where they are at home
@@ -138,14 +138,14 @@ module _ (setup : Setup) (words : List ℕ) (slots : List Slot) (left : IsLeftOf
 
   -- the numbers of locks are small
   pub few_stripes : (stripe : ℕ) → stripe < setup.config.stripes → suc stripe < 2 ^ 59
-  few_stripes stripe near = let small = left.small in omega arith
+  few_stripes stripe in_range = let small = left.small in omega arith
 
-  module _ (stripe : ℕ) (near : stripe < setup.config.stripes) (word : ℕ) (at : get_elem? words (lock_address (suc stripe)) ≡ some word) where
+  module _ (stripe : ℕ) (in_range : stripe < setup.config.stripes) (word : ℕ) (at : get_elem? words (lock_address (suc stripe)) ≡ some word) where
     word_is : slice_index words (lock_address (suc stripe)) ≡ word
     word_is = read words (lock_address (suc stripe)) word 0 at
 
     of_stripe : slice_index_or (left_of setup words slots).stripes stripe None ≡ stripe_left words slots stripe
-    of_stripe = get_or-map-range_with_len (stripe_left words slots) 0 setup.config.stripes stripe stripe None near (zero-add stripe)
+    of_stripe = get_or-map-range_with_len (stripe_left words slots) 0 setup.config.stripes stripe stripe None in_range (zero-add stripe)
 
     -- where a hand has it
     pub none_told : (word ≡ 0 → ⊥) → None ≡ slice_index_or (left_of setup words slots).stripes stripe None
@@ -172,9 +172,9 @@ module _ (view : View) (left : ArenaEnd) (closes : Closes view left) where
   ended = closes.was.moment.state
 
   pub head_at_end : (chunk : ChunkId) → has_chunk left.setup.table chunk ≡ true → decode (slice_index left.heads (head_place left.setup.table chunk)) ≡ head_at ended chunk
-  head_at_end chunk near =
+  head_at_end chunk in_range =
       let table : ended.table ≡ left.setup.table = closes.was.same_table ∙ ap (λ (s : Setup). s.table) (sym closes.setup) in
-      let within = head_near left.setup chunk near in
+      let within = head_near left.setup chunk in_range in
       let long : length left.heads ≡ head_count left.setup =
       sym (length-map left.heads decode) ∙ (ap length closes.heads ∙ (closes.was.lawful.sized.headers ∙ ap (λ (t : Classes). arena_pages_of t * most_of t) table)) in
       sym (ap (λ (t : Classes). slice_index_or ended.heads (head_place t chunk) never_cut) table
@@ -182,7 +182,7 @@ module _ (view : View) (left : ArenaEnd) (closes : Closes view left) where
       ∙ get_or-map decode left.heads (head_place left.setup.table chunk) 0 never_cut (omega arith)))
 
   pub stripe_at_end : (stripe : ℕ) → stripe < left.setup.config.stripes → slice_index_or left.stripes stripe None ≡ at_home (slice_index ended.stripe_locks stripe) (stripe_at ended stripe)
-  stripe_at_end stripe near =
+  stripe_at_end stripe in_range =
       let same : left.setup.config.stripes ≡ view.setup.config.stripes = ap (λ (s : Setup). s.config.stripes) closes.setup in
       ap (λ (stripes : List (Option ReadyStripe)). slice_index_or stripes stripe None) closes.stripes
       ∙ get_or-map-range_with_len (λ stripe. at_home (slice_index ended.stripe_locks stripe) (stripe_at ended stripe)) 0 view.setup.config.stripes stripe stripe None (omega arith) (zero-add stripe)

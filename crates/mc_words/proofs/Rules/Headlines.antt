@@ -43,12 +43,12 @@ use Rattle.mc_words.proofs.Rules.Written.{data_read, head_near, head_read, page_
 -- all holders are those of the rows
 same_holders : (chunk : ChunkId) (rows : List (List Holding)) (views : List View) → ((i : ℕ) (view : View) → get_elem? views i ≡ some view → slice_index_or rows i [] ≡ view.row.holdings)
     → ((i : ℕ) → length views ≤ i → i < length rows → slice_index_or rows i [] ≡ []) → length views ≤ length rows → holder_count chunk rows ≡ holders_among chunk views
-same_holders chunk [] [] have none few = refl
-same_holders chunk [] (view ∷ views) have none few = absurd (omega arith)
-same_holders chunk (row ∷ rows) [] have none few =
-    ap₂ (λ (own : List Holding) (n : ℕ). count_of_holdings chunk own + n) (none 0 (omega arith) (omega arith)) (same_holders chunk rows [] (λ i view at. absurd (maybe.some-ne-none view (sym at))) (λ i past near. none (suc i) (omega arith) (omega arith)) (omega arith))
-same_holders chunk (row ∷ rows) (view ∷ views) have none few =
-    ap₂ (λ (own : List Holding) (n : ℕ). count_of_holdings chunk own + n) (have 0 view refl) (same_holders chunk rows views (λ i v at. have (suc i) v at) (λ i past near. none (suc i) (omega arith) (omega arith)) (omega arith))
+same_holders chunk [] [] have none within_limit = refl
+same_holders chunk [] (view ∷ views) have none within_limit = absurd (omega arith)
+same_holders chunk (row ∷ rows) [] have none within_limit =
+    ap₂ (λ (own : List Holding) (n : ℕ). count_of_holdings chunk own + n) (none 0 (omega arith) (omega arith)) (same_holders chunk rows [] (λ i view at. absurd (maybe.some-ne-none view (sym at))) (λ i past in_range. none (suc i) (omega arith) (omega arith)) (omega arith))
+same_holders chunk (row ∷ rows) (view ∷ views) have none within_limit =
+    ap₂ (λ (own : List Holding) (n : ℕ). count_of_holdings chunk own + n) (have 0 view refl) (same_holders chunk rows views (λ i v at. have (suc i) v at) (λ i past in_range. none (suc i) (omega arith) (omega arith)) (omega arith))
 
 known_near : {A : Type 0} (l : List A) (i : ℕ) (a : A) → slice_get l i ≡ Some a → i < length l
 known_near [] i a e = absurd (cc)
@@ -71,13 +71,13 @@ same_settled chunk (view ∷ views) = ap (λ (n : ℕ). count_of_holdings chunk 
 module _ (setup : Setup) (cuts words : List ℕ) (m : Moment) (lawful : IsLawful m) (same_table : m.state.table ≡ setup.table) (are : WordsOf setup cuts words m.state) (cut : AreCut cuts m.state.slabs) where
   -- headers, pages and data words, as the moment has them
   header_same : (chunk : ChunkId) → has_chunk setup.table chunk ≡ true → head_in m.state.table m.state.heads chunk ≡ header_in setup words chunk
-  header_same chunk near =
+  header_same chunk in_range =
       ap (λ (table : Classes). slice_index_or m.state.heads (head_place table chunk) never_cut) same_table
-      ∙ head_read setup cuts words m.state.slabs_lock m.state.stripe_locks m.state.heads m.state.words are (head_place setup.table chunk) never_cut (head_near setup chunk near)
+      ∙ head_read setup cuts words m.state.slabs_lock m.state.stripe_locks m.state.heads m.state.words are (head_place setup.table chunk) never_cut (head_near setup chunk in_range)
 
   class_same : (chunk : ChunkId) → has_chunk setup.table chunk ≡ true → class_in setup words chunk ≡ class_of_page m.state.slabs chunk.page
-  class_same chunk near =
-      page_read setup cuts words m.state.slabs_lock m.state.stripe_locks m.state.heads m.state.words are chunk.page (chunk_within setup.table chunk near).0
+  class_same chunk in_range =
+      page_read setup cuts words m.state.slabs_lock m.state.stripe_locks m.state.heads m.state.words are chunk.page (chunk_within setup.table chunk in_range).0
       ∙ cut chunk.page
 
   -- one of the arena's
@@ -99,9 +99,9 @@ module _ (setup : Setup) (cuts words : List ℕ) (m : Moment) (lawful : IsLawful
   -- a holding of the moment is kept in the words
   kept_words : (holding : Holding) → has_chunk m.state.table holding.chunk ≡ true → IsKept m.state holding → IsKeptIn setup words holding
   kept_words holding inside kept =
-      let near : has_chunk setup.table holding.chunk ≡ true = near_here holding.chunk inside in
-      let class = class_same holding.chunk near in record {
-        handed_out = subst (λ (head : Head). IsHandedOut head holding.issue) (header_same holding.chunk near) kept.handed_out;
+      let in_range : has_chunk setup.table holding.chunk ≡ true = near_here holding.chunk inside in
+      let class = class_same holding.chunk in_range in record {
+        handed_out = subst (λ (head : Head). IsHandedOut head holding.issue) (header_same holding.chunk in_range) kept.handed_out;
         owned = let owned = kept.owned.0 in omega arith;
         shows = λ place word known.
             let fits = kept.shows.fits in
@@ -117,9 +117,9 @@ module _ (setup : Setup) (cuts words : List ℕ) (m : Moment) (lawful : IsLawful
 
   -- counts
   pub counts_at : (chunk : ChunkId) → has_chunk setup.table chunk ≡ true → (header_in setup words chunk).count ≡ link_count (header_in setup words chunk).tag + holder_count chunk m.state.holdings
-  counts_at chunk near =
-      let inside : has_chunk m.state.table chunk ≡ true = subst (λ (table : Classes). has_chunk table chunk ≡ true) (sym same_table) near in
-      subst (λ (h : Head). h.count ≡ link_count h.tag + holder_count chunk m.state.holdings) (header_same chunk near) (lawful.counted.counted chunk inside)
+  counts_at chunk in_range =
+      let inside : has_chunk m.state.table chunk ≡ true = subst (λ (table : Classes). has_chunk table chunk ≡ true) (sym same_table) in_range in
+      subst (λ (h : Head). h.count ≡ link_count h.tag + holder_count chunk m.state.holdings) (header_same chunk in_range) (lawful.counted.counted chunk inside)
 
   abbrev slabs : SlabState
   slabs = m.state.slabs
@@ -142,10 +142,10 @@ module _ (setup : Setup) (cuts words : List ℕ) (m : Moment) (lawful : IsLawful
 
     chunks_here : (class : ℕ) (chunk : ChunkId) → HasClass slabs class → has_chunk setup.table chunk ≡ true → is_of_class class (owner_at slabs.owners chunk.page) ≡ true → chunk.index < (class_at slabs class).per_page
         → IsInOnePlace slabs class chunk (header_in setup words chunk)
-    chunks_here class chunk of_class near of within =
+    chunks_here class chunk of_class in_range of within =
         let cut = cut_here class chunk of within in
         let head : Head = head_in m.state.table m.state.heads chunk in
-        subst (λ (h : Head). IsInOnePlace slabs class chunk h) (header_same chunk near)
+        subst (λ (h : Head). IsInOnePlace slabs class chunk h) (header_same chunk in_range)
         (one_place class chunk head head.tag refl (lawful.placed.free class chunk of_class ∙ ap (λ (b : Bool). truth (b && is_free head.tag)) cut)
         (lawful.placed.order class chunk of_class ∙ ap (λ (b : Bool). truth (b && (not (is_free head.tag) && not (is_out head.tag)))) cut) (lawful.placed.cleared class chunk of_class cut))
 
@@ -166,10 +166,10 @@ module _ (setup : Setup) (cuts words : List ℕ) (m : Moment) (lawful : IsLawful
         let accounted = table.accounted in
         let page : slabs.page ≡ setup.table.page = table.page ∙ ap (λ (c : Classes). c.page) same_table in
         let limit : slabs.limit ≡ setup.table.limit = table.limit ∙ ap (λ (c : Classes). c.limit) same_table in
-        let many : page_count slabs ≡ arena_pages_of setup.table = sym (length-owners slabs accounted) ∙ (table.owners ∙ ap arena_pages_of same_table) in record {
+        let at_limit : page_count slabs ≡ arena_pages_of setup.table = sym (length-owners slabs accounted) ∙ (table.owners ∙ ap arena_pages_of same_table) in record {
           of_table = subst (λ (c : Classes). IsOfTable c slabs) same_table table;
           pages = record {
-            replays = ap (λ (n : ℕ). replay (all_untouched n) slabs.ledger) (sym many) ∙ accounted.replays;
+            replays = ap (λ (n : ℕ). replay (all_untouched n) slabs.ledger) (sym at_limit) ∙ accounted.replays;
             classes = accounted.pages;
             owned = accounted.owned;
             pool = accounted.pool;
@@ -199,7 +199,7 @@ module _ (setup : Setup) (t : WordsOfTable) (r : IsRuled setup t) where
       let count = r.lawful.hands.holding_rows in
       let hands = r.means.hands in
       let most = r.means.most in
-      same_holders chunk m.state.holdings t.views (λ hand view at. holds_same hand view (r.means.views hand view at)) (λ hand past near. holds_same hand (new_view setup hand 0) (r.means.unmade hand past (omega arith))) (omega arith)
+      same_holders chunk m.state.holdings t.views (λ hand view at. holds_same hand view (r.means.views hand view at)) (λ hand past in_range. holds_same hand (new_view setup hand 0) (r.means.unmade hand past (omega arith))) (omega arith)
 
   -- what is held in a view is kept
   pub kept_here : (hand : ℕ) (view : View) (holding : Holding) → get_elem? t.views hand ≡ some view → Contains view.row.holdings holding → IsKeptIn setup t.words holding
@@ -209,8 +209,8 @@ module _ (setup : Setup) (t : WordsOfTable) (r : IsRuled setup t) where
 
   -- counts
   pub counts_here : (chunk : ChunkId) → has_chunk setup.table chunk ≡ true → (header_in setup t.words chunk).count ≡ link_count (header_in setup t.words chunk).tag + holders_among chunk t.views
-  counts_here chunk near =
-      counts_at setup r.cuts t.words m r.lawful r.means.same_table r.means.words r.means.cut chunk near
+  counts_here chunk in_range =
+      counts_at setup r.cuts t.words m r.lawful r.means.same_table r.means.words r.means.cut chunk in_range
       ∙ ap (λ (n : ℕ). link_count (header_in setup t.words chunk).tag + n) (holders_same chunk)
 
   -- the value at home accounts for all
@@ -225,7 +225,7 @@ module _ (setup : Setup) (t : WordsOfTable) (r : IsRuled setup t) where
 pub rule_gives_headline : RuleGivesHeadline
 rule_gives_headline setup t rule = record {
   free = λ free. free_here setup (all_settled t) rule.ruled free;
-  counts = λ chunk near. counts_here setup (all_settled t) rule.ruled chunk near ∙ ap (λ (n : ℕ). link_count (header_in setup t.words chunk).tag + n) (same_settled chunk t.views);
+  counts = λ chunk in_range. counts_here setup (all_settled t) rule.ruled chunk in_range ∙ ap (λ (n : ℕ). link_count (header_in setup t.words chunk).tag + n) (same_settled chunk t.views);
   kept = λ hand view holding at has. kept_here setup (all_settled t) rule.ruled hand (settled_view view) holding (at_map settled_view t.views hand view at) has;
 }
 
@@ -290,17 +290,17 @@ module _ (setup : Setup) (cuts then words later : List ℕ) (m n : Moment) (lawf
   here : (has_chunk m.state.table chunk ≡ true) × IsHandedOut (head_in m.state.table m.state.heads chunk) issue
   here = held_inside m lawful hand chunk issue (keeps_at_first m hand chunk issue run over)
 
-  near : has_chunk setup.table chunk ≡ true
-  near = near_here setup cuts words m lawful same_table are cut chunk here.0
+  in_range : has_chunk setup.table chunk ≡ true
+  in_range = near_here setup cuts words m lawful same_table are cut chunk here.0
 
   inside_then : has_chunk n.state.table chunk ≡ true
-  inside_then = subst (λ (table : Classes). has_chunk table chunk ≡ true) (sym table_then) near
+  inside_then = subst (λ (table : Classes). has_chunk table chunk ≡ true) (sym table_then) in_range
 
   class_was : class_in setup words chunk ≡ class_of_page m.state.slabs chunk.page
-  class_was = class_same setup cuts words m lawful same_table are cut chunk near
+  class_was = class_same setup cuts words m lawful same_table are cut chunk in_range
 
   class_is : class_in setup later chunk ≡ class_of_page n.state.slabs chunk.page
-  class_is = class_same setup then later n lawful_then table_then are_then cut_then chunk near
+  class_is = class_same setup then later n lawful_then table_then are_then cut_then chunk in_range
 
   words_same : HasSameWords m.state n.state chunk → HasSameData setup words later chunk
   words_same same place fits =
@@ -313,7 +313,7 @@ module _ (setup : Setup) (cuts then words later : List ℕ) (m n : Moment) (lawf
 
   pub stays_throughout : StaysThroughout setup words later m hand chunk issue run
   stays_throughout = record {
-    handed_out = subst (λ (head : Head). IsHandedOut head issue) (header_same setup then later n lawful_then table_then are_then cut_then chunk near) kept.handed_out;
+    handed_out = subst (λ (head : Head). IsHandedOut head issue) (header_same setup then later n lawful_then table_then are_then cut_then chunk in_range) kept.handed_out;
     owned = let owned = kept.owned.0 in omega (arith, owned, class_is);
     same_class = class_is ∙ (kept.same_class ∙ sym class_was);
     unfilled = λ none. words_same (kept.unfilled none);

@@ -28,28 +28,28 @@ within (x ∷ xs) (suc i) a e = let more = within xs i a e in omega arith
 -- the values at home, where no lock is taken or given
 module _ (setup : Setup) (cuts cuts' words words' : List ℕ) (homes : List (maybe.Option Slot)) (m now : Moment) (id : ℕ) (quiet : IsQuiet m now id) (are : WordsOf setup cuts words m.state) (are' : WordsOf setup cuts' words' now.state) (home : AreHome setup words homes m.state) where
   still_home : (lock : ℕ) (slot : Slot) → slice_index words (lock_address lock) ≡ 0 → lock ≤ setup.config.stripes → Has m.state lock slot → Has now.state lock slot
-  still_home zero Empty free near has = absurd has
-  still_home zero (OfSlabs value) free near has = has ∙ sym (quiet.free_slabs (sym (slabs_lock_read setup cuts words m.state.slabs_lock m.state.stripe_locks m.state.heads m.state.words are) ∙ free))
-  still_home zero (OfStripe value) free near has = absurd has
-  still_home (suc i) Empty free near has = absurd has
-  still_home (suc i) (OfSlabs value) free near has = absurd has
-  still_home (suc i) (OfStripe value) free near has =
+  still_home zero Empty free in_range has = absurd has
+  still_home zero (OfSlabs value) free in_range has = has ∙ sym (quiet.free_slabs (sym (slabs_lock_read setup cuts words m.state.slabs_lock m.state.stripe_locks m.state.heads m.state.words are) ∙ free))
+  still_home zero (OfStripe value) free in_range has = absurd has
+  still_home (suc i) Empty free in_range has = absurd has
+  still_home (suc i) (OfSlabs value) free in_range has = absurd has
+  still_home (suc i) (OfStripe value) free in_range has =
       has ∙ sym (quiet.free_stripes i (sym (lock_read setup cuts words m.state.slabs_lock m.state.stripe_locks m.state.heads m.state.words are i (omega arith)) ∙ free))
 
   was_free : (lock : ℕ) → lock ≤ setup.config.stripes → slice_index words' (lock_address lock) ≡ 0 → slice_index words (lock_address lock) ≡ 0
-  was_free zero near free =
+  was_free zero in_range free =
       slabs_lock_read setup cuts words m.state.slabs_lock m.state.stripe_locks m.state.heads m.state.words are
       ∙ (sym quiet.slabs_lock ∙ (sym (slabs_lock_read setup cuts' words' now.state.slabs_lock now.state.stripe_locks now.state.heads now.state.words are') ∙ free))
-  was_free (suc i) near free =
+  was_free (suc i) in_range free =
       lock_read setup cuts words m.state.slabs_lock m.state.stripe_locks m.state.heads m.state.words are i (omega arith)
       ∙ (ap (λ (locks : List ℕ). slice_index locks i) (sym quiet.locks)
       ∙ (sym (lock_read setup cuts' words' now.state.slabs_lock now.state.stripe_locks now.state.heads now.state.words are' i (omega arith)) ∙ free))
 
   pub homes_quiet : AreHome setup words' homes now.state
-  homes_quiet lock near free =
-      let was = was_free lock near free in
-      let (slot, at, has) = home lock near was in
-      (slot, at, still_home lock slot was near has)
+  homes_quiet lock in_range free =
+      let was = was_free lock in_range free in
+      let (slot, at, has) = home lock in_range was in
+      (slot, at, still_home lock slot was in_range has)
 
 -- what a moment has of a hand that doesn't step
 pub others_stay : (setup : Setup) (m now : Moment) (id other : ℕ) → IsNext m now id → other ≢ id → (spare : ℕ) (events : List OwnEvent) → view_at setup spare events now other ≡ view_at setup spare events m other
@@ -107,7 +107,7 @@ module _ (setup : Setup) (t : WordsOfTable) (r : IsRuled setup t) (id : ℕ) (vi
             | inl same ↦ subst (λ (p : ℕ × View). IsViewOf setup run now p.0 p.1) (λ k. (sym same.0 k, same.1 k)) is
             | inr differs ↦ view_stays setup m now id other u next differs.0 r.run run (others other differs.0) (means.views other u differs.1)
           ];
-          most = let few = means.most in omega arith;
+          most = let within_limit = means.most in omega arith;
           made = λ other u at_u has. elim (at_set t.views id other is_now u at_u) [
             | inl same ↦
                 let more : 1 ≤ view.spare = let e : u.spare ≡ is_now.spare = ap (λ (x : View). x.spare) (sym same.1) in omega arith in
@@ -115,8 +115,8 @@ module _ (setup : Setup) (t : WordsOfTable) (r : IsRuled setup t) (id : ℕ) (vi
                 let e : u.spare ≡ is_now.spare = ap (λ (x : View). x.spare) (sym same.1) in (same.0 ∙ old.0, (let sum = old.1 in omega arith))
             | inr differs ↦ let old = means.made other u differs.1 has in (old.0, (let sum = old.1 in omega arith))
           ];
-          unmade = λ other past few. let apart : other ≢ id = λ e. omega arith in
-              view_stays setup m now id other (new_view setup other 0) next apart r.run run (others other apart) (means.unmade other (omega arith) few);
+          unmade = λ other past within_limit. let apart : other ≢ id = λ e. omega arith in
+              view_stays setup m now id other (new_view setup other 0) next apart r.run run (others other apart) (means.unmade other (omega arith) within_limit);
         };
       }
 

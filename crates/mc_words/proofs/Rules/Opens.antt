@@ -119,10 +119,10 @@ zero_at zero page = refl
 zero_at (suc n) zero = refl
 zero_at (suc n) (suc page) = zero_at n page
 
-many : {A : Type 0} (n i : ℕ) (a : A) → i < n → get_elem? (map some (replicate n a)) i ≡ some (some a)
-many zero i a h = absurd (omega arith)
-many (suc n) zero a h = refl
-many (suc n) (suc i) a h = many n i a (omega arith)
+at_limit : {A : Type 0} (n i : ℕ) (a : A) → i < n → get_elem? (map some (replicate n a)) i ≡ some (some a)
+at_limit zero i a h = absurd (omega arith)
+at_limit (suc n) zero a h = refl
+at_limit (suc n) (suc i) a h = at_limit n i a (omega arith)
 
 -- no page has a class at first
 no_class : (pages page : ℕ) → class_of_owner (owner_at (all_untouched pages) page) ≡ 0
@@ -145,7 +145,7 @@ one_slot_more slabs stripes stripe slots is =
     ap₂ (λ l m. l ++ m) is (ap (λ l. stripe ∷ l) (sym (append-nil (replicate slots_between Empty))))
     ∙ (sym (spread_append slots_between Empty (slabs ∷ replicate stripes stripe) (stripe ∷ [])) ∙ ap (λ l. spread slots_between Empty (slabs ∷ l)) (replicate-append-replicate stripes 1 stripe))
 
-module _ (setup : Setup) (sound : IsSound setup.table) (stripes : 1 ≤ setup.config.stripes) (hands : 1 ≤ setup.hands) (few : setup.hands ≤ 64) (small : setup.start ≤ most_issue) where
+module _ (setup : Setup) (sound : IsSound setup.table) (stripes : 1 ≤ setup.config.stripes) (hands : 1 ≤ setup.hands) (within_limit : setup.hands ≤ 64) (small : setup.start ≤ most_issue) where
   abbrev first : Moment
   first = beginning_of setup
 
@@ -157,8 +157,8 @@ module _ (setup : Setup) (sound : IsSound setup.table) (stripes : 1 ≤ setup.co
   apart i = ap (λ homes. get_elem? homes (slot_at i)) (map_spread some slots_between Empty values) ∙ spread_elem slots_between (some Empty) (map some values) i
 
   home_first : AreHome setup (first_words setup) (map some (first_slots setup)) first.state
-  home_first zero near free = (OfSlabs (fresh_slabs setup.table), refl, refl)
-  home_first (suc i) near free = (OfStripe new_stripe, apart (suc i) ∙ many setup.config.stripes i (OfStripe new_stripe) (omega arith), sym (same_entry setup.config.stripes i new_stripe new_stripe (omega arith)))
+  home_first zero in_range free = (OfSlabs (fresh_slabs setup.table), refl, refl)
+  home_first (suc i) in_range free = (OfStripe new_stripe, apart (suc i) ∙ at_limit setup.config.stripes i (OfStripe new_stripe) (omega arith), sym (same_entry setup.config.stripes i new_stripe new_stripe (omega arith)))
 
   no_slabs : (hand : ℕ) → held_slabs first.state hand ≡ None
   no_slabs hand = ap (λ (b : Bool). if b then Some first.state.slabs else None) (free_lock (number_at first.state hand))
@@ -182,11 +182,11 @@ module _ (setup : Setup) (sound : IsSound setup.table) (stripes : 1 ≤ setup.co
       holdings = same_entry setup.hands hand [] [] within k;
       looks = same_entry setup.hands hand [] [] within k;
       knows = record {
-        saw = same_entry setup.hands hand [] [] within k;
+        seen_words = same_entry setup.hands hand [] [] within k;
         hold = same_entry setup.hands hand no_hold no_hold within k;
         mine = get_or-map-range_with_len (λ number. record { number = number; calls = replicate setup.config.stripes [] } ∷ []) 0 setup.hands hand hand [] within (zero-add hand) k;
         seen = same_entry setup.hands hand (replicate setup.config.stripes []) [] within k;
-        said = same_entry setup.hands hand [] [] within k;
+        stored = same_entry setup.hands hand [] [] within k;
         known = same_entry setup.hands hand [] [] within k;
       };
     };
@@ -207,7 +207,7 @@ module _ (setup : Setup) (sound : IsSound setup.table) (stripes : 1 ≤ setup.co
     cuts = replicate (arena_pages_of setup.table) 0;
     run = [];
     reached = record { is_run = record {}; end = refl };
-    lawful = lawful_first setup.table setup.config.stripes setup.hands setup.start sound stripes hands few small;
+    lawful = lawful_first setup.table setup.config.stripes setup.hands setup.start sound stripes hands within_limit small;
     means = record {
       same_table = refl;
       hands = length-map-range_with_len _ 0 setup.hands;
@@ -243,7 +243,7 @@ module _ (setup : Setup) (sound : IsSound setup.table) (stripes : 1 ≤ setup.co
   new_lawful hand spare within = record {
     moment = first;
     hand = hand;
-    lawful = lawful_first setup.table setup.config.stripes setup.hands setup.start sound stripes hands few small;
+    lawful = lawful_first setup.table setup.config.stripes setup.hands setup.start sound stripes hands within_limit small;
     same_table = refl;
     hands = length-map-range_with_len _ 0 setup.hands;
     stripes = length-replicate setup.config.stripes new_stripe;

@@ -36,8 +36,8 @@ pub lifts : (setup : Setup) (slots id : ℕ) (me : Sits) → me.0.made_of ≡ No
 lifts setup slots id me plain place written told allows t rule long at fits =
     let at_settled : get_elem? (map settled_view t.views) id ≡ some me.0 = at_map settled_view t.views id me.0 at ∙ ap some (settled_same me.0 plain) in
     let (w, act, valid, ruled, tells) = allows (all_settled t) rule.ruled long at_settled fits in
-    let near = Rattle.mc_words.proofs.Rules.NextMoments.within (map settled_view t.views) id me.0 at_settled in
-    let w_plain : w.made_of ≡ None = plain_view setup ruled.run ruled.moment id w (ruled.means.views id w (Rattle.atomic_table.proofs.Lists.set_here (map settled_view t.views) id w near)) in
+    let in_range = Rattle.mc_words.proofs.Rules.NextMoments.within (map settled_view t.views) id me.0 at_settled in
+    let w_plain : w.made_of ≡ None = plain_view setup ruled.run ruled.moment id w (ruled.means.views id w (Rattle.atomic_table.proofs.Lists.set_here (map settled_view t.views) id w in_range)) in
     let views : slice_set (map settled_view t.views) id w ≡ map settled_view (slice_set t.views id w) = ap (slice_set (map settled_view t.views) id) (sym (settled_same w w_plain)) ∙ sym (map-set settled_view t.views id w) in (
       w,
       act,

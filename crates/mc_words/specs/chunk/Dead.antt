@@ -34,7 +34,7 @@ IsOutside page from until chunk = chunk.page ≡ page → from ≤ chunk.index �
 
 -- the chunk is one of the arena's, and the class handed it out
 pub record IsOut (table : Classes) (slabs : SlabState) (class : ℕ) (chunk : ChunkId) : Type 0 where
-  pub near : has_chunk table chunk ≡ true
+  pub in_range : has_chunk table chunk ≡ true
   pub own : class_of_page slabs chunk.page ≡ class
   pub listed : Contains (class_at slabs class).order chunk
 

@@ -66,4 +66,4 @@ pub record Sweeps (order : List ChunkId) (view : View) (slabs : SlabState) (now 
 
 -- the one view, but for what the other saw and did, and for its pages and lists
 abbrev pub with_seen : View → View → View
-with_seen view now = record view { events = now.events; slabs = now.slabs; row = record view.row { looks = now.row.looks; knows = record view.row.knows { saw = now.row.knows.saw } } }
+with_seen view now = record view { events = now.events; slabs = now.slabs; row = record view.row { looks = now.row.looks; knows = record view.row.knows { seen_words = now.row.knows.seen_words } } }

@@ -9,4 +9,4 @@ use Rattle.mc_words.specs.hand.View.{View}
 pub record IsReady (view : View) : Type 0 where
   pub unlocked : is_unlocked view ≡ true
   pub unfilled : has_fresh view.row.holdings ≡ false
-  pub few : length view.row.holdings ≤ most_refs
+  pub within_limit : length view.row.holdings ≤ most_refs

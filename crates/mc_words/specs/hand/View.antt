@@ -68,11 +68,11 @@ view_at setup spare events moment hand = record {
 -- what a new hand of this number knows: it saw and stored nothing, and knows no call of the n stripes
 abbrev pub new_knowledge : ℕ → ℕ → Knowledge
 new_knowledge stripes number = record {
-  saw = [];
+  seen_words = [];
   hold = no_hold;
   mine = record { number = number; calls = replicate stripes [] } ∷ [];
   seen = replicate stripes [];
-  said = [];
+  stored = [];
   known = [];
 }
 

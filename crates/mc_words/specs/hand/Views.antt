@@ -33,7 +33,7 @@ view_with_knowledge knows view = record view { row = record view.row { knows = k
 
 -- the hand found a word by a look
 abbrev pub view_after_sight : SeenWord → View → View
-view_after_sight sight view = view_with_knowledge (record view.row.knows { saw = view.row.knows.saw ++ sight ∷ [] }) view
+view_after_sight sight view = view_with_knowledge (record view.row.knows { seen_words = view.row.knows.seen_words ++ sight ∷ [] }) view
 
 -- what the hand saw or did under the slabs lock is now this, the oldest first
 abbrev pub view_with_looks : List Look → View → View

@@ -36,5 +36,5 @@ pub record IsWordOfItem (moment : Moment) (chunk : ChunkId) (place word : ℕ) :
   pub item : KnownItem
   pub known : Contains (slice_index_or moment.past.known hand []) item
   pub there : item.chunk ≡ chunk
-  pub said : WasStored moment.past.said (stamp_in_words item.words) item.words
+  pub stored : WasStored moment.past.stored (stamp_in_words item.words) item.words
   pub is_word : place < length item.words → slice_index item.words place ≡ word

@@ -38,7 +38,7 @@ item_linked number stripe value key stamp chunk issue words room view = record v
     looks = view.row.looks;
     knows = record view.row.knows {
       mine = map (with_own_call number stripe (Set number key stamp)) view.row.knows.mine;
-      said = view.row.knows.said ++ record { stamp = stamp; words = numbers_of_known (words_of_item words) } ∷ [];
+      stored = view.row.knows.stored ++ record { stamp = stamp; words = numbers_of_known (words_of_item words) } ∷ [];
       known = view.row.knows.known ++ known_by room (reference_to chunk issue (numbers_of_known (words_of_item words))) ∷ [];
     };
   };

@@ -44,7 +44,7 @@ pub record WaitsForStripe (stripe : ℕ) (view : View) (value : ReadyStripe) (no
 -- the slabs lock was taken at one of this many tries
 pub record TakesSlabsWithin (tries : ℕ) (view : View) (slabs : SlabState) (now : View) : Type 0 where
   pub waits : WaitsForSlabs view slabs now
-  pub few : length waits.words < tries
+  pub within_limit : length waits.words < tries
 
 -- the hand tried for the slabs lock this many times, and its word was never 0
 pub record MissesSlabsEachTime (tries : ℕ) (view now : View) : Type 0 where
@@ -56,7 +56,7 @@ pub record MissesSlabsEachTime (tries : ℕ) (view now : View) : Type 0 where
 -- the stripe's lock was taken at one of this many tries
 pub record TakesStripeWithin (tries stripe : ℕ) (view : View) (value : ReadyStripe) (now : View) : Type 0 where
   pub waits : WaitsForStripe stripe view value now
-  pub few : length waits.words < tries
+  pub within_limit : length waits.words < tries
 
 -- the hand tried for the stripe's lock this many times, and its word was never 0
 pub record MissesStripeEachTime (tries stripe : ℕ) (view now : View) : Type 0 where

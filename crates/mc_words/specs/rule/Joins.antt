@@ -25,9 +25,9 @@ pub record Joins (view : View) (row : Row) (events : List OwnEvent) (now : View)
 -- what a hand stored and knows agrees: one stamp has one item's words, one chunk with one issue has one item, and a known item's words are
 -- those stored with its stamp
 pub record KnowledgeAgrees (knows : Knowledge) : Type 0 where
-  pub said : (a b : StoredItem) → Contains knows.said a → Contains knows.said b → a.stamp ≡ b.stamp → a.words ≡ b.words
+  pub stored : (a b : StoredItem) → Contains knows.stored a → Contains knows.stored b → a.stamp ≡ b.stamp → a.words ≡ b.words
   pub known : (a b : KnownItem) → Contains knows.known a → Contains knows.known b → a.chunk ≡ b.chunk → a.issue ≡ b.issue → a.words ≡ b.words
-  pub both : (s : StoredItem) (k : KnownItem) → Contains knows.said s → Contains knows.known k → s.stamp ≡ stamp_in_words k.words → s.words ≡ k.words
+  pub both : (s : StoredItem) (k : KnownItem) → Contains knows.stored s → Contains knows.known k → s.stamp ≡ stamp_in_words k.words → s.words ≡ k.words
 
 -- a view that was made of two rows was made by a join
 abbrev pub IsMade : View → Type 0

@@ -88,7 +88,7 @@ impl Final {
 
     /// The word of a chunk's header.
     pub fn head(&self, chunk: ChunkId) -> u64
-        requires near { has_chunk self.now.setup.table chunk ≡ true }
+        requires in_range { has_chunk self.now.setup.table chunk ≡ true }
         ensures word { result ≡ slice_index self.now.heads (head_place self.now.setup.table chunk) }
     {
         let word = self.first_head + chunk.page as usize * self.most + chunk.index as usize;
@@ -111,7 +111,7 @@ impl Final {
 
     /// Index and history of a stripe, unless a hand has them.
     pub fn stripe(&self, stripe: u64) -> Option<&Stripe>
-        requires near { stripe < self.now.setup.config.stripes }
+        requires in_range { stripe < self.now.setup.config.stripes }
         ensures stripe { option_map (λ value. value.now) result ≡ slice_index_or self.now.stripes stripe None }
     {
         let closed = &self.closed;
@@ -129,7 +129,7 @@ impl Final {
 
     /// Who owns a page, as the ledger's entries make it; None where a hand has pages and lists.
     pub fn owner(&self, page: PageId) -> Option<Owner>
-        requires near { page < arena_pages_of self.now.setup.table }
+        requires in_range { page < arena_pages_of self.now.setup.table }
         ensures owner { result ≡ option_map (λ slabs. owner_at slabs.owners page) self.now.slabs }
         ensures accounted { IfSome self.now.slabs (λ slabs. IsAccounted slabs) }
     {

@@ -44,7 +44,7 @@ impl Plan {
     /// How many hands the arena has.
     pub(crate) fn hands(&self) -> u64
         ensures hands { result ≡ self.now.hands }
-        ensures few { (1 ≤ result) × (result ≤ 64) }
+        ensures within_limit { (1 ≤ result) × (result ≤ 64) }
     {
         self.hands
     }

@@ -23,7 +23,7 @@ impl Arena {
     /// (slabs.c's `slab_rebalance_move`, where it finds `MOVE_FROM_SLAB`)
     pub fn clear(&self, hand: &mut Hand, held: &mut SlabsHeld, chunk: ChunkId) -> Result<(), Moved>
         requires arena { IsHandOf self.now hand.old }
-        requires near { has_chunk (setup_of self.now).table chunk ≡ true }
+        requires in_range { has_chunk (setup_of self.now).table chunk ≡ true }
         requires held { (view hand.old).slabs ≡ Some held.old.shared }
         requires moving { is_on_the_move held.old.shared chunk.page ≡ true }
         ensures arena { IsHandOf self.now hand.new }

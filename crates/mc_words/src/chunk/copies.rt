@@ -85,7 +85,7 @@ impl Arena {
     // Whether the chunk is off the page and isn't used up.
     fn is_fit(&self, hand: &mut Hand, held: &SlabsHeld, page: PageId, chunk: ChunkId) -> bool
         requires arena { IsHandOf self.now hand.old }
-        requires near { has_chunk (setup_of self.now).table chunk ≡ true }
+        requires in_range { has_chunk (setup_of self.now).table chunk ≡ true }
         requires held { (view hand.old).slabs ≡ Some held.now.shared }
         ensures arena { IsHandOf self.now hand.new }
         ensures locks { hand.new.locks ≡ hand.old.locks }

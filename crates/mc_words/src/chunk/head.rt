@@ -18,7 +18,7 @@ impl Arena {
     #[inline(always)]
     pub fn head(&self, hand: &mut Hand, chunk: ChunkId) -> u64
         requires arena { IsHandOf self.now hand.old }
-        requires near { has_chunk (setup_of self.now).table chunk ≡ true }
+        requires in_range { has_chunk (setup_of self.now).table chunk ≡ true }
         ensures arena { IsHandOf self.now hand.new }
         ensures locks { hand.new.locks ≡ hand.old.locks }
         ensures happens { Happens (view hand.old) [] (step.Head chunk) (view hand.new) }
@@ -32,7 +32,7 @@ impl Arena {
     #[inline(always)]
     pub(crate) fn head_at(&self, hand: &mut Hand, word: usize, chunk: ChunkId) -> u64
         requires arena { IsHandOf self.now hand.old }
-        requires near { has_chunk (setup_of self.now).table chunk ≡ true }
+        requires in_range { has_chunk (setup_of self.now).table chunk ≡ true }
         requires word { word ≡ head_word (setup_of self.now) chunk }
         requires within { word < self.now.table.shared.table_id.words }
         ensures arena { IsHandOf self.now hand.new }

@@ -76,7 +76,7 @@ impl Arena {
         chunk: ChunkId,
     ) -> Result<(), Moved>
         requires arena { IsHandOf self.now hand.old }
-        requires near { has_chunk (setup_of self.now).table chunk ≡ true }
+        requires in_range { has_chunk (setup_of self.now).table chunk ≡ true }
         requires held { (view hand.old).slabs ≡ Some held.old.shared }
         ensures arena { IsHandOf self.now hand.new }
         ensures locks { hand.new.locks ≡ hand.old.locks }

@@ -116,7 +116,7 @@ impl Arena {
     )
         requires arena { IsHandOf self.now hand.old }
         requires page { first.page < arena_pages_of (setup_of self.now).table }
-        requires few { first.index ≤ most_page_chunks }
+        requires within_limit { first.index ≤ most_page_chunks }
         requires most { per_page ≤ most_of (setup_of self.now).table }
         requires held { (view hand.old).slabs ≡ Some held.now.shared }
         requires out { AreHandedOut (setup_of self.now).table held.now.shared (class_of_page held.now.shared first.page) dead.old }

@@ -65,7 +65,7 @@ impl Arena {
     // Puts back these chunks, where they are dead.
     fn put_back_each(&self, hand: &mut Hand, held: &mut SlabsHeld, chunks: &[ChunkId])
         requires arena { IsHandOf self.now hand.old }
-        requires near { (chunk : ChunkId) → Contains chunks.now chunk → has_chunk (setup_of self.now).table chunk ≡ true }
+        requires in_range { (chunk : ChunkId) → Contains chunks.now chunk → has_chunk (setup_of self.now).table chunk ≡ true }
         requires held { (view hand.old).slabs ≡ Some held.old.shared }
         ensures arena { IsHandOf self.now hand.new }
         ensures locks { hand.new.locks ≡ hand.old.locks }

@@ -25,7 +25,7 @@ impl Arena {
     /// is refused, so a place is left for a reference under a lock. (own)
     pub fn again(&self, hand: &mut Hand, hint: Hint) -> Result<Ref, Again>
         requires arena { IsHandOf self.now hand.old }
-        requires near { has_chunk (setup_of self.now).table hint.chunk ≡ true }
+        requires in_range { has_chunk (setup_of self.now).table hint.chunk ≡ true }
         ensures arena { IsHandOf self.now hand.new }
         ensures locks { hand.new.locks ≡ hand.old.locks }
         ensures hinted { IfOk result (λ r. (r.chunk ≡ hint.chunk) × (r.issue ≡ hint.issue)) }
@@ -34,7 +34,7 @@ impl Arena {
         ensures known { IfOk result (λ r. (k : KnownItem) → Contains (view hand.old).row.knows.known k → k.chunk ≡ hint.chunk → k.issue ≡ hint.issue → held_item (view hand.new) r.chunk ≡ k.words) }
         ensures gone { result ≡ Err Again.Gone → FindsGone (view hand.old) hint.chunk hint.issue (view hand.new) }
         ensures contended { result ≡ Err Again.Contended → FindsContended (view hand.old) hint.chunk hint.issue (view hand.new) }
-        ensures many { (result ≡ Err Again.TooManyRefs) ↔ (most_refs ≤ length (view hand.old).row.holdings) }
+        ensures at_limit { (result ≡ Err Again.TooManyRefs) ↔ (most_refs ≤ length (view hand.old).row.holdings) }
         ensures refused { result ≡ Err Again.TooManyRefs → view hand.new ≡ view hand.old }
     {
         if hand.chunks >= MOST_REFS {
@@ -54,8 +54,8 @@ impl Arena {
     // Gets the reference, if the header is as it was seen. Otherwise finds its word.
     fn refer_again(&self, hand: &mut Hand, hint: Hint, head: u64) -> Result<Ref, u64>
         requires arena { IsHandOf self.now hand.old }
-        requires near { has_chunk (setup_of self.now).table hint.chunk ≡ true }
-        requires few { length (view hand.old).row.holdings < most_refs }
+        requires in_range { has_chunk (setup_of self.now).table hint.chunk ≡ true }
+        requires within_limit { length (view hand.old).row.holdings < most_refs }
         requires there { hints.is_there hint.issue (decode head) ≡ true }
         requires small { head + 1 < 2 ^ 64 }
         ensures arena { IsHandOf self.now hand.new }

@@ -17,7 +17,7 @@ impl Arena {
     pub fn fill(&self, hand: &mut Hand, fresh: &mut Fresh, place: u64, word: u64)
         requires arena { IsHandOf self.now hand.old }
         requires fresh { IsFreshOf (view hand.old) fresh.old.chunk fresh.old.room }
-        requires near { place < fresh.old.room }
+        requires in_range { place < fresh.old.room }
         ensures arena { IsHandOf self.now hand.new }
         ensures locks { hand.new.locks ≡ hand.old.locks }
         ensures same { (fresh.new.chunk ≡ fresh.old.chunk) × (fresh.new.room ≡ fresh.old.room) }

@@ -28,7 +28,7 @@ impl Arena {
         chunk: ChunkId,
     ) -> Result<(), Moved>
         requires arena { IsHandOf self.now hand.old }
-        requires near { has_chunk (setup_of self.now).table chunk ≡ true }
+        requires in_range { has_chunk (setup_of self.now).table chunk ≡ true }
         requires slabs { (view hand.old).slabs ≡ Some slabs.old.shared }
         requires stripe { slice_index_or (view hand.old).stripes stripe.old.number None ≡ Some stripe.old.stripe }
         requires ready { stripe.old.stripe.ready ≡ true }

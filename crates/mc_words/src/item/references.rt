@@ -39,12 +39,12 @@ impl Arena {
         ensures locks { hand.new.locks ≡ hand.old.locks }
         ensures number { held.new.number ≡ held.old.number }
         ensures held { slice_index_or (view hand.new).stripes held.new.number None ≡ Some held.new.stripe }
-        ensures told { OnOk result (held.new.stripe ≡ used_up (after_got held.old.stripe.state hand.old.number key)) }
+        ensures records { OnOk result (held.new.stripe ≡ used_up (after_got held.old.stripe.state hand.old.number key)) }
         ensures gets { IfOk result (λ found. IfSome found (λ r. GetsItem (view hand.old) hand.old.number held.old.number held.old.stripe key r.chunk r.issue r.room (view hand.new))) }
         ensures reference { IfOk result (λ found. IfSome found (λ r. IsRefOf (view hand.new) r.chunk r.room × IsIssueOf (view hand.new) r.chunk r.issue)) }
         ensures none { result ≡ Ok None → (chunk_and_stamp held.old.stripe.state key ≡ None) × Happens (view hand.old) (change.GotNone key ∷ []) (step.MissStripe held.old.number) (view hand.new) }
         ensures view { result ≡ Ok None → view hand.new ≡ key_missed hand.old.number held.old.number held.old.stripe key (view hand.old) }
-        ensures many { IsErr result ↔ (most_holdings ≤ length (view hand.old).row.holdings) }
+        ensures at_limit { IsErr result ↔ (most_holdings ≤ length (view hand.old).row.holdings) }
         ensures refused { OnErr result ((held.new ≡ held.old) × (view hand.new ≡ view hand.old)) }
     {
         if hand.chunks >= MOST_HOLDINGS {
@@ -61,12 +61,12 @@ impl Arena {
         requires held { slice_index_or (view hand.old).stripes held.old.number None ≡ Some held.old.stripe }
         requires ready { held.old.stripe.ready ≡ true }
         requires inside { is_aside held.old.stripe.state key ≡ false }
-        requires few { length (view hand.old).row.holdings < most_holdings }
+        requires within_limit { length (view hand.old).row.holdings < most_holdings }
         ensures arena { IsHandOf self.now hand.new }
         ensures locks { hand.new.locks ≡ hand.old.locks }
         ensures number { held.new.number ≡ held.old.number }
         ensures held { slice_index_or (view hand.new).stripes held.new.number None ≡ Some held.new.stripe }
-        ensures told { held.new.stripe ≡ used_up (after_got held.old.stripe.state hand.old.number key) }
+        ensures records { held.new.stripe ≡ used_up (after_got held.old.stripe.state hand.old.number key) }
         ensures gets { IfSome result (λ r. GetsItem (view hand.old) hand.old.number held.old.number held.old.stripe key r.chunk r.issue r.room (view hand.new)) }
         ensures reference { IfSome result (λ r. IsRefOf (view hand.new) r.chunk r.room × IsIssueOf (view hand.new) r.chunk r.issue) }
         ensures none { result ≡ None → (chunk_and_stamp held.old.stripe.state key ≡ None) × Happens (view hand.old) (change.GotNone key ∷ []) (step.MissStripe held.old.number) (view hand.new) }
@@ -91,7 +91,7 @@ impl Arena {
         requires ready { held.now.stripe.ready ≡ true }
         requires inside { is_aside held.now.stripe.state key ≡ false }
         requires leads { (stamp : ℕ) × (chunk_and_stamp held.now.stripe.state key ≡ Some (chunk, stamp)) }
-        requires few { length (view hand.old).row.holdings < most_holdings }
+        requires within_limit { length (view hand.old).row.holdings < most_holdings }
         ensures arena { IsHandOf self.now hand.new }
         ensures locks { hand.new.locks ≡ hand.old.locks }
         ensures number { hand.new.number ≡ hand.old.number }

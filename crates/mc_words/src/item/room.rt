@@ -12,7 +12,7 @@ use mc_pages::ChunkId;
 impl Arena {
     // The word as it is now, by a load that is no event.
     fn peek(&self, seat: &mut HandSeat, word: usize) -> u64
-        requires near { word < self.now.table.shared.table_id.words }
+        requires in_range { word < self.now.table.shared.table_id.words }
         requires seat { IsOfArena self.now seat.old.table_id seat.old.me.0 }
         ensures table { seat.new.table_id ≡ seat.old.table_id }
         ensures same { seat.new.me ≡ seat.old.me }

@@ -35,7 +35,7 @@ impl Arena {
     pub fn word(&self, hand: &mut Hand, reference: &Ref, place: u64) -> u64
         requires arena { IsHandOf self.now hand.old }
         requires reference { IsRefOf (view hand.old) reference.now.chunk reference.now.room }
-        requires near { place < length (held_item (view hand.old) reference.now.chunk) }
+        requires in_range { place < length (held_item (view hand.old) reference.now.chunk) }
         ensures arena { IsHandOf self.now hand.new }
         ensures locks { hand.new.locks ≡ hand.old.locks }
         ensures happens { Happens (view hand.old) [] (step.Word reference.now.chunk place) (view hand.new) }
@@ -72,7 +72,7 @@ impl Arena {
     fn word_at(&self, hand: &mut Hand, reference: &Ref, place: u64, at: usize) -> u64
         requires arena { IsHandOf self.now hand.old }
         requires reference { IsRefOf (view hand.old) reference.now.chunk reference.now.room }
-        requires near { place < length (held_item (view hand.old) reference.now.chunk) }
+        requires in_range { place < length (held_item (view hand.old) reference.now.chunk) }
         requires at { at ≡ data_word (setup_of self.now) reference.now.room reference.now.chunk place }
         requires inside { at < self.now.table.shared.table_id.words }
         ensures arena { IsHandOf self.now hand.new }
@@ -90,7 +90,7 @@ impl Arena {
     /// many words come after these three, which fit the chunk. It is a word of an item that some hand knows. The read counts as a look. (own, for the key that items.c's `do_item_alloc_pull` finds in an item)
     pub fn word_held(&self, hand: &mut Hand, held: &SlabsHeld, chunk: ChunkId, place: u64) -> u64
         requires arena { IsHandOf self.now hand.old }
-        requires near { has_chunk (setup_of self.now).table chunk ≡ true }
+        requires in_range { has_chunk (setup_of self.now).table chunk ≡ true }
         requires held { (view hand.old).slabs ≡ Some held.now.shared }
         requires linked { was_linked (view hand.old).row.looks chunk ≡ true }
         requires inside { place < room_in (setup_of self.now).table (class_of_page held.now.shared chunk.page) }

@@ -22,7 +22,7 @@ impl Arena {
     pub(crate) fn take(&self, seat: &mut HandSeat, number: u64, lock: Lock) -> Option<Slot>
         ghost told: { Lock }
         requires is { told ≡ lock }
-        requires near { IsLockOf (setup_of self.now) told }
+        requires in_range { IsLockOf (setup_of self.now) told }
         requires seat { IsOfArena self.now seat.old.table_id seat.old.me.0 }
         requires number { (seat.old.me.0.row.ids.number ≡ Some number) × (number < 64) }
         ensures seat { IsOfArena self.now seat.new.table_id seat.new.me.0 }
@@ -49,7 +49,7 @@ impl Arena {
     pub(crate) fn give(&self, seat: &mut HandSeat, lock: Lock, value: Slot)
         ghost told: { Lock × Slot }
         requires is { told ≡ (lock, value) }
-        requires near { IsLockOf (setup_of self.now) told.0 }
+        requires in_range { IsLockOf (setup_of self.now) told.0 }
         requires seat { IsOfArena self.now seat.old.table_id seat.old.me.0 }
         requires last { (more : List ℕ) × (slots_out seat.old.me.1 ≡ slot_of told.0 ∷ more) }
         requires value { HasValue seat.old.me.0 told.0 told.1 }

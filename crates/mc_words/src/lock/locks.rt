@@ -33,7 +33,7 @@ pub enum Lock {
 impl Lock {
     /// The number of the lock.
     pub(crate) fn number(self) -> usize
-        requires few { lock_number self < 2 ^ 59 }
+        requires within_limit { lock_number self < 2 ^ 59 }
         ensures number { result ≡ lock_number self }
     {
         match self {
@@ -44,7 +44,7 @@ impl Lock {
 
     /// The word of the lock.
     pub(crate) fn word(self) -> usize
-        requires few { lock_number self < 2 ^ 59 }
+        requires within_limit { lock_number self < 2 ^ 59 }
         ensures word { result ≡ lock_address (lock_number self) }
     {
         WORDS_APART * (1 + self.number())
@@ -52,7 +52,7 @@ impl Lock {
 
     /// The slot of the value behind it.
     pub(crate) fn slot(self) -> usize
-        requires few { lock_number self < 2 ^ 59 }
+        requires within_limit { lock_number self < 2 ^ 59 }
         ensures slot { result ≡ slot_of self }
     {
         SLOTS_APART * self.number()

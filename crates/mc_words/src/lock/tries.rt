@@ -41,7 +41,7 @@ impl Arena {
     /// Takes the lock of a stripe, if it is free, for a hand that has no stripe's.
     pub fn try_stripe(&self, hand: &mut Hand, stripe: u64) -> Result<StripeHeld, Held>
         requires arena { IsHandOf self.now hand.old }
-        requires near { stripe < (setup_of self.now).config.stripes }
+        requires in_range { stripe < (setup_of self.now).config.stripes }
         requires one { has_no_stripes (view hand.old) ≡ true }
         ensures arena { IsHandOf self.now hand.new }
         ensures number { IfOk result (λ held. held.number ≡ stripe) }
@@ -86,7 +86,7 @@ impl Arena {
     /// Gives a stripe's lock back, with no entry aside.
     pub fn give_stripe(&self, hand: &mut Hand, held: StripeHeld)
         requires arena { IsHandOf self.now hand.old }
-        requires near { held.number < (setup_of self.now).config.stripes }
+        requires in_range { held.number < (setup_of self.now).config.stripes }
         requires held { slice_index_or (view hand.old).stripes held.number None ≡ Some held.stripe }
         requires empty { held.stripe.state.aside ≡ None }
         ensures arena { IsHandOf self.now hand.new }

@@ -33,7 +33,7 @@ impl Arena {
     // The word of a stripe's lock, as it is now. Whatever it is, the model's event is that of a miss.
     fn stripe_word(&self, hand: &mut Hand, stripe: u64) -> u64
         requires arena { IsHandOf self.now hand.old }
-        requires near { stripe < (setup_of self.now).config.stripes }
+        requires in_range { stripe < (setup_of self.now).config.stripes }
         ensures arena { IsHandOf self.now hand.new }
         ensures locks { hand.new.locks ≡ hand.old.locks }
         ensures happens { Happens (view hand.old) [] (step.MissStripe stripe) (view hand.new) }
@@ -73,7 +73,7 @@ impl Arena {
     #[inline(always)]
     pub fn lock_stripe<R: Wait>(&self, rt: &R, hand: &mut Hand, stripe: u64) -> StripeHeld
         requires arena { IsHandOf self.now hand.old }
-        requires near { stripe < (setup_of self.now).config.stripes }
+        requires in_range { stripe < (setup_of self.now).config.stripes }
         requires unlocked { is_unlocked (view hand.old) ≡ true }
         ensures arena { IsHandOf self.now hand.new }
         ensures number { result.number ≡ stripe }
@@ -91,7 +91,7 @@ impl Arena {
     #[inline(never)]
     fn wait_for_stripe<R: Wait>(&self, rt: &R, hand: &mut Hand, stripe: u64) -> StripeHeld
         requires arena { IsHandOf self.now hand.old }
-        requires near { stripe < (setup_of self.now).config.stripes }
+        requires in_range { stripe < (setup_of self.now).config.stripes }
         requires unlocked { is_unlocked (view hand.old) ≡ true }
         ensures arena { IsHandOf self.now hand.new }
         ensures number { result.number ≡ stripe }

@@ -44,7 +44,7 @@ impl Arena {
         tries: u64,
     ) -> Result<StripeHeld, Held>
         requires arena { IsHandOf self.now hand.old }
-        requires near { stripe < (setup_of self.now).config.stripes }
+        requires in_range { stripe < (setup_of self.now).config.stripes }
         requires unlocked { is_unlocked (view hand.old) ≡ true }
         ensures arena { IsHandOf self.now hand.new }
         ensures number { IfOk result (λ held. held.number ≡ stripe) }

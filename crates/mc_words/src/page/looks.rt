@@ -168,7 +168,7 @@ impl Arena {
         dead: &mut DeadChunks,
     )
         requires arena { IsHandOf self.now hand.old }
-        requires near { has_chunk (setup_of self.now).table chunk ≡ true }
+        requires in_range { has_chunk (setup_of self.now).table chunk ≡ true }
         requires word { word ≡ head_word (setup_of self.now) chunk }
         requires within { word < self.now.table.shared.table_id.words }
         requires held { (view hand.old).slabs ≡ Some held.now.shared }

@@ -13,9 +13,9 @@ impl Arena {
     /// The word of a page.
     #[inline(always)]
     pub(crate) fn page_word(&self, page: PageId) -> usize
-        requires near { page < arena_pages_of (setup_of self.now).table }
+        requires in_range { page < arena_pages_of (setup_of self.now).table }
         ensures word { result ≡ page_word (setup_of self.now) page }
-        ensures near { result < self.now.table.shared.table_id.words }
+        ensures in_range { result < self.now.table.shared.table_id.words }
     {
         self.first_page + page as usize
     }
@@ -23,9 +23,9 @@ impl Arena {
     /// The word of a chunk's header.
     #[inline(always)]
     pub(crate) fn head_word(&self, chunk: ChunkId) -> usize
-        requires near { has_chunk (setup_of self.now).table chunk ≡ true }
+        requires in_range { has_chunk (setup_of self.now).table chunk ≡ true }
         ensures word { result ≡ head_word (setup_of self.now) chunk }
-        ensures near { result < self.now.table.shared.table_id.words }
+        ensures in_range { result < self.now.table.shared.table_id.words }
     {
         self.first_head + chunk.page as usize * self.most + chunk.index as usize
     }
@@ -33,9 +33,9 @@ impl Arena {
     /// The word of the header of a page's first chunk. Those of its other chunks are behind it, in their order.
     #[inline(always)]
     pub(crate) fn heads_of_page(&self, page: PageId) -> usize
-        requires near { page < arena_pages_of (setup_of self.now).table }
+        requires in_range { page < arena_pages_of (setup_of self.now).table }
         ensures words { (index : ℕ) → head_word (setup_of self.now) (record { page = page; index = index }) ≡ result + index }
-        ensures near { result + most_of (setup_of self.now).table ≤ self.now.table.shared.table_id.words }
+        ensures in_range { result + most_of (setup_of self.now).table ≤ self.now.table.shared.table_id.words }
     {
         self.first_head + page as usize * self.most
     }
@@ -43,9 +43,9 @@ impl Arena {
     /// A data word of a chunk with room for n words.
     #[inline(always)]
     pub(crate) fn data_word(&self, room: u64, chunk: ChunkId, place: u64) -> usize
-        requires near { data_word (setup_of self.now) room chunk place < config_from (setup_of self.now) }
+        requires in_range { data_word (setup_of self.now) room chunk place < config_from (setup_of self.now) }
         ensures word { result ≡ data_word (setup_of self.now) room chunk place }
-        ensures near { result < self.now.table.shared.table_id.words }
+        ensures in_range { result < self.now.table.shared.table_id.words }
     {
         let offset = chunk.page * self.words_a_page + chunk.index * room + place;
         self.first_data + offset as usize

@@ -18,7 +18,7 @@ impl Arena {
         ghost told: { Step }
         requires is { told ≡ step }
         requires still { keeps_locks_and_hands told ≡ true }
-        requires near { word < self.now.table.shared.table_id.words }
+        requires in_range { word < self.now.table.shared.table_id.words }
         requires seat { IsOfArena self.now seat.old.table_id seat.old.me.0 }
         requires may { MayWrite seat.old.me.0 told word (λ found. found) }
         ensures seat { IsOfArena self.now seat.new.table_id seat.new.me.0 }
@@ -35,7 +35,7 @@ impl Arena {
         ghost told: { Step }
         requires is { told ≡ step }
         requires still { keeps_locks_and_hands told ≡ true }
-        requires near { word < self.now.table.shared.table_id.words }
+        requires in_range { word < self.now.table.shared.table_id.words }
         requires seat { IsOfArena self.now seat.old.table_id seat.old.me.0 }
         requires may { MayWrite seat.old.me.0 told word (λ found. new) }
         ensures seat { IsOfArena self.now seat.new.table_id seat.new.me.0 }
@@ -52,7 +52,7 @@ impl Arena {
         ghost told: { Step }
         requires is { told ≡ step }
         requires still { keeps_locks_and_hands told ≡ true }
-        requires near { word < self.now.table.shared.table_id.words }
+        requires in_range { word < self.now.table.shared.table_id.words }
         requires seat { IsOfArena self.now seat.old.table_id seat.old.me.0 }
         requires may { MayWrite seat.old.me.0 told word (word_plus more) }
         ensures seat { IsOfArena self.now seat.new.table_id seat.new.me.0 }
@@ -69,7 +69,7 @@ impl Arena {
         ghost told: { Step }
         requires is { told ≡ step }
         requires still { keeps_locks_and_hands told ≡ true }
-        requires near { word < self.now.table.shared.table_id.words }
+        requires in_range { word < self.now.table.shared.table_id.words }
         requires seat { IsOfArena self.now seat.old.table_id seat.old.me.0 }
         requires may { MayWrite seat.old.me.0 told word (word_plus more) }
         ensures seat { IsOfArena self.now seat.new.table_id seat.new.me.0 }
@@ -86,7 +86,7 @@ impl Arena {
         ghost told: { Step }
         requires is { told ≡ step }
         requires still { keeps_locks_and_hands told ≡ true }
-        requires near { word < self.now.table.shared.table_id.words }
+        requires in_range { word < self.now.table.shared.table_id.words }
         requires seat { IsOfArena self.now seat.old.table_id seat.old.me.0 }
         requires may { MayWrite seat.old.me.0 told word (word_minus less) }
         ensures seat { IsOfArena self.now seat.new.table_id seat.new.me.0 }
@@ -111,7 +111,7 @@ impl Arena {
         ghost told: { Step × Step }
         requires is { told ≡ (step, look) }
         requires still { (keeps_locks_and_hands told.0 ≡ true) × (keeps_locks_and_hands told.1 ≡ true) }
-        requires near { word < self.now.table.shared.table_id.words }
+        requires in_range { word < self.now.table.shared.table_id.words }
         requires seat { IsOfArena self.now seat.old.table_id seat.old.me.0 }
         requires may { MayExchange seat.old.me.0 told.0 word expected new }
         requires may_look { MayWrite seat.old.me.0 told.1 word (λ found. found) }
@@ -132,7 +132,7 @@ impl Arena {
         ghost told: { Change × Step }
         requires is { told ≡ (change, step) }
         requires still { keeps_locks_and_hands told.1 ≡ true }
-        requires near { word < self.now.table.shared.table_id.words }
+        requires in_range { word < self.now.table.shared.table_id.words }
         requires seat { IsOfArena self.now seat.old.table_id seat.old.me.0 }
         requires may { AllowsStep seat.old.me.0 told.0 told.1 word (λ found. found) }
         ensures seat { IsOfArena self.now seat.new.table_id seat.new.me.0 }
@@ -156,7 +156,7 @@ impl Arena {
         ghost told: { Change × Step }
         requires is { told ≡ (change, step) }
         requires still { keeps_locks_and_hands told.1 ≡ true }
-        requires near { word < self.now.table.shared.table_id.words }
+        requires in_range { word < self.now.table.shared.table_id.words }
         requires seat { IsOfArena self.now seat.old.table_id seat.old.me.0 }
         requires may { AllowsStep seat.old.me.0 told.0 told.1 word (λ found. class) }
         ensures seat { IsOfArena self.now seat.new.table_id seat.new.me.0 }

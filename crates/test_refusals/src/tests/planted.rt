@@ -39,7 +39,7 @@ const CALLS: [Call; 10] = [
 fn hint_again<R: Wait>(rt: &R, arena: &Arena, hand: &mut Hand, key: Key) -> Option<Hint>
     requires arena { IsReadyHandOf arena.now hand.old }
     ensures arena { IsReadyHandOf arena.now hand.new }
-    ensures near { IfSome result (λ hint. has_chunk (setup_of arena.now).table (hint_chunk hint) ≡ true) }
+    ensures in_range { IfSome result (λ hint. has_chunk (setup_of arena.now).table (hint_chunk hint) ≡ true) }
 {
     match hint_of(rt, arena, hand, key) {
         Some(hint) => Some(hint),
@@ -50,7 +50,7 @@ fn hint_again<R: Wait>(rt: &R, arena: &Arena, hand: &mut Hand, key: Key) -> Opti
 /// A call that reports that memory was refused to it, and left a header changed: the chunk is held for good.
 fn refused_but_held(arena: &Arena, reader: &mut Hand, hint: Hint) -> Answer
     requires arena { IsReadyHandOf arena.now reader.old }
-    requires near { has_chunk (setup_of arena.now).table (hint_chunk hint) ≡ true }
+    requires in_range { has_chunk (setup_of arena.now).table (hint_chunk hint) ≡ true }
 {
     match again(arena, reader, hint) {
         Ok(_) => Answer::NoMemory,

@@ -30,7 +30,7 @@ fn item_of<R: Wait>(
     requires arena { IsReadyHandOf arena.now hand.old }
     ensures arena { IsReadyHandOf arena.now hand.new }
     ensures item { IfOk result (λ found. IfSome found (λ item. IsItemRef (view hand.new) item)) }
-    ensures near { IfOk result (λ found. IfSome found (λ item. has_chunk (setup_of arena.now).table (item_chunk item) ≡ true)) }
+    ensures in_range { IfOk result (λ found. IfSome found (λ item. has_chunk (setup_of arena.now).table (item_chunk item) ≡ true)) }
     ensures holdings { IfOk result (λ found. HoldsToo found (view hand.old) (view hand.new)) }
     ensures no_more { OnErr result (HoldsTheSame (view hand.old) (view hand.new)) }
     ensures keeps { KeepsRefs (view hand.old) (view hand.new) }
@@ -58,7 +58,7 @@ pub fn keep_key<R: Wait>(
 ) -> Result<Option<(Hint, Stamp)>, Refused>
     requires keeper { IsKeeperOf arena.now hand.old kept.old.items }
     ensures keeper { IsKeeperOf arena.now hand.new kept.new.items }
-    ensures near { IfOk result (λ found. IfSome found (λ note. IsNear arena.now note.0)) }
+    ensures in_range { IfOk result (λ found. IfSome found (λ note. IsNear arena.now note.0)) }
 {
     let Ok(()) = kept.reserve(1) else {
         return Err(Refused);
@@ -83,7 +83,7 @@ pub fn keep_again(
     note: (Hint, Stamp),
 ) -> Result<bool, Again>
     requires keeper { IsKeeperOf arena.now hand.old kept.old.items }
-    requires near { IsNear arena.now note.0 }
+    requires in_range { IsNear arena.now note.0 }
     ensures keeper { IsKeeperOf arena.now hand.new kept.new.items }
 {
     let Ok(()) = kept.reserve(1) else {

@@ -73,8 +73,8 @@ pub type Hints = Vec<Option<(Hint, Stamp)>>;
 
 /// The hint of a key.
 fn hint_of(_arena: &Arena, hints: &Hints, key: Key) -> Option<(Hint, Stamp)>
-    requires near { AreNear _arena.now hints.now.items }
-    ensures near { IfSome result (λ note. IsNear _arena.now note.0) }
+    requires in_range { AreNear _arena.now hints.now.items }
+    ensures in_range { IfSome result (λ note. IsNear _arena.now note.0) }
 {
     let place = key as usize;
     if place < hints.len() {
@@ -86,9 +86,9 @@ fn hint_of(_arena: &Arena, hints: &Hints, key: Key) -> Option<(Hint, Stamp)>
 
 /// Makes this the hint of a key from now on.
 fn note_hint(_arena: &Arena, hints: &mut Hints, key: Key, note: (Hint, Stamp))
-    requires near { AreNear _arena.now hints.old.items }
+    requires in_range { AreNear _arena.now hints.old.items }
     requires note { IsNear _arena.now note.0 }
-    ensures near { AreNear _arena.now hints.new.items }
+    ensures in_range { AreNear _arena.now hints.new.items }
 {
     let place = key as usize;
     if place < hints.len() {
@@ -246,7 +246,7 @@ fn do_round<R: Wait>(rt: &R, alloc: Global, arena: &Arena, keeper: &mut Keeper, 
 
 /// No hints.
 pub fn no_hints(alloc: Global, _arena: &Arena) -> Result<Hints, AllocError>
-    ensures near { IfOk result (λ hints. AreNear _arena.now hints.items) }
+    ensures in_range { IfOk result (λ hints. AreNear _arena.now hints.items) }
 {
     let mut hints = Vec::new(alloc);
     hints.resize(KEYS as usize, None)?;

@@ -115,7 +115,7 @@ fn do_lines<R: Wait>(rt: &R, alloc: Global, arena: &Arena, hand: &mut Hand, roun
 #[tactic(auto, using(testlib_hands::proofs::Kept::nothing_left))]
 fn read_again(alloc: Global, arena: &Arena, hand: &mut Hand, hint: Hint, key: Key) -> bool
     requires arena { IsEmptyHandOf arena.now hand.old }
-    requires near { has_chunk (setup_of arena.now).table (hint_chunk hint) ≡ true }
+    requires in_range { has_chunk (setup_of arena.now).table (hint_chunk hint) ≡ true }
     ensures arena { IsEmptyHandOf arena.now hand.new }
 {
     let Ok(item) = again(arena, hand, hint) else {

@@ -33,12 +33,12 @@ returns-clause-ready c =
           (ap (λ (v : View). v.row.holdings) c.give_slabs.ensures.left ∙ waited) c.requires.1,
     )
 
-pub returns-clause-few : goal.returns-clause-few
-returns-clause-few c =
+pub returns-clause-within_limit : goal.returns-clause-within_limit
+returns-clause-within_limit c =
     let taken : View = view c.slabs_within.new.hand in
     let within = c.in-Ok.ensures.within in
-    let few = within.few in
+    let within_limit = within.within_limit in
     let waits = waits_slabs (view c.args.hand.now) c.in-Ok.held.shared taken within.waits in
     let one = one_more taken.events (made [] step.GiveSlabs) in
     let given : length (view c.give_slabs.new.hand).events ≡ length (taken.events ++ made [] step.GiveSlabs ∷ []) = ap (λ (v : View). length v.events) c.give_slabs.ensures.left in
-    omega (arith, few, waits, one, given)
+    omega (arith, within_limit, waits, one, given)

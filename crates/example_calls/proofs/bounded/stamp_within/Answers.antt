@@ -40,15 +40,15 @@ returns-clause-ready c =
           (ap (λ (v : View). v.row.holdings) c.give_stripe.ensures.left ∙ waited) c.requires.1,
     )
 
-pub returns-clause-few : goal.returns-clause-few
-returns-clause-few c =
+pub returns-clause-within_limit : goal.returns-clause-within_limit
+returns-clause-within_limit c =
     let taken : View = view c.stripe_within.new.hand in
     let within = c.in-Ok.ensures.within in
-    let few = within.few in
+    let within_limit = within.within_limit in
     let waits = waits_stripe (c.args.key % c.config.result.now.stripes) (view c.args.hand.now) c.in-Ok.held.stripe taken within.waits in
     let one = one_more taken.events (made [] (step.GiveStripe c.in-Ok.held.number)) in
     let given : length (view c.give_stripe.new.hand).events ≡ length (taken.events ++ made [] (step.GiveStripe c.in-Ok.held.number) ∷ []) = ap (λ (v : View). length v.events) c.give_stripe.ensures.left in
-    omega (arith, few, waits, one, given)
+    omega (arith, within_limit, waits, one, given)
 
 pub returns-clause-stamp : goal.returns-clause-stamp
 returns-clause-stamp c =

@@ -43,7 +43,7 @@ loop-count-preserved c =
     record {
       small = omega (arith, next, (grown_within config (rounded_up raw) a within.1).1);
       some = omega (arith, inv.some);
-      few = omega (arith, c.loop-count-test.true);
+      within_limit = omega (arith, c.loop-count-test.true);
       counted = inv.counted
           ∙ (more_classes config count raw inv.some c.loop-count-test.true below
           ∙ (ap (λ (n : ℕ). classes_from (63 - (count + 1)) config n + count) (sym next) ∙ ap (λ (n : ℕ). classes_from (63 - (count + 1)) config (c.div_ceil.result * 8 * config.num / config.den) + n) (omega arith)));

@@ -8,7 +8,7 @@ invariant-loop-count l =
     record {
       small : l.raw ≤ 16384 * 65535;
       some : 1 ≤ l.count;
-      few : l.count ≤ 63;
+      within_limit : l.count ≤ 63;
       counted : class_count l.config ≡ classes_from (63 - l.count) l.config l.raw + (l.count - 1);
     }
 

@@ -3,11 +3,11 @@ use Rattle.mc_cache.proofs.TurnsDone.{all_done, last_done, none_done, one_more}
 use Rattle.mc_cache.proofs.window.do_turns.Goals as goal
 
 pub loop-init : goal.loop-init
-loop-init g c = record { idle = c.requires; unsaid = refl; done = none_done c.args.hand.now c.new-done.result c.new-done.ensures.none }
+loop-init g c = record { idle = c.requires; stores_nothing = refl; done = none_done c.args.hand.now c.new-done.result c.new-done.ensures.none }
 
 pub returns-then-not-is_under_way-clause-does : goal.returns-then-not-is_under_way-clause-does
 returns-then-not-is_under_way-clause-does g c =
-    last_done c.loop.counter c.args.hand.now c.loop.hand c.turn.new.hand c.loop.done c.count.new.self c.in_ok-turn.turn (omega (arith, c.loop-test.true)) c.loop.invariant.done (c.in_ok-turn.ensures.turns, c.in_ok-turn.ensures.told) c.count.ensures.counted
+    last_done c.loop.counter c.args.hand.now c.loop.hand c.turn.new.hand c.loop.done c.count.new.self c.in_ok-turn.turn (omega (arith, c.loop-test.true)) c.loop.invariant.done (c.in_ok-turn.ensures.turns, c.in_ok-turn.ensures.records) c.count.ensures.counted
     (sym c.is_under_way.ensures.under_way ∙ c.if-not-is_under_way.true)
 
 pub returns-clause-does : goal.returns-clause-does
@@ -16,6 +16,6 @@ returns-clause-does g c = all_done c.loop.counter c.args.hand.now c.loop.hand c.
 pub loop-preserved : goal.loop-preserved
 loop-preserved g c = record {
   idle = record { of_arena = c.turn.ensures.arena; ready = c.turn.ensures.ready; none = c.turn.ensures.holdings ∙ c.loop.invariant.idle.none };
-  unsaid = c.turn.ensures.unsaid ∙ c.loop.invariant.unsaid;
-  done = one_more c.loop.counter c.args.hand.now c.loop.hand c.turn.new.hand c.loop.done c.count.new.self c.in_ok-turn.turn c.loop.invariant.done (c.in_ok-turn.ensures.turns, c.in_ok-turn.ensures.told) c.count.ensures.counted;
+  stores_nothing = c.turn.ensures.stores_nothing ∙ c.loop.invariant.stores_nothing;
+  done = one_more c.loop.counter c.args.hand.now c.loop.hand c.turn.new.hand c.loop.done c.count.new.self c.in_ok-turn.turn c.loop.invariant.done (c.in_ok-turn.ensures.turns, c.in_ok-turn.ensures.records) c.count.ensures.counted;
 }

@@ -7,6 +7,6 @@ use Rattle.mc_cache.proofs.window.do_turns.Given as goal
 abbrev pub invariant-loop : goal.invariant-loop
 invariant-loop g l = record {
   idle : IsIdleHandOf l.arena l.hand;
-  unsaid : (view l.hand).row.knows.said ≡ (view l.fn.hand).row.knows.said;
+  stores_nothing : (view l.hand).row.knows.stored ≡ (view l.fn.hand).row.knows.stored;
   done : AreDone l.counter l.fn.hand l.hand l.done;
 }

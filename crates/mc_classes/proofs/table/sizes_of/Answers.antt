@@ -15,7 +15,7 @@ loop-size-init c =
     record {
       small = omega (arith, a.first, a.page);
       room = omega (arith, c.in_ok-sizes.ensures.capacity);
-      few = subst (λ (sizes : List ℕ). length sizes ≤ 62) (sym c.in_ok-sizes.ensures.items) (omega arith);
+      within_limit = subst (λ (sizes : List ℕ). length sizes ≤ 62) (sym c.in_ok-sizes.ensures.items) (omega arith);
       begun = (config.first ∷ [], subst (λ (sizes : List ℕ). IsBegun config (config.first ∷ []) sizes config.first) (sym c.in_ok-sizes.ensures.items) (begun_none config));
     }
 
@@ -42,7 +42,7 @@ loop-size-preserved c =
     record {
       small = grown.1;
       room = omega (arith, c.push.ensures.capacity);
-      few = subst (λ (all : List ℕ). length all ≤ 62) (sym pushed) (omega (arith, length_push sizes size, c.loop-size.sizes.ok.0));
+      within_limit = subst (λ (all : List ℕ). length all ≤ 62) (sym pushed) (omega (arith, length_push sizes size, c.loop-size.sizes.ok.0));
       begun = (
         begun.0 ++ next ∷ [],
         subst (λ (all : List ℕ). IsBegun config (begun.0 ++ next ∷ []) all next) (sym pushed)
@@ -62,4 +62,4 @@ returns c =
       | then-loop-size-test+else-is_below_max w ↦ ltb-false (raw * config.num) (config.max * config.den) (sym w.is_below_max.ensures ∙ w.if-is_below_max.false)
       | else-loop-size-test w ↦ absurd (omega (arith, c.loop-size.sizes.ok.0))
     ] in
-    (begun.0, subst (λ (all : List ℕ). ComesFrom config begun.0 all) (sym pushed) (begun_all config begun.0 sizes raw begun.1 c.loop-size.invariant.few done))
+    (begun.0, subst (λ (all : List ℕ). ComesFrom config begun.0 all) (sym pushed) (begun_all config begun.0 sizes raw begun.1 c.loop-size.invariant.within_limit done))

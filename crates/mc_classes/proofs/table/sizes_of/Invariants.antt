@@ -8,7 +8,7 @@ invariant-loop-size l =
     record {
       small : l.raw ≤ 16384 * 65535;
       room : 63 ≤ vec_capacity l.sizes;
-      few : length l.sizes.items ≤ 62;
+      within_limit : length l.sizes.items ≤ 62;
       begun : (raws : List ℕ) × IsBegun l.config raws l.sizes.items l.raw;
     }
 

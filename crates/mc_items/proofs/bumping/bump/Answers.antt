@@ -7,8 +7,8 @@ use Rattle.mc_items.proofs.bumping.bump.Goals as goal
 pub returns-clause-holdings : goal.returns-clause-holdings
 returns-clause-holdings g c = ap (λ (k : Kept). k.0) (bumped_keeps _ _ _ _ c.bump_chunk.ensures.bumps)
 
-pub returns-clause-unsaid : goal.returns-clause-unsaid
-returns-clause-unsaid g c = ap (λ (k : Kept). k.2) (bumped_keeps _ _ _ _ c.bump_chunk.ensures.bumps)
+pub returns-clause-stores_nothing : goal.returns-clause-stores_nothing
+returns-clause-stores_nothing g c = ap (λ (k : Kept). k.2) (bumped_keeps _ _ _ _ c.bump_chunk.ensures.bumps)
 
 pub returns-clause-number : goal.returns-clause-number
 returns-clause-number g c = number_stays c.args.hand.now c.bump_chunk.new.hand (ap (λ (k : Kept). k.3) (bumped_keeps _ _ _ _ c.bump_chunk.ensures.bumps))

@@ -103,8 +103,8 @@ returns-clause-keeps g c =
     let kept = delete_kept c.delete_at.result hand.number (c.args.key % c.args.arena.now.table.shared.key.config.stripes) c.args.key hand.seat.me.0 now.seat.me.0 (returns-clause-deletes g c) (returns-clause-no_memory g c) in
     refs_stay hand.seat.me.0 now.seat.me.0 (ap (λ (k : Kept). k.0) kept) (ap (λ (k : Kept). k.1) kept)
 
-pub returns-clause-unsaid : goal.returns-clause-unsaid
-returns-clause-unsaid g c =
+pub returns-clause-stores_nothing : goal.returns-clause-stores_nothing
+returns-clause-stores_nothing g c =
     let hand = c.args.hand.now in
     let now = c.delete_at.new.hand in
     let kept = delete_kept c.delete_at.result hand.number (c.args.key % c.args.arena.now.table.shared.key.config.stripes) c.args.key hand.seat.me.0 now.seat.me.0 (returns-clause-deletes g c) (returns-clause-no_memory g c) in

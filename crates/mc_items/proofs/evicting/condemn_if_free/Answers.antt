@@ -17,10 +17,10 @@ use Rattle.mc_items.proofs.Freed.{error_both}
 use Rattle.mc_items.proofs.Supplies.{if_error}
 use Rattle.mc_items.proofs.evicting.condemn_if_free.Goals as goal
 
-pub head-head-requires-clause-near : goal.head-head-requires-clause-near
-head-head-requires-clause-near c =
+pub head-head-requires-clause-in_range : goal.head-head-requires-clause-in_range
+head-head-requires-clause-in_range c =
     let is = ap (λ (s : Setup). is_class s.table c.args.class) c.requires.arena.setup ∙ c.requires.class in
-    subst (λ (s : Setup). has_chunk s.table c.args.chunk ≡ true) c.requires.arena.setup (stands_out c.args.hand.now.seat.me.0 c.requires.arena.lawful c.args.slabs.now.shared c.requires.slabs c.args.class is c.args.chunk c.requires.out).near
+    subst (λ (s : Setup). has_chunk s.table c.args.chunk ≡ true) c.requires.arena.setup (stands_out c.args.hand.now.seat.me.0 c.requires.arena.lawful c.args.slabs.now.shared c.requires.slabs c.args.class is c.args.chunk c.requires.out).in_range
 
 pub returns-then-not-is_unheld-clause-passed : goal.returns-then-not-is_unheld-clause-passed
 returns-then-not-is_unheld-clause-passed c _ =

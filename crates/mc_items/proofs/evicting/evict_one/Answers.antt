@@ -53,8 +53,8 @@ pub returns-in_default-clause-none : goal.returns-in_default-clause-none
 returns-in_default-clause-none c _ =
     let inv = c.loop.invariant in
     let walk = inv.walk.1 in
-    let few : c.loop.counter < eviction_tries = c.loop-test.true in
-    let short : length inv.done < eviction_tries = subst (λ n. n < eviction_tries) (sym inv.count) few in
+    let within_limit : c.loop.counter < eviction_tries = c.loop-test.true in
+    let short : length inv.done < eviction_tries = subst (λ n. n < eviction_tries) (sym inv.count) within_limit in
     let none = is_empty walk.rest (sym c.in_default.is ∙ walk.at) in
     let all = candidates_are_all eviction_tries (class_at c.args.slabs.now.shared c.args.class).order inv.done (inv.split ∙ ap (λ (rest : List ChunkId). inv.done ++ rest) none) short in
     (subst (λ (chunks : List ChunkId). PassesEach c.args.hand.now.number chunks c.args.hand.now.seat.me.0 c.loop.hand.seat.me.0) (sym all) inv.passes, inv.same)
@@ -98,8 +98,8 @@ returns-in_err-supply-clause-no_memory c =
     let chunk = c.in-Some.chunk in
     let hand = c.args.hand.now in
     let slabs = c.args.slabs.now.shared in
-    let few : c.loop.counter < eviction_tries = c.loop-test.true in
-    let short : length inv.done < eviction_tries = subst (λ n. n < eviction_tries) (sym inv.count) few in
+    let within_limit : c.loop.counter < eviction_tries = c.loop-test.true in
+    let short : length inv.done < eviction_tries = subst (λ n. n < eviction_tries) (sym inv.count) within_limit in
     let (more, is) = rest_begins inv.walk.1.rest c.loop.next chunk inv.walk.1.at c.in-Some.is in
     let lacks = on_error c.free_one.result c.in_err-supply.field-0.0 c.in_err-supply.was c.free_one.ensures.no_memory in
     as_error c.from_residual.result (
@@ -127,8 +127,8 @@ returns-in-Some-2-clause-frees c =
     let chunk = c.in-Some.chunk in
     let hand = c.args.hand.now in
     let slabs = c.args.slabs.now.shared in
-    let few : c.loop.counter < eviction_tries = c.loop-test.true in
-    let short : length inv.done < eviction_tries = subst (λ n. n < eviction_tries) (sym inv.count) few in
+    let within_limit : c.loop.counter < eviction_tries = c.loop-test.true in
+    let short : length inv.done < eviction_tries = subst (λ n. n < eviction_tries) (sym inv.count) within_limit in
     let (more, is) = rest_begins inv.walk.1.rest c.loop.next chunk inv.walk.1.at c.in-Some.is in
     let number = number_here hand c.loop.hand inv.done inv.passes in record {
       before = inv.done;

@@ -50,10 +50,10 @@ returns-then-branch-clause-free c =
     let own = (stands_out view c.requires.arena.lawful slabs c.requires.slabs c.args.class is c.args.chunk c.requires.out).own in
     frees_free c.args.hand.now.number c.args.class c.args.chunk Evicted view slabs c.free_evicted.new.hand.seat.me.0 c.free_evicted.new.slabs.shared (class_here view c.requires.arena.lawful slabs c.requires.slabs c.args.class is) own (evicted_here c)
 
-pub put_back-requires-clause-near : goal.put_back-requires-clause-near
-put_back-requires-clause-near c =
+pub put_back-requires-clause-in_range : goal.put_back-requires-clause-in_range
+put_back-requires-clause-in_range c =
     let is = ap (λ (s : Setup). is_class s.table c.args.class) c.requires.arena.setup ∙ c.requires.class in
-    subst (λ (s : Setup). has_chunk s.table c.args.chunk ≡ true) c.requires.arena.setup (stands_out c.args.hand.now.seat.me.0 c.requires.arena.lawful c.args.slabs.now.shared c.requires.slabs c.args.class is c.args.chunk c.requires.out).near
+    subst (λ (s : Setup). has_chunk s.table c.args.chunk ≡ true) c.requires.arena.setup (stands_out c.args.hand.now.seat.me.0 c.requires.arena.lawful c.args.slabs.now.shared c.requires.slabs c.args.class is c.args.chunk c.requires.out).in_range
 
 pub returns-in-Ok-clause-frees : goal.returns-in-Ok-clause-frees
 returns-in-Ok-clause-frees c = back_here c

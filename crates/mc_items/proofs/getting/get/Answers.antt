@@ -20,13 +20,13 @@ use Rattle.mc_items.proofs.Locks.{locks_back, waits_keep}
 use Rattle.mc_items.proofs.Tells.{told_none, told_on}
 use Rattle.mc_items.proofs.getting.get.Goals as goal
 
-pub look_up-requires-clause-few : goal.look_up-requires-clause-few
-look_up-requires-clause-few g c =
+pub look_up-requires-clause-within_limit : goal.look_up-requires-clause-within_limit
+look_up-requires-clause-within_limit g c =
     let before : View = c.args.hand.now.seat.me.0 in
     let taken : View = c.lock_stripe-held.new.hand.seat.me.0 in
     let same = ap (λ (l : List Holding). length l) (waits_keep (λ (v : View). v.row.holdings) (c.args.key % c.config.result.now.stripes) (λ word v. refl) (λ value v. refl) before c.lock_stripe-held.result.stripe taken c.lock_stripe-held.ensures.waits) in
     let count = c.refs.ensures.count in
-    let few = c.if-refs-geMOST_REFS.false in
+    let within_limit = c.if-refs-geMOST_REFS.false in
     omega arith
 
 pub returns-in-Ok-clause-locks : goal.returns-in-Ok-clause-locks
@@ -73,11 +73,11 @@ returns-in-Ok-clause-keeps g c =
     let now = c.look_up.new.hand in
     (get_leaves hand.number (c.args.key % c.args.arena.now.table.shared.key.config.stripes) c.args.key c.in-Ok.found hand.seat.me.0 now.seat.me.0 (returns-in-Ok-clause-gets g c)).keeps
 
-pub returns-in-Ok-clause-unsaid : goal.returns-in-Ok-clause-unsaid
-returns-in-Ok-clause-unsaid g c =
+pub returns-in-Ok-clause-stores_nothing : goal.returns-in-Ok-clause-stores_nothing
+returns-in-Ok-clause-stores_nothing g c =
     let hand = c.args.hand.now in
     let now = c.look_up.new.hand in
-    (get_leaves hand.number (c.args.key % c.args.arena.now.table.shared.key.config.stripes) c.args.key c.in-Ok.found hand.seat.me.0 now.seat.me.0 (returns-in-Ok-clause-gets g c)).said
+    (get_leaves hand.number (c.args.key % c.args.arena.now.table.shared.key.config.stripes) c.args.key c.in-Ok.found hand.seat.me.0 now.seat.me.0 (returns-in-Ok-clause-gets g c)).stored
 
 pub returns-in-Ok-clause-number : goal.returns-in-Ok-clause-number
 returns-in-Ok-clause-number g c =
@@ -88,15 +88,15 @@ returns-in-Ok-clause-number g c =
 pub returns-in-Ok-clause-ready : goal.returns-in-Ok-clause-ready
 returns-in-Ok-clause-ready g c =
     let count = c.refs.ensures.count in
-    let few = c.if-refs-geMOST_REFS.false in
+    let within_limit = c.if-refs-geMOST_REFS.false in
     get_ready c.args.hand.now c.look_up.new.hand c.in-Ok.found (returns-in-Ok-clause-locks g c) (returns-in-Ok-clause-holdings g c) (omega arith) c.requires.ready
 
-pub returns-in-Ok-clause-near : goal.returns-in-Ok-clause-near
-returns-in-Ok-clause-near g c =
+pub returns-in-Ok-clause-in_range : goal.returns-in-Ok-clause-in_range
+returns-in-Ok-clause-in_range g c =
     get_near c.args.arena.now.table.shared.key c.look_up.new.hand.seat.me.0 c.in-Ok.found c.args.key c.look_up.ensures.arena.lawful c.look_up.ensures.arena.setup c.in-Ok.ensures.item
 
-pub returns-in-Ok-clause-said : goal.returns-in-Ok-clause-said
-returns-in-Ok-clause-said g c = get_said c.look_up.new.hand.seat.me.0 c.in-Ok.found c.args.key c.look_up.ensures.arena.lawful c.in-Ok.ensures.item
+pub returns-in-Ok-clause-stores_words : goal.returns-in-Ok-clause-stores_words
+returns-in-Ok-clause-stores_words g c = get_said c.look_up.new.hand.seat.me.0 c.in-Ok.found c.args.key c.look_up.ensures.arena.lawful c.in-Ok.ensures.item
 
 pub returns-in-Err-clause-no_memory : goal.returns-in-Err-clause-no_memory
 returns-in-Err-clause-no_memory g c _ =
@@ -127,8 +127,8 @@ returns-in-Err-clause-keeps g c =
     let now = c.look_up.new.hand in
     refs_stay hand.seat.me.0 now.seat.me.0 (ap (λ (k : Kept). k.0) (only_keeps (c.args.key % c.args.arena.now.table.shared.key.config.stripes) hand.seat.me.0 now.seat.me.0 (returns-in-Err-clause-no_memory g c refl))) (ap (λ (k : Kept). k.1) (only_keeps (c.args.key % c.args.arena.now.table.shared.key.config.stripes) hand.seat.me.0 now.seat.me.0 (returns-in-Err-clause-no_memory g c refl)))
 
-pub returns-in-Err-clause-unsaid : goal.returns-in-Err-clause-unsaid
-returns-in-Err-clause-unsaid g c =
+pub returns-in-Err-clause-stores_nothing : goal.returns-in-Err-clause-stores_nothing
+returns-in-Err-clause-stores_nothing g c =
     let hand = c.args.hand.now in
     let now = c.look_up.new.hand in
     ap (λ (k : Kept). k.2) (only_keeps (c.args.key % c.args.arena.now.table.shared.key.config.stripes) hand.seat.me.0 now.seat.me.0 (returns-in-Err-clause-no_memory g c refl))

@@ -14,7 +14,7 @@ returns-in-Some-clause-done c =
     let made = c.reserve_call.new.hand in
     let number = number_stays c.args.hand.now made (ap (λ (v : View). v.row.ids) c.in_default.ensures.view) in
     looked_up c.args.hand.now.number c.args.held.number c.args.held.stripe c.args.key (Some c.in-Some.reference) c.args.hand.now.seat.me.0 made.seat.me.0 c.refer_within.new.hand.seat.me.0 c.give_stripe-in-Some.new.hand.seat.me.0 made.number c.reserve_call.new.held.number c.refer_within.new.held.number
-    c.reserve_call.new.held.stripe c.refer_within.new.held.stripe number c.reserve_call.ensures.number (c.refer_within.ensures.number ∙ c.reserve_call.ensures.number) (ap (λ (h : StripeHeld). h.stripe) c.in_default.ensures.reserved) c.in_default.ensures.view c.refer_within.ensures.told c.in-Some.ensures.gets
+    c.reserve_call.new.held.stripe c.refer_within.new.held.stripe number c.reserve_call.ensures.number (c.refer_within.ensures.number ∙ c.reserve_call.ensures.number) (ap (λ (h : StripeHeld). h.stripe) c.in_default.ensures.reserved) c.in_default.ensures.view c.refer_within.ensures.records c.in-Some.ensures.gets
     (λ e. absurd (cc)) c.give_stripe-in-Some.ensures.left
 
 pub returns-in-None-clause-done : goal.returns-in-None-clause-done
@@ -22,7 +22,7 @@ returns-in-None-clause-done c =
     let made = c.reserve_call.new.hand in
     let number = number_stays c.args.hand.now made (ap (λ (v : View). v.row.ids) c.in_default.ensures.view) in
     looked_up c.args.hand.now.number c.args.held.number c.args.held.stripe c.args.key None c.args.hand.now.seat.me.0 made.seat.me.0 c.refer_within.new.hand.seat.me.0 c.give_stripe-in-None.new.hand.seat.me.0 made.number c.reserve_call.new.held.number c.refer_within.new.held.number
-    c.reserve_call.new.held.stripe c.refer_within.new.held.stripe number c.reserve_call.ensures.number (c.refer_within.ensures.number ∙ c.reserve_call.ensures.number) (ap (λ (h : StripeHeld). h.stripe) c.in_default.ensures.reserved) c.in_default.ensures.view c.refer_within.ensures.told tt
+    c.reserve_call.new.held.stripe c.refer_within.new.held.stripe number c.reserve_call.ensures.number (c.refer_within.ensures.number ∙ c.reserve_call.ensures.number) (ap (λ (h : StripeHeld). h.stripe) c.in_default.ensures.reserved) c.in_default.ensures.view c.refer_within.ensures.records tt
     (λ e. ((c.in-None.ensures.none refl).0, c.in-None.ensures.view refl)) c.give_stripe-in-None.ensures.left
 
 pub returns-in-Some-clause-reference : goal.returns-in-Some-clause-reference

@@ -81,11 +81,11 @@ returns-in-Ok-look_up-clause-keeps c =
     let now = c.look_up.new.hand in
     (get_leaves hand.number (c.args.key % c.args.arena.now.table.shared.key.config.stripes) c.args.key c.in-Ok-look_up.found hand.seat.me.0 now.seat.me.0 (returns-in-Ok-look_up-clause-gets c)).keeps
 
-pub returns-in-Ok-look_up-clause-unsaid : goal.returns-in-Ok-look_up-clause-unsaid
-returns-in-Ok-look_up-clause-unsaid c =
+pub returns-in-Ok-look_up-clause-stores_nothing : goal.returns-in-Ok-look_up-clause-stores_nothing
+returns-in-Ok-look_up-clause-stores_nothing c =
     let hand = c.args.hand.now in
     let now = c.look_up.new.hand in
-    (get_leaves hand.number (c.args.key % c.args.arena.now.table.shared.key.config.stripes) c.args.key c.in-Ok-look_up.found hand.seat.me.0 now.seat.me.0 (returns-in-Ok-look_up-clause-gets c)).said
+    (get_leaves hand.number (c.args.key % c.args.arena.now.table.shared.key.config.stripes) c.args.key c.in-Ok-look_up.found hand.seat.me.0 now.seat.me.0 (returns-in-Ok-look_up-clause-gets c)).stored
 
 pub returns-in-Ok-look_up-clause-number : goal.returns-in-Ok-look_up-clause-number
 returns-in-Ok-look_up-clause-number c =
@@ -96,15 +96,15 @@ returns-in-Ok-look_up-clause-number c =
 pub returns-in-Ok-look_up-clause-ready : goal.returns-in-Ok-look_up-clause-ready
 returns-in-Ok-look_up-clause-ready c =
     let count = c.refs.ensures.count in
-    let few = c.if-refs-geMOST_REFS.false in
+    let within_limit = c.if-refs-geMOST_REFS.false in
     get_ready c.args.hand.now c.look_up.new.hand c.in-Ok-look_up.found (returns-in-Ok-look_up-clause-locks c) (returns-in-Ok-look_up-clause-holdings c) (omega arith) c.requires.ready
 
-pub returns-in-Ok-look_up-clause-near : goal.returns-in-Ok-look_up-clause-near
-returns-in-Ok-look_up-clause-near c =
+pub returns-in-Ok-look_up-clause-in_range : goal.returns-in-Ok-look_up-clause-in_range
+returns-in-Ok-look_up-clause-in_range c =
     get_near c.args.arena.now.table.shared.key c.look_up.new.hand.seat.me.0 c.in-Ok-look_up.found c.args.key c.look_up.ensures.arena.lawful c.look_up.ensures.arena.setup c.in-Ok-look_up.ensures.item
 
-pub returns-in-Ok-look_up-clause-said : goal.returns-in-Ok-look_up-clause-said
-returns-in-Ok-look_up-clause-said c =
+pub returns-in-Ok-look_up-clause-stores_words : goal.returns-in-Ok-look_up-clause-stores_words
+returns-in-Ok-look_up-clause-stores_words c =
     get_said c.look_up.new.hand.seat.me.0 c.in-Ok-look_up.found c.args.key c.look_up.ensures.arena.lawful c.in-Ok-look_up.ensures.item
 
 pub returns-in-Err-clause-ready : goal.returns-in-Err-clause-ready

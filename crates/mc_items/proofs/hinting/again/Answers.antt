@@ -25,8 +25,8 @@ returns-in-Ok-clause-known c k among chunk issue =
     let last : View = c.look_at.new.hand.seat.me.0 in
     ap (λ (r : Ref). held_item last r.chunk) c.look_at.ensures.chunk ∙ (ap (λ (row : Row). option_map_or item_of (holding_of c.in-Ok.reference.chunk row.holdings) []) (ap (λ (v : View). v.row) c.look_at.ensures.view) ∙ c.in-Ok.ensures.known k among chunk issue)
 
-pub returns-in-Ok-clause-many : goal.returns-in-Ok-clause-many
-returns-in-Ok-clause-many c = (λ e. absurd (cc), λ many. let e = c.in-Ok.ensures.many.1 many in absurd (cc))
+pub returns-in-Ok-clause-at_limit : goal.returns-in-Ok-clause-at_limit
+returns-in-Ok-clause-at_limit c = (λ e. absurd (cc), λ at_limit. let e = c.in-Ok.ensures.at_limit.1 at_limit in absurd (cc))
 
 pub returns-in-Err-clause-gone : goal.returns-in-Err-clause-gone
 returns-in-Err-clause-gone c e =
@@ -60,7 +60,7 @@ returns-in-Ok-clause-ready c =
     let is = c.look_at.ensures.view ∙ ap (λ (chunk : ChunkId). fields_seen chunk got) c.in-Ok.ensures.hinted.0 in
     let one : GotOne hint.chunk hint.issue room view now = read_one hint.chunk hint.issue room view got now is (again_one hint.chunk hint.issue room view got c.in-Ok.ensures.gets) in
     let holding = reference_to hint.chunk hint.issue one.item in
-    ready_more c.args.hand.now c.look_at.new.hand holding (c.look_at.ensures.locks ∙ c.again.ensures.locks) (ap (λ (k : Kept). k.0) one.kept) refl (lt_of_not-le (λ many. let e = c.in-Ok.ensures.many.1 many in absurd (cc))) c.requires.ready
+    ready_more c.args.hand.now c.look_at.new.hand holding (c.look_at.ensures.locks ∙ c.again.ensures.locks) (ap (λ (k : Kept). k.0) one.kept) refl (lt_of_not-le (λ at_limit. let e = c.in-Ok.ensures.at_limit.1 at_limit in absurd (cc))) c.requires.ready
 
 pub returns-in-Ok-clause-number : goal.returns-in-Ok-clause-number
 returns-in-Ok-clause-number c =
@@ -73,8 +73,8 @@ returns-in-Ok-clause-number c =
     let one : GotOne hint.chunk hint.issue room view now = read_one hint.chunk hint.issue room view got now is (again_one hint.chunk hint.issue room view got c.in-Ok.ensures.gets) in
     number_stays c.args.hand.now c.look_at.new.hand (ap (λ (k : Kept). k.3) one.kept)
 
-pub returns-in-Ok-clause-said : goal.returns-in-Ok-clause-said
-returns-in-Ok-clause-said c =
+pub returns-in-Ok-clause-stores_words : goal.returns-in-Ok-clause-stores_words
+returns-in-Ok-clause-stores_words c =
     item_said c.look_at.new.hand.seat.me.0 c.look_at.ensures.arena.lawful c.look_at.result c.look_at.ensures.item
 
 pub returns-in-Err-clause-keeps : goal.returns-in-Err-clause-keeps
@@ -105,8 +105,8 @@ returns-in-Err-clause-no_more c =
     let kept = again_kept c.in-Err.error view c.args.hint.chunk c.args.hint.issue now c.in-Err.ensures.gone c.in-Err.ensures.contended c.in-Err.ensures.refused in
     ap (λ (k : Kept). k.0) kept
 
-pub returns-in-Err-clause-unsaid : goal.returns-in-Err-clause-unsaid
-returns-in-Err-clause-unsaid c =
+pub returns-in-Err-clause-stores_nothing : goal.returns-in-Err-clause-stores_nothing
+returns-in-Err-clause-stores_nothing c =
     let view : View = c.args.hand.now.seat.me.0 in
     let now : View = c.again.new.hand.seat.me.0 in
     let kept = again_kept c.in-Err.error view c.args.hint.chunk c.args.hint.issue now c.in-Err.ensures.gone c.in-Err.ensures.contended c.in-Err.ensures.refused in

@@ -13,9 +13,9 @@ use Rattle.mc_items.proofs.reading.read.Goals as goal
 pub push_reserved-requires : goal.push_reserved-requires
 push_reserved-requires c =
     let (arena, locks, same, room, words) = c.loop-place.invariant in
-    let near = c.loop-place-test.true in
+    let in_range = c.loop-place-test.true in
     let read = ap length words ∙ length-take c.loop-place.place (drop 3 (held_item c.args.hand.now.seat.me.0 c.args.item.now.reference.chunk)) in
-    omega (arith, room, near, read)
+    omega (arith, room, in_range, read)
 
 pub returns-in_err-words-clause-view : goal.returns-in_err-words-clause-view
 returns-in_err-words-clause-view c = no_value _ c.from_residual.result c.from_residual.ensures.0
@@ -23,8 +23,8 @@ returns-in_err-words-clause-view c = no_value _ c.from_residual.result c.from_re
 pub returns-in_err-words-clause-words : goal.returns-in_err-words-clause-words
 returns-in_err-words-clause-words c = no_value _ c.from_residual.result c.from_residual.ensures.0
 
-pub returns-in_err-words-clause-said : goal.returns-in_err-words-clause-said
-returns-in_err-words-clause-said c = no_value _ c.from_residual.result c.from_residual.ensures.0
+pub returns-in_err-words-clause-stores_words : goal.returns-in_err-words-clause-stores_words
+returns-in_err-words-clause-stores_words c = no_value _ c.from_residual.result c.from_residual.ensures.0
 
 pub loop-place-preserved : goal.loop-place-preserved
 loop-place-preserved c =
@@ -62,8 +62,8 @@ returns-clause-keeps c =
     let (arena, locks, same, room, words) = c.loop-place.invariant in
     refs_stay c.args.hand.now.seat.me.0 c.loop-place.hand.seat.me.0 (ap (λ (v : View). v.row.holdings) same) (ap (λ (v : View). v.row.knows.known) same)
 
-pub returns-clause-said : goal.returns-clause-said
-returns-clause-said c =
+pub returns-clause-stores_words : goal.returns-clause-stores_words
+returns-clause-stores_words c =
     let item = c.args.item.now in
     let now : View = c.loop-place.hand.seat.me.0 in
     let (arena, locks, same, room, words) = c.loop-place.invariant in

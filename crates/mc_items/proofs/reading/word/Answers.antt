@@ -9,10 +9,10 @@ use Rattle.mc_items.proofs.Words.{place_small}
 use Rattle.mc_items.proofs.reading.word.Goals as goal
 
 pub overflow_add-place : goal.overflow_add-place
-overflow_add-place c = let small = place_small c.args.arena.now c.args.hand.now c.args.item.now c.args.place c.requires.arena c.requires.item c.requires.near in omega arith
+overflow_add-place c = let small = place_small c.args.arena.now c.args.hand.now c.args.item.now c.args.place c.requires.arena c.requires.item c.requires.in_range in omega arith
 
-pub word-requires-clause-near : goal.word-requires-clause-near
-word-requires-clause-near c = let len = c.requires.item.len in omega (arith, c.requires.near)
+pub word-requires-clause-in_range : goal.word-requires-clause-in_range
+word-requires-clause-in_range c = let len = c.requires.item.len in omega (arith, c.requires.in_range)
 
 pub returns-clause-word : goal.returns-clause-word
 returns-clause-word c = c.word.ensures.word ∙ sym (get_or-drop 3 (held_item c.args.hand.now.seat.me.0 c.args.item.now.reference.chunk) c.args.place 0)
@@ -28,8 +28,8 @@ returns-clause-item c = (kept_refs_keep_items c.args.hand.now.seat.me.0 c.word.n
 pub returns-clause-words : goal.returns-clause-words
 returns-clause-words c = (kept_refs_keep_items c.args.hand.now.seat.me.0 c.word.new.hand.seat.me.0 c.args.item.now (returns-clause-keeps c) c.requires.item).words
 
-pub returns-clause-said : goal.returns-clause-said
-returns-clause-said c =
+pub returns-clause-stores_words : goal.returns-clause-stores_words
+returns-clause-stores_words c =
     let item = c.args.item.now in
     let now : View = c.word.new.hand.seat.me.0 in
     subst (λ (l : List ℕ). WordsWereStored now item.stamp (item_with item.key item.stamp l)) (returns-clause-words c) (words_said now c.word.ensures.arena.lawful item (returns-clause-item c))

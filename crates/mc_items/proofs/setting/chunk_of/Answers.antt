@@ -48,10 +48,10 @@ supply_chunk-supplied-requires-clause-fresh g c =
     let held = c.lock_slabs-slabs in
     ap has_fresh (waits_slabs_keep (λ (v : View). v.row.holdings) (λ word v. refl) (λ slabs v. refl) c.args.hand.now.seat.me.0 held.result.shared held.new.hand.seat.me.0 held.ensures.waits) ∙ c.requires.fresh
 
-pub supply_chunk-supplied-requires-clause-few : goal.supply_chunk-supplied-requires-clause-few
-supply_chunk-supplied-requires-clause-few g c =
+pub supply_chunk-supplied-requires-clause-within_limit : goal.supply_chunk-supplied-requires-clause-within_limit
+supply_chunk-supplied-requires-clause-within_limit g c =
     let held = c.lock_slabs-slabs in
-    subst (λ (hs : List Holding). length hs ≤ most_refs) (sym (waits_slabs_keep (λ (v : View). v.row.holdings) (λ word v. refl) (λ slabs v. refl) c.args.hand.now.seat.me.0 held.result.shared held.new.hand.seat.me.0 held.ensures.waits)) c.requires.few
+    subst (λ (hs : List Holding). length hs ≤ most_refs) (sym (waits_slabs_keep (λ (v : View). v.row.holdings) (λ word v. refl) (λ slabs v. refl) c.args.hand.now.seat.me.0 held.result.shared held.new.hand.seat.me.0 held.ensures.waits)) c.requires.within_limit
 
 pub returns-clause-locks : goal.returns-clause-locks
 returns-clause-locks g c = c.give_slabs.ensures.locks ∙ (ap without_slabs (c.supply_chunk-supplied.ensures.locks ∙ c.lock_slabs-slabs.ensures.locks) ∙ slabs_back c.args.hand.now c.requires.unlocked)

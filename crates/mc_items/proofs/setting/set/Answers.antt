@@ -35,9 +35,9 @@ pub returns-in-Err-clause-evicts : goal.returns-in-Err-clause-evicts
 returns-in-Err-clause-evicts g c =
     (refused_tells c.args.hand.now.number c.in-Some.class c.in-Err.error c.args.hand.now.seat.me.0 c.chunk_of.new.hand.seat.me.0 c.in-Err.ensures.none).calls
 
-pub returns-in-Err-clause-unsaid : goal.returns-in-Err-clause-unsaid
-returns-in-Err-clause-unsaid g c =
-    (refused_tells c.args.hand.now.number c.in-Some.class c.in-Err.error c.args.hand.now.seat.me.0 c.chunk_of.new.hand.seat.me.0 c.in-Err.ensures.none).said
+pub returns-in-Err-clause-stores_nothing : goal.returns-in-Err-clause-stores_nothing
+returns-in-Err-clause-stores_nothing g c =
+    (refused_tells c.args.hand.now.number c.in-Some.class c.in-Err.error c.args.hand.now.seat.me.0 c.chunk_of.new.hand.seat.me.0 c.in-Err.ensures.none).stored
 
 pub returns-in-Err-clause-stamps : goal.returns-in-Err-clause-stamps
 returns-in-Err-clause-stamps g c =
@@ -90,11 +90,11 @@ returns-in-Ok-store_words-clause-calls g c =
       sets = subst (λ (p : ℕ × Setup). RecordsCall p.0 (c.args.key % p.1.config.stripes) (Set p.0 c.args.key c.in-Some-next_stamp.stamp) between c.store_words.new.hand.seat.me.0) (λ k. (number k, sym c.requires.arena.setup k)) c.in-Ok-store_words.ensures.calls;
     }
 
-pub returns-in-Ok-store_words-clause-said : goal.returns-in-Ok-store_words-clause-said
-returns-in-Ok-store_words-clause-said g c =
+pub returns-in-Ok-store_words-clause-stores_words : goal.returns-in-Ok-store_words-clause-stores_words
+returns-in-Ok-store_words-clause-stores_words g c =
     let view : View = c.args.hand.now.seat.me.0 in
     let told = supplied_tells c.args.hand.now.number c.in-Some.class c.in-Ok.fresh.chunk view c.chunk_of.new.hand.seat.me.0 c.in-Ok.ensures.supplies in
-    c.in-Ok-store_words.ensures.said ∙ ap (λ (said : List StoredItem). said ++ record { stamp = c.in-Some-next_stamp.stamp; words = item_with c.args.key c.in-Some-next_stamp.stamp c.args.words.now } ∷ []) told.said
+    c.in-Ok-store_words.ensures.stores_words ∙ ap (λ (said : List StoredItem). said ++ record { stamp = c.in-Some-next_stamp.stamp; words = item_with c.args.key c.in-Some-next_stamp.stamp c.args.words.now } ∷ []) told.stored
 
 pub returns-in-Err-store_words-clause-refused : goal.returns-in-Err-store_words-clause-refused
 returns-in-Err-store_words-clause-refused g c =
@@ -122,9 +122,9 @@ pub returns-in-Err-store_words-clause-evicts : goal.returns-in-Err-store_words-c
 returns-in-Err-store_words-clause-evicts g c =
     (told_here c.args.hand.now.number c.in-Some.class c.args.key c.in-Some-next_stamp.stamp _ c.in-Ok.fresh.chunk c.args.words.now c.args.hand.now.seat.me.0 c.chunk_of.new.hand.seat.me.0 c.store_words.new.hand.seat.me.0 c.in-Ok.ensures.supplies c.in-Err-store_words.ensures.no_memory).calls
 
-pub returns-in-Err-store_words-clause-unsaid : goal.returns-in-Err-store_words-clause-unsaid
-returns-in-Err-store_words-clause-unsaid g c =
-    (told_here c.args.hand.now.number c.in-Some.class c.args.key c.in-Some-next_stamp.stamp _ c.in-Ok.fresh.chunk c.args.words.now c.args.hand.now.seat.me.0 c.chunk_of.new.hand.seat.me.0 c.store_words.new.hand.seat.me.0 c.in-Ok.ensures.supplies c.in-Err-store_words.ensures.no_memory).said
+pub returns-in-Err-store_words-clause-stores_nothing : goal.returns-in-Err-store_words-clause-stores_nothing
+returns-in-Err-store_words-clause-stores_nothing g c =
+    (told_here c.args.hand.now.number c.in-Some.class c.args.key c.in-Some-next_stamp.stamp _ c.in-Ok.fresh.chunk c.args.words.now c.args.hand.now.seat.me.0 c.chunk_of.new.hand.seat.me.0 c.store_words.new.hand.seat.me.0 c.in-Ok.ensures.supplies c.in-Err-store_words.ensures.no_memory).stored
 
 pub returns-in-Err-store_words-clause-stamps : goal.returns-in-Err-store_words-clause-stamps
 returns-in-Err-store_words-clause-stamps g c =

@@ -86,8 +86,8 @@ returns-in-Ok-clause-calls g c =
     } in
     stored_mine hand.number stripe c.args.key c.args.fresh.stamp c.args.fresh.chunk c.args.fresh.room before now stored
 
-pub returns-in-Ok-clause-said : goal.returns-in-Ok-clause-said
-returns-in-Ok-clause-said g c =
+pub returns-in-Ok-clause-stores_words : goal.returns-in-Ok-clause-stores_words
+returns-in-Ok-clause-stores_words g c =
     let hand = c.args.hand.now in
     let held = c.lock_stripe-held in
     let before : View = hand.seat.me.0 in

@@ -18,14 +18,14 @@ returns-clause-stores g c =
     let freshes : fill.new.fresh ≡ record c.args.fresh { key = c.args.key; stamp = c.args.stamp } = λ k. record { chunk = fill.ensures.same.0 k; room = fill.ensures.same.1 k; key = fill.ensures.key k; stamp = fill.ensures.stamp k } in
     subst (λ (p : ℕ × Fresh × View). OnOk c.store.result (StoresItem p.0 stripe c.args.key p.1.stamp p.1.chunk p.1.room p.2 last)) (λ k. (number k, freshes k, fill.ensures.filled k)) c.store.ensures.stores
 
-pub returns-clause-said : goal.returns-clause-said
-returns-clause-said g c =
+pub returns-clause-stores_words : goal.returns-clause-stores_words
+returns-clause-stores_words g c =
     let fill = c.fill_item in
     let last : View = c.store.new.hand.seat.me.0 in
     let item = item_with c.args.key c.args.stamp c.args.words.now in
     let words = ap numbers_of_known fill.ensures.words ∙ numbers_known item in
-    let said = ap (λ (v : View). v.row.knows.said) fill.ensures.filled in
-    subst (λ (p : List StoredItem × ℕ × List ℕ). OnOk c.store.result (last.row.knows.said ≡ p.0 ++ record { stamp = p.1; words = p.2 } ∷ [])) (λ k. (said k, fill.ensures.stamp k, words k)) c.store.ensures.said
+    let said = ap (λ (v : View). v.row.knows.stored) fill.ensures.filled in
+    subst (λ (p : List StoredItem × ℕ × List ℕ). OnOk c.store.result (last.row.knows.stored ≡ p.0 ++ record { stamp = p.1; words = p.2 } ∷ [])) (λ k. (said k, fill.ensures.stamp k, words k)) c.store.ensures.stores_words
 
 pub returns-clause-refused : goal.returns-clause-refused
 returns-clause-refused g c =

@@ -60,7 +60,7 @@ pop-requires-clause-room c =
     let with = c.make_free.new.held.shared in
     let makes = made_here c.pop_or_sweep.new.hand.number c.args.class swept between made with c.in-Ok-Some-make_free.supply _ c.in-Ok-Some-make_free.field-0-is c.in-Ok-Some-make_free.ensures.makes in
     let kept = (makes_keep c.pop_or_sweep.new.hand.number c.args.class c.in-Ok-Some-make_free.supply swept between made with makes).holdings in
-    subst (λ (hs : List Holding). length hs ≤ most_refs) (sym (kept ∙ ap (λ (v : View). v.row.holdings) none.1)) c.requires.few
+    subst (λ (hs : List Holding). length hs ≤ most_refs) (sym (kept ∙ ap (λ (v : View). v.row.holdings) none.1)) c.requires.within_limit
 
 -- the chunk was handed out, and a move asked for
 popped_here : (c : goal.After-ask_move) → PopsFirst c.make_free.new.hand.seat.me.0 c.make_free.new.held.shared c.args.class c.in-Ok-Some-pop.fresh.chunk c.pop.new.hand.seat.me.0 × (c.pop.new.held.shared ≡ after_pop c.make_free.new.held.shared c.args.class)

@@ -28,11 +28,11 @@ use Rattle.mc_items.proofs.Left.{bumped_keeps, bumped_tells}
 use Rattle.mc_items.proofs.Touched.{touch_fills_none, touch_holds_as_often, touch_holds_no_more, touch_keeps_ids, touch_keeps_refs, touch_says_nothing}
 use Rattle.mc_items.proofs.touching.touch.Goals as goal
 
-pub refer_at-requires-clause-few : goal.refer_at-requires-clause-few
-refer_at-requires-clause-few g c =
+pub refer_at-requires-clause-within_limit : goal.refer_at-requires-clause-within_limit
+refer_at-requires-clause-within_limit g c =
     let held = c.lock_stripe-held in
     let same = ap (λ (l : List Holding). length l) (waits_keep (λ (v : View). v.row.holdings) (c.args.key % c.config.result.now.stripes) (λ word v. refl) (λ value v. refl) c.args.hand.now.seat.me.0 held.result.stripe held.new.hand.seat.me.0 held.ensures.waits) in
-    let few = c.requires.ready.few in
+    let within_limit = c.requires.ready.within_limit in
     omega arith
 
 pub returns-in-Ok-None-clause-locks : goal.returns-in-Ok-None-clause-locks
@@ -97,8 +97,8 @@ returns-in-Ok-None-clause-keeps g c =
     let kept = none_keeps hand.number (c.args.key % c.args.arena.now.table.shared.key.config.stripes) c.args.key hand.seat.me.0 now.seat.me.0 (returns-in-Ok-None-clause-none g c refl) in
     refs_stay hand.seat.me.0 now.seat.me.0 (ap (λ (k : Kept). k.0) kept) (ap (λ (k : Kept). k.1) kept)
 
-pub returns-in-Ok-None-clause-unsaid : goal.returns-in-Ok-None-clause-unsaid
-returns-in-Ok-None-clause-unsaid g c =
+pub returns-in-Ok-None-clause-stores_nothing : goal.returns-in-Ok-None-clause-stores_nothing
+returns-in-Ok-None-clause-stores_nothing g c =
     let hand = c.args.hand.now in
     let now = c.refer_at.new.hand in
     let kept = none_keeps hand.number (c.args.key % c.args.arena.now.table.shared.key.config.stripes) c.args.key hand.seat.me.0 now.seat.me.0 (returns-in-Ok-None-clause-none g c refl) in
@@ -147,8 +147,8 @@ returns-in-Err-clause-keeps g c =
     let kept = only_keeps (c.args.key % c.args.arena.now.table.shared.key.config.stripes) hand.seat.me.0 now.seat.me.0 (returns-in-Err-clause-no_memory g c) in
     refs_stay hand.seat.me.0 now.seat.me.0 (ap (λ (k : Kept). k.0) kept) (ap (λ (k : Kept). k.1) kept)
 
-pub returns-in-Err-clause-unsaid : goal.returns-in-Err-clause-unsaid
-returns-in-Err-clause-unsaid g c =
+pub returns-in-Err-clause-stores_nothing : goal.returns-in-Err-clause-stores_nothing
+returns-in-Err-clause-stores_nothing g c =
     let hand = c.args.hand.now in
     let now = c.refer_at.new.hand in
     let kept = only_keeps (c.args.key % c.args.arena.now.table.shared.key.config.stripes) hand.seat.me.0 now.seat.me.0 (returns-in-Err-clause-no_memory g c) in
@@ -221,8 +221,8 @@ returns-clause-holdings g c = touch_holds_as_often _ _ _ _ _ (returns-clause-tou
 pub returns-clause-number : goal.returns-clause-number
 returns-clause-number g c = number_stays c.args.hand.now c.release.new.hand (touch_keeps_ids _ _ _ _ _ (returns-clause-touches g c refl))
 
-pub returns-clause-unsaid : goal.returns-clause-unsaid
-returns-clause-unsaid g c = touch_says_nothing _ _ _ _ _ (returns-clause-touches g c refl)
+pub returns-clause-stores_nothing : goal.returns-clause-stores_nothing
+returns-clause-stores_nothing g c = touch_says_nothing _ _ _ _ _ (returns-clause-touches g c refl)
 
 pub returns-clause-keeps : goal.returns-clause-keeps
 unfolding returns-clause-touches

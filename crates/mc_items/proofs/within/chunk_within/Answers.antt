@@ -48,10 +48,10 @@ supply_chunk-supplied-requires-clause-fresh c =
     let held = c.in-Ok in
     ap has_fresh (waits_slabs_keep (λ (v : View). v.row.holdings) (λ word v. refl) (λ slabs v. refl) c.args.hand.now.seat.me.0 held.held.shared c.slabs_within.new.hand.seat.me.0 held.ensures.within.waits) ∙ c.requires.fresh
 
-pub supply_chunk-supplied-requires-clause-few : goal.supply_chunk-supplied-requires-clause-few
-supply_chunk-supplied-requires-clause-few c =
+pub supply_chunk-supplied-requires-clause-within_limit : goal.supply_chunk-supplied-requires-clause-within_limit
+supply_chunk-supplied-requires-clause-within_limit c =
     let held = c.in-Ok in
-    subst (λ (hs : List Holding). length hs ≤ most_refs) (sym (waits_slabs_keep (λ (v : View). v.row.holdings) (λ word v. refl) (λ slabs v. refl) c.args.hand.now.seat.me.0 held.held.shared c.slabs_within.new.hand.seat.me.0 held.ensures.within.waits)) c.requires.few
+    subst (λ (hs : List Holding). length hs ≤ most_refs) (sym (waits_slabs_keep (λ (v : View). v.row.holdings) (λ word v. refl) (λ slabs v. refl) c.args.hand.now.seat.me.0 held.held.shared c.slabs_within.new.hand.seat.me.0 held.ensures.within.waits)) c.requires.within_limit
 
 pub returns-clause-locks : goal.returns-clause-locks
 returns-clause-locks c = c.give_slabs.ensures.locks ∙ (ap without_slabs (c.supply_chunk-supplied.ensures.locks ∙ c.in-Ok.ensures.locks) ∙ slabs_back c.args.hand.now c.requires.unlocked)

@@ -53,9 +53,9 @@ pub returns-in-Ok-Err-clause-evicts : goal.returns-in-Ok-Err-clause-evicts
 returns-in-Ok-Err-clause-evicts c =
     (refused_tells c.args.hand.now.number c.in-Some.class c.in-Ok-Err.error c.args.hand.now.seat.me.0 c.chunk_within.new.hand.seat.me.0 (err_of (λ (error : SetError). HoldsSlabs (SuppliesNone c.args.hand.now.number c.in-Some.class error) c.args.hand.now.seat.me.0 c.chunk_within.new.hand.seat.me.0) c.in-Ok-Err.field-0 c.in-Ok-Err.error c.in-Ok-Err.field-0-is c.in-Ok-Err.ensures.none)).calls
 
-pub returns-in-Ok-Err-clause-unsaid : goal.returns-in-Ok-Err-clause-unsaid
-returns-in-Ok-Err-clause-unsaid c =
-    (refused_tells c.args.hand.now.number c.in-Some.class c.in-Ok-Err.error c.args.hand.now.seat.me.0 c.chunk_within.new.hand.seat.me.0 (err_of (λ (error : SetError). HoldsSlabs (SuppliesNone c.args.hand.now.number c.in-Some.class error) c.args.hand.now.seat.me.0 c.chunk_within.new.hand.seat.me.0) c.in-Ok-Err.field-0 c.in-Ok-Err.error c.in-Ok-Err.field-0-is c.in-Ok-Err.ensures.none)).said
+pub returns-in-Ok-Err-clause-stores_nothing : goal.returns-in-Ok-Err-clause-stores_nothing
+returns-in-Ok-Err-clause-stores_nothing c =
+    (refused_tells c.args.hand.now.number c.in-Some.class c.in-Ok-Err.error c.args.hand.now.seat.me.0 c.chunk_within.new.hand.seat.me.0 (err_of (λ (error : SetError). HoldsSlabs (SuppliesNone c.args.hand.now.number c.in-Some.class error) c.args.hand.now.seat.me.0 c.chunk_within.new.hand.seat.me.0) c.in-Ok-Err.field-0 c.in-Ok-Err.error c.in-Ok-Err.field-0-is c.in-Ok-Err.ensures.none)).stored
 
 pub returns-in-Ok-Err-clause-stamps : goal.returns-in-Ok-Err-clause-stamps
 returns-in-Ok-Err-clause-stamps c =
@@ -108,11 +108,11 @@ returns-in-Ok-Ok-store_words_within-clause-calls c =
       sets = subst (λ (p : ℕ × Setup). RecordsCall p.0 (c.args.key % p.1.config.stripes) (Set p.0 c.args.key c.in-Some-next_stamp.stamp) between c.store_words_within.new.hand.seat.me.0) (λ k. (number k, sym c.requires.arena.setup k)) (on_ok (RecordsCall c.chunk_within.new.hand.number (c.args.key % c.args.arena.now.table.shared.key.config.stripes) (Set c.chunk_within.new.hand.number c.args.key c.in-Some-next_stamp.stamp) c.chunk_within.new.hand.seat.me.0 c.store_words_within.new.hand.seat.me.0) c.in-Ok-Ok-store_words_within.field-0 _ c.in-Ok-Ok-store_words_within.field-0-is c.in-Ok-Ok-store_words_within.ensures.calls);
     }
 
-pub returns-in-Ok-Ok-store_words_within-clause-said : goal.returns-in-Ok-Ok-store_words_within-clause-said
-returns-in-Ok-Ok-store_words_within-clause-said c =
+pub returns-in-Ok-Ok-store_words_within-clause-stores_words : goal.returns-in-Ok-Ok-store_words_within-clause-stores_words
+returns-in-Ok-Ok-store_words_within-clause-stores_words c =
     let view : View = c.args.hand.now.seat.me.0 in
     let told = supplied_tells c.args.hand.now.number c.in-Some.class c.in-Ok-Ok.fresh.chunk view c.chunk_within.new.hand.seat.me.0 (ok_of (λ (fresh : Fresh). HoldsSlabs (SuppliesChunk c.args.hand.now.number c.in-Some.class fresh.chunk) c.args.hand.now.seat.me.0 c.chunk_within.new.hand.seat.me.0) c.in-Ok-Ok.field-0 c.in-Ok-Ok.fresh c.in-Ok-Ok.field-0-is c.in-Ok-Ok.ensures.supplies) in
-    (on_ok (c.store_words_within.new.hand.seat.me.0.row.knows.said ≡ c.chunk_within.new.hand.seat.me.0.row.knows.said ++ record { stamp = c.in-Some-next_stamp.stamp; words = (item_with c.args.key c.in-Some-next_stamp.stamp c.args.words.now) } ∷ []) c.in-Ok-Ok-store_words_within.field-0 _ c.in-Ok-Ok-store_words_within.field-0-is c.in-Ok-Ok-store_words_within.ensures.said) ∙ ap (λ (said : List StoredItem). said ++ record { stamp = c.in-Some-next_stamp.stamp; words = item_with c.args.key c.in-Some-next_stamp.stamp c.args.words.now } ∷ []) told.said
+    (on_ok (c.store_words_within.new.hand.seat.me.0.row.knows.stored ≡ c.chunk_within.new.hand.seat.me.0.row.knows.stored ++ record { stamp = c.in-Some-next_stamp.stamp; words = (item_with c.args.key c.in-Some-next_stamp.stamp c.args.words.now) } ∷ []) c.in-Ok-Ok-store_words_within.field-0 _ c.in-Ok-Ok-store_words_within.field-0-is c.in-Ok-Ok-store_words_within.ensures.stores_words) ∙ ap (λ (said : List StoredItem). said ++ record { stamp = c.in-Some-next_stamp.stamp; words = item_with c.args.key c.in-Some-next_stamp.stamp c.args.words.now } ∷ []) told.stored
 
 pub returns-in-Ok-Err-store_words_within-clause-refused : goal.returns-in-Ok-Err-store_words_within-clause-refused
 returns-in-Ok-Err-store_words_within-clause-refused c =
@@ -140,9 +140,9 @@ pub returns-in-Ok-Err-store_words_within-clause-evicts : goal.returns-in-Ok-Err-
 returns-in-Ok-Err-store_words_within-clause-evicts c =
     (told_here c.args.hand.now.number c.in-Some.class c.args.key c.in-Some-next_stamp.stamp _ c.in-Ok-Ok.fresh.chunk c.args.words.now c.args.hand.now.seat.me.0 c.chunk_within.new.hand.seat.me.0 c.store_words_within.new.hand.seat.me.0 (ok_of (λ (fresh : Fresh). HoldsSlabs (SuppliesChunk c.args.hand.now.number c.in-Some.class fresh.chunk) c.args.hand.now.seat.me.0 c.chunk_within.new.hand.seat.me.0) c.in-Ok-Ok.field-0 c.in-Ok-Ok.fresh c.in-Ok-Ok.field-0-is c.in-Ok-Ok.ensures.supplies) (on_err (LeavesDead (c.args.key % c.args.arena.now.table.shared.key.config.stripes) c.in-Ok-Ok.fresh.chunk (item_filled c.in-Ok-Ok.fresh.chunk (item_with c.args.key c.in-Some-next_stamp.stamp c.args.words.now) c.chunk_within.new.hand.seat.me.0) c.store_words_within.new.hand.seat.me.0) c.in-Ok-Err-store_words_within.field-0 _ c.in-Ok-Err-store_words_within.field-0-is c.in-Ok-Err-store_words_within.ensures.no_memory)).calls
 
-pub returns-in-Ok-Err-store_words_within-clause-unsaid : goal.returns-in-Ok-Err-store_words_within-clause-unsaid
-returns-in-Ok-Err-store_words_within-clause-unsaid c =
-    (told_here c.args.hand.now.number c.in-Some.class c.args.key c.in-Some-next_stamp.stamp _ c.in-Ok-Ok.fresh.chunk c.args.words.now c.args.hand.now.seat.me.0 c.chunk_within.new.hand.seat.me.0 c.store_words_within.new.hand.seat.me.0 (ok_of (λ (fresh : Fresh). HoldsSlabs (SuppliesChunk c.args.hand.now.number c.in-Some.class fresh.chunk) c.args.hand.now.seat.me.0 c.chunk_within.new.hand.seat.me.0) c.in-Ok-Ok.field-0 c.in-Ok-Ok.fresh c.in-Ok-Ok.field-0-is c.in-Ok-Ok.ensures.supplies) (on_err (LeavesDead (c.args.key % c.args.arena.now.table.shared.key.config.stripes) c.in-Ok-Ok.fresh.chunk (item_filled c.in-Ok-Ok.fresh.chunk (item_with c.args.key c.in-Some-next_stamp.stamp c.args.words.now) c.chunk_within.new.hand.seat.me.0) c.store_words_within.new.hand.seat.me.0) c.in-Ok-Err-store_words_within.field-0 _ c.in-Ok-Err-store_words_within.field-0-is c.in-Ok-Err-store_words_within.ensures.no_memory)).said
+pub returns-in-Ok-Err-store_words_within-clause-stores_nothing : goal.returns-in-Ok-Err-store_words_within-clause-stores_nothing
+returns-in-Ok-Err-store_words_within-clause-stores_nothing c =
+    (told_here c.args.hand.now.number c.in-Some.class c.args.key c.in-Some-next_stamp.stamp _ c.in-Ok-Ok.fresh.chunk c.args.words.now c.args.hand.now.seat.me.0 c.chunk_within.new.hand.seat.me.0 c.store_words_within.new.hand.seat.me.0 (ok_of (λ (fresh : Fresh). HoldsSlabs (SuppliesChunk c.args.hand.now.number c.in-Some.class fresh.chunk) c.args.hand.now.seat.me.0 c.chunk_within.new.hand.seat.me.0) c.in-Ok-Ok.field-0 c.in-Ok-Ok.fresh c.in-Ok-Ok.field-0-is c.in-Ok-Ok.ensures.supplies) (on_err (LeavesDead (c.args.key % c.args.arena.now.table.shared.key.config.stripes) c.in-Ok-Ok.fresh.chunk (item_filled c.in-Ok-Ok.fresh.chunk (item_with c.args.key c.in-Some-next_stamp.stamp c.args.words.now) c.chunk_within.new.hand.seat.me.0) c.store_words_within.new.hand.seat.me.0) c.in-Ok-Err-store_words_within.field-0 _ c.in-Ok-Err-store_words_within.field-0-is c.in-Ok-Err-store_words_within.ensures.no_memory)).stored
 
 pub returns-in-Ok-Err-store_words_within-clause-stamps : goal.returns-in-Ok-Err-store_words_within-clause-stamps
 returns-in-Ok-Err-store_words_within-clause-stamps c =
@@ -253,8 +253,8 @@ returns-in-Ok-Err-store_words_within-clause-ready c =
 pub returns-in-Err-clause-evicts : goal.returns-in-Err-clause-evicts
 returns-in-Err-clause-evicts c = (missed_tells c.args.hand.now.number c.args.tries c.args.hand.now.seat.me.0 c.chunk_within.new.hand.seat.me.0 c.in-Err.ensures.missed).calls
 
-pub returns-in-Err-clause-unsaid : goal.returns-in-Err-clause-unsaid
-returns-in-Err-clause-unsaid c = (missed_tells c.args.hand.now.number c.args.tries c.args.hand.now.seat.me.0 c.chunk_within.new.hand.seat.me.0 c.in-Err.ensures.missed).said
+pub returns-in-Err-clause-stores_nothing : goal.returns-in-Err-clause-stores_nothing
+returns-in-Err-clause-stores_nothing c = (missed_tells c.args.hand.now.number c.args.tries c.args.hand.now.seat.me.0 c.chunk_within.new.hand.seat.me.0 c.in-Err.ensures.missed).stored
 
 pub returns-in-Err-clause-stamps : goal.returns-in-Err-clause-stamps
 returns-in-Err-clause-stamps c = (missed_tells c.args.hand.now.number c.args.tries c.args.hand.now.seat.me.0 c.chunk_within.new.hand.seat.me.0 c.in-Err.ensures.missed).ids
@@ -298,9 +298,9 @@ pub returns-in-Err-store_words_within-clause-evicts : goal.returns-in-Err-store_
 returns-in-Err-store_words_within-clause-evicts c =
     (missed_here c.args.hand.now.number c.in-Some.class c.args.key c.in-Some-next_stamp.stamp c.args.tries _ c.in-Ok-Ok.fresh.chunk c.args.words.now c.args.hand.now.seat.me.0 c.chunk_within.new.hand.seat.me.0 c.store_words_within.new.hand.seat.me.0 (ok_of (λ (fresh : Fresh). HoldsSlabs (SuppliesChunk c.args.hand.now.number c.in-Some.class fresh.chunk) c.args.hand.now.seat.me.0 c.chunk_within.new.hand.seat.me.0) c.in-Ok-Ok.field-0 c.in-Ok-Ok.fresh c.in-Ok-Ok.field-0-is c.in-Ok-Ok.ensures.supplies) c.in-Err-store_words_within.ensures.missed).calls
 
-pub returns-in-Err-store_words_within-clause-unsaid : goal.returns-in-Err-store_words_within-clause-unsaid
-returns-in-Err-store_words_within-clause-unsaid c =
-    (missed_here c.args.hand.now.number c.in-Some.class c.args.key c.in-Some-next_stamp.stamp c.args.tries _ c.in-Ok-Ok.fresh.chunk c.args.words.now c.args.hand.now.seat.me.0 c.chunk_within.new.hand.seat.me.0 c.store_words_within.new.hand.seat.me.0 (ok_of (λ (fresh : Fresh). HoldsSlabs (SuppliesChunk c.args.hand.now.number c.in-Some.class fresh.chunk) c.args.hand.now.seat.me.0 c.chunk_within.new.hand.seat.me.0) c.in-Ok-Ok.field-0 c.in-Ok-Ok.fresh c.in-Ok-Ok.field-0-is c.in-Ok-Ok.ensures.supplies) c.in-Err-store_words_within.ensures.missed).said
+pub returns-in-Err-store_words_within-clause-stores_nothing : goal.returns-in-Err-store_words_within-clause-stores_nothing
+returns-in-Err-store_words_within-clause-stores_nothing c =
+    (missed_here c.args.hand.now.number c.in-Some.class c.args.key c.in-Some-next_stamp.stamp c.args.tries _ c.in-Ok-Ok.fresh.chunk c.args.words.now c.args.hand.now.seat.me.0 c.chunk_within.new.hand.seat.me.0 c.store_words_within.new.hand.seat.me.0 (ok_of (λ (fresh : Fresh). HoldsSlabs (SuppliesChunk c.args.hand.now.number c.in-Some.class fresh.chunk) c.args.hand.now.seat.me.0 c.chunk_within.new.hand.seat.me.0) c.in-Ok-Ok.field-0 c.in-Ok-Ok.fresh c.in-Ok-Ok.field-0-is c.in-Ok-Ok.ensures.supplies) c.in-Err-store_words_within.ensures.missed).stored
 
 pub returns-in-Err-store_words_within-clause-stamps : goal.returns-in-Err-store_words_within-clause-stamps
 returns-in-Err-store_words_within-clause-stamps c =

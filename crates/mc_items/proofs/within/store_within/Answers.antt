@@ -93,8 +93,8 @@ returns-in-Ok-store_at-clause-calls c =
     } in
     stored_mine hand.number stripe c.args.key c.args.fresh.stamp c.args.fresh.chunk c.args.fresh.room before now stored
 
-pub returns-in-Ok-store_at-clause-said : goal.returns-in-Ok-store_at-clause-said
-returns-in-Ok-store_at-clause-said c =
+pub returns-in-Ok-store_at-clause-stores_words : goal.returns-in-Ok-store_at-clause-stores_words
+returns-in-Ok-store_at-clause-stores_words c =
     let hand = c.args.hand.now in
     let held = c.in-Ok in
     let before : View = hand.seat.me.0 in

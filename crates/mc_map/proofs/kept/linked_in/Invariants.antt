@@ -7,6 +7,6 @@ abbrev pub invariant-loop-key : goal.invariant-loop-key
 invariant-loop-key l = record {
   count : l.count ≡ linked_count l.keeper l.class (take l.key-index l.keys);
   asked : l.asked ≡ asked_bytes l.keeper l.class (take l.key-index l.keys);
-  few : l.count ≤ l.key-index;
+  within_limit : l.count ≤ l.key-index;
   most : l.asked ≤ 16384 * l.key-index;
 }

@@ -11,14 +11,14 @@ pub copy_word-requires-clause-inside : goal.copy_word-requires-clause-inside
 copy_word-requires-clause-inside c =
     let view : View = c.args.hand.now.seat.me.0 in
     let room : ℕ = c.args.fresh.now.room in
-    let (three, most) = three_places view c.args.arena.now.table.shared.key c.requires.arena.lawful c.requires.arena.setup c.args.held.now.shared c.requires.held c.args.chunk c.requires.near c.requires.linked room c.requires.room in
+    let (three, most) = three_places view c.args.arena.now.table.shared.key c.requires.arena.lawful c.requires.arena.setup c.args.held.now.shared c.requires.held c.args.chunk c.requires.in_range c.requires.linked room c.requires.room in
     omega arith
 
 pub copy_word-requires-2-clause-inside : goal.copy_word-requires-2-clause-inside
 copy_word-requires-2-clause-inside c =
     let view : View = c.args.hand.now.seat.me.0 in
     let room : ℕ = c.args.fresh.now.room in
-    let (three, most) = three_places view c.args.arena.now.table.shared.key c.requires.arena.lawful c.requires.arena.setup c.args.held.now.shared c.requires.held c.args.chunk c.requires.near c.requires.linked room c.requires.room in
+    let (three, most) = three_places view c.args.arena.now.table.shared.key c.requires.arena.lawful c.requires.arena.setup c.args.held.now.shared c.requires.held c.args.chunk c.requires.in_range c.requires.linked room c.requires.room in
     let same : c.copy_word.new.fresh.room ≡ room = c.copy_word.ensures.same.1 in
     omega arith
 
@@ -26,7 +26,7 @@ pub copy_word-words-requires-clause-inside : goal.copy_word-words-requires-claus
 copy_word-words-requires-clause-inside c =
     let view : View = c.args.hand.now.seat.me.0 in
     let room : ℕ = c.args.fresh.now.room in
-    let (three, most) = three_places view c.args.arena.now.table.shared.key c.requires.arena.lawful c.requires.arena.setup c.args.held.now.shared c.requires.held c.args.chunk c.requires.near c.requires.linked room c.requires.room in
+    let (three, most) = three_places view c.args.arena.now.table.shared.key c.requires.arena.lawful c.requires.arena.setup c.args.held.now.shared c.requires.held c.args.chunk c.requires.in_range c.requires.linked room c.requires.room in
     let same : c.copy_word-2.new.fresh.room ≡ room = c.copy_word-2.ensures.same.1 ∙ c.copy_word.ensures.same.1 in
     omega arith
 
@@ -35,7 +35,7 @@ overflow_add-place-end c =
     let fits : 3 + c.copy_word-words.result ≤ c.copy_word-2.new.fresh.room = c.copy_word-words.ensures.fits refl in
     let view : View = c.args.hand.now.seat.me.0 in
     let room : ℕ = c.args.fresh.now.room in
-    let (three, most) = three_places view c.args.arena.now.table.shared.key c.requires.arena.lawful c.requires.arena.setup c.args.held.now.shared c.requires.held c.args.chunk c.requires.near c.requires.linked room c.requires.room in
+    let (three, most) = three_places view c.args.arena.now.table.shared.key c.requires.arena.lawful c.requires.arena.setup c.args.held.now.shared c.requires.held c.args.chunk c.requires.in_range c.requires.linked room c.requires.room in
     let same : c.copy_word-2.new.fresh.room ≡ room = c.copy_word-2.ensures.same.1 ∙ c.copy_word.ensures.same.1 in
     omega (arith, fits, same, most)
 

@@ -144,8 +144,8 @@ sweep_and_save-requires-clause-linked c =
     let first = made_reaches view made slabs c.requires.slabs c.args.stripe.number _ c.args.stripe.stripe c.in_default.ensures.view key chunk stamp number value c.requires.lent leads c.requires.linked c.reserve.ensures.number (ap (λ (h : StripeHeld). h.stripe) c.in_default.ensures.reserved) c.reserve.ensures.held in
     first.linked
 
-pub sweep_and_save-requires-clause-few : goal.sweep_and_save-requires-clause-few
-sweep_and_save-requires-clause-few c = subst (λ (v : View). length v.row.holdings ≤ most_refs) (sym c.in_default.ensures.view) c.requires.few
+pub sweep_and_save-requires-clause-within_limit : goal.sweep_and_save-requires-clause-within_limit
+sweep_and_save-requires-clause-within_limit c = subst (λ (v : View). length v.row.holdings ≤ most_refs) (sym c.in_default.ensures.view) c.requires.within_limit
 
 pub rescue_to_target-requires-clause-linked : goal.rescue_to_target-requires-clause-linked
 rescue_to_target-requires-clause-linked c =
@@ -159,8 +159,8 @@ rescue_to_target-requires-clause-linked c =
     let first = made_reaches view made slabs c.requires.slabs c.args.stripe.number _ c.args.stripe.stripe c.in_default.ensures.view key chunk stamp number value c.requires.lent leads c.requires.linked c.reserve.ensures.number (ap (λ (h : StripeHeld). h.stripe) c.in_default.ensures.reserved) c.reserve.ensures.held in
     first.linked
 
-pub rescue_to_target-requires-clause-few : goal.rescue_to_target-requires-clause-few
-rescue_to_target-requires-clause-few c = subst (λ (v : View). length v.row.holdings ≤ most_refs) (sym c.in_default.ensures.view) c.requires.few
+pub rescue_to_target-requires-clause-within_limit : goal.rescue_to_target-requires-clause-within_limit
+rescue_to_target-requires-clause-within_limit c = subst (λ (v : View). length v.row.holdings ≤ most_refs) (sym c.in_default.ensures.view) c.requires.within_limit
 
 pub returns-in-Err-clause-unready : goal.returns-in-Err-clause-unready
 returns-in-Err-clause-unready c = refused c.reserve.result c.in-Err.error c.in-Err.is (can_store c.args.stripe.stripe) c.reserve.ensures.succeeds

@@ -29,7 +29,7 @@ word_held-key-requires-clause-inside c =
     let view : View = c.args.hand.now.seat.me.0 in
     let slabs = c.args.held.now.shared in
     let setup = c.args.arena.now.table.shared.key in
-    let places = three_places view setup c.requires.arena.lawful c.requires.arena.setup slabs c.requires.held c.args.chunk c.requires.near c.requires.linked (room_in setup.table (class_of_page slabs c.args.chunk.page)) refl in
+    let places = three_places view setup c.requires.arena.lawful c.requires.arena.setup slabs c.requires.held c.args.chunk c.requires.in_range c.requires.linked (room_in setup.table (class_of_page slabs c.args.chunk.page)) refl in
     let three = places.0 in omega arith
 
 pub returns-in_default-clause-visits : goal.returns-in_default-clause-visits

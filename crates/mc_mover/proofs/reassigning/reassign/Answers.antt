@@ -62,8 +62,8 @@ returns-clause-keeps g c =
     refs_stay c.args.hand.now.seat.me.0 c.give_slabs.new.hand.seat.me.0 (returns-clause-holdings g c)
     (held_known_same c.args.hand.now.seat.me.0 taken last c.give_slabs.new.hand.seat.me.0 held.result.shared left held.ensures.waits c.give_slabs.ensures.left (reassigns_keep (λ (v : View). v.row.knows.known) (λ slabs one word v. refl) held.new.hand.number c.args.src c.args.dst taken last held.result.shared left begun.result does))
 
-pub returns-clause-unsaid : goal.returns-clause-unsaid
-returns-clause-unsaid g c =
+pub returns-clause-stores_nothing : goal.returns-clause-stores_nothing
+returns-clause-stores_nothing g c =
     let held = c.lock_slabs-held in
     let taken : View = held.new.hand.seat.me.0 in
     let begun = c.begin_move-answer in
@@ -71,10 +71,10 @@ returns-clause-unsaid g c =
     let left = begun.new.held.shared in
     let e = begun.ensures in
     let does = reassigns_from held.new.hand.number c.args.src c.args.dst taken last held.result.shared left begun.result e.answer e.began e.happens e.view e.refused in
-    held_said c.args.hand.now.seat.me.0 taken last c.give_slabs.new.hand.seat.me.0 held.result.shared left held.ensures.waits c.give_slabs.ensures.left (reassigns_keep (λ (v : View). v.row.knows.said) (λ slabs one word v. refl) held.new.hand.number c.args.src c.args.dst taken last held.result.shared left begun.result does)
+    held_said c.args.hand.now.seat.me.0 taken last c.give_slabs.new.hand.seat.me.0 held.result.shared left held.ensures.waits c.give_slabs.ensures.left (reassigns_keep (λ (v : View). v.row.knows.stored) (λ slabs one word v. refl) held.new.hand.number c.args.src c.args.dst taken last held.result.shared left begun.result does)
 
-pub returns-clause-untold : goal.returns-clause-untold
-returns-clause-untold g c =
+pub returns-clause-records_nothing : goal.returns-clause-records_nothing
+returns-clause-records_nothing g c =
     let held = c.lock_slabs-held in
     let taken : View = held.new.hand.seat.me.0 in
     let begun = c.begin_move-answer in

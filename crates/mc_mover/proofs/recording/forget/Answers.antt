@@ -30,15 +30,15 @@ returns-clause-holdings g c = holdings_kept c.args.hand.now c.loop-stripe.hand (
 pub returns-clause-keeps : goal.returns-clause-keeps
 returns-clause-keeps g c = refs_kept c.args.hand.now c.loop-stripe.hand (each_keeps Forget c.args.hand.now.number (range_with_len 0 c.loop-stripe.stripe) c.args.hand.now.seat.me.0 c.loop-stripe.hand.seat.me.0 c.loop-stripe.invariant.so_far)
 
-pub returns-clause-unsaid : goal.returns-clause-unsaid
-returns-clause-unsaid g c = said_kept c.args.hand.now c.loop-stripe.hand (each_keeps Forget c.args.hand.now.number (range_with_len 0 c.loop-stripe.stripe) c.args.hand.now.seat.me.0 c.loop-stripe.hand.seat.me.0 c.loop-stripe.invariant.so_far)
+pub returns-clause-stores_nothing : goal.returns-clause-stores_nothing
+returns-clause-stores_nothing g c = said_kept c.args.hand.now c.loop-stripe.hand (each_keeps Forget c.args.hand.now.number (range_with_len 0 c.loop-stripe.stripe) c.args.hand.now.seat.me.0 c.loop-stripe.hand.seat.me.0 c.loop-stripe.invariant.so_far)
 
-pub returns-clause-untold : goal.returns-clause-untold
-returns-clause-untold g c = mine_kept c.args.hand.now c.loop-stripe.hand (each_keeps Forget c.args.hand.now.number (range_with_len 0 c.loop-stripe.stripe) c.args.hand.now.seat.me.0 c.loop-stripe.hand.seat.me.0 c.loop-stripe.invariant.so_far)
+pub returns-clause-records_nothing : goal.returns-clause-records_nothing
+returns-clause-records_nothing g c = mine_kept c.args.hand.now c.loop-stripe.hand (each_keeps Forget c.args.hand.now.number (range_with_len 0 c.loop-stripe.stripe) c.args.hand.now.seat.me.0 c.loop-stripe.hand.seat.me.0 c.loop-stripe.invariant.so_far)
 
 pub returns-clause-given : goal.returns-clause-given
-returns-clause-given g c = λ stripe near.
+returns-clause-given g c = λ stripe in_range.
     let same = ap (λ (f : Config). f.stripes) c.config.ensures.config in
     let last = c.loop-stripe-test.false in
-    let within : stripe < c.loop-stripe.stripe = omega (arith, near, same, last) in
+    let within : stripe < c.loop-stripe.stripe = omega (arith, in_range, same, last) in
     all_given Forget c.args.hand.now.number c.loop-stripe.stripe c.args.hand.now.seat.me.0 c.loop-stripe.hand.seat.me.0 c.loop-stripe.invariant.so_far stripe within

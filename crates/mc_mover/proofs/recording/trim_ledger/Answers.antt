@@ -34,8 +34,8 @@ returns-clause-number g c = number_kept c.args.hand.now c.give_slabs.new.hand (l
 pub returns-clause-keeps : goal.returns-clause-keeps
 returns-clause-keeps g c = refs_kept c.args.hand.now c.give_slabs.new.hand (ledger_keeps c.args.hand.now.number c.args.hand.now.seat.me.0 c.give_slabs.new.hand.seat.me.0 (returns-clause-trims g c))
 
-pub returns-clause-unsaid : goal.returns-clause-unsaid
-returns-clause-unsaid g c = said_kept c.args.hand.now c.give_slabs.new.hand (ledger_keeps c.args.hand.now.number c.args.hand.now.seat.me.0 c.give_slabs.new.hand.seat.me.0 (returns-clause-trims g c))
+pub returns-clause-stores_nothing : goal.returns-clause-stores_nothing
+returns-clause-stores_nothing g c = said_kept c.args.hand.now c.give_slabs.new.hand (ledger_keeps c.args.hand.now.number c.args.hand.now.seat.me.0 c.give_slabs.new.hand.seat.me.0 (returns-clause-trims g c))
 
-pub returns-clause-untold : goal.returns-clause-untold
-returns-clause-untold g c = mine_kept c.args.hand.now c.give_slabs.new.hand (ledger_keeps c.args.hand.now.number c.args.hand.now.seat.me.0 c.give_slabs.new.hand.seat.me.0 (returns-clause-trims g c))
+pub returns-clause-records_nothing : goal.returns-clause-records_nothing
+returns-clause-records_nothing g c = mine_kept c.args.hand.now c.give_slabs.new.hand (ledger_keeps c.args.hand.now.number c.args.hand.now.seat.me.0 c.give_slabs.new.hand.seat.me.0 (returns-clause-trims g c))

@@ -32,13 +32,13 @@ returns-in_err-trim_stripe-clause-keeps g c = refs_kept c.args.hand.now c.trim_s
     (hold_keeps Leaves leaves_quiet c.loop-stripe.stripe c.loop-stripe.hand.seat.me.0 c.trim_stripe.new.hand.seat.me.0 c.in_err-trim_stripe.ensures.leaves
     ∙ each_keeps Trim c.args.hand.now.number (range_with_len 0 c.loop-stripe.stripe) c.args.hand.now.seat.me.0 c.loop-stripe.hand.seat.me.0 c.loop-stripe.invariant.so_far)
 
-pub returns-in_err-trim_stripe-clause-unsaid : goal.returns-in_err-trim_stripe-clause-unsaid
-returns-in_err-trim_stripe-clause-unsaid g c = said_kept c.args.hand.now c.trim_stripe.new.hand
+pub returns-in_err-trim_stripe-clause-stores_nothing : goal.returns-in_err-trim_stripe-clause-stores_nothing
+returns-in_err-trim_stripe-clause-stores_nothing g c = said_kept c.args.hand.now c.trim_stripe.new.hand
     (hold_keeps Leaves leaves_quiet c.loop-stripe.stripe c.loop-stripe.hand.seat.me.0 c.trim_stripe.new.hand.seat.me.0 c.in_err-trim_stripe.ensures.leaves
     ∙ each_keeps Trim c.args.hand.now.number (range_with_len 0 c.loop-stripe.stripe) c.args.hand.now.seat.me.0 c.loop-stripe.hand.seat.me.0 c.loop-stripe.invariant.so_far)
 
-pub returns-in_err-trim_stripe-clause-untold : goal.returns-in_err-trim_stripe-clause-untold
-returns-in_err-trim_stripe-clause-untold g c = mine_kept c.args.hand.now c.trim_stripe.new.hand
+pub returns-in_err-trim_stripe-clause-records_nothing : goal.returns-in_err-trim_stripe-clause-records_nothing
+returns-in_err-trim_stripe-clause-records_nothing g c = mine_kept c.args.hand.now c.trim_stripe.new.hand
     (hold_keeps Leaves leaves_quiet c.loop-stripe.stripe c.loop-stripe.hand.seat.me.0 c.trim_stripe.new.hand.seat.me.0 c.in_err-trim_stripe.ensures.leaves
     ∙ each_keeps Trim c.args.hand.now.number (range_with_len 0 c.loop-stripe.stripe) c.args.hand.now.seat.me.0 c.loop-stripe.hand.seat.me.0 c.loop-stripe.invariant.so_far)
 
@@ -64,18 +64,18 @@ returns-clause-holdings g c = holdings_kept c.args.hand.now c.loop-stripe.hand (
 pub returns-clause-keeps : goal.returns-clause-keeps
 returns-clause-keeps g c = refs_kept c.args.hand.now c.loop-stripe.hand (each_keeps Trim c.args.hand.now.number (range_with_len 0 c.loop-stripe.stripe) c.args.hand.now.seat.me.0 c.loop-stripe.hand.seat.me.0 c.loop-stripe.invariant.so_far)
 
-pub returns-clause-unsaid : goal.returns-clause-unsaid
-returns-clause-unsaid g c = said_kept c.args.hand.now c.loop-stripe.hand (each_keeps Trim c.args.hand.now.number (range_with_len 0 c.loop-stripe.stripe) c.args.hand.now.seat.me.0 c.loop-stripe.hand.seat.me.0 c.loop-stripe.invariant.so_far)
+pub returns-clause-stores_nothing : goal.returns-clause-stores_nothing
+returns-clause-stores_nothing g c = said_kept c.args.hand.now c.loop-stripe.hand (each_keeps Trim c.args.hand.now.number (range_with_len 0 c.loop-stripe.stripe) c.args.hand.now.seat.me.0 c.loop-stripe.hand.seat.me.0 c.loop-stripe.invariant.so_far)
 
-pub returns-clause-untold : goal.returns-clause-untold
-returns-clause-untold g c = mine_kept c.args.hand.now c.loop-stripe.hand (each_keeps Trim c.args.hand.now.number (range_with_len 0 c.loop-stripe.stripe) c.args.hand.now.seat.me.0 c.loop-stripe.hand.seat.me.0 c.loop-stripe.invariant.so_far)
+pub returns-clause-records_nothing : goal.returns-clause-records_nothing
+returns-clause-records_nothing g c = mine_kept c.args.hand.now c.loop-stripe.hand (each_keeps Trim c.args.hand.now.number (range_with_len 0 c.loop-stripe.stripe) c.args.hand.now.seat.me.0 c.loop-stripe.hand.seat.me.0 c.loop-stripe.invariant.so_far)
 
 pub returns-in_err-trim_stripe-clause-unfull : goal.returns-in_err-trim_stripe-clause-unfull
 returns-in_err-trim_stripe-clause-unfull g c = no_ok _ c.from_residual.result c.from_residual.ensures.0
 
 pub returns-clause-unfull : goal.returns-clause-unfull
-returns-clause-unfull g c = λ stripe near.
+returns-clause-unfull g c = λ stripe in_range.
     let same = ap (λ (f : Config). f.stripes) c.config.ensures.config in
     let last = c.loop-stripe-test.false in
-    let within : stripe < c.loop-stripe.stripe = omega (arith, near, same, last) in
+    let within : stripe < c.loop-stripe.stripe = omega (arith, in_range, same, last) in
     c.loop-stripe.invariant.unfull stripe within

@@ -9,8 +9,8 @@ use Rattle.mc_mover.proofs.Refusals.{as_error, on_error}
 use Rattle.mc_mover.proofs.Rounds.{page_is, page_moves, position_cut, position_near, source_is}
 use Rattle.mc_mover.proofs.sections.section.Goals as goal
 
-pub visit-requires-clause-near : goal.visit-requires-clause-near
-visit-requires-clause-near c =
+pub visit-requires-clause-in_range : goal.visit-requires-clause-in_range
+visit-requires-clause-in_range c =
     subst (λ (s : Setup). has_chunk s.table (chunk_at_position c.args.moving) ≡ true) c.requires.arena.setup
     (position_near c.args.hand.now.seat.me.0 c.requires.arena.lawful c.args.held.now.shared c.requires.held c.args.moving c.requires.runs c.requires.within)
 

@@ -47,7 +47,7 @@ returns-in_err-found-clause-lacks c =
     let now : View = c.section.new.hand.seat.me.0 in
     let move = c.in-Some.moving in
     let bulk = ap (λ (f : Config). f.bulk) c.config.ensures.config ∙ ap (λ (s : Setup). s.config.bulk) (sym c.requires.arena.setup) in
-    let few = c.loop-test.true in
+    let within_limit = c.loop-test.true in
     let chunks = c.per_page.ensures.chunks ∙ ap (λ (s : SlabState). (class_at s move.src).per_page) c.slabs.ensures.slabs in
     let inside = c.if-moving-per_page.false in
     as_error c.from_residual.result
@@ -100,7 +100,7 @@ returns-then-moving-per_page-clause-looks c =
     let hand = c.args.hand.now in
     let move = c.in-Some.moving in
     let bulk = ap (λ (f : Config). f.bulk) c.config.ensures.config ∙ ap (λ (s : Setup). s.config.bulk) (sym c.requires.arena.setup) in
-    let few = c.loop-test.true in
+    let within_limit = c.loop-test.true in
     let chunks = c.per_page.ensures.chunks ∙ ap (λ (s : SlabState). (class_at s move.src).per_page) c.slabs.ensures.slabs in
     let past = c.if-moving-per_page.true in
     all_of_page (setup_of c.args.arena.now) hand.seat.me.0 c.requires.arena.lawful c.requires.arena.setup c.args.held.now.shared c.requires.held

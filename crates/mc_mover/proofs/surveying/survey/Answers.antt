@@ -48,17 +48,17 @@ returns-clause-keeps g c =
     refs_stay c.args.hand.now.seat.me.0 c.give_slabs.new.hand.seat.me.0 (returns-clause-holdings g c)
     (held_known_same c.args.hand.now.seat.me.0 taken last c.give_slabs.new.hand.seat.me.0 held.result.shared left held.ensures.waits c.give_slabs.ensures.left (ap (λ (v : View). v.row.knows.known) swept.ensures.view))
 
-pub returns-clause-unsaid : goal.returns-clause-unsaid
-returns-clause-unsaid g c =
+pub returns-clause-stores_nothing : goal.returns-clause-stores_nothing
+returns-clause-stores_nothing g c =
     let held = c.lock_slabs-held in
     let taken : View = held.new.hand.seat.me.0 in
     let swept = c.sweep_classes in
     let last : View = swept.new.hand.seat.me.0 in
     let left = swept.new.held.shared in
-    held_said c.args.hand.now.seat.me.0 taken last c.give_slabs.new.hand.seat.me.0 held.result.shared left held.ensures.waits c.give_slabs.ensures.left (ap (λ (v : View). v.row.knows.said) swept.ensures.view)
+    held_said c.args.hand.now.seat.me.0 taken last c.give_slabs.new.hand.seat.me.0 held.result.shared left held.ensures.waits c.give_slabs.ensures.left (ap (λ (v : View). v.row.knows.stored) swept.ensures.view)
 
-pub returns-clause-untold : goal.returns-clause-untold
-returns-clause-untold g c =
+pub returns-clause-records_nothing : goal.returns-clause-records_nothing
+returns-clause-records_nothing g c =
     let held = c.lock_slabs-held in
     let taken : View = held.new.hand.seat.me.0 in
     let swept = c.sweep_classes in

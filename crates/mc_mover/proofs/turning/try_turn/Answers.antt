@@ -42,8 +42,8 @@ returns-in-Err-clause-lacks c _ =
     held_for (TurnLacksMemory hand.number) view taken last c.give_slabs.new.hand.seat.me.0 found left (taken_at_once found view taken c.in-Ok.ensures.taken c.in-Ok.ensures.lent)
     (subst (λ n. TurnLacksMemory n taken found last left) number c.in-Err.ensures.lacks) c.give_slabs.ensures.left
 
-pub returns-in-Ok-answer-clause-told : goal.returns-in-Ok-answer-clause-told
-returns-in-Ok-answer-clause-told c =
+pub returns-in-Ok-answer-clause-records : goal.returns-in-Ok-answer-clause-records
+returns-in-Ok-answer-clause-records c =
     let hand = c.args.hand.now in
     turn_told hand.number c.in-Ok-answer.turn hand.seat.me.0 c.give_slabs.new.hand.seat.me.0 c.requires.arena.lawful hand.noted.0 (returns-in-Ok-answer-clause-turns c)
 
@@ -72,11 +72,11 @@ returns-in-Ok-answer-clause-keeps c =
     let leaves = (turn_leaves hand.number c.in-Ok-answer.turn hand.seat.me.0 now.seat.me.0 (returns-in-Ok-answer-clause-turns c)) in
     refs_kept hand.seat.me.0 now.seat.me.0 leaves.more (returns-in-Ok-answer-clause-holdings c) leaves.known
 
-pub returns-in-Ok-answer-clause-unsaid : goal.returns-in-Ok-answer-clause-unsaid
-returns-in-Ok-answer-clause-unsaid c =
+pub returns-in-Ok-answer-clause-stores_nothing : goal.returns-in-Ok-answer-clause-stores_nothing
+returns-in-Ok-answer-clause-stores_nothing c =
     let hand = c.args.hand.now in
     let now = c.give_slabs.new.hand in
-    (turn_leaves hand.number c.in-Ok-answer.turn hand.seat.me.0 now.seat.me.0 (returns-in-Ok-answer-clause-turns c)).said
+    (turn_leaves hand.number c.in-Ok-answer.turn hand.seat.me.0 now.seat.me.0 (returns-in-Ok-answer-clause-turns c)).stored
 
 pub returns-in-Err-clause-holdings : goal.returns-in-Err-clause-holdings
 returns-in-Err-clause-holdings c =
@@ -98,11 +98,11 @@ returns-in-Err-clause-keeps c =
     let leaves = (lacks_leaves hand.number hand.seat.me.0 now.seat.me.0 (returns-in-Err-clause-lacks c refl)) in
     refs_kept hand.seat.me.0 now.seat.me.0 leaves.more (returns-in-Err-clause-holdings c) leaves.known
 
-pub returns-in-Err-clause-unsaid : goal.returns-in-Err-clause-unsaid
-returns-in-Err-clause-unsaid c =
+pub returns-in-Err-clause-stores_nothing : goal.returns-in-Err-clause-stores_nothing
+returns-in-Err-clause-stores_nothing c =
     let hand = c.args.hand.now in
     let now = c.give_slabs.new.hand in
-    (lacks_leaves hand.number hand.seat.me.0 now.seat.me.0 (returns-in-Err-clause-lacks c refl)).said
+    (lacks_leaves hand.number hand.seat.me.0 now.seat.me.0 (returns-in-Err-clause-lacks c refl)).stored
 
 pub returns-in-Ok-answer-clause-answers : goal.returns-in-Ok-answer-clause-answers
 returns-in-Ok-answer-clause-answers c =

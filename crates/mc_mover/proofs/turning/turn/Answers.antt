@@ -29,10 +29,10 @@ turn_held-answer-requires-clause-fresh g c =
     let held = c.lock_slabs-held in
     ap has_fresh (wait_holdings c.args.hand.now.seat.me.0 held.result.shared held.new.hand.seat.me.0 held.ensures.waits) ∙ c.requires.ready.unfilled
 
-pub turn_held-answer-requires-clause-few : goal.turn_held-answer-requires-clause-few
-turn_held-answer-requires-clause-few g c =
+pub turn_held-answer-requires-clause-within_limit : goal.turn_held-answer-requires-clause-within_limit
+turn_held-answer-requires-clause-within_limit g c =
     let held = c.lock_slabs-held in
-    subst (λ (hs : List Holding). length hs ≤ most_refs) (sym (wait_holdings c.args.hand.now.seat.me.0 held.result.shared held.new.hand.seat.me.0 held.ensures.waits)) c.requires.ready.few
+    subst (λ (hs : List Holding). length hs ≤ most_refs) (sym (wait_holdings c.args.hand.now.seat.me.0 held.result.shared held.new.hand.seat.me.0 held.ensures.waits)) c.requires.ready.within_limit
 
 pub returns-clause-turns : goal.returns-clause-turns
 returns-clause-turns g c =
@@ -64,8 +64,8 @@ returns-clause-lacks g c =
     (λ does. held_for (TurnLacksMemory hand.number) view taken last now found left held.ensures.waits (subst (λ n. TurnLacksMemory n taken found last left) number does) c.give_slabs.ensures.left)
     c.turn_held-answer.ensures.lacks
 
-pub returns-clause-told : goal.returns-clause-told
-returns-clause-told g c =
+pub returns-clause-records : goal.returns-clause-records
+returns-clause-records g c =
     let hand = c.args.hand.now in
     let view : View = hand.seat.me.0 in
     let now : View = c.give_slabs.new.hand.seat.me.0 in
@@ -117,6 +117,6 @@ returns-clause-keeps g c =
     let leaves = answer_leaves hand.number c.turn_held-answer.result view now (returns-clause-turns g c) (returns-clause-lacks g c) in
     refs_kept view now leaves.more (returns-clause-holdings g c) leaves.known
 
-pub returns-clause-unsaid : goal.returns-clause-unsaid
-returns-clause-unsaid g c =
-    (answer_leaves c.args.hand.now.number c.turn_held-answer.result c.args.hand.now.seat.me.0 c.give_slabs.new.hand.seat.me.0 (returns-clause-turns g c) (returns-clause-lacks g c)).said
+pub returns-clause-stores_nothing : goal.returns-clause-stores_nothing
+returns-clause-stores_nothing g c =
+    (answer_leaves c.args.hand.now.number c.turn_held-answer.result c.args.hand.now.seat.me.0 c.give_slabs.new.hand.seat.me.0 (returns-clause-turns g c) (returns-clause-lacks g c)).stored

@@ -50,10 +50,10 @@ returns-then-is_out-clause-clears c =
     let view : View = c.args.hand.now.seat.me.0 in
     let seen : View = c.head-head.new.hand.seat.me.0 in
     let slabs = c.args.held.now.shared in
-    let near = ap (λ (s : Setup). has_chunk s.table c.args.chunk) c.head-head.ensures.arena.setup ∙ c.requires.near in
+    let in_range = ap (λ (s : Setup). has_chunk s.table c.args.chunk) c.head-head.ensures.arena.setup ∙ c.requires.in_range in
     let is = ap (λ (s : Setup). is_class s.table c.args.class) c.requires.arena.setup ∙ c.requires.class in
     let valid = class_of_slabs view c.requires.arena.lawful slabs c.args.class c.requires.held is in
-    λ _. out_found view seen slabs c.requires.held c.args.chunk (decode c.head-head.result) c.head-head.ensures.seen c.head-head.ensures.arena.lawful near c.args.class valid c.requires.cut (sym c.is_out.ensures.out ∙ c.if-is_out.true)
+    λ _. out_found view seen slabs c.requires.held c.args.chunk (decode c.head-head.result) c.head-head.ensures.seen c.head-head.ensures.arena.lawful in_range c.args.class valid c.requires.cut (sym c.is_out.ensures.out ∙ c.if-is_out.true)
 
 pub returns-in-Ok-clause-visits : goal.returns-in-Ok-clause-visits
 returns-in-Ok-clause-visits c = (

@@ -17,7 +17,7 @@ loop-place-preserved c =
     let pushed : c.push.new.list.items ≡ c.loop-place.rows.items ++ c.class_row.result ∷ [] = search rules in
     next_row c.args.table.now c.loop-place.place c.loop-place.rows.items c.push.new.list.items c.class_row.result pushed c.loop-place.invariant c.class_row.ensures.row
 
-pub returns-clause-few : goal.returns-clause-few
-returns-clause-few c =
+pub returns-clause-within_limit : goal.returns-clause-within_limit
+returns-clause-within_limit c =
     let all : c.loop-place.rows.items ≡ class_table_rows c.args.table.now (length c.args.table.now.sizes) = search rules in
     few_rows c.args.table.now c.loop-place.rows.items all c.count-place-end.ensures.sound

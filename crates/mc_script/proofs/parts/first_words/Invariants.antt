@@ -8,7 +8,7 @@ invariant-loop-word l =
     record {
       can : (goal.iterator-loop-word).can_next l.word-iterator;
       ends : (goal.iterator-loop-word).is_finite l.word-iterator;
-      few : l.count < 6;
+      within_limit : l.count < 6;
       long : length l.words ≡ 6;
       told : map (λ word. word.now) (take l.count l.words) ++ line_words l.word-iterator.line.now ≡ line_words l.line;
     }

@@ -8,5 +8,5 @@ pub returns : goal.returns
 returns c = record {
   replayed = λ stripe legal. replay-behind (trimmed_of stripe) (stamps_of stripe) stripe.history legal.replayed;
   chosen = λ stripe test. filter-behind test (trimmed_of stripe) stripe.history;
-  seen = λ stripe seen more is few. ap (λ (history : List Call). drop (trimmed_of stripe) history) is ∙ drop-beginning (trimmed_of stripe) seen more few;
+  seen = λ stripe seen more is within_limit. ap (λ (history : List Call). drop (trimmed_of stripe) history) is ∙ drop-beginning (trimmed_of stripe) seen more within_limit;
 }

@@ -8,7 +8,7 @@ push_reserved-requires c =
     let long = ap (λ (l : List ℕ). length l) c.loop-place.invariant.1 in
     let words = length-map-range_with_len (λ (i : ℕ). (c.args.base + i) % 2 ^ 64) 0 c.loop-place.place in
     let room = c.loop-place.invariant.0 in
-    let near = c.loop-place-test.true in
+    let in_range = c.loop-place-test.true in
     let same = c.loop-place.words.len in
     omega arith
 

@@ -20,8 +20,8 @@ isnt_went Idle other is = absurd (cc)
 isnt_went Went other is = absurd (cc)
 isnt_went Finished other is = absurd (cc)
 
-pub add_counts-requires-clause-few : goal.add_counts-requires-clause-few
-add_counts-requires-clause-few g c =
+pub add_counts-requires-clause-within_limit : goal.add_counts-requires-clause-within_limit
+add_counts-requires-clause-within_limit g c =
     turn_few c.loop.hand.number c.in-Ok.turn c.loop.hand.seat.me.0 c.turn.new.hand.seat.me.0 c.in-Ok.ensures.turns
 
 pub returns-then-ne-clause-does : goal.returns-then-ne-clause-does
@@ -31,7 +31,7 @@ returns-then-ne-clause-does g c =
     let left : Mover = record c.loop.mover { turns = c.loop.mover.turns + 1 } in
     subst (λ (e : Ending). DoesTurnsInRun c.args.asked e c.add_counts.new.counts c.args.mover.now c.args.hand.now left c.turn.new.hand) (sym c.ending_of-ending.ensures.ending)
     (gone_last c.args.asked c.loop.counter c.loop.counts c.add_counts.new.counts turn c.args.mover.now c.args.hand.now c.loop.mover c.loop.hand left c.turn.new.hand
-    c.loop.invariant.gone c.if-mover-ge-MAX_TURNS.false refl (c.in-Ok.ensures.turns, c.in-Ok.ensures.told) c.add_counts.ensures.added c.loop-test.true ended)
+    c.loop.invariant.gone c.if-mover-ge-MAX_TURNS.false refl (c.in-Ok.ensures.turns, c.in-Ok.ensures.records) c.add_counts.ensures.added c.loop-test.true ended)
 
 pub loop-preserved : goal.loop-preserved
 loop-preserved g c =
@@ -45,7 +45,7 @@ loop-preserved g c =
       number = c.turn.ensures.number ∙ inv.number;
       holdings = c.turn.ensures.holdings ∙ inv.holdings;
       gone = gone_more c.args.asked c.loop.counter c.loop.counts c.add_counts.new.counts turn c.args.mover.now c.args.hand.now c.loop.mover c.loop.hand left c.turn.new.hand
-          inv.gone c.if-mover-ge-MAX_TURNS.false refl (c.in-Ok.ensures.turns, c.in-Ok.ensures.told) c.add_counts.ensures.added (sym c.ending_of-ending.ensures.ending ∙ went);
+          inv.gone c.if-mover-ge-MAX_TURNS.false refl (c.in-Ok.ensures.turns, c.in-Ok.ensures.records) c.add_counts.ensures.added (sym c.ending_of-ending.ensures.ending ∙ went);
       went = λ some. went;
     }
 

@@ -6,7 +6,7 @@ use Rattle.mcmap.proofs.show.play_maps.Goals as goal
 
 pub loop-mark-preserved : goal.loop-mark-preserved
 loop-mark-preserved c = record {
-  few = omega (arith, c.place_of-place.ensures);
+  within_limit = omega (arith, c.place_of-place.ensures);
   shown = λ new rest.
       c.loop-mark.invariant.shown new
       (shows_more c.args.form c.as_slice-commands.result.now c.loop-mark.done c.place_of-place.result c.args.script.now.marks.items c.deref-mark-items.result.now c.loop-mark.mark-index _ _ c.loop-mark.player.keeper

@@ -6,7 +6,7 @@ use Rattle.mcmap.proofs.show.play_maps.Given as goal
 abbrev pub invariant-loop-mark : goal.invariant-loop-mark
 invariant-loop-mark l =
     record {
-      few : l.done ≤ length l.commands;
+      within_limit : l.done ≤ length l.commands;
       shown : (new : List ℕ) → ShowsMaps l.form l.commands l.done (drop l.mark-index l.script.marks.items) l.player.keeper l.player.books (string_bytes l.text) new
           → ShowsMaps l.form l.commands 0 l.script.marks.items l.initial.player.keeper l.initial.player.books (string_bytes l.initial.text) new;
     }

@@ -56,7 +56,7 @@ fn give_back(arena: &Arena, hand: &mut Hand, slabs: SlabsHeld) -> bool
 /// Has the item of a hint again, if there is a hint.
 fn had_again(arena: &Arena, hand: &mut Hand, hint: Option<Hint>) -> Option<Ref>
     requires hand { IsReadyHandOf arena.now hand.old }
-    requires near { IfSome hint (IsNear arena.now) }
+    requires in_range { IfSome hint (IsNear arena.now) }
     ensures hand { IsReadyHandOf arena.now hand.new }
     ensures item { IfSome result (λ item. IsItemRef (view hand.new) item) }
 {
@@ -78,7 +78,7 @@ fn race<R: Abort>(
 ) -> Option<(Fate, Option<Ref>)>
     requires hand { IsReadyHandOf arena.now hand.old }
     requires other { IsReadyHandOf arena.now other.old }
-    requires near { IfSome hint (IsNear arena.now) }
+    requires in_range { IfSome hint (IsNear arena.now) }
     ensures hand { IfSome result (λ raced. IsReadyHandOf arena.now hand.new) }
     ensures other { IsReadyHandOf arena.now other.new }
     ensures item { IfSome result (λ raced. IfSome raced.1 (λ item. IsItemRef (view other.new) item)) }

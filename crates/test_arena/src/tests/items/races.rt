@@ -51,7 +51,7 @@ fn leads_to(held: &StripeHeld, key: Key, chunk: ChunkId) -> bool
 fn class_on_move(arena: &Arena, _hand: &Hand, held: &SlabsHeld, chunk: ChunkId) -> Option<ClassId>
     requires arena { IsHandOf arena.now _hand.now }
     requires held { HasSlabs _hand.now held.now }
-    requires near { has_chunk (setup_of arena.now).table chunk ≡ true }
+    requires in_range { has_chunk (setup_of arena.now).table chunk ≡ true }
     ensures own { IfSome result (λ class. class_of_page (slabs_lent held.now) chunk.page ≡ class) }
     ensures moving { IfSome result (λ class. is_on_the_move (slabs_lent held.now) chunk.page ≡ true) }
     ensures class { IfSome result (λ class. is_class (setup_of arena.now).table class ≡ true) }
@@ -76,7 +76,7 @@ pub fn look_and_lock(
     chunk: ChunkId,
 ) -> Option<Locked>
     requires arena { IsHandOf arena.now hand.old }
-    requires near { has_chunk (setup_of arena.now).table chunk ≡ true }
+    requires in_range { has_chunk (setup_of arena.now).table chunk ≡ true }
     requires held { HasSlabs hand.old held.now }
     requires one { has_no_stripes (view hand.old) ≡ true }
     ensures arena { IsHandOf arena.now hand.new }
@@ -169,7 +169,7 @@ pub fn take_away<R: Abort>(
     requires slabs { HasSlabs hand.old slabs.old }
     requires leads { KeyLeadsTo arena.now hand.old item.stripe item.chunk }
     requires fresh { has_fresh (view hand.old).row.holdings ≡ false }
-    requires few { length (view hand.old).row.holdings ≤ 255 }
+    requires within_limit { length (view hand.old).row.holdings ≤ 255 }
     ensures arena { IsHandOf arena.now hand.new }
     ensures slabs { HasSlabs hand.new slabs.new }
 {

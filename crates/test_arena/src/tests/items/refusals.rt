@@ -43,7 +43,7 @@ fn refusal_of_try(arena: &Arena, hand: &mut Hand, key: Key) -> Option<TryGetErro
 /// Whether a get, one that doesn't wait, and one by a hint are refused, as the hand has all references that it may.
 fn are_refused<R: Wait>(rt: &R, arena: &Arena, hand: &mut Hand, hint: Hint) -> (bool, bool, bool)
     requires arena { IsReadyHandOf arena.now hand.old }
-    requires near { has_chunk (setup_of arena.now).table (hint_chunk hint) ≡ true }
+    requires in_range { has_chunk (setup_of arena.now).table (hint_chunk hint) ≡ true }
 {
     (
         refusal_of_get(rt, arena, hand, 1) == Some(GetError::TooManyRefs),

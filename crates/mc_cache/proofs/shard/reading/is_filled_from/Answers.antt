@@ -7,7 +7,7 @@ use Rattle.mc_cache.proofs.shard.reading.is_filled_from.Goals as goal
 
 pub returns-then-part-eq0-clause-fills : goal.returns-then-part-eq0-clause-fills
 returns-then-part-eq0-clause-fills c = λ is. record {
-  len = omega (arith, words_len (view c.args.hand.now) c.args.item.now c.requires.item.refers, c.requires.near, c.len.ensures.len, c.words_for_bytes.ensures.words, c.if-len-place.false);
+  len = omega (arith, words_len (view c.args.hand.now) c.args.item.now c.requires.item.refers, c.requires.in_range, c.len.ensures.len, c.words_for_bytes.ensures.words, c.if-len-place.false);
   zeros = λ some. absurd (omega (arith, c.if-part-eq0.true));
 }
 
@@ -18,6 +18,6 @@ returns-clause-fills c = λ is.
     let place : c.len-2.result - 1 ≡ length ws - 1 = omega (arith, c.len-2.ensures.len) in
     let last : c.read_word-last.result ≡ get_or ws (length ws - 1) 0 = c.read_word-last.ensures.word ∙ ap (λ (k : ℕ). get_or ws k 0) place in
     record {
-      len = omega (arith, c.requires.near, c.len.ensures.len, c.words_for_bytes.ensures.words, c.if-len-place.false);
+      len = omega (arith, c.requires.in_range, c.len.ensures.len, c.words_for_bytes.ensures.words, c.if-len-place.false);
       zeros = λ some. subst (λ (w : ℕ). EndsInZeros (c.args.count % 8) w) last (c.ends_in_zeros.ensures.0 is);
     }

@@ -17,4 +17,4 @@ loop-place-preserved c =
 pub returns-clause-words : goal.returns-clause-words
 returns-clause-words c =
     let ws : List ℕ = item_words (view c.args.hand.now) c.args.item.now in
-    all_fit c.args.begin ws c.loop-place.place (omega (arith, words_len (view c.args.hand.now) c.args.item.now c.requires.item.refers, c.loop-place-test.false, c.requires.near, c.len.ensures.len)) c.loop-place.invariant.fit
+    all_fit c.args.begin ws c.loop-place.place (omega (arith, words_len (view c.args.hand.now) c.args.item.now c.requires.item.refers, c.loop-place-test.false, c.requires.in_range, c.len.ensures.len)) c.loop-place.invariant.fit

@@ -10,15 +10,15 @@ use Rattle.mc_cache.proofs.shard.reading.write_value.Goals as goal
 pub overflow_add-begin : goal.overflow_add-begin
 overflow_add-begin c =
     let at : ℕ = c.args.begin + c.loop-place.place in
-    let near : at < c.args.item.now.len = omega (arith, c.requires.len, c.loop-place-test.true) in
-    let small = place_small c.args.arena.now c.args.hand.now c.args.item.now at c.requires.item.of_arena c.requires.item.refers near in
+    let in_range : at < c.args.item.now.len = omega (arith, c.requires.len, c.loop-place-test.true) in
+    let small = place_small c.args.arena.now c.args.hand.now c.args.item.now at c.requires.item.of_arena c.requires.item.refers in_range in
     omega arith
 
 pub overflow_add-begin-then-full-room : goal.overflow_add-begin-then-full-room
 overflow_add-begin-then-full-room c =
     let at : ℕ = c.args.begin + length c.args.room.now / 8 in
-    let near : at < c.args.item.now.len = omega (arith, c.requires.len, c.if-full-room.true, c.loop-place.auto.room) in
-    let small = place_small c.args.arena.now c.args.hand.now c.args.item.now at c.requires.item.of_arena c.requires.item.refers near in
+    let in_range : at < c.args.item.now.len = omega (arith, c.requires.len, c.if-full-room.true, c.loop-place.auto.room) in
+    let small = place_small c.args.arena.now c.args.hand.now c.args.item.now at c.requires.item.of_arena c.requires.item.refers in_range in
     omega arith
 
 pub loop-place-preserved : goal.loop-place-preserved

@@ -7,12 +7,12 @@ use Rattle.mc_cache.proofs.shard.try_gets.try_get.Goals as goal
 
 pub returns-in-Ok-clause-value : goal.returns-in-Ok-clause-value
 returns-in-Ok-clause-value c = λ is.
-    let finds = finds_item c.args.arena.now c.args.at.hash c.args.hand.now c.args.hand.now c.try_get.new.hand _ c.in-Ok-Some.item (no_hint c.args.at.hash c.args.hand.now) c.try_get.ensures.arena c.try_get.ensures.unsaid c.in-Ok-Some.field-0-is (inl c.in-Ok-Some.ensures.gets) c.in-Ok-Some.ensures.item in
+    let finds = finds_item c.args.arena.now c.args.at.hash c.args.hand.now c.args.hand.now c.try_get.new.hand _ c.in-Ok-Some.item (no_hint c.args.at.hash c.args.hand.now) c.try_get.ensures.arena c.try_get.ensures.stores_nothing c.in-Ok-Some.field-0-is (inl c.in-Ok-Some.ensures.gets) c.in-Ok-Some.ensures.item in
     gives_value (setup_of c.args.arena.now) c.args.at.hash c.args.at.key.now c.args.hand.now (item_words (view c.try_get.new.hand) c.in-Ok-Some.item) finds c.args.into.now.items c.give_value.new.into.items (c.in-Ok.ensures.value (ap Ok (same_ok c.in-Ok.there true is)))
 
 pub returns-in-Ok-clause-other : goal.returns-in-Ok-clause-other
 returns-in-Ok-clause-other c = λ is.
-    let finds = finds_item c.args.arena.now c.args.at.hash c.args.hand.now c.args.hand.now c.try_get.new.hand _ c.in-Ok-Some.item (no_hint c.args.at.hash c.args.hand.now) c.try_get.ensures.arena c.try_get.ensures.unsaid c.in-Ok-Some.field-0-is (inl c.in-Ok-Some.ensures.gets) c.in-Ok-Some.ensures.item in
+    let finds = finds_item c.args.arena.now c.args.at.hash c.args.hand.now c.args.hand.now c.try_get.new.hand _ c.in-Ok-Some.item (no_hint c.args.at.hash c.args.hand.now) c.try_get.ensures.arena c.try_get.ensures.stores_nothing c.in-Ok-Some.field-0-is (inl c.in-Ok-Some.ensures.gets) c.in-Ok-Some.ensures.item in
     finds_other (setup_of c.args.arena.now) c.args.at.hash c.args.at.key.now c.args.hand.now (item_words (view c.try_get.new.hand) c.in-Ok-Some.item) finds (c.in-Ok.ensures.other (ap Ok (same_ok c.in-Ok.there false is)))
 
 pub returns-in-Ok-None-clause-other : goal.returns-in-Ok-None-clause-other
@@ -42,7 +42,7 @@ returns-in-Err-Held-clause-slabs c = held_leaves (setup_of c.args.arena.now) c.a
 
 pub returns-in-Err-clause-full : goal.returns-in-Err-clause-full
 returns-in-Err-clause-full c = λ is.
-    let finds = finds_item c.args.arena.now c.args.at.hash c.args.hand.now c.args.hand.now c.try_get.new.hand _ c.in-Ok-Some.item (no_hint c.args.at.hash c.args.hand.now) c.try_get.ensures.arena c.try_get.ensures.unsaid c.in-Ok-Some.field-0-is (inl c.in-Ok-Some.ensures.gets) c.in-Ok-Some.ensures.item in
+    let finds = finds_item c.args.arena.now c.args.at.hash c.args.hand.now c.args.hand.now c.try_get.new.hand _ c.in-Ok-Some.item (no_hint c.args.at.hash c.args.hand.now) c.try_get.ensures.arena c.try_get.ensures.stores_nothing c.in-Ok-Some.field-0-is (inl c.in-Ok-Some.ensures.gets) c.in-Ok-Some.ensures.item in
     inr (item_words (view c.try_get.new.hand) c.in-Ok-Some.item, finds)
 
 pub returns-in-Err-NoMemory-clause-full : goal.returns-in-Err-NoMemory-clause-full

@@ -8,29 +8,29 @@ use Rattle.mc_cache.proofs.tending.Tender.stats.Goals as goal
 
 pub returns-in_err-count_shard-clause-belongs : goal.returns-in_err-count_shard-clause-belongs
 returns-in_err-count_shard-clause-belongs g c =
-    let near : c.loop-shard.shard < length c.args.cache.now.arenas.items = omega (arith, c.loop-shard-test.true) in
+    let in_range : c.loop-shard.shard < length c.args.cache.now.arenas.items = omega (arith, c.loop-shard-test.true) in
     let tender = c.loop-shard.invariant.tender in record {
-      hands = idle_after c.args.cache.now.arenas.items c.loop-shard.self.worker.hands.items c.loop-shard.shard c.index-arena.result.now c.count_shard.new.hand near c.index-arena.ensures c.count_shard.ensures.idle tender.hands;
+      hands = idle_after c.args.cache.now.arenas.items c.loop-shard.self.worker.hands.items c.loop-shard.shard c.index-arena.result.now c.count_shard.new.hand in_range c.index-arena.ensures c.count_shard.ensures.idle tender.hands;
       deciders = tender.deciders;
     }
 
-pub returns-in_err-count_shard-clause-unsaid : goal.returns-in_err-count_shard-clause-unsaid
-returns-in_err-count_shard-clause-unsaid g c =
-    let near : c.loop-shard.shard < length c.loop-shard.self.worker.hands.items = omega (arith, c.loop-shard-test.true, c.loop-shard.invariant.tender.hands.count) in
-    still_unsaid (tender_hands c.args.self.now) c.loop-shard.self.worker.hands.items c.loop-shard.shard c.index_mut-hand.result.now c.count_shard.new.hand c.loop-shard.invariant.count near c.index_mut-hand.ensures.value c.count_shard.ensures.unsaid c.loop-shard.invariant.unsaid
+pub returns-in_err-count_shard-clause-stores_nothing : goal.returns-in_err-count_shard-clause-stores_nothing
+returns-in_err-count_shard-clause-stores_nothing g c =
+    let in_range : c.loop-shard.shard < length c.loop-shard.self.worker.hands.items = omega (arith, c.loop-shard-test.true, c.loop-shard.invariant.tender.hands.count) in
+    still_unsaid (tender_hands c.args.self.now) c.loop-shard.self.worker.hands.items c.loop-shard.shard c.index_mut-hand.result.now c.count_shard.new.hand c.loop-shard.invariant.count in_range c.index_mut-hand.ensures.value c.count_shard.ensures.stores_nothing c.loop-shard.invariant.stores_nothing
 
 pub loop-shard-preserved : goal.loop-shard-preserved
 loop-shard-preserved g c =
     let inv = c.loop-shard.invariant in
     let counts = c.in_ok-count_shard.ensures.counts in
-    let near : c.loop-shard.shard < length c.args.cache.now.arenas.items = omega (arith, c.loop-shard-test.true) in
-    let near_hand : c.loop-shard.shard < length c.loop-shard.self.worker.hands.items = omega (arith, near, inv.tender.hands.count) in
+    let in_range : c.loop-shard.shard < length c.args.cache.now.arenas.items = omega (arith, c.loop-shard-test.true) in
+    let near_hand : c.loop-shard.shard < length c.loop-shard.self.worker.hands.items = omega (arith, in_range, inv.tender.hands.count) in
     record {
       tender = record {
-        hands = idle_after c.args.cache.now.arenas.items c.loop-shard.self.worker.hands.items c.loop-shard.shard c.index-arena.result.now c.count_shard.new.hand near c.index-arena.ensures c.count_shard.ensures.idle inv.tender.hands;
+        hands = idle_after c.args.cache.now.arenas.items c.loop-shard.self.worker.hands.items c.loop-shard.shard c.index-arena.result.now c.count_shard.new.hand in_range c.index-arena.ensures c.count_shard.ensures.idle inv.tender.hands;
         deciders = inv.tender.deciders;
       };
-      unsaid = still_unsaid (tender_hands c.args.self.now) c.loop-shard.self.worker.hands.items c.loop-shard.shard c.index_mut-hand.result.now c.count_shard.new.hand inv.count near_hand c.index_mut-hand.ensures.value c.count_shard.ensures.unsaid inv.unsaid;
+      stores_nothing = still_unsaid (tender_hands c.args.self.now) c.loop-shard.self.worker.hands.items c.loop-shard.shard c.index_mut-hand.result.now c.count_shard.new.hand inv.count near_hand c.index_mut-hand.ensures.value c.count_shard.ensures.stores_nothing inv.stores_nothing;
       count = omega (arith, inv.count, length-set c.loop-shard.self.worker.hands.items c.loop-shard.shard c.count_shard.new.hand);
       deciders = inv.deciders;
       done = (

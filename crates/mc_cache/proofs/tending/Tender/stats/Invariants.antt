@@ -8,7 +8,7 @@ use Rattle.mc_cache.proofs.tending.Tender.stats.Given as goal
 abbrev pub invariant-loop-shard : goal.invariant-loop-shard
 invariant-loop-shard g l = record {
   tender : IsTenderOf l.cache l.self;
-  unsaid : SayNothing (tender_hands l.fn.self) (tender_hands l.self);
+  stores_nothing : SayNothing (tender_hands l.fn.self) (tender_hands l.self);
   count : length (tender_hands l.fn.self) ≡ length (tender_hands l.self);
   deciders : deciders_of l.self ≡ deciders_of l.fn.self;
   done : (surveys : List Survey) × AreSurveyed l.shard (tender_hands l.fn.self) (tender_hands l.self) surveys × SumsSurveys surveys l.stats;

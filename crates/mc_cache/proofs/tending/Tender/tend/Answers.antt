@@ -8,36 +8,36 @@ use Rattle.mc_cache.proofs.tending.Tender.tend.Goals as goal
 pub loop-shard-init : goal.loop-shard-init
 loop-shard-init g c = record {
   tender = c.requires;
-  unsaid = none_said (tender_hands c.args.self.now);
+  stores_nothing = none_said (tender_hands c.args.self.now);
   count = refl;
   done = none_tended (tender_hands c.args.self.now) (deciders_of c.args.self.now) c.new-done.result c.new-done.ensures.none;
 }
 
 pub returns-in_err-share-clause-belongs : goal.returns-in_err-share-clause-belongs
 returns-in_err-share-clause-belongs g c =
-    let near : c.loop-shard.shard < length c.args.cache.now.arenas.items = omega (arith, c.loop-shard-test.true) in
+    let in_range : c.loop-shard.shard < length c.args.cache.now.arenas.items = omega (arith, c.loop-shard-test.true) in
     let tender = c.loop-shard.invariant.tender in record {
-      hands = idle_after c.args.cache.now.arenas.items c.loop-shard.self.worker.hands.items c.loop-shard.shard c.index-arena.result.now c.tend_shard.new.hand near c.index-arena.ensures c.tend_shard.ensures.idle tender.hands;
+      hands = idle_after c.args.cache.now.arenas.items c.loop-shard.self.worker.hands.items c.loop-shard.shard c.index-arena.result.now c.tend_shard.new.hand in_range c.index-arena.ensures c.tend_shard.ensures.idle tender.hands;
       deciders = length-set c.loop-shard.self.deciders.items c.loop-shard.shard c.tend_shard.new.decider ∙ tender.deciders;
     }
 
-pub returns-in_err-share-clause-unsaid : goal.returns-in_err-share-clause-unsaid
-returns-in_err-share-clause-unsaid g c =
-    let near : c.loop-shard.shard < length c.loop-shard.self.worker.hands.items = omega (arith, c.loop-shard-test.true, c.loop-shard.invariant.tender.hands.count) in
-    still_unsaid (tender_hands c.args.self.now) c.loop-shard.self.worker.hands.items c.loop-shard.shard c.index_mut-hand.result.now c.tend_shard.new.hand c.loop-shard.invariant.count near c.index_mut-hand.ensures.value c.tend_shard.ensures.unsaid c.loop-shard.invariant.unsaid
+pub returns-in_err-share-clause-stores_nothing : goal.returns-in_err-share-clause-stores_nothing
+returns-in_err-share-clause-stores_nothing g c =
+    let in_range : c.loop-shard.shard < length c.loop-shard.self.worker.hands.items = omega (arith, c.loop-shard-test.true, c.loop-shard.invariant.tender.hands.count) in
+    still_unsaid (tender_hands c.args.self.now) c.loop-shard.self.worker.hands.items c.loop-shard.shard c.index_mut-hand.result.now c.tend_shard.new.hand c.loop-shard.invariant.count in_range c.index_mut-hand.ensures.value c.tend_shard.ensures.stores_nothing c.loop-shard.invariant.stores_nothing
 
 pub loop-shard-preserved : goal.loop-shard-preserved
 loop-shard-preserved g c =
     let inv = c.loop-shard.invariant in
-    let near : c.loop-shard.shard < length c.args.cache.now.arenas.items = omega (arith, c.loop-shard-test.true) in
-    let near_hand : c.loop-shard.shard < length c.loop-shard.self.worker.hands.items = omega (arith, near, inv.tender.hands.count) in
-    let near_decider : c.loop-shard.shard < length c.loop-shard.self.deciders.items = omega (arith, near, inv.tender.deciders) in
+    let in_range : c.loop-shard.shard < length c.args.cache.now.arenas.items = omega (arith, c.loop-shard-test.true) in
+    let near_hand : c.loop-shard.shard < length c.loop-shard.self.worker.hands.items = omega (arith, in_range, inv.tender.hands.count) in
+    let near_decider : c.loop-shard.shard < length c.loop-shard.self.deciders.items = omega (arith, in_range, inv.tender.deciders) in
     record {
       tender = record {
-        hands = idle_after c.args.cache.now.arenas.items c.loop-shard.self.worker.hands.items c.loop-shard.shard c.index-arena.result.now c.tend_shard.new.hand near c.index-arena.ensures c.tend_shard.ensures.idle inv.tender.hands;
+        hands = idle_after c.args.cache.now.arenas.items c.loop-shard.self.worker.hands.items c.loop-shard.shard c.index-arena.result.now c.tend_shard.new.hand in_range c.index-arena.ensures c.tend_shard.ensures.idle inv.tender.hands;
         deciders = length-set c.loop-shard.self.deciders.items c.loop-shard.shard c.tend_shard.new.decider ∙ inv.tender.deciders;
       };
-      unsaid = still_unsaid (tender_hands c.args.self.now) c.loop-shard.self.worker.hands.items c.loop-shard.shard c.index_mut-hand.result.now c.tend_shard.new.hand inv.count near_hand c.index_mut-hand.ensures.value c.tend_shard.ensures.unsaid inv.unsaid;
+      stores_nothing = still_unsaid (tender_hands c.args.self.now) c.loop-shard.self.worker.hands.items c.loop-shard.shard c.index_mut-hand.result.now c.tend_shard.new.hand inv.count near_hand c.index_mut-hand.ensures.value c.tend_shard.ensures.stores_nothing inv.stores_nothing;
       count = omega (arith, inv.count, length-set c.loop-shard.self.worker.hands.items c.loop-shard.shard c.tend_shard.new.hand);
       done = one_tended c.loop-shard.shard (tender_hands c.args.self.now) (deciders_of c.args.self.now) c.loop-shard.self.worker.hands.items c.loop-shard.self.deciders.items c.loop-shard.done c.add.new.self c.in_ok-share.share c.index_mut-hand.result.now c.tend_shard.new.hand c.index_mut-decider.result.now c.tend_shard.new.decider
           near_hand near_decider c.index_mut-hand.ensures.value c.index_mut-decider.ensures.value c.in_ok-share.ensures.tends c.add.ensures.added inv.done;

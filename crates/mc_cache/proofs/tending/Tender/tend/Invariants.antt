@@ -6,7 +6,7 @@ use Rattle.mc_cache.proofs.tending.Tender.tend.Given as goal
 abbrev pub invariant-loop-shard : goal.invariant-loop-shard
 invariant-loop-shard g l = record {
   tender : IsTenderOf l.cache l.self;
-  unsaid : SayNothing (tender_hands l.fn.self) (tender_hands l.self);
+  stores_nothing : SayNothing (tender_hands l.fn.self) (tender_hands l.self);
   count : length (tender_hands l.fn.self) ≡ length (tender_hands l.self);
   done : AreTended l.shard (tender_hands l.fn.self) (deciders_of l.fn.self) (tender_hands l.self) (deciders_of l.self) l.done;
 }

@@ -18,9 +18,9 @@ class_few slabs page all =
 
 pub has_page_for-requires : goal.has_page_for-requires
 has_page_for-requires c =
-    let few = class_few c.self.inside.slabs.state c.args.page c.self.invariant.slabs.accounted in
+    let within_limit = class_few c.self.inside.slabs.state c.args.page c.self.invariant.slabs.accounted in
     let is = c.class_of_page.ensures ∙ ap (λ (s : State). class_of_page s.slabs c.args.page) (sym c.self.view_is) in
-    (omega (arith, c.max-class.ensures), omega (arith, c.max-class.ensures, is, few, c.self.invariant.slabs.accounted.cursor.0, c.self.invariant.slabs.accounted.cursor.1))
+    (omega (arith, c.max-class.ensures), omega (arith, c.max-class.ensures, is, within_limit, c.self.invariant.slabs.accounted.cursor.0, c.self.invariant.slabs.accounted.cursor.1))
 
 -- class 0 is looked at as the first one
 same_next : (slabs : SlabState) (class : ℕ) → next_page slabs (max class 1) ≡ next_page slabs class

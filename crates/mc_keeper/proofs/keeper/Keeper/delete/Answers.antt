@@ -15,8 +15,8 @@ note_unheld-requires c = (leads_linked _ _ _ c.args.key c.in-Some.chunk c.self.i
 pub count_unheld-requires-clause-of_each : goal.count_unheld-requires-clause-of_each
 count_unheld-requires-clause-of_each c = c.self.invariant.counted.of_each
 
-pub count_unheld-requires-clause-few : goal.count_unheld-requires-clause-few
-count_unheld-requires-clause-few c =
+pub count_unheld-requires-clause-within_limit : goal.count_unheld-requires-clause-within_limit
+count_unheld-requires-clause-within_limit c =
     let class = (leads_linked _ _ _ c.args.key c.in-Some.chunk c.self.invariant.kept (sym (c.self.invariant.indexed c.args.key) ∙ sym c.in-Some.ensures.chunk)).1 in
     few_counted (machine_of c.self.inside) _ _ c.self.invariant.kept class c.self.invariant.counted
 

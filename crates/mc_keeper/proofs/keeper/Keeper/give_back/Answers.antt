@@ -35,8 +35,8 @@ note_unheld-requires c =
     let found = found_item (item_in_chunk c.self.inside.items c.args.chunk) c.args.is_linked (rw (ap (λ (m : Machine). m.items) c.self.view_is) c.requires.item) in
     class_of_item _ _ _ c.args.chunk found.item c.self.invariant.kept found.there
 
-pub count_unheld-requires-clause-few : goal.count_unheld-requires-clause-few
-count_unheld-requires-clause-few c =
+pub count_unheld-requires-clause-within_limit : goal.count_unheld-requires-clause-within_limit
+count_unheld-requires-clause-within_limit c =
     let found = found_item (item_in_chunk c.self.inside.items c.args.chunk) c.args.is_linked (rw (ap (λ (m : Machine). m.items) c.self.view_is) c.requires.item) in
     few_counted (machine_of c.self.inside) _ _ c.self.invariant.kept
     (class_of_item _ _ _ c.args.chunk found.item c.self.invariant.kept found.there) c.self.invariant.counted

@@ -36,11 +36,11 @@ returns-in-Ok-clause-reply g c =
 granted_bytes : (table : Classes) (slabs : SlabState) (items : Items) → IsConsistent table slabs items → granted_count slabs * table.page ≤ 127 * 16384
 granted_bytes table slabs items kept =
     let owners : length slabs.owners ≡ table.limit / table.page + length table.sizes = rw (← kept.limit, ← kept.page, ← kept.classes) (length-owners slabs kept.accounted) in
-    let few : granted_count slabs ≤ 127 =
+    let within_limit : granted_count slabs ≤ 127 =
     omega (arith, count_by-le-length (λ (owner : Owner). not (is_untouched owner)) slabs.owners, owners, kept.sound.pages.1, kept.sound.count.1) in
-    mul-le (granted_count slabs) table.page 127 16384 few kept.sound.page.1
+    mul-le (granted_count slabs) table.page 127 16384 within_limit kept.sound.page.1
 
 pub overflow_mul-malloced : goal.overflow_mul-malloced
 overflow_mul-malloced g c =
-    let few = granted_bytes c.self.inside.table c.self.inside.slabs.state c.self.inside.items c.self.invariant.kept in
-    omega (arith, subst (λ (p : ℕ × ℕ). p.0 * p.1 ≤ 127 * 16384) (λ k. (sym (ap (λ (t : Totals). t.granted) c.totals.ensures.totals) k, sym c.page.ensures.page k)) few)
+    let within_limit = granted_bytes c.self.inside.table c.self.inside.slabs.state c.self.inside.items c.self.invariant.kept in
+    omega (arith, subst (λ (p : ℕ × ℕ). p.0 * p.1 ≤ 127 * 16384) (λ k. (sym (ap (λ (t : Totals). t.granted) c.totals.ensures.totals) k, sym c.page.ensures.page k)) within_limit)

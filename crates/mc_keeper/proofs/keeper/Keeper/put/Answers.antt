@@ -47,8 +47,8 @@ note_unheld-requires c =
 pub count_unheld-requires-clause-of_each : goal.count_unheld-requires-clause-of_each
 count_unheld-requires-clause-of_each c = c.self.invariant.counted.of_each
 
-pub count_unheld-requires-clause-few : goal.count_unheld-requires-clause-few
-count_unheld-requires-clause-few c =
+pub count_unheld-requires-clause-within_limit : goal.count_unheld-requires-clause-within_limit
+count_unheld-requires-clause-within_limit c =
     let found : linked_chunk c.self.inside.items c.args.key ≡ Some c.in-Some.old = sym (c.self.invariant.indexed c.args.key) ∙ sym c.in-Ok.ensures.before ∙ c.in-Some.is in
     let class = (leads_linked _ _ _ c.args.key c.in-Some.old c.self.invariant.kept found).1 in
     few_counted (machine_of c.self.inside) _ _ c.self.invariant.kept class c.self.invariant.counted

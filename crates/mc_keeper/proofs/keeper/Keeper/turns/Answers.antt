@@ -34,13 +34,13 @@ pub loop-preserved : goal.loop-preserved
 loop-preserved c =
     let left : c.loop.self.turns < 1000000 = rw (← ap (λ (m : Machine). m.turns) c.self.view_is) c.if-self-ge-MAX_TURNS.false in
     let went : is_went c.in_ok-ending.ending ≡ true = not-false _ (sym (went_same c.in_ok-ending.ending) ∙ sym c.ne.ensures ∙ c.if-ne.false) in
-    let few : c.loop.self.bulk ≤ 256 = rw (← ap (λ (m : Machine). m.bulk) c.self.view_is) c.self.invariant.bulk in
+    let within_limit : c.loop.self.bulk ≤ 256 = rw (← ap (λ (m : Machine). m.bulk) c.self.view_is) c.self.invariant.bulk in
     record {
       rest = turns_on c.args.count c.loop.counter (record { machine = c.loop.self; counts = c.loop.counts; ending = c.loop.ending })
           (record { machine = c.turn_on.new.self; counts = c.turn_on.new.counts; ending = c.in_ok-ending.ending }) _ c.loop-test.true left c.in_ok-ending.ensures.done went
           c.loop.invariant.rest;
       most = at_most_more (256 * c.loop.counter + 256) (256 * (c.loop.counter + 1)) c.turn_on.new.counts
-          (rw (← ap (λ (t : TurnsOfMover). t.counts) c.in_ok-ending.ensures.done) (most_turned c.loop.self c.loop.counts (256 * c.loop.counter) few c.loop.invariant.most))
+          (rw (← ap (λ (t : TurnsOfMover). t.counts) c.in_ok-ending.ensures.done) (most_turned c.loop.self c.loop.counts (256 * c.loop.counter) within_limit c.loop.invariant.most))
           (omega arith);
       stages = λ m there. c.loop.invariant.stages m
           (turn_behind c.args.count c.loop.counter (record { machine = c.loop.self; counts = c.loop.counts; ending = c.loop.ending })

@@ -9,7 +9,7 @@ use Rattle.mc_pages.proofs.recorded.Recorded.tell.Goals as goal
 pub returns : goal.returns
 returns c =
     record {
-      told =
+      records =
           let pushed = c.push.ensures.items ∙ if_ok c.push.result _ _ _ c.unwrap.ensures in
           same_entries _ (told_entries (entries_of c.self.inside) c.args.entry _)
           (ap (λ (tail : List Entry). c.self.inside.past.entries ++ tail) pushed ∙ sym (append_assoc c.self.inside.past.entries c.self.inside.tail.items (c.args.entry ∷ []))) refl refl refl

@@ -45,16 +45,16 @@ page_count c =
     let is = is_class (goal.at.overflow_add-page_count c).After-reserve c.if-dst-eq0.false in
     c.page_count.ensures ∙ ap (λ (class : ClassState). length class.pages) (read_state c.self.inside c.args.dst _ _ is refl c.index_mut-slab.ensures.value)
 
-few : (c : After-page_count) → c.page_count.result ≤ most_arena_pages
-few c =
+within_limit : (c : After-page_count) → c.page_count.result ≤ most_arena_pages
+within_limit c =
     let is = is_class (goal.at.overflow_add-page_count c).After-reserve c.if-dst-eq0.false in
     omega (arith, page_count c, pages_below (slabs_of c.self.inside) c.self.inside.granted c.args.dst c.self.invariant.order is)
 
 pub overflow_add-page_count : goal.overflow_add-page_count
-overflow_add-page_count c = omega (arith, few (goal.at.overflow_add-page_count c).After-page_count)
+overflow_add-page_count c = omega (arith, within_limit (goal.at.overflow_add-page_count c).After-page_count)
 
 pub make_room-requires : goal.make_room-requires
-make_room-requires c = omega (arith, few (goal.at.make_room-requires c).After-page_count)
+make_room-requires c = omega (arith, within_limit (goal.at.make_room-requires c).After-page_count)
 
 -- what was reserved changes nothing that callers see
 refused_is : (c : goal.After-from_residual-in_err-make_room) → record (slabs_of c.self.inside) { classes = class_states c.self.inside.rows (set c.self.inside.classes.items (c.args.dst - 1) c.make_room.new.self); ledger = c.reserve.new.self.all; trimmed = c.reserve.new.self.trimmed } ≡ slabs_of c.self.inside
@@ -117,7 +117,7 @@ roomy c = record c.self.inside.ledger { room = c.reserve.new.self.room }
 told : (c : goal.After-self-4-1) (inside : Inside) → c.if-dst-eq0.self-inside ≡ inside → inside.ledger ≡ roomy c → c.tell.new.self ≡ told_entries c.self.inside.ledger (Began c.first_page-page.result c.in_ok-source.source c.args.dst) c.tell.new.self.room
 told c inside is before =
     let entry : Entry = Began c.first_page-page.result c.in_ok-source.source c.args.dst in
-    c.tell.ensures.told
+    c.tell.ensures.records
     ∙ (ap (λ (i : Inside). told_entries i.ledger entry c.tell.new.self.room) is ∙ ap (λ (entries : Entries). told_entries entries entry c.tell.new.self.room) before)
 
 -- of which it is none within the limit

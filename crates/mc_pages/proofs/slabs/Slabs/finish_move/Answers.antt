@@ -55,7 +55,7 @@ index_mut-requires-else-dst-eq0-2 c = omega (arith, moving_within (slabs_of c.se
 
 -- the ledger has the entry at its end, for which there was room
 told : (c : After-saturating_add-self-inside) → c.tell.new.self ≡ told_entries c.self.inside.ledger (Ended c.in-Some.moving.page c.in-Some.moving.dst) c.tell.new.self.room
-told c = c.tell.ensures.told
+told c = c.tell.ensures.records
 
 -- of which it is none within the limit
 ordinary_told : (c : After-saturating_add-self-inside) → ordinary_count c.tell.new.self.all ≡ ordinary_count c.self.inside.ledger.all

@@ -36,18 +36,18 @@ awaited c = c.from-awaited.ensures ∙ (truth_byte c.awaits.result ∙ ap truth 
 page_count : (c : After-page_count) → c.page_count.result ≡ length (class_at (slabs_of c.self.inside) c.args.class).pages
 page_count c = c.page_count.ensures ∙ ap (λ (class : ClassState). length class.pages) (read_state c.self.inside c.args.class _ _ (is_class c) refl c.index_mut-slab.ensures.value)
 
-few : (c : After-page_count) → c.page_count.result + 1 + c.from-awaited.result ≤ 129
-few c =
+within_limit : (c : After-page_count) → c.page_count.result + 1 + c.from-awaited.result ≤ 129
+within_limit c =
     omega (arith, page_count c, awaited c, truth_le (is_awaited c.self.inside.moving c.args.class), pages_below (slabs_of c.self.inside) c.self.inside.granted c.args.class c.self.invariant.order (is_class c))
 
 pub overflow_add-page_count : goal.overflow_add-page_count
-overflow_add-page_count c = omega (arith, few (goal.at.overflow_add-page_count c).After-page_count)
+overflow_add-page_count c = omega (arith, within_limit (goal.at.overflow_add-page_count c).After-page_count)
 
 pub overflow_add-page_count-2 : goal.overflow_add-page_count-2
-overflow_add-page_count-2 c = omega (arith, few (goal.at.overflow_add-page_count-2 c).After-page_count)
+overflow_add-page_count-2 c = omega (arith, within_limit (goal.at.overflow_add-page_count-2 c).After-page_count)
 
 pub make_room-requires : goal.make_room-requires
-make_room-requires c = omega (arith, few (goal.at.make_room-requires c).After-page_count)
+make_room-requires c = omega (arith, within_limit (goal.at.make_room-requires c).After-page_count)
 
 -- and one more where a page is on the move at all
 entries : (c : After-page_count) → c.from-ends.result ≡ truth (is_some c.self.inside.moving)
@@ -126,7 +126,7 @@ granted_inside c = counted_inside c (bool_byte (not (not c.has_ordinary_page-gra
 -- the ledger has the entry at its end
 told : (c : goal.After-self-4-1) (inside : Inside) (entry : Entry) → c.match-pop.self-inside ≡ inside → c.match-pop.entry ≡ entry → inside.ledger ≡ record c.self.inside.ledger { room = c.reserve.new.self.room } → c.tell.new.self ≡ told_entries c.self.inside.ledger entry c.tell.new.self.room
 told c inside entry is entry_is before =
-    c.tell.ensures.told
+    c.tell.ensures.records
     ∙ (ap₂ (λ (i : Inside) (e : Entry). told_entries i.ledger e c.tell.new.self.room) is entry_is ∙ ap (λ (entries : Entries). told_entries entries entry c.tell.new.self.room) before)
 
 -- and room for one more where a page is on the move

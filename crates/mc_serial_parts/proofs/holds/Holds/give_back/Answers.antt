@@ -46,7 +46,7 @@ invariant_of-self c =
     c.index_mut.ensures.value (λ (l : List ChunkId). without c.args.chunk l) taken in
     record {
       of_each = length-set c.self.inside.by_worker.items c.args.worker c.take_out.new.chunks ∙ c.self.invariant.of_each;
-      few = rw new (few_without (stored_holds c.self.inside) c.args.worker c.args.chunk within held c.self.invariant.few);
+      within_limit = rw new (few_without (stored_holds c.self.inside) c.args.worker c.args.chunk within held c.self.invariant.within_limit);
       counted = λ chunk.
           rw new (omega (
             arith,

@@ -24,14 +24,14 @@ invariant_of-self-in_err-push c =
     c.index_mut.ensures.value (ap (λ (l : List ChunkId). reverse l) c.in_err-push.ensures.items) in
     record {
       of_each = length-set c.self.inside.by_worker.items c.args.worker c.push.new.list ∙ c.self.invariant.of_each;
-      few = rw same c.self.invariant.few;
+      within_limit = rw same c.self.invariant.within_limit;
       counted = λ chunk. c.reach.ensures.same chunk ∙ rw same (c.self.invariant.counted chunk);
     }
 
-pub increment-requires-clause-few : goal.increment-requires-clause-few
-increment-requires-clause-few c =
+pub increment-requires-clause-within_limit : goal.increment-requires-clause-within_limit
+increment-requires-clause-within_limit c =
     let of_each : length (stored_holds c.self.inside) ≡ 64 = length-map c.self.inside.by_worker.items (λ (v : Vec ChunkId Global). reverse v.items) ∙ c.self.invariant.of_each in
-    omega (arith, c.reach.ensures.same c.args.chunk, c.self.invariant.counted c.args.chunk, holds_few (stored_holds c.self.inside) c.args.chunk of_each c.self.invariant.few)
+    omega (arith, c.reach.ensures.same c.args.chunk, c.self.invariant.counted c.args.chunk, holds_few (stored_holds c.self.inside) c.args.chunk of_each c.self.invariant.within_limit)
 
 pub invariant_of-self-2 : goal.invariant_of-self-2
 invariant_of-self-2 c =
@@ -44,7 +44,7 @@ invariant_of-self-2 c =
     (ap (λ (l : List ChunkId). reverse l) c.in_ok-push.ensures.items ∙ reverse-push c.index_mut.result.now.items c.args.chunk) in
     record {
       of_each = length-set c.self.inside.by_worker.items c.args.worker c.push.new.list ∙ c.self.invariant.of_each;
-      few = rw new (few_with (stored_holds c.self.inside) c.args.worker c.args.chunk within room c.self.invariant.few);
+      within_limit = rw new (few_with (stored_holds c.self.inside) c.args.worker c.args.chunk within room c.self.invariant.within_limit);
       counted = λ chunk.
           rw new (omega (
             arith,

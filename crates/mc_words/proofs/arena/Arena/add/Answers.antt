@@ -4,8 +4,8 @@ use Rattle.mc_words.proofs.arena.Arena.add.Goals as goal
 
 pub fetch_add-requires : goal.fetch_add-requires
 fetch_add-requires g c =
-    let (is, (still, (near, (seat, may)))) = c.requires in (
+    let (is, (still, (in_range, (seat, may)))) = c.requires in (
       seat.same_table,
-      near,
+      in_range,
       changes c.args.self.now.table.shared.key _ _ c.args.seat.now.me (has_number _ seat.lawful) seat.setup g.told still c.args.word (word_plus c.args.more) may c.args.more 0,
     )

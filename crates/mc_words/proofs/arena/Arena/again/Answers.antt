@@ -12,8 +12,8 @@ refer_again-requires-clause-small c =
     let arena = c.requires.arena in
     let view = c.args.hand.now.seat.me.0 in
     let chunk = c.args.hint.chunk in
-    let near : has_chunk view.setup.table chunk ≡ true = subst (λ (s : Setup). has_chunk s.table chunk ≡ true) (sym arena.setup) c.requires.near in
-    seen_small view c.head-head.new.hand.seat.me.0 chunk c.head-head.result near c.head-head.ensures.happens c.head-head.ensures.seen
+    let in_range : has_chunk view.setup.table chunk ≡ true = subst (λ (s : Setup). has_chunk s.table chunk ≡ true) (sym arena.setup) c.requires.in_range in
+    seen_small view c.head-head.new.hand.seat.me.0 chunk c.head-head.result in_range c.head-head.ensures.happens c.head-head.ensures.seen
 
 pub returns-in-Ok-clause-known : goal.returns-in-Ok-clause-known
 returns-in-Ok-clause-known c k among same_chunk same_issue =

@@ -11,13 +11,13 @@ pub loop-number-init : goal.loop-number-init
 loop-number-init c =
     let arena : Arena = c.args.self.now in
     let told = c.in_ok-all.ensures in
-    let few = c.hands-count.ensures.few in
+    let within_limit = c.hands-count.ensures.within_limit in
     let empty = told.items in (
       c.requires.arena,
       c.requires.first,
       (let e : length c.in_ok-all.all.items ≡ zero = ap length empty in omega arith),
       (let e = told.len in omega arith),
-      few.0,
+      within_limit.0,
       told.capacity,
       subst (AreHandsFrom arena 1) (sym empty) (record {}),
     )
@@ -30,7 +30,7 @@ make-hand-requires-clause-first c = c.loop-number.invariant.1
 
 pub push_reserved-requires : goal.push_reserved-requires
 push_reserved-requires c =
-    let near = c.loop-number-test.true in
+    let in_range = c.loop-number-test.true in
     let i = c.loop-number.invariant in
     let a = i.3 in let b = i.5 in omega arith
 
@@ -38,7 +38,7 @@ pub loop-number-preserved : goal.loop-number-preserved
 loop-number-preserved c =
     let arena : Arena = c.args.self.now in
     let setup : Setup = setup_of arena in
-    let near = c.loop-number-test.true in
+    let in_range = c.loop-number-test.true in
     let i = c.loop-number.invariant in
     let told = c.push_reserved.ensures in
     let made = c.make-hand.ensures in
@@ -62,7 +62,7 @@ returns c =
     let setup : Setup = setup_of arena in
     let i = c.loop-number.invariant in
     let past = c.loop-number-test.false in
-    let few = c.hands-count.ensures.few in
+    let within_limit = c.hands-count.ensures.within_limit in
     let items : List Hand = c.loop-number.all.items in
     let first : Hand = c.loop-number.first in
     let is : c.insert.new.list.items ≡ first ∷ items = c.in_ok-insert.ensures.items in

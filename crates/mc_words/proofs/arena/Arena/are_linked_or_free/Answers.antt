@@ -16,8 +16,8 @@ use Rattle.mc_words.proofs.Pages.Judged.{alive_still, both_odd, looks_more, not_
 use Rattle.mc_words.proofs.Pages.LookedOver.{looks_fewer, looks_next}
 use Rattle.mc_words.proofs.arena.Arena.are_linked_or_free.Goals as goal
 
-pub head_at-common-requires-clause-near : goal.head_at-common-requires-clause-near
-head_at-common-requires-clause-near c =
+pub head_at-common-requires-clause-in_range : goal.head_at-common-requires-clause-in_range
+head_at-common-requires-clause-in_range c =
     let table = (setup_of c.args.self.now).table in
     let page = c.requires.page in
     let most = c.requires.most in

@@ -26,7 +26,7 @@ word_held-key-requires-clause-linked c =
     let stripe = c.args.stripe.now.number in
     let value = c.args.stripe.now.stripe in
     let chunk = c.args.chunk in
-    let ask = asks view c.args.self.now.table.shared.key slabs stripe value chunk arena.setup c.requires.near c.requires.slabs c.requires.stripe c.requires.ready c.requires.key c.requires.reason in
+    let ask = asks view c.args.self.now.table.shared.key slabs stripe value chunk arena.setup c.requires.in_range c.requires.slabs c.requires.stripe c.requires.ready c.requires.key c.requires.reason in
     (read_before view slabs stripe value chunk ask arena.lawful).0
 
 pub word_held-key-requires-clause-inside : goal.word_held-key-requires-clause-inside
@@ -37,7 +37,7 @@ word_held-key-requires-clause-inside c =
     let stripe = c.args.stripe.now.number in
     let value = c.args.stripe.now.stripe in
     let chunk = c.args.chunk in
-    let ask = asks view c.args.self.now.table.shared.key slabs stripe value chunk arena.setup c.requires.near c.requires.slabs c.requires.stripe c.requires.ready c.requires.key c.requires.reason in
+    let ask = asks view c.args.self.now.table.shared.key slabs stripe value chunk arena.setup c.requires.in_range c.requires.slabs c.requires.stripe c.requires.ready c.requires.key c.requires.reason in
     subst (λ (s : Setup). 0 < room_in s.table (class_of_page slabs chunk.page)) arena.setup (read_before view slabs stripe value chunk ask arena.lawful).1
 
 pub returns-then-head-ne-UNHELD-clause-moved : goal.returns-then-head-ne-UNHELD-clause-moved
@@ -48,7 +48,7 @@ returns-then-head-ne-UNHELD-clause-moved c =
     let stripe = c.args.stripe.now.number in
     let value = c.args.stripe.now.stripe in
     let chunk = c.args.chunk in
-    let ask = asks view c.args.self.now.table.shared.key slabs stripe value chunk arena.setup c.requires.near c.requires.slabs c.requires.stripe c.requires.ready c.requires.key c.requires.reason in
+    let ask = asks view c.args.self.now.table.shared.key slabs stripe value chunk arena.setup c.requires.in_range c.requires.slabs c.requires.stripe c.requires.ready c.requires.key c.requires.reason in
     let key = c.word_held-key.result in
     let word = c.head-head.result in
     let read = c.word_held-key.new.hand.seat.me.0 in
@@ -66,7 +66,7 @@ exchange-found-requires c =
     let stripe = c.args.stripe.now.number in
     let value = c.args.stripe.now.stripe in
     let chunk = c.args.chunk in
-    let ask = asks view c.args.self.now.table.shared.key slabs stripe value chunk arena.setup c.requires.near c.requires.slabs c.requires.stripe c.requires.ready c.requires.key c.requires.reason in
+    let ask = asks view c.args.self.now.table.shared.key slabs stripe value chunk arena.setup c.requires.in_range c.requires.slabs c.requires.stripe c.requires.ready c.requires.key c.requires.reason in
     let key = c.word_held-key.result in
     let word = c.head-head.result in
     let read = c.word_held-key.new.hand.seat.me.0 in
@@ -85,12 +85,12 @@ exchange-found-requires c =
       (
         (refl, refl),
         (
-          c.head_word-word.ensures.near,
+          c.head_word-word.ensures.in_range,
           (
             c.head-head.ensures.arena,
             (
               subst (λ (p : ℕ × ℕ). MayExchange seen (core.Condemn chunk) p.0 word p.1) (λ k. (sym place k, less k)) may,
-              subst (λ (n : ℕ). MayWrite seen (core.Head chunk) n (λ found. found)) (sym place) (may_look seen chunk still.near),
+              subst (λ (n : ℕ). MayWrite seen (core.Head chunk) n (λ found. found)) (sym place) (may_look seen chunk still.in_range),
             ),
           ),
         ),
@@ -105,7 +105,7 @@ invariant_of-hand c =
     let stripe = c.args.stripe.now.number in
     let value = c.args.stripe.now.stripe in
     let chunk = c.args.chunk in
-    let ask = asks view c.args.self.now.table.shared.key slabs stripe value chunk arena.setup c.requires.near c.requires.slabs c.requires.stripe c.requires.ready c.requires.key c.requires.reason in
+    let ask = asks view c.args.self.now.table.shared.key slabs stripe value chunk arena.setup c.requires.in_range c.requires.slabs c.requires.stripe c.requires.ready c.requires.key c.requires.reason in
     let key = c.word_held-key.result in
     let word = c.head-head.result in
     let read = c.word_held-key.new.hand.seat.me.0 in
@@ -130,7 +130,7 @@ returns-then-found-head-clause-slabs c =
     let stripe = c.args.stripe.now.number in
     let value = c.args.stripe.now.stripe in
     let chunk = c.args.chunk in
-    let ask = asks view c.args.self.now.table.shared.key slabs stripe value chunk arena.setup c.requires.near c.requires.slabs c.requires.stripe c.requires.ready c.requires.key c.requires.reason in
+    let ask = asks view c.args.self.now.table.shared.key slabs stripe value chunk arena.setup c.requires.in_range c.requires.slabs c.requires.stripe c.requires.ready c.requires.key c.requires.reason in
     let key = c.word_held-key.result in
     let word = c.head-head.result in
     let read = c.word_held-key.new.hand.seat.me.0 in
@@ -152,7 +152,7 @@ returns-then-found-head-clause-stripe c =
     let stripe = c.args.stripe.now.number in
     let value = c.args.stripe.now.stripe in
     let chunk = c.args.chunk in
-    let ask = asks view c.args.self.now.table.shared.key slabs stripe value chunk arena.setup c.requires.near c.requires.slabs c.requires.stripe c.requires.ready c.requires.key c.requires.reason in
+    let ask = asks view c.args.self.now.table.shared.key slabs stripe value chunk arena.setup c.requires.in_range c.requires.slabs c.requires.stripe c.requires.ready c.requires.key c.requires.reason in
     let key = c.word_held-key.result in
     let word = c.head-head.result in
     let read = c.word_held-key.new.hand.seat.me.0 in
@@ -174,7 +174,7 @@ returns-then-found-head-clause-moved c =
     let stripe = c.args.stripe.now.number in
     let value = c.args.stripe.now.stripe in
     let chunk = c.args.chunk in
-    let ask = asks view c.args.self.now.table.shared.key slabs stripe value chunk arena.setup c.requires.near c.requires.slabs c.requires.stripe c.requires.ready c.requires.key c.requires.reason in
+    let ask = asks view c.args.self.now.table.shared.key slabs stripe value chunk arena.setup c.requires.in_range c.requires.slabs c.requires.stripe c.requires.ready c.requires.key c.requires.reason in
     let key = c.word_held-key.result in
     let word = c.head-head.result in
     let read = c.word_held-key.new.hand.seat.me.0 in
@@ -196,7 +196,7 @@ evict-requires-clause-there c =
     let stripe = c.args.stripe.now.number in
     let value = c.args.stripe.now.stripe in
     let chunk = c.args.chunk in
-    let ask = asks view c.args.self.now.table.shared.key slabs stripe value chunk arena.setup c.requires.near c.requires.slabs c.requires.stripe c.requires.ready c.requires.key c.requires.reason in
+    let ask = asks view c.args.self.now.table.shared.key slabs stripe value chunk arena.setup c.requires.in_range c.requires.slabs c.requires.stripe c.requires.ready c.requires.key c.requires.reason in
     let key = c.word_held-key.result in
     let word = c.head-head.result in
     let read = c.word_held-key.new.hand.seat.me.0 in
@@ -218,7 +218,7 @@ returns-clause-stripe c =
     let stripe = c.args.stripe.now.number in
     let value = c.args.stripe.now.stripe in
     let chunk = c.args.chunk in
-    let ask = asks view c.args.self.now.table.shared.key slabs stripe value chunk arena.setup c.requires.near c.requires.slabs c.requires.stripe c.requires.ready c.requires.key c.requires.reason in
+    let ask = asks view c.args.self.now.table.shared.key slabs stripe value chunk arena.setup c.requires.in_range c.requires.slabs c.requires.stripe c.requires.ready c.requires.key c.requires.reason in
     let key = c.word_held-key.result in
     let word = c.head-head.result in
     let read = c.word_held-key.new.hand.seat.me.0 in
@@ -242,7 +242,7 @@ returns-clause-condemned c =
     let stripe = c.args.stripe.now.number in
     let value = c.args.stripe.now.stripe in
     let chunk = c.args.chunk in
-    let ask = asks view c.args.self.now.table.shared.key slabs stripe value chunk arena.setup c.requires.near c.requires.slabs c.requires.stripe c.requires.ready c.requires.key c.requires.reason in
+    let ask = asks view c.args.self.now.table.shared.key slabs stripe value chunk arena.setup c.requires.in_range c.requires.slabs c.requires.stripe c.requires.ready c.requires.key c.requires.reason in
     let key = c.word_held-key.result in
     let word = c.head-head.result in
     let read = c.word_held-key.new.hand.seat.me.0 in
@@ -267,7 +267,7 @@ returns-clause-dead c =
     let stripe = c.args.stripe.now.number in
     let value = c.args.stripe.now.stripe in
     let chunk = c.args.chunk in
-    let ask = asks view c.args.self.now.table.shared.key slabs stripe value chunk arena.setup c.requires.near c.requires.slabs c.requires.stripe c.requires.ready c.requires.key c.requires.reason in
+    let ask = asks view c.args.self.now.table.shared.key slabs stripe value chunk arena.setup c.requires.in_range c.requires.slabs c.requires.stripe c.requires.ready c.requires.key c.requires.reason in
     let key = c.word_held-key.result in
     let word = c.head-head.result in
     let read = c.word_held-key.new.hand.seat.me.0 in

@@ -15,8 +15,8 @@ use Rattle.mc_words.proofs.arena.Arena.cut.Goals as goal
 pub head_word-word-requires : goal.head_word-word-requires
 head_word-word-requires c =
     let arena = c.requires.arena in
-    let near = uncut_near c.args.hand.now.seat.me.0 arena.lawful c.args.held.now.shared (record { page = c.args.page; index = c.args.index }) c.requires.held c.requires.next in
-    record { near = subst (λ (s : Setup). has_chunk s.table (record { page = c.args.page; index = c.args.index }) ≡ true) arena.setup near }
+    let in_range = uncut_near c.args.hand.now.seat.me.0 arena.lawful c.args.held.now.shared (record { page = c.args.page; index = c.args.index }) c.requires.held c.requires.next in
+    record { in_range = subst (λ (s : Setup). has_chunk s.table (record { page = c.args.page; index = c.args.index }) ≡ true) arena.setup in_range }
 
 pub add-requires : goal.add-requires
 add-requires c =
@@ -24,9 +24,9 @@ add-requires c =
     let view = c.args.hand.now.seat.me.0 in
     let chunk : ChunkId = record { page = c.args.page; index = c.args.index } in
     let slabs = c.args.held.now.shared in
-    let near = uncut_near view arena.lawful slabs chunk c.requires.held c.requires.next in
+    let in_range = uncut_near view arena.lawful slabs chunk c.requires.held c.requires.next in
     let place : c.head_word-word.result ≡ head_word view.setup chunk = c.head_word-word.ensures.word ∙ ap (λ (s : Setup). head_word s chunk) (sym arena.setup) in
-    (refl, (refl, (c.head_word-word.ensures.near, (arena, subst (λ (n : ℕ). MayWrite view (core.Cut c.args.page c.args.index) n (word_plus 65536)) (sym place) (may_cut view slabs c.args.page c.args.index c.requires.held near c.requires.next)))))
+    (refl, (refl, (c.head_word-word.ensures.in_range, (arena, subst (λ (n : ℕ). MayWrite view (core.Cut c.args.page c.args.index) n (word_plus 65536)) (sym place) (may_cut view slabs c.args.page c.args.index c.requires.held in_range c.requires.next)))))
 
 pub invariant_of-hand : goal.invariant_of-hand
 invariant_of-hand c =

@@ -17,16 +17,16 @@ pub head_word-word-requires : goal.head_word-word-requires
 head_word-word-requires c =
     let fresh = c.requires.fresh in
     let arena = c.requires.arena in
-    record { near = subst (λ (s : Setup). has_chunk s.table c.args.fresh.chunk ≡ true) arena.setup (holding_near c.args.hand.now.seat.me.0 arena.lawful c.args.fresh.chunk fresh.holding fresh.found fresh.fresh) }
+    record { in_range = subst (λ (s : Setup). has_chunk s.table c.args.fresh.chunk ≡ true) arena.setup (holding_near c.args.hand.now.seat.me.0 arena.lawful c.args.fresh.chunk fresh.holding fresh.found fresh.fresh) }
 
 pub subtract-found-requires : goal.subtract-found-requires
 subtract-found-requires c =
     let fresh = c.requires.fresh in
     let arena = c.requires.arena in
     let view = c.args.hand.now.seat.me.0 in
-    let near = holding_near view arena.lawful c.args.fresh.chunk fresh.holding fresh.found fresh.fresh in
+    let in_range = holding_near view arena.lawful c.args.fresh.chunk fresh.holding fresh.found fresh.fresh in
     let place : c.head_word-word.result ≡ head_word view.setup c.args.fresh.chunk = c.head_word-word.ensures.word ∙ ap (λ (s : Setup). head_word s c.args.fresh.chunk) (sym arena.setup) in
-    (refl, (refl, (c.head_word-word.ensures.near, (arena, subst (λ (n : ℕ). MayWrite view (core.Discard c.args.fresh.chunk) n (word_minus 1)) (sym place) (may_discard view c.args.fresh.chunk fresh.holding near fresh.found fresh.fresh)))))
+    (refl, (refl, (c.head_word-word.ensures.in_range, (arena, subst (λ (n : ℕ). MayWrite view (core.Discard c.args.fresh.chunk) n (word_minus 1)) (sym place) (may_discard view c.args.fresh.chunk fresh.holding in_range fresh.found fresh.fresh)))))
 
 pub invariant_of-hand : goal.invariant_of-hand
 invariant_of-hand c =

@@ -18,35 +18,35 @@ item_in_row row chunk = option_map_or item_of (holding_of chunk row.holdings) []
 
 -- the first three words of an item stand before the configuration
 field_near : (view : View) (lawful : LawfulView view) (chunk : ChunkId) (room place : ℕ) → place < 3 → IsRefOf view chunk room → data_word view.setup room chunk place < config_from view.setup
-field_near view lawful chunk room place few ref =
+field_near view lawful chunk room place within_limit ref =
     let whole = ref_whole view lawful chunk room ref in
-    let near : place < length (held_item view chunk) = omega arith in
-    word_near view chunk room ref lawful place (subst (λ (n : ℕ). place < n) (ap length (item_found view chunk ref.holding ref.found)) near)
+    let in_range : place < length (held_item view chunk) = omega arith in
+    word_near view chunk room ref lawful place (subst (λ (n : ℕ). place < n) (ap length (item_found view chunk ref.holding ref.found)) in_range)
 
 pub data_word-at-requires : goal.data_word-at-requires
 data_word-at-requires c = record {
-  near = subst (λ (s : Setup). data_word s c.args.reference.now.room c.args.reference.now.chunk 0 < config_from s) c.requires.arena.setup (field_near c.args.hand.now.seat.me.0 c.requires.arena.lawful c.args.reference.now.chunk c.args.reference.now.room 0 (omega arith) c.requires.reference);
+  in_range = subst (λ (s : Setup). data_word s c.args.reference.now.room c.args.reference.now.chunk 0 < config_from s) c.requires.arena.setup (field_near c.args.hand.now.seat.me.0 c.requires.arena.lawful c.args.reference.now.chunk c.args.reference.now.room 0 (omega arith) c.requires.reference);
 }
 
-pub word_at-stamp-requires-clause-near : goal.word_at-stamp-requires-clause-near
-word_at-stamp-requires-clause-near c =
+pub word_at-stamp-requires-clause-in_range : goal.word_at-stamp-requires-clause-in_range
+word_at-stamp-requires-clause-in_range c =
     let whole = ref_whole c.word_at-key.new.hand.seat.me.0 c.word_at-key.ensures.arena.lawful c.args.reference.now.chunk c.args.reference.now.room c.word_at-key.ensures.reference in
     omega arith
 
-pub word_at-len-requires-clause-near : goal.word_at-len-requires-clause-near
-word_at-len-requires-clause-near c =
+pub word_at-len-requires-clause-in_range : goal.word_at-len-requires-clause-in_range
+word_at-len-requires-clause-in_range c =
     let whole = ref_whole c.word_at-stamp.new.hand.seat.me.0 c.word_at-stamp.ensures.arena.lawful c.args.reference.now.chunk c.args.reference.now.room c.word_at-stamp.ensures.reference in
     omega arith
 
 pub word_at-stamp-requires-clause-inside : goal.word_at-stamp-requires-clause-inside
 word_at-stamp-requires-clause-inside c =
-    let near = subst (λ (s : Setup). data_word s c.args.reference.now.room c.args.reference.now.chunk 1 < config_from s) c.requires.arena.setup (field_near c.args.hand.now.seat.me.0 c.requires.arena.lawful c.args.reference.now.chunk c.args.reference.now.room 1 (omega arith) c.requires.reference) in
-    omega (arith, near, c.data_word-at.ensures.word, c.args.self.now.words, ap word_count c.args.self.now.planned)
+    let in_range = subst (λ (s : Setup). data_word s c.args.reference.now.room c.args.reference.now.chunk 1 < config_from s) c.requires.arena.setup (field_near c.args.hand.now.seat.me.0 c.requires.arena.lawful c.args.reference.now.chunk c.args.reference.now.room 1 (omega arith) c.requires.reference) in
+    omega (arith, in_range, c.data_word-at.ensures.word, c.args.self.now.words, ap word_count c.args.self.now.planned)
 
 pub word_at-len-requires-clause-inside : goal.word_at-len-requires-clause-inside
 word_at-len-requires-clause-inside c =
-    let near = subst (λ (s : Setup). data_word s c.args.reference.now.room c.args.reference.now.chunk 2 < config_from s) c.requires.arena.setup (field_near c.args.hand.now.seat.me.0 c.requires.arena.lawful c.args.reference.now.chunk c.args.reference.now.room 2 (omega arith) c.requires.reference) in
-    omega (arith, near, c.data_word-at.ensures.word, c.args.self.now.words, ap word_count c.args.self.now.planned)
+    let in_range = subst (λ (s : Setup). data_word s c.args.reference.now.room c.args.reference.now.chunk 2 < config_from s) c.requires.arena.setup (field_near c.args.hand.now.seat.me.0 c.requires.arena.lawful c.args.reference.now.chunk c.args.reference.now.room 2 (omega arith) c.requires.reference) in
+    omega (arith, in_range, c.data_word-at.ensures.word, c.args.self.now.words, ap word_count c.args.self.now.planned)
 
 pub returns-clause-len : goal.returns-clause-len
 returns-clause-len c =

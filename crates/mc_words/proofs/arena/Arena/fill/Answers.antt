@@ -19,9 +19,9 @@ data_word-at-requires c =
     let fresh = c.requires.fresh in
     let arena = c.requires.arena in
     let chunk = c.args.fresh.now.chunk in
-    let near = subst (λ (n : ℕ). c.args.place < n) (sym fresh.room_is) c.requires.near in
-    let below = fill_near c.args.hand.now.seat.me.0 chunk fresh.holding c.args.place fresh.found fresh.fresh near arena.lawful in
-    record { near = subst (λ (p : Setup × ℕ). data_word p.0 p.1 chunk c.args.place < config_from p.0) (λ k. (arena.setup k, fresh.room_is k)) below }
+    let in_range = subst (λ (n : ℕ). c.args.place < n) (sym fresh.room_is) c.requires.in_range in
+    let below = fill_near c.args.hand.now.seat.me.0 chunk fresh.holding c.args.place fresh.found fresh.fresh in_range arena.lawful in
+    record { in_range = subst (λ (p : Setup × ℕ). data_word p.0 p.1 chunk c.args.place < config_from p.0) (λ k. (arena.setup k, fresh.room_is k)) below }
 
 pub write-requires : goal.write-requires
 write-requires c =
@@ -29,10 +29,10 @@ write-requires c =
     let arena = c.requires.arena in
     let view = c.args.hand.now.seat.me.0 in
     let chunk = c.args.fresh.now.chunk in
-    let near = subst (λ (n : ℕ). c.args.place < n) (sym fresh.room_is) c.requires.near in
+    let in_range = subst (λ (n : ℕ). c.args.place < n) (sym fresh.room_is) c.requires.in_range in
     let place : c.data_word-at.result ≡ data_word view.setup (length (holding_words fresh.holding)) chunk c.args.place =
     c.data_word-at.ensures.word ∙ (λ k. data_word (sym arena.setup k) (sym fresh.room_is k) chunk c.args.place) in
-    (refl, (refl, (c.data_word-at.ensures.near, (arena, subst (λ (n : ℕ). MayWrite view (core.Fill chunk c.args.place c.args.word) n (λ found. c.args.word)) (sym place) (may_fill view chunk fresh.holding c.args.place c.args.word fresh.found fresh.fresh near)))))
+    (refl, (refl, (c.data_word-at.ensures.in_range, (arena, subst (λ (n : ℕ). MayWrite view (core.Fill chunk c.args.place c.args.word) n (λ found. c.args.word)) (sym place) (may_fill view chunk fresh.holding c.args.place c.args.word fresh.found fresh.fresh in_range)))))
 
 pub invariant_of-hand : goal.invariant_of-hand
 invariant_of-hand c =

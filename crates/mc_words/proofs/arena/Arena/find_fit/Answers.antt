@@ -11,8 +11,8 @@ use Rattle.mc_words.proofs.Chunks.Sweeps.{begins_with, behind_is, elsewhere, is_
 use Rattle.mc_words.proofs.Chunks.FreeWalks.{free_once, passes_again, stands_free}
 use Rattle.mc_words.proofs.arena.Arena.find_fit.Goals as goal
 
-pub is_fit-requires-clause-near : goal.is_fit-requires-clause-near
-is_fit-requires-clause-near c =
+pub is_fit-requires-clause-in_range : goal.is_fit-requires-clause-in_range
+is_fit-requires-clause-in_range c =
     let inv = c.loop-next.invariant in
     let class = c.args.class in
     let chunk = c.in-Some.chunk in
@@ -23,7 +23,7 @@ is_fit-requires-clause-near c =
     let (more, rest_is) = begins_with inv.rest chunk (sym c.in-Some.is ∙ inv.at) in
     let stands : (class_at slabs class).free ≡ inv.before ++ chunk ∷ more = inv.split ∙ ap (λ (rest : List ChunkId). inv.before ++ rest) rest_is in
     let free = stands_free view inv.arena.lawful slabs inv.held class is chunk inv.before more stands in
-    subst (λ (s : Setup). has_chunk s.table chunk ≡ true) inv.arena.setup free.near
+    subst (λ (s : Setup). has_chunk s.table chunk ≡ true) inv.arena.setup free.in_range
 
 pub returns-then-is_fit-clause-found : goal.returns-then-is_fit-clause-found
 returns-then-is_fit-clause-found c =

@@ -17,8 +17,8 @@ use Rattle.mc_words.specs.rule.Layout.{page_word}
 pub page_word-word-requires : goal.page_word-word-requires
 page_word-word-requires c =
     let runs = sym c.moving.ensures.moving ∙ c.in-Some.is in
-    let near = move_near c.args.hand.now.seat.me.0 c.requires.arena.lawful c.args.held.now.shared c.in-Some.moving c.requires.held runs in
-    record { near = subst (λ (s : Setup). c.in-Some.moving.page < arena_pages_of s.table) c.requires.arena.setup near.0 }
+    let in_range = move_near c.args.hand.now.seat.me.0 c.requires.arena.lawful c.args.held.now.shared c.in-Some.moving c.requires.held runs in
+    record { in_range = subst (λ (s : Setup). c.in-Some.moving.page < arena_pages_of s.table) c.requires.arena.setup in_range.0 }
 
 pub finish_move-requires-clause-cleared : goal.finish_move-requires-clause-cleared
 finish_move-requires-clause-cleared c = subst (λ (x : SlabState). (move : Moving) × CanFinish x move) (sym c.slabs_mut.ensures.slabs) c.requires.cleared
@@ -32,9 +32,9 @@ tell_page-requires c =
     let slabs = c.args.held.now.shared in
     let move = c.in-Some.moving in
     let runs = sym c.moving.ensures.moving ∙ c.in-Some.is in
-    let near = move_near view c.requires.arena.lawful slabs move c.requires.held runs in
+    let in_range = move_near view c.requires.arena.lawful slabs move c.requires.held runs in
     let place : c.page_word-word.result ≡ page_word view.setup move.page = c.page_word-word.ensures.word ∙ ap (λ (s : Setup). page_word s move.page) (sym c.requires.arena.setup) in
-    (refl, (refl, (c.page_word-word.ensures.near, (c.requires.arena, subst (λ (n : ℕ). AllowsStep view FinishMove core.MissSlabs n (λ found. move.dst)) (sym place) (may_finish view slabs move c.requires.held runs (can_finish_from slabs c.requires.cleared.0 (of_table_here view c.requires.arena.lawful slabs c.requires.held).accounted c.requires.whole c.requires.cleared.1) near.0 near.1)))))
+    (refl, (refl, (c.page_word-word.ensures.in_range, (c.requires.arena, subst (λ (n : ℕ). AllowsStep view FinishMove core.MissSlabs n (λ found. move.dst)) (sym place) (may_finish view slabs move c.requires.held runs (can_finish_from slabs c.requires.cleared.0 (of_table_here view c.requires.arena.lawful slabs c.requires.held).accounted c.requires.whole c.requires.cleared.1) in_range.0 in_range.1)))))
 
 pub invariant_of-hand : goal.invariant_of-hand
 invariant_of-hand c =

@@ -37,8 +37,8 @@ page_word-word-requires c =
     let class_is = subst (λ (s : Setup). is_class s.table class ≡ true) (sym arena.setup) c.requires.class in
     let page = c.in_ok-page.page in
     let next : next_page slabs class ≡ Some page = ap (λ (x : SlabState). next_page x class) (sym c.slabs_mut.ensures.slabs) ∙ c.in_ok-page.ensures.given.0 in
-    let near = next_near view arena.lawful slabs class page c.requires.held next in
-    record { near = subst (λ (s : Setup). page < arena_pages_of s.table) arena.setup near.0 }
+    let in_range = next_near view arena.lawful slabs class page c.requires.held next in
+    record { in_range = subst (λ (s : Setup). page < arena_pages_of s.table) arena.setup in_range.0 }
 
 pub tell_page-requires : goal.tell_page-requires
 tell_page-requires c =
@@ -49,10 +49,10 @@ tell_page-requires c =
     let class_is = subst (λ (s : Setup). is_class s.table class ≡ true) (sym arena.setup) c.requires.class in
     let page = c.in_ok-page.page in
     let next : next_page slabs class ≡ Some page = ap (λ (x : SlabState). next_page x class) (sym c.slabs_mut.ensures.slabs) ∙ c.in_ok-page.ensures.given.0 in
-    let near = next_near view arena.lawful slabs class page c.requires.held next in
+    let in_range = next_near view arena.lawful slabs class page c.requires.held next in
     let place : c.page_word-word.result ≡ page_word view.setup page = c.page_word-word.ensures.word ∙ ap (λ (s : Setup). page_word s page) (sym arena.setup) in
     let can = can_grow_here view.setup.table slabs class page class_is c.requires.whole next in
-    (refl, (refl, (c.page_word-word.ensures.near, (arena, subst (λ (n : ℕ). AllowsStep view (Grow class) core.MissSlabs n (λ found. class)) (sym place) (may_grow view slabs class page c.requires.held can next near.0 near.1)))))
+    (refl, (refl, (c.page_word-word.ensures.in_range, (arena, subst (λ (n : ℕ). AllowsStep view (Grow class) core.MissSlabs n (λ found. class)) (sym place) (may_grow view slabs class page c.requires.held can next in_range.0 in_range.1)))))
 
 pub invariant_of-hand : goal.invariant_of-hand
 invariant_of-hand c =

@@ -16,17 +16,17 @@ use Rattle.mc_words.proofs.Chunks.Judging.{after_last, after_slabs, stands_out, 
 use Rattle.mc_words.proofs.arena.Arena.judge.Goals as goal
 
 -- where the dead chunk stands
-module _ (view seen : View) (was : LawfulView seen) (slabs : SlabState) (mine : view.slabs ≡ Some slabs) (chunk : ChunkId) (word : ℕ) (near : has_chunk seen.setup.table chunk ≡ true) (dead : is_dead (decode word) ≡ true) (is : seen ≡ head_seen chunk (decode word) view) (looks : Happens view [] (core.Head chunk) seen) where
+module _ (view seen : View) (was : LawfulView seen) (slabs : SlabState) (mine : view.slabs ≡ Some slabs) (chunk : ChunkId) (word : ℕ) (in_range : has_chunk seen.setup.table chunk ≡ true) (dead : is_dead (decode word) ≡ true) (is : seen ≡ head_seen chunk (decode word) view) (looks : Happens view [] (core.Head chunk) seen) where
   pub there : Contains (class_of_chunk slabs chunk).order chunk
-  there = stands_out seen seen slabs (after_slabs view seen seen slabs chunk (decode word) mine is looks) chunk (decode word) near (after_last view seen seen slabs chunk (decode word) mine is looks) dead was
+  there = stands_out seen seen slabs (after_slabs view seen seen slabs chunk (decode word) mine is looks) chunk (decode word) in_range (after_last view seen seen slabs chunk (decode word) mine is looks) dead was
 
 pub returns-then-head-eq-DEAD-clause-out : goal.returns-then-head-eq-DEAD-clause-out
 returns-then-head-eq-DEAD-clause-out c =
     let chunk = c.args.chunk in
     let slabs = c.args.held.now.shared in
-    let near = subst (λ (s : Setup). has_chunk s.table chunk ≡ true) (sym c.head_at-head.ensures.arena.setup) c.requires.near in
-    let listed = there c.args.hand.now.seat.me.0 c.head_at-head.new.hand.seat.me.0 c.head_at-head.ensures.arena.lawful slabs c.requires.held chunk c.head_at-head.result near (word_dead c.head_at-head.result c.if-head-eq-DEAD.true) c.head_at-head.ensures.seen c.head_at-head.ensures.happens in
-    noted_out (setup_of c.args.self.now).table slabs (class_of_page slabs chunk.page) chunk c.args.dead.now c.note.new.self c.note.ensures.notes c.requires.out (record { near = c.requires.near; own = refl; listed = listed })
+    let in_range = subst (λ (s : Setup). has_chunk s.table chunk ≡ true) (sym c.head_at-head.ensures.arena.setup) c.requires.in_range in
+    let listed = there c.args.hand.now.seat.me.0 c.head_at-head.new.hand.seat.me.0 c.head_at-head.ensures.arena.lawful slabs c.requires.held chunk c.head_at-head.result in_range (word_dead c.head_at-head.result c.if-head-eq-DEAD.true) c.head_at-head.ensures.seen c.head_at-head.ensures.happens in
+    noted_out (setup_of c.args.self.now).table slabs (class_of_page slabs chunk.page) chunk c.args.dead.now c.note.new.self c.note.ensures.notes c.requires.out (record { in_range = c.requires.in_range; own = refl; listed = listed })
 
 pub returns-then-head-eq-DEAD-clause-judged : goal.returns-then-head-eq-DEAD-clause-judged
 returns-then-head-eq-DEAD-clause-judged c =

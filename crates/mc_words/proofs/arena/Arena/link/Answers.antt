@@ -28,7 +28,7 @@ head_word-word-requires c =
     let arena = c.requires.arena in
     let view = c.args.hand.now.seat.me.0 in
     let chunk = c.args.fresh.chunk in
-    record { near = subst (λ (s : Setup). has_chunk s.table chunk ≡ true) arena.setup (holding_near view arena.lawful chunk (own_item chunk (issue_in view chunk) (known_words_in view chunk)) c.requires.item.found refl) }
+    record { in_range = subst (λ (s : Setup). has_chunk s.table chunk ≡ true) arena.setup (holding_near view arena.lawful chunk (own_item chunk (issue_in view chunk) (known_words_in view chunk)) c.requires.item.found refl) }
 
 pub fetch_add-head-requires : goal.fetch_add-head-requires
 fetch_add-head-requires c =
@@ -41,7 +41,7 @@ fetch_add-head-requires c =
     let words = known_words_in view chunk in
     let may : MayStore view c.args.held.now.number value c.args.fresh.key = record { mine = c.requires.held; of_key = ap (λ (s : Setup). c.args.fresh.key % s.config.stripes) arena.setup ∙ c.requires.stripe; room = c.requires.room; new = c.requires.new; alone = c.requires.aside } in
     let place : c.head_word-word.result ≡ head_word view.setup chunk = c.head_word-word.ensures.word ∙ ap (λ (s : Setup). head_word s chunk) (sym arena.setup) in
-    (refl, (refl, (c.head_word-word.ensures.near, (arena, subst (λ (n : ℕ). MayWrite view (core.Link chunk) n (word_plus 65537)) (sym place) (may_link view c.args.held.now.number value c.args.fresh.key c.args.fresh.stamp a.number chunk issue words may c.requires.item a.noted.0 c.requires.stamp)))))
+    (refl, (refl, (c.head_word-word.ensures.in_range, (arena, subst (λ (n : ℕ). MayWrite view (core.Link chunk) n (word_plus 65537)) (sym place) (may_link view c.args.held.now.number value c.args.fresh.key c.args.fresh.stamp a.number chunk issue words may c.requires.item a.noted.0 c.requires.stamp)))))
 
 pub overflow_sub-hand : goal.overflow_sub-hand
 overflow_sub-hand c =

@@ -29,7 +29,7 @@ head_word-word-requires c =
     let arena = c.requires.arena in
     let view = c.args.hand.now.seat.me.0 in
     let chunk = c.args.fresh.chunk in
-    record { near = subst (λ (s : Setup). has_chunk s.table chunk ≡ true) arena.setup (holding_near view arena.lawful chunk (copied_item c.requires.copy.old chunk (issue_in view chunk) c.requires.copy.item (known_words_in view chunk)) c.requires.copy.found refl) }
+    record { in_range = subst (λ (s : Setup). has_chunk s.table chunk ≡ true) arena.setup (holding_near view arena.lawful chunk (copied_item c.requires.copy.old chunk (issue_in view chunk) c.requires.copy.item (known_words_in view chunk)) c.requires.copy.found refl) }
 
 pub fetch_add-head-requires : goal.fetch_add-head-requires
 fetch_add-head-requires c =
@@ -42,7 +42,7 @@ fetch_add-head-requires c =
     let words = known_words_in view chunk in
     let may : MayStore view c.args.held.now.number value c.args.fresh.key = record { mine = c.requires.held; of_key = ap (λ (s : Setup). c.args.fresh.key % s.config.stripes) arena.setup ∙ c.requires.stripe; room = c.requires.room; new = c.requires.new; alone = (aside_alone value.state c.args.fresh.key c.requires.copy.old c.args.fresh.stamp c.requires.copy.aside).0 } in
     let place : c.head_word-word.result ≡ head_word view.setup chunk = c.head_word-word.ensures.word ∙ ap (λ (s : Setup). head_word s chunk) (sym arena.setup) in
-    (refl, (refl, (c.head_word-word.ensures.near, (arena, subst (λ (n : ℕ). MayWrite view (core.Link chunk) n (word_plus 65537)) (sym place) (may_link_copy view c.args.held.now.number value c.args.fresh.key c.args.fresh.stamp a.number chunk issue words may c.requires.copy)))))
+    (refl, (refl, (c.head_word-word.ensures.in_range, (arena, subst (λ (n : ℕ). MayWrite view (core.Link chunk) n (word_plus 65537)) (sym place) (may_link_copy view c.args.held.now.number value c.args.fresh.key c.args.fresh.stamp a.number chunk issue words may c.requires.copy)))))
 
 pub overflow_sub-hand : goal.overflow_sub-hand
 overflow_sub-hand c =

@@ -29,12 +29,12 @@ waits_behind stripe word view before now value not happens is waits = record {
 pub try_stripe-requires : goal.try_stripe-requires
 try_stripe-requires g c =
     let a = c.args.hand.now in
-    record { arena = c.requires.arena; near = c.requires.near; one = no_stripes_there a.seat.me.0 a.locks a.noted.4 (no_stripe_unlocked a.locks (unlocked_from a.seat.me.0 a.locks a.noted.4 ∙ c.requires.unlocked)) }
+    record { arena = c.requires.arena; in_range = c.requires.in_range; one = no_stripes_there a.seat.me.0 a.locks a.noted.4 (no_stripe_unlocked a.locks (unlocked_from a.seat.me.0 a.locks a.noted.4 ∙ c.requires.unlocked)) }
 
 pub wait_for_stripe-requires : goal.wait_for_stripe-requires
 wait_for_stripe-requires g c =
     let (word, not, is) = c.in-Err.ensures.held in
-    record { arena = c.in-Err.ensures.arena; near = c.requires.near; unlocked = ap is_unlocked is ∙ c.requires.unlocked }
+    record { arena = c.in-Err.ensures.arena; in_range = c.requires.in_range; unlocked = ap is_unlocked is ∙ c.requires.unlocked }
 
 pub returns-in-Ok-clause-waits : goal.returns-in-Ok-clause-waits
 returns-in-Ok-clause-waits g c =

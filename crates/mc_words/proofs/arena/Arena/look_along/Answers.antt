@@ -28,10 +28,10 @@ loop-four-preserved-then-are_linked_or_free c =
       sees = subst (λ (n : ℕ). LooksAlong page 0 n start now) (omega arith) (looks_further page 0 (4 * four) (4 * four + 4) start was now inv.sees first.sees);
       judged = λ index below. elim (cases_lt index (4 * four)) [
         | inl before ↦ first.kept dead (chunk_at page index) (λ on past. absurd (omega (arith, before, past))) (inv.judged index before)
-        | inr past ↦ λ few. inl (first.alive is index past (omega (arith, below)))
+        | inr past ↦ λ within_limit. inl (first.alive is index past (omega (arith, below)))
       ];
       kept = λ other judged. elim (in_or_out page (4 * four) (4 * four + 4) other) [
-        | inl inside ↦ of_page (IsAliveOrNoted now.row.looks dead) page other inside.0 (λ few. inl (first.alive is other.index inside.1 inside.2))
+        | inl inside ↦ of_page (IsAliveOrNoted now.row.looks dead) page other inside.0 (λ within_limit. inl (first.alive is other.index inside.1 inside.2))
         | inr outside ↦ first.kept dead other outside (inv.kept other judged)
       ];
     }

@@ -8,8 +8,8 @@ use Rattle.mc_words.specs.chunk.Sweeps.{LooksAlong}
 use Rattle.mc_words.proofs.Pages.LookedOver.{looks_next}
 use Rattle.mc_words.proofs.arena.Arena.look_from.Goals as goal
 
-pub judge-requires-clause-near : goal.judge-requires-clause-near
-judge-requires-clause-near c =
+pub judge-requires-clause-in_range : goal.judge-requires-clause-in_range
+judge-requires-clause-in_range c =
     let table = (setup_of c.args.self.now).table in
     let page = c.requires.page in
     let most = c.requires.most in

@@ -90,7 +90,7 @@ module _ (view : View) (was : LawfulView view) (slabs : SlabState) (mine : view.
   out = stands_out view was slabs mine class is chunk there
 
   on_page : chunk.page < arena_pages_of view.setup.table
-  on_page = ltb-true chunk.page (arena_pages_of view.setup.table) (and_parts (nat_lt chunk.page (arena_pages_of view.setup.table)) (nat_lt chunk.index (most_of view.setup.table)) out.near).0
+  on_page = ltb-true chunk.page (arena_pages_of view.setup.table) (and_parts (nat_lt chunk.page (arena_pages_of view.setup.table)) (nat_lt chunk.index (most_of view.setup.table)) out.in_range).0
 
   before : (end page : ℕ) → end ≡ arena_pages_of view.setup.table → end ≤ page → chunk.page < page
   before end page pages past = let on = on_page in omega (arith, on, pages, past)

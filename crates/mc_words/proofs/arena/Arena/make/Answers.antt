@@ -20,7 +20,7 @@ split_seat-seat-requires c =
     let view : View = c.args.first.now.seat.me.0 in
     let is : view ≡ new_view setup 0 (setup.hands - c.args.number) = c.requires.first in
     let spare : view.spare ≡ setup.hands - c.args.number = ap (λ (v : View). v.spare) is in
-    let near = c.requires.number.1 in (
+    let in_range = c.requires.number.1 in (
       c.requires.arena.same_table,
       (let e = arena.words in omega arith),
       splits setup c.args.first.now.seat.id view (omega arith) (ap (λ (v : View). v.setup) is) (ap (λ (v : View). v.made_of) is),
@@ -31,10 +31,10 @@ invariant_of-result c =
     let arena : Arena = c.args.self.now in
     let setup : Setup = arena.table.shared.key in
     let number : ℕ = c.args.number in
-    let few : setup.hands ≤ 64 = subst (λ (s : Setup). s.hands ≤ 64) (sym arena.planned) arena.hands.1 in
-    let near = c.requires.number.1 in
+    let within_limit : setup.hands ≤ 64 = subst (λ (s : Setup). s.hands ≤ 64) (sym arena.planned) arena.hands.1 in
+    let in_range = c.requires.number.1 in
     let me : c.split_seat-seat.result.me ≡ (new_view setup number 0, []) =
-    c.split_seat-seat.ensures.4 ∙ ap (λ (v : View). (v, [])) (ap next_view c.requires.first ∙ next_is setup number near) in
+    c.split_seat-seat.ensures.4 ∙ ap (λ (v : View). (v, [])) (ap next_view c.requires.first ∙ next_is setup number in_range) in
     record { noted = subst (λ (me : Sits). IsNoted me number 0 Neither) (sym me) (new_noted setup number 0 (omega arith)); tallied = subst (λ (me : Sits). IsTallied me 0 0) (sym me) (refl, refl) }
 
 pub returns-clause-arena : goal.returns-clause-arena

@@ -29,7 +29,7 @@ head-head-requires c =
     let was = c.requires.arena.lawful in
     let class_is = subst (λ (s : Setup). is_class s.table class ≡ true) (sym c.requires.arena.setup) c.requires.class in
     let first : first_free (class_at slabs class) ≡ Some chunk = ap (λ (x : SlabState). first_free (class_at x class)) (sym c.slabs.ensures.slabs) ∙ sym c.in-Some.ensures.chunk in
-    record { arena = c.requires.arena; near = subst (λ (s : Setup). has_chunk s.table chunk ≡ true) c.requires.arena.setup (first_near view was slabs class chunk c.requires.held class_is first) }
+    record { arena = c.requires.arena; in_range = subst (λ (s : Setup). has_chunk s.table chunk ≡ true) c.requires.arena.setup (first_near view was slabs class chunk c.requires.held class_is first) }
 
 pub add-requires : goal.add-requires
 add-requires c =
@@ -46,12 +46,12 @@ add-requires c =
     let looks = c.head-head.ensures.happens in
     let is = c.head-head.ensures.seen in
     let seen_class = subst (λ (s : Setup). is_class s.table class ≡ true) (sym arena.setup) c.requires.class in
-    let near = subst (λ (s : Setup). has_chunk s.table chunk ≡ true) (sym arena.setup) (subst (λ (s : Setup). has_chunk s.table chunk ≡ true) c.requires.arena.setup (first_near view was slabs class chunk c.requires.held class_is first)) in
+    let in_range = subst (λ (s : Setup). has_chunk s.table chunk ≡ true) (sym arena.setup) (subst (λ (s : Setup). has_chunk s.table chunk ≡ true) c.requires.arena.setup (first_near view was slabs class chunk c.requires.held class_is first)) in
     let place : c.head_word-word.result ≡ head_word seen.setup chunk = c.head_word-word.ensures.word ∙ ap (λ (s : Setup). head_word s chunk) (sym arena.setup) in
     let mine = after_slabs view seen seen slabs chunk head c.requires.held is looks in
     let last = after_last view seen seen slabs chunk head c.requires.held is looks in
-    let few : length seen.row.holdings < most_holdings = let few = c.requires.room in let same = ap length (after_holds view seen seen slabs chunk head c.requires.held is looks) in omega arith in
-    (refl, (refl, (c.head_word-word.ensures.near, (arena, subst (λ (n : ℕ). MayWrite seen (core.Pop class) n (word_plus 327681)) (sym place) (may_pop seen slabs class chunk head mine seen_class first near few last (issue_left c.head-head.result c.if-head-ge-MOST_ISSUE.false))))))
+    let within_limit : length seen.row.holdings < most_holdings = let within_limit = c.requires.room in let same = ap length (after_holds view seen seen slabs chunk head c.requires.held is looks) in omega arith in
+    (refl, (refl, (c.head_word-word.ensures.in_range, (arena, subst (λ (n : ℕ). MayWrite seen (core.Pop class) n (word_plus 327681)) (sym place) (may_pop seen slabs class chunk head mine seen_class first in_range within_limit last (issue_left c.head-head.result c.if-head-ge-MOST_ISSUE.false))))))
 
 pub invariant_of-hand : goal.invariant_of-hand
 invariant_of-hand c =
@@ -168,7 +168,7 @@ returns-clause-fresh c =
     let looks = c.head-head.ensures.happens in
     let is = c.head-head.ensures.seen in
     let seen_class = subst (λ (s : Setup). is_class s.table class ≡ true) (sym arena.setup) c.requires.class in
-    let near = subst (λ (s : Setup). has_chunk s.table chunk ≡ true) (sym arena.setup) (subst (λ (s : Setup). has_chunk s.table chunk ≡ true) c.requires.arena.setup (first_near view was slabs class chunk c.requires.held class_is first)) in
+    let in_range = subst (λ (s : Setup). has_chunk s.table chunk ≡ true) (sym arena.setup) (subst (λ (s : Setup). has_chunk s.table chunk ≡ true) c.requires.arena.setup (first_near view was slabs class chunk c.requires.held class_is first)) in
     let mine = after_slabs view seen seen slabs chunk head c.requires.held is looks in
     let last = after_last view seen seen slabs chunk head c.requires.held is looks in
     let popped = pops seen c.add.new.seat.me.0 slabs mine class chunk head seen_class first last c.add.ensures.happens in
@@ -177,7 +177,7 @@ returns-clause-fresh c =
     let room : c.size-room.result / 8 ≡ room_in plan.table class = room_of plan.table class c.size-room.result plan_class (c.size-room.ensures.size ∙ ap (λ t. Rattle.mc_classes.specs.Classes.size_of t class) c.classes.ensures.classes) in
     let room_is = room ∙ ap (λ (s : Setup). room_in s.table class) (sym c.args.self.now.planned) in (
       room_is,
-      subst (IsFreshOf c.add.new.seat.me.0 chunk) (sym (room_is ∙ ap (λ (s : Setup). room_in s.table class) (sym arena.setup))) (is_fresh_of seen c.add.new.seat.me.0 slabs mine class chunk head seen_class first arena.lawful near popped),
+      subst (IsFreshOf c.add.new.seat.me.0 chunk) (sym (room_is ∙ ap (λ (s : Setup). room_in s.table class) (sym arena.setup))) (is_fresh_of seen c.add.new.seat.me.0 slabs mine class chunk head seen_class first arena.lawful in_range popped),
     )
 
 pub overflow_add-hand-2 : goal.overflow_add-hand-2
@@ -186,7 +186,7 @@ overflow_add-hand-2 c =
     let view = c.args.hand.now.seat.me.0 in
     let a = c.head-head.new.hand in
     let same = ap length (after_holds view a.seat.me.0 a.seat.me.0 slabs c.in-Some.chunk (decode c.head-head.result) c.requires.held c.head-head.ensures.seen c.head-head.ensures.happens) in
-    let few = c.requires.room in
+    let within_limit = c.requires.room in
     let most = fresh_most a.seat.me.0.row.holdings in
     let fills = a.tallied.1 in
     omega arith

@@ -78,7 +78,7 @@ head_word-word-requires c =
     let free = stands_free view was slabs c.requires.held (class_of_page slabs old.page) class_is chunk finds.before finds.after finds.stands in
     let sees = sees_target old.page slabs chunk view seen c.requires.held (free_once view was slabs c.requires.held (class_of_page slabs old.page) class_is) finds in
     let holds : seen.row.holdings ≡ view.row.holdings = ap (λ (v : View). v.row.holdings) finds.fit.is ∙ passed_holds old.page finds.before view finds.passed finds.passes in
-    record { near = subst (λ (s : Setup). has_chunk s.table chunk ≡ true) c.requires.arena.setup free.near }
+    record { in_range = subst (λ (s : Setup). has_chunk s.table chunk ≡ true) c.requires.arena.setup free.in_range }
 
 pub add-requires : goal.add-requires
 add-requires c =
@@ -99,8 +99,8 @@ add-requires c =
     let sees = sees_target old.page slabs chunk view seen c.requires.held (free_once view was slabs c.requires.held (class_of_page slabs old.page) class_is) finds in
     let holds : seen.row.holdings ≡ view.row.holdings = ap (λ (v : View). v.row.holdings) finds.fit.is ∙ passed_holds old.page finds.before view finds.passed finds.passes in
     let place : c.head_word-word.result ≡ head_word seen.setup chunk = c.head_word-word.ensures.word ∙ ap (λ (s : Setup). head_word s chunk) (sym arena.setup) in
-    let few : length seen.row.holdings < most_holdings = let few = c.requires.room in let same = ap length holds in omega arith in
-    (refl, (refl, (c.head_word-word.ensures.near, (arena, subst (λ (n : ℕ). MayWrite seen (core.PopOff old) n (word_plus 327681)) (sym place) (may_pop_off seen slabs old chunk mine c.requires.moving sees c.requires.out few)))))
+    let within_limit : length seen.row.holdings < most_holdings = let within_limit = c.requires.room in let same = ap length holds in omega arith in
+    (refl, (refl, (c.head_word-word.ensures.in_range, (arena, subst (λ (n : ℕ). MayWrite seen (core.PopOff old) n (word_plus 327681)) (sym place) (may_pop_off seen slabs old chunk mine c.requires.moving sees c.requires.out within_limit)))))
 
 pub overflow_add-hand : goal.overflow_add-hand
 overflow_add-hand c =
@@ -120,7 +120,7 @@ overflow_add-hand c =
     let free = stands_free view was slabs c.requires.held (class_of_page slabs old.page) class_is chunk finds.before finds.after finds.stands in
     let sees = sees_target old.page slabs chunk view seen c.requires.held (free_once view was slabs c.requires.held (class_of_page slabs old.page) class_is) finds in
     let holds : seen.row.holdings ≡ view.row.holdings = ap (λ (v : View). v.row.holdings) finds.fit.is ∙ passed_holds old.page finds.before view finds.passed finds.passes in
-    let few = c.requires.room in
+    let within_limit = c.requires.room in
     let same = ap length holds in
     let count = a.noted.2 in
     omega arith
@@ -143,7 +143,7 @@ overflow_add-hand-2 c =
     let free = stands_free view was slabs c.requires.held (class_of_page slabs old.page) class_is chunk finds.before finds.after finds.stands in
     let sees = sees_target old.page slabs chunk view seen c.requires.held (free_once view was slabs c.requires.held (class_of_page slabs old.page) class_is) finds in
     let holds : seen.row.holdings ≡ view.row.holdings = ap (λ (v : View). v.row.holdings) finds.fit.is ∙ passed_holds old.page finds.before view finds.passed finds.passes in
-    let few = c.requires.room in
+    let within_limit = c.requires.room in
     let same = ap length holds in
     let most = fresh_most seen.row.holdings in
     let fills = a.tallied.1 in

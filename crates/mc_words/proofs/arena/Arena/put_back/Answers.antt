@@ -24,11 +24,11 @@ subtract-requires c =
     let view = c.args.hand.now.seat.me.0 in
     let seen = c.head-head.new.hand.seat.me.0 in
     let head = decode c.head-head.result in
-    let near = subst (λ (s : Setup). has_chunk s.table chunk ≡ true) (sym arena.setup) c.requires.near in
+    let in_range = subst (λ (s : Setup). has_chunk s.table chunk ≡ true) (sym arena.setup) c.requires.in_range in
     let place : c.head_word-word.result ≡ head_word seen.setup chunk = c.head_word-word.ensures.word ∙ ap (λ (s : Setup). head_word s chunk) (sym arena.setup) in
     let mine = after_slabs view seen seen slabs chunk head c.requires.held c.head-head.ensures.seen c.head-head.ensures.happens in
     let last = after_last view seen seen slabs chunk head c.requires.held c.head-head.ensures.seen c.head-head.ensures.happens in
-    (refl, (refl, (c.head_word-word.ensures.near, (arena, subst (λ (n : ℕ). MayWrite seen (core.PutBack chunk) n (word_minus 65536)) (sym place) (may_put_back seen slabs chunk head mine near last (word_dead c.head-head.result c.if-head-ne-DEAD.false))))))
+    (refl, (refl, (c.head_word-word.ensures.in_range, (arena, subst (λ (n : ℕ). MayWrite seen (core.PutBack chunk) n (word_minus 65536)) (sym place) (may_put_back seen slabs chunk head mine in_range last (word_dead c.head-head.result c.if-head-ne-DEAD.false))))))
 
 pub invariant_of-hand : goal.invariant_of-hand
 invariant_of-hand c =
@@ -39,10 +39,10 @@ invariant_of-hand c =
     let a = c.head-head.new.hand in
     let seen = a.seat.me.0 in
     let head = decode c.head-head.result in
-    let near = subst (λ (s : Setup). has_chunk s.table chunk ≡ true) (sym arena.setup) c.requires.near in
+    let in_range = subst (λ (s : Setup). has_chunk s.table chunk ≡ true) (sym arena.setup) c.requires.in_range in
     let mine = after_slabs view seen seen slabs chunk head c.requires.held c.head-head.ensures.seen c.head-head.ensures.happens in
     let last = after_last view seen seen slabs chunk head c.requires.held c.head-head.ensures.seen c.head-head.ensures.happens in
-    let is = puts_back seen c.subtract.new.seat.me.0 slabs mine chunk head near last (word_dead c.head-head.result c.if-head-ne-DEAD.false) c.subtract.ensures.happens in
+    let is = puts_back seen c.subtract.new.seat.me.0 slabs mine chunk head in_range last (word_dead c.head-head.result c.if-head-ne-DEAD.false) c.subtract.ensures.happens in
     record { noted = noted_same a.seat.me c.subtract.new.seat.me a.number a.chunks a.chunks a.locks a.noted c.subtract.ensures.out c.subtract.ensures.hand (a.noted.2 ∙ ap (λ (v : View). length v.row.holdings) (sym is)); tallied = tallied_same a.seat.me c.subtract.new.seat.me a.stamps a.fresh a.tallied (ap (λ (v : View). v.row.ids) is) (ap (λ (v : View). v.row.holdings) is) }
 
 pub back-requires : goal.back-requires
@@ -53,13 +53,13 @@ back-requires c =
     let view = c.args.hand.now.seat.me.0 in
     let seen = c.head-head.new.hand.seat.me.0 in
     let head = decode c.head-head.result in
-    let near = subst (λ (s : Setup). has_chunk s.table chunk ≡ true) (sym arena.setup) c.requires.near in
+    let in_range = subst (λ (s : Setup). has_chunk s.table chunk ≡ true) (sym arena.setup) c.requires.in_range in
     let dead = word_dead c.head-head.result c.if-head-ne-DEAD.false in
     let looks = c.head-head.ensures.happens in
     let is = c.head-head.ensures.seen in
     let mine = after_slabs view seen seen slabs chunk head c.requires.held is looks in
     let last = after_last view seen seen slabs chunk head c.requires.held is looks in
-    subst (λ (x : SlabState). Contains (class_of_chunk x chunk).order chunk) (sym c.slabs_mut.ensures.slabs) (stands_out seen seen slabs mine chunk head near last dead arena.lawful)
+    subst (λ (x : SlabState). Contains (class_of_chunk x chunk).order chunk) (sym c.slabs_mut.ensures.slabs) (stands_out seen seen slabs mine chunk head in_range last dead arena.lawful)
 
 pub returns-then-head-ne-DEAD-clause-moved : goal.returns-then-head-ne-DEAD-clause-moved
 returns-then-head-ne-DEAD-clause-moved c = (
@@ -83,11 +83,11 @@ returns-clause-held c =
     let seen = c.head-head.new.hand.seat.me.0 in
     let now = c.subtract.new.seat.me.0 in
     let head = decode c.head-head.result in
-    let near = subst (λ (s : Setup). has_chunk s.table chunk ≡ true) (sym arena.setup) c.requires.near in
+    let in_range = subst (λ (s : Setup). has_chunk s.table chunk ≡ true) (sym arena.setup) c.requires.in_range in
     let dead = word_dead c.head-head.result c.if-head-ne-DEAD.false in
     let looks = c.head-head.ensures.happens in
     let is = c.head-head.ensures.seen in
-    let back = put_back_after view seen now slabs chunk head c.requires.held is looks near dead c.subtract.ensures.happens in
+    let back = put_back_after view seen now slabs chunk head c.requires.held is looks in_range dead c.subtract.ensures.happens in
     ap (λ (v : View). v.slabs) back.is ∙ ap Some (ap (λ slabs. after_back slabs chunk) (sym c.slabs_mut.ensures.slabs) ∙ sym c.back.ensures.back)
 
 pub returns-clause-back : goal.returns-clause-back
@@ -99,14 +99,14 @@ returns-clause-back c =
     let seen = c.head-head.new.hand.seat.me.0 in
     let now = c.subtract.new.seat.me.0 in
     let head = decode c.head-head.result in
-    let near = subst (λ (s : Setup). has_chunk s.table chunk ≡ true) (sym arena.setup) c.requires.near in
+    let in_range = subst (λ (s : Setup). has_chunk s.table chunk ≡ true) (sym arena.setup) c.requires.in_range in
     let dead = word_dead c.head-head.result c.if-head-ne-DEAD.false in
     let looks = c.head-head.ensures.happens in
     let is = c.head-head.ensures.seen in
-    (put_back_after view seen now slabs chunk head c.requires.held is looks near dead c.subtract.ensures.happens, c.back.ensures.back ∙ ap (λ slabs. after_back slabs chunk) c.slabs_mut.ensures.slabs)
+    (put_back_after view seen now slabs chunk head c.requires.held is looks in_range dead c.subtract.ensures.happens, c.back.ensures.back ∙ ap (λ slabs. after_back slabs chunk) c.slabs_mut.ensures.slabs)
 
 pub returns-then-head-ne-DEAD-clause-succeeds : goal.returns-then-head-ne-DEAD-clause-succeeds
 returns-then-head-ne-DEAD-clause-succeeds c dead =
-    let near = subst (λ (s : Setup). has_chunk s.table c.args.chunk ≡ true) (sym c.requires.arena.setup) c.requires.near in
-    let gone = found_dead c.args.hand.now.seat.me.0 c.head-head.new.hand.seat.me.0 c.args.held.now.shared c.args.chunk (decode c.head-head.result) c.requires.held near dead c.head-head.ensures.happens c.head-head.ensures.seen in
+    let in_range = subst (λ (s : Setup). has_chunk s.table c.args.chunk ≡ true) (sym c.requires.arena.setup) c.requires.in_range in
+    let gone = found_dead c.args.hand.now.seat.me.0 c.head-head.new.hand.seat.me.0 c.args.held.now.shared c.args.chunk (decode c.head-head.result) c.requires.held in_range dead c.head-head.ensures.happens c.head-head.ensures.seen in
     absurd (let never : true ≡ false = sym gone ∙ word_alive c.head-head.result c.if-head-ne-DEAD.true in cc)

@@ -21,12 +21,12 @@ put_in_order-requires c = record {
   order = subst (λ (x : SlabState). ShareAnOrder x c.args.dead.now.chunks) (sym c.slabs.ensures.slabs) (shared_order (setup_of c.args.self.now).table c.args.held.now.shared c.args.class c.args.dead.now c.requires.out);
 }
 
-pub put_back_each-requires-clause-near : goal.put_back_each-requires-clause-near
-put_back_each-requires-clause-near c chunk there =
+pub put_back_each-requires-clause-in_range : goal.put_back_each-requires-clause-in_range
+put_back_each-requires-clause-in_range c chunk there =
     let chunks = c.args.dead.now.chunks in
     let now = c.put_in_order.new.self.chunks in
     let back = IsPermutation-sym chunks now c.put_in_order.ensures.same in
-    (c.requires.out chunk (Contains-permutation now chunks chunk back (subst (λ (cs : List ChunkId). Contains cs chunk) c.as_slice.ensures.chunks there))).near
+    (c.requires.out chunk (Contains-permutation now chunks chunk back (subst (λ (cs : List ChunkId). Contains cs chunk) c.as_slice.ensures.chunks there))).in_range
 
 pub returns-then-put_in_order-clause-each : goal.returns-then-put_in_order-clause-each
 returns-then-put_in_order-clause-each c =
@@ -51,8 +51,8 @@ returns-then-put_in_order-clause-alive c chunk judged out =
     let same = c.put_in_order.ensures.same in
     let back = IsPermutation-sym chunks now same in
     let is = ap (λ (s : Setup). is_class s.table class) c.requires.arena.setup ∙ c.requires.class in
-    let few = c.put_in_order.ensures.few c.if-put_in_order.true in
-    let but : IsAliveBut class now chunk slabs view.row.looks = λ there. elim (judged (contains_from_times chunk (class_at slabs class).order there) few) [
+    let within_limit = c.put_in_order.ensures.within_limit c.if-put_in_order.true in
+    let but : IsAliveBut class now chunk slabs view.row.looks = λ there. elim (judged (contains_from_times chunk (class_at slabs class).order there) within_limit) [
       | inl alive ↦ inl alive
       | inr among ↦ inr (Contains-permutation chunks now chunk same among)
     ] in

@@ -25,7 +25,7 @@ loop-chunk-preserved c =
           (swept_again chunk c.loop-chunk.hand.seat.me.0 next c.loop-chunk.held.shared between (take place chunks) view slabs inv.each one);
     }
 
-pub put_back-requires-clause-near : goal.put_back-requires-clause-near
-put_back-requires-clause-near c =
+pub put_back-requires-clause-in_range : goal.put_back-requires-clause-in_range
+put_back-requires-clause-in_range c =
     let blank : ChunkId = record { page = 0; index = 0 } in
-    c.requires.near (get_or c.args.chunks.now c.loop-chunk.chunk-index blank) (Contains-get_or c.args.chunks.now c.loop-chunk.chunk-index blank c.loop-chunk-test.true)
+    c.requires.in_range (get_or c.args.chunks.now c.loop-chunk.chunk-index blank) (Contains-get_or c.args.chunks.now c.loop-chunk.chunk-index blank c.loop-chunk-test.true)

@@ -22,18 +22,18 @@ exchange-found-requires c =
     let view = a.seat.me.0 in
     let chunk = c.args.hint.chunk in
     let issue = c.args.hint.issue in
-    let near : has_chunk view.setup.table chunk ≡ true = subst (λ (s : Setup). has_chunk s.table chunk ≡ true) (sym arena.setup) c.requires.near in
+    let in_range : has_chunk view.setup.table chunk ≡ true = subst (λ (s : Setup). has_chunk s.table chunk ≡ true) (sym arena.setup) c.requires.in_range in
     let place : c.head_word-word.result ≡ head_word view.setup chunk = c.head_word-word.ensures.word ∙ ap (λ (s : Setup). head_word s chunk) (sym arena.setup) in (
       refl,
       (
         (refl, refl),
         (
-          c.head_word-word.ensures.near,
+          c.head_word-word.ensures.in_range,
           (
             arena,
             (
-              subst (λ (n : ℕ). MayExchange view (core.Again chunk issue) n c.args.head (c.args.head + 1)) (sym place) (may_again view chunk issue c.args.head near c.requires.few c.requires.there c.requires.small),
-              subst (λ (n : ℕ). MayWrite view (core.Head chunk) n (λ found. found)) (sym place) (may_look view chunk near),
+              subst (λ (n : ℕ). MayExchange view (core.Again chunk issue) n c.args.head (c.args.head + 1)) (sym place) (may_again view chunk issue c.args.head in_range c.requires.within_limit c.requires.there c.requires.small),
+              subst (λ (n : ℕ). MayWrite view (core.Head chunk) n (λ found. found)) (sym place) (may_look view chunk in_range),
             ),
           ),
         ),
@@ -47,11 +47,11 @@ invariant_of-hand c =
     let view = a.seat.me.0 in
     let chunk = c.args.hint.chunk in
     let issue = c.args.hint.issue in
-    let near : has_chunk view.setup.table chunk ≡ true = subst (λ (s : Setup). has_chunk s.table chunk ≡ true) (sym arena.setup) c.requires.near in
+    let in_range : has_chunk view.setup.table chunk ≡ true = subst (λ (s : Setup). has_chunk s.table chunk ≡ true) (sym arena.setup) c.requires.in_range in
     let place : c.head_word-word.result ≡ head_word view.setup chunk = c.head_word-word.ensures.word ∙ ap (λ (s : Setup). head_word s chunk) (sym arena.setup) in
     let now = c.exchange-found.new.seat.me.0 in
     let at = subst (λ (n : ℕ). HappensAt n c.exchange-found.result view [] (core.Head chunk) now) place (c.exchange-found.ensures.missed c.if-found-head.true) in
-    let is = seen_head view now chunk c.exchange-found.result near at in
+    let is = seen_head view now chunk c.exchange-found.result in_range at in
     let held = ap (λ (v : View). v.row.holdings) is in
     record { noted = noted_same a.seat.me c.exchange-found.new.seat.me a.number a.chunks a.chunks a.locks a.noted c.exchange-found.ensures.out c.exchange-found.ensures.hand (a.noted.2 ∙ ap length (sym held)); tallied = tallied_same a.seat.me c.exchange-found.new.seat.me a.stamps a.fresh a.tallied (ap (λ (v : View). v.row.ids) is) held }
 
@@ -62,11 +62,11 @@ returns-then-found-head-clause-missed c =
     let view = a.seat.me.0 in
     let chunk = c.args.hint.chunk in
     let issue = c.args.hint.issue in
-    let near : has_chunk view.setup.table chunk ≡ true = subst (λ (s : Setup). has_chunk s.table chunk ≡ true) (sym arena.setup) c.requires.near in
+    let in_range : has_chunk view.setup.table chunk ≡ true = subst (λ (s : Setup). has_chunk s.table chunk ≡ true) (sym arena.setup) c.requires.in_range in
     let place : c.head_word-word.result ≡ head_word view.setup chunk = c.head_word-word.ensures.word ∙ ap (λ (s : Setup). head_word s chunk) (sym arena.setup) in
     let now = c.exchange-found.new.seat.me.0 in
     let at = subst (λ (n : ℕ). HappensAt n c.exchange-found.result view [] (core.Head chunk) now) place (c.exchange-found.ensures.missed c.if-found-head.true) in
-    (c.if-found-head.true, at.0, seen_head view now chunk c.exchange-found.result near at)
+    (c.if-found-head.true, at.0, seen_head view now chunk c.exchange-found.result in_range at)
 
 pub invariant_of-hand-2 : goal.invariant_of-hand-2
 invariant_of-hand-2 c =

@@ -22,7 +22,7 @@ head_word-word-requires c =
     let value = c.args.held.now.stripe in
     let of_key = ap (λ (s : Setup). c.args.key % s.config.stripes) arena.setup ∙ c.requires.of_key in
     let to : LeadsTo view stripe value c.args.key c.args.chunk c.requires.leads.0 = record { mine = c.requires.held; of_key = of_key; leads = c.requires.leads.1 } in
-    record { near = subst (λ (s : Setup). has_chunk s.table c.args.chunk ≡ true) arena.setup (entry_near view stripe value c.args.key c.args.chunk c.requires.leads.0 to arena.lawful) }
+    record { in_range = subst (λ (s : Setup). has_chunk s.table c.args.chunk ≡ true) arena.setup (entry_near view stripe value c.args.key c.args.chunk c.requires.leads.0 to arena.lawful) }
 
 pub fetch_add-found-requires : goal.fetch_add-found-requires
 fetch_add-found-requires c =
@@ -34,7 +34,7 @@ fetch_add-found-requires c =
     let of_key = ap (λ (s : Setup). c.args.key % s.config.stripes) arena.setup ∙ c.requires.of_key in
     let to : LeadsTo view stripe value c.args.key chunk c.requires.leads.0 = record { mine = c.requires.held; of_key = of_key; leads = c.requires.leads.1 } in
     let place : c.head_word-word.result ≡ head_word view.setup chunk = c.head_word-word.ensures.word ∙ ap (λ (s : Setup). head_word s chunk) (sym arena.setup) in
-    (refl, (refl, (c.head_word-word.ensures.near, (arena, subst (λ (n : ℕ). MayWrite view (core.Refer c.args.key) n (word_plus 1)) (sym place) (may_refer view stripe value c.args.key chunk c.requires.leads.0 to c.requires.ready c.requires.inside c.requires.few)))))
+    (refl, (refl, (c.head_word-word.ensures.in_range, (arena, subst (λ (n : ℕ). MayWrite view (core.Refer c.args.key) n (word_plus 1)) (sym place) (may_refer view stripe value c.args.key chunk c.requires.leads.0 to c.requires.ready c.requires.inside c.requires.within_limit)))))
 
 pub invariant_of-hand : goal.invariant_of-hand
 invariant_of-hand c =

@@ -11,4 +11,4 @@ returns-in_default-clause-held c =
     let value = c.args.held.now.stripe in
     ap (λ (v : View). slice_index_or v.stripes number None) c.tell_none.ensures.view
     ∙ (set_found view.stripes number value (used_up (after_got value.state c.args.hand.now.number c.args.key)) c.requires.held
-    ∙ ap Some (sym (c.got.ensures.told ∙ (λ k. used_up (after_got (c.stripe_mut.ensures.stripe k).state (c.tell_none.ensures.number k) c.args.key)))))
+    ∙ ap Some (sym (c.got.ensures.records ∙ (λ k. used_up (after_got (c.stripe_mut.ensures.stripe k).state (c.tell_none.ensures.number k) c.args.key)))))

@@ -17,16 +17,16 @@ pub head_word-word-requires : goal.head_word-word-requires
 head_word-word-requires c =
     let ref = c.requires.reference in
     let arena = c.requires.arena in
-    record { near = subst (λ (s : Setup). has_chunk s.table c.args.reference.chunk ≡ true) arena.setup (held_is_near c.args.hand.now.seat.me.0 arena.lawful c.args.reference.chunk ref.holding ref.found) }
+    record { in_range = subst (λ (s : Setup). has_chunk s.table c.args.reference.chunk ≡ true) arena.setup (held_is_near c.args.hand.now.seat.me.0 arena.lawful c.args.reference.chunk ref.holding ref.found) }
 
 pub subtract-found-requires : goal.subtract-found-requires
 subtract-found-requires c =
     let ref = c.requires.reference in
     let arena = c.requires.arena in
     let view = c.args.hand.now.seat.me.0 in
-    let near = held_is_near view arena.lawful c.args.reference.chunk ref.holding ref.found in
+    let in_range = held_is_near view arena.lawful c.args.reference.chunk ref.holding ref.found in
     let place : c.head_word-word.result ≡ head_word view.setup c.args.reference.chunk = c.head_word-word.ensures.word ∙ ap (λ (s : Setup). head_word s c.args.reference.chunk) (sym arena.setup) in
-    (refl, (refl, (c.head_word-word.ensures.near, (arena, subst (λ (n : ℕ). MayWrite view (core.Release c.args.reference.chunk) n (word_minus 1)) (sym place) (may_release view c.args.reference.chunk ref.holding near ref.found ref.linked)))))
+    (refl, (refl, (c.head_word-word.ensures.in_range, (arena, subst (λ (n : ℕ). MayWrite view (core.Release c.args.reference.chunk) n (word_minus 1)) (sym place) (may_release view c.args.reference.chunk ref.holding in_range ref.found ref.linked)))))
 
 pub invariant_of-hand : goal.invariant_of-hand
 invariant_of-hand c =

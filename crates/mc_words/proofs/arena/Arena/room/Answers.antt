@@ -14,7 +14,7 @@ pub page_word-word-requires : goal.page_word-word-requires
 page_word-word-requires c =
     let arena = c.requires.arena in
     let ref = c.requires.reference in
-    record { near = subst (λ (s : Setup). c.args.chunk.page < arena_pages_of s.table) arena.setup (page_near c.args.hand.now.seat.me.0 arena.lawful c.args.chunk ref.0 ref.1) }
+    record { in_range = subst (λ (s : Setup). c.args.chunk.page < arena_pages_of s.table) arena.setup (page_near c.args.hand.now.seat.me.0 arena.lawful c.args.chunk ref.0 ref.1) }
 
 pub size-size-requires : goal.size-size-requires
 size-size-requires c =

@@ -24,5 +24,5 @@ returns-in-Ok-clause-within c =
     let so_far = c.loop-missed.invariant.2 in
     record {
       waits = record { words = so_far.words; before = c.loop-missed.hand.seat.me.0; misses = so_far.misses; taken = c.in-Ok.ensures.taken; is = c.in-Ok.ensures.lent };
-      few = let count = so_far.count in omega (arith, count);
+      within_limit = let count = so_far.count in omega (arith, count);
     }

@@ -10,7 +10,7 @@ pub try_stripe-requires : goal.try_stripe-requires
 try_stripe-requires c =
     let a = c.args.hand.now in
     let b = c.loop-missed.hand in
-    record { arena = c.loop-missed.invariant.0; near = c.requires.near; one = no_stripes_there b.seat.me.0 b.locks b.noted.4 (ap locks_have_no_stripe c.loop-missed.invariant.1 ∙ no_stripe_unlocked a.locks (unlocked_from a.seat.me.0 a.locks a.noted.4 ∙ c.requires.unlocked)) }
+    record { arena = c.loop-missed.invariant.0; in_range = c.requires.in_range; one = no_stripes_there b.seat.me.0 b.locks b.noted.4 (ap locks_have_no_stripe c.loop-missed.invariant.1 ∙ no_stripe_unlocked a.locks (unlocked_from a.seat.me.0 a.locks a.noted.4 ∙ c.requires.unlocked)) }
 
 pub loop-missed-preserved : goal.loop-missed-preserved
 loop-missed-preserved c =
@@ -33,5 +33,5 @@ returns-in-Ok-clause-within c =
     let seen = ap (λ (all : List (List Call)). slice_get all c.args.stripe) (misses_seen c.args.stripe so_far.words c.args.hand.now.seat.me.0 c.loop-missed.hand.seat.me.0 so_far.misses) in
     record {
       waits = record { words = so_far.words; before = c.loop-missed.hand.seat.me.0; misses = so_far.misses; taken = c.in-Ok.ensures.taken; is = c.in-Ok.ensures.lent; begins = λ history is. c.in-Ok.ensures.seen history (seen ∙ is) };
-      few = let count = so_far.count in omega (arith, count);
+      within_limit = let count = so_far.count in omega (arith, count);
     }

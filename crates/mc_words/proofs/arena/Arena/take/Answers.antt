@@ -16,19 +16,19 @@ use Rattle.mc_words.proofs.arena.Arena.take.Goals as goal
 
 pub word-word-requires : goal.word-word-requires
 word-word-requires g c =
-    let (is, (near, more)) = c.requires in
+    let (is, (in_range, more)) = c.requires in
     let a = c.args.self.now in
-    record { few = few_locks a.table.shared.key a.plan c.args.lock g.told a.planned a.few is near }
+    record { within_limit = few_locks a.table.shared.key a.plan c.args.lock g.told a.planned a.within_limit is in_range }
 
 pub slot-slot-requires : goal.slot-slot-requires
 slot-slot-requires g c =
-    let (is, (near, more)) = c.requires in
+    let (is, (in_range, more)) = c.requires in
     let a = c.args.self.now in
-    record { few = few_locks a.table.shared.key a.plan c.args.lock g.told a.planned a.few is near }
+    record { within_limit = few_locks a.table.shared.key a.plan c.args.lock g.told a.planned a.within_limit is in_range }
 
 pub compare_exchange-found-requires : goal.compare_exchange-found-requires
 compare_exchange-found-requires g c =
-    let (is, (near, (seat, number))) = c.requires in
+    let (is, (in_range, (seat, number))) = c.requires in
     let a = c.args.self.now in
     let me = c.args.seat.now.me in
     let i_is : c.word-word.result ≡ lock_address (lock_number g.told) = c.word-word.ensures.word ∙ ap (λ (l : Lock). lock_address (lock_number l)) (sym is) in
@@ -37,7 +37,7 @@ compare_exchange-found-requires g c =
       seat.same_table,
       omega arith,
       subst (λ (i : ℕ). Allows (Rule a.table.shared.key) a.table.shared.table_id.slots c.args.seat.now.id me i (λ n. either (eqb n 0) (c.args.number + 1) n) (Takes g.told (step a.table.shared.table_id.slots i 0 (c.args.number + 1) none) me)) (sym i_is)
-          (tries a.table.shared.key _ _ me (has_number _ seat.lawful) seat.setup g.told near c.args.number number.0),
+          (tries a.table.shared.key _ _ me (has_number _ seat.lawful) seat.setup g.told in_range c.args.number number.0),
     )
 
 pub returns-then-found-ne0-clause-missed : goal.returns-then-found-ne0-clause-missed

@@ -18,16 +18,16 @@ use Rattle.mc_words.proofs.arena.Arena.tell_change.Goals as goal
 pub word-word-requires : goal.word-word-requires
 word-word-requires c =
     let a = c.args.self.now in
-    let near = stripe_near c.args.hand.now.seat.me.0 c.args.stripe (lent_stripe c.args.hand.now.seat.me.0 c.args.stripe) c.requires.held c.requires.arena.lawful in
+    let in_range = stripe_near c.args.hand.now.seat.me.0 c.args.stripe (lent_stripe c.args.hand.now.seat.me.0 c.args.stripe) c.requires.held c.requires.arena.lawful in
     let setup = ap (λ (s : Setup). s.config.stripes) (c.requires.arena.setup ∙ a.planned) in
-    let few = a.few in
-    record { few = omega arith }
+    let within_limit = a.within_limit in
+    record { within_limit = omega arith }
 
 pub tell-requires : goal.tell-requires
 tell-requires c =
     let a = c.args.self.now in
     let number = c.args.stripe in
-    let near = stripe_near c.args.hand.now.seat.me.0 number (lent_stripe c.args.hand.now.seat.me.0 c.args.stripe) c.requires.held c.requires.arena.lawful in
+    let in_range = stripe_near c.args.hand.now.seat.me.0 number (lent_stripe c.args.hand.now.seat.me.0 c.args.stripe) c.requires.held c.requires.arena.lawful in
     let setup = ap (λ (s : Setup). s.config.stripes) (c.requires.arena.setup ∙ a.planned) in
     let count = a.words in
     let place : c.word-word.result ≡ lock_address (suc number) = c.word-word.ensures.word in

@@ -19,10 +19,10 @@ word-word-requires g c =
     let number = c.args.held.now.number in
     let value = c.args.held.now.stripe in
     let (same, (arena, (of_key, (mine, (ready, (inside, none)))))) = c.requires in
-    let near = stripe_near view number value mine arena.lawful in
+    let in_range = stripe_near view number value mine arena.lawful in
     let setup = ap (λ (s : Setup). s.config.stripes) (arena.setup ∙ a.planned) in
-    let few = a.few in
-    record { few = omega arith }
+    let within_limit = a.within_limit in
+    record { within_limit = omega arith }
 
 pub tell-requires : goal.tell-requires
 tell-requires g c =
@@ -33,9 +33,9 @@ tell-requires g c =
     let number = c.args.held.now.number in
     let value = c.args.held.now.stripe in
     let (same, (arena, (of_key, (mine, (ready, (inside, none)))))) = c.requires in
-    let near = stripe_near view number value mine arena.lawful in
+    let in_range = stripe_near view number value mine arena.lawful in
     let setup = ap (λ (s : Setup). s.config.stripes) (arena.setup ∙ a.planned) in
-    let few = a.few in
+    let within_limit = a.within_limit in
     let nowhere : LeadsNowhere view hand.number number value key = record {
       mine = mine;
       numbered = hand.noted.0;

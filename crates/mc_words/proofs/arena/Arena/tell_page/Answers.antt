@@ -3,8 +3,8 @@ use Rattle.mc_words.proofs.arena.Arena.tell_page.Goals as goal
 
 pub store-requires : goal.store-requires
 store-requires g c =
-    let (is, (still, (near, (seat, may)))) = c.requires in (
+    let (is, (still, (in_range, (seat, may)))) = c.requires in (
       seat.same_table,
-      near,
+      in_range,
       tells_storing c.args.self.now.table.shared.key _ _ c.args.seat.now.me (has_number _ seat.lawful) seat.setup g.told.0 g.told.1 still c.args.word c.args.class may,
     )

@@ -20,17 +20,17 @@ invariant_of-hand c =
     let has : slice_index_or c.take.new.seat.me.0.stripes c.args.stripe None ≡ Some value = subst (HasValue c.take.new.seat.me.0 (StripeLock c.args.stripe)) c.in-Some-OfStripe.field-0-is told.value in
     let is = taken_stripe c.args.hand.now.seat.me.0 c.take.new.seat.me.0 c.args.stripe value told.taken has in
     let a = c.args.hand.now in
-    let near : c.args.stripe < a.seat.me.0.setup.config.stripes = let same = ap (λ (s : Setup). s.config.stripes) c.requires.arena.setup in let near = c.requires.near in omega arith in
-    let noted = noted_stripe a.seat.me c.take.new.seat.me a.number a.chunks c.args.stripe a.locks (no_stripe_from a.seat.me.0 a.locks a.noted.4 c.requires.one) (lt-ltb c.args.stripe a.seat.me.0.setup.config.stripes near) a.noted c.take.ensures.hand told.gains told.out (ap (λ (v : View). v.row.holdings) is) in
+    let in_range : c.args.stripe < a.seat.me.0.setup.config.stripes = let same = ap (λ (s : Setup). s.config.stripes) c.requires.arena.setup in let in_range = c.requires.in_range in omega arith in
+    let noted = noted_stripe a.seat.me c.take.new.seat.me a.number a.chunks c.args.stripe a.locks (no_stripe_from a.seat.me.0 a.locks a.noted.4 c.requires.one) (lt-ltb c.args.stripe a.seat.me.0.setup.config.stripes in_range) a.noted c.take.ensures.hand told.gains told.out (ap (λ (v : View). v.row.holdings) is) in
     record { noted = subst (IsNoted c.take.new.seat.me a.number a.chunks) (sym c.add_stripe.ensures.locks) noted; tallied = tallied_same a.seat.me c.take.new.seat.me a.stamps a.fresh a.tallied (ap (λ (v : View). v.row.ids) is) (ap (λ (v : View). v.row.holdings) is) }
 
 pub invariant_of-hand-in-None : goal.invariant_of-hand-in-None
 invariant_of-hand-in-None c =
     let a = c.args.hand.now in
     let stays = c.in-None.ensures.stays refl in
-    let near : c.args.stripe < a.seat.me.0.setup.config.stripes = let same = ap (λ (s : Setup). s.config.stripes) c.requires.arena.setup in let near = c.requires.near in omega arith in
+    let in_range : c.args.stripe < a.seat.me.0.setup.config.stripes = let same = ap (λ (s : Setup). s.config.stripes) c.requires.arena.setup in let in_range = c.requires.in_range in omega arith in
     let (word, busy, at) = c.in-None.ensures.missed refl in
-    let is = missed_stripe a.seat.me.0 c.take.new.seat.me.0 c.args.stripe word near at in
+    let is = missed_stripe a.seat.me.0 c.take.new.seat.me.0 c.args.stripe word in_range at in
     record { noted = noted_same a.seat.me c.take.new.seat.me a.number a.chunks a.chunks a.locks a.noted stays.0 stays.1 (a.noted.2 ∙ ap length (sym (ap (λ (v : View). v.row.holdings) is ∙ look_holds (SawStripe c.args.stripe word) (view_after_sight (stripe_word c.args.stripe word) a.seat.me.0)))); tallied = tallied_same a.seat.me c.take.new.seat.me a.stamps a.fresh a.tallied (ap (λ (v : View). v.row.ids) is) (ap (λ (v : View). v.row.holdings) is) }
 
 pub returns-in-Some-OfStripe-clause-lent : goal.returns-in-Some-OfStripe-clause-lent
@@ -54,5 +54,5 @@ returns-in-None-clause-missed c = (c.in-None.ensures.missed refl).2.0
 pub returns-in-None-clause-held : goal.returns-in-None-clause-held
 returns-in-None-clause-held c =
     let (word, busy, at) = c.in-None.ensures.missed refl in
-    let near : c.args.stripe < c.args.hand.now.seat.me.0.setup.config.stripes = let same = ap (λ (s : Setup). s.config.stripes) c.requires.arena.setup in let near = c.requires.near in omega arith in
-    (word, busy, missed_stripe c.args.hand.now.seat.me.0 c.take.new.seat.me.0 c.args.stripe word near at)
+    let in_range : c.args.stripe < c.args.hand.now.seat.me.0.setup.config.stripes = let same = ap (λ (s : Setup). s.config.stripes) c.requires.arena.setup in let in_range = c.requires.in_range in omega arith in
+    (word, busy, missed_stripe c.args.hand.now.seat.me.0 c.take.new.seat.me.0 c.args.stripe word in_range at)

@@ -22,7 +22,7 @@ head_word-word-requires c =
     let value = c.args.held.now.stripe in
     let of_key = ap (λ (s : Setup). key % s.config.stripes) arena.setup ∙ c.requires.of_key in
     let to : LeadsTo view stripe value key chunk c.requires.leads.0 = record { mine = c.requires.held; of_key = of_key; leads = c.requires.leads.1 } in
-    record { near = subst (λ (s : Setup). has_chunk s.table chunk ≡ true) arena.setup (entry_near view stripe value key chunk c.requires.leads.0 to arena.lawful) }
+    record { in_range = subst (λ (s : Setup). has_chunk s.table chunk ≡ true) arena.setup (entry_near view stripe value key chunk c.requires.leads.0 to arena.lawful) }
 
 pub subtract-found-requires : goal.subtract-found-requires
 subtract-found-requires c =
@@ -36,7 +36,7 @@ subtract-found-requires c =
     let of_key = ap (λ (s : Setup). key % s.config.stripes) arena.setup ∙ c.requires.of_key in
     let to : LeadsTo view stripe value key chunk c.requires.leads.0 = record { mine = c.requires.held; of_key = of_key; leads = c.requires.leads.1 } in
     let place : c.head_word-word.result ≡ head_word view.setup chunk = c.head_word-word.ensures.word ∙ ap (λ (s : Setup). head_word s chunk) (sym arena.setup) in
-    (refl, (refl, (c.head_word-word.ensures.near, (arena, subst (λ (n : ℕ). MayWrite view (core.Unlink key) n (word_minus 65537)) (sym place) (may_unlink view stripe value key chunk c.requires.leads.0 to c.requires.ready c.requires.inside c.requires.free)))))
+    (refl, (refl, (c.head_word-word.ensures.in_range, (arena, subst (λ (n : ℕ). MayWrite view (core.Unlink key) n (word_minus 65537)) (sym place) (may_unlink view stripe value key chunk c.requires.leads.0 to c.requires.ready c.requires.inside c.requires.free)))))
 
 pub invariant_of-hand : goal.invariant_of-hand
 invariant_of-hand c =

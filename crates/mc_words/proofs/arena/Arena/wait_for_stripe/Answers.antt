@@ -13,7 +13,7 @@ pub try_stripe-requires : goal.try_stripe-requires
 try_stripe-requires g c =
     let a = c.args.hand.now in
     let b = c.loop.hand in
-    record { arena = c.loop.invariant.0; near = c.requires.near; one = no_stripes_there b.seat.me.0 b.locks b.noted.4 (ap locks_have_no_stripe c.loop.invariant.1 ∙ no_stripe_unlocked a.locks (unlocked_from a.seat.me.0 a.locks a.noted.4 ∙ c.requires.unlocked)) }
+    record { arena = c.loop.invariant.0; in_range = c.requires.in_range; one = no_stripes_there b.seat.me.0 b.locks b.noted.4 (ap locks_have_no_stripe c.loop.invariant.1 ∙ no_stripe_unlocked a.locks (unlocked_from a.seat.me.0 a.locks a.noted.4 ∙ c.requires.unlocked)) }
 
 pub returns-in-Ok-clause-waits : goal.returns-in-Ok-clause-waits
 returns-in-Ok-clause-waits g c =
@@ -26,7 +26,7 @@ stripe_word-free-requires g c = record {
     | then-free+in_default w ↦ subst (IsHandOf c.args.self.now) (sym w.hand-is) w.in_default.ensures.arena
     | else-free w ↦ subst (IsHandOf c.args.self.now) (sym w.hand-is) c.loop.invariant.0
   ];
-  near = c.requires.near;
+  in_range = c.requires.in_range;
 }
 
 pub loop-preserved : goal.loop-preserved

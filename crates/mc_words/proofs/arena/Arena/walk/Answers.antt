@@ -38,12 +38,12 @@ next_out-next-requires c =
     let out = at_chunk c.loop-next.hand.seat.me.0 _ slabs c.args.class chunk inv.arena.lawful inv.arena.setup c.requires.class inv.held (swept_at inv.swept (Some chunk) c.in-Some.is) in
     subst (λ (x : SlabState). Contains (class_of_chunk x chunk).order chunk) (sym c.slabs-in-Some.ensures.slabs) out.listed
 
-pub put_back-requires-clause-near : goal.put_back-requires-clause-near
-put_back-requires-clause-near c =
+pub put_back-requires-clause-in_range : goal.put_back-requires-clause-in_range
+put_back-requires-clause-in_range c =
     let inv = c.loop-next.invariant in
     let chunk = c.in-Some.chunk in
     let out = at_chunk c.loop-next.hand.seat.me.0 _ c.loop-next.held.shared c.args.class chunk inv.arena.lawful inv.arena.setup c.requires.class inv.held (swept_at inv.swept (Some chunk) c.in-Some.is) in
-    subst (λ (s : Setup). has_chunk s.table chunk ≡ true) inv.arena.setup out.near
+    subst (λ (s : Setup). has_chunk s.table chunk ≡ true) inv.arena.setup out.in_range
 
 pub loop-next-preserved : goal.loop-next-preserved
 loop-next-preserved c =

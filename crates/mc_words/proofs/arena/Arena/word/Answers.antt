@@ -11,5 +11,5 @@ data_word-at-requires c =
     let view = c.args.hand.now.seat.me.0 in
     let chunk = c.args.reference.now.chunk in
     let room = c.args.reference.now.room in
-    let near = subst (λ (n : ℕ). c.args.place < n) (ap length (item_found view chunk ref.holding ref.found)) c.requires.near in
-    record { near = subst (λ (s : Setup). data_word s room chunk c.args.place < config_from s) arena.setup (word_near view chunk room ref arena.lawful c.args.place near) }
+    let in_range = subst (λ (n : ℕ). c.args.place < n) (ap length (item_found view chunk ref.holding ref.found)) c.requires.in_range in
+    record { in_range = subst (λ (s : Setup). data_word s room chunk c.args.place < config_from s) arena.setup (word_near view chunk room ref arena.lawful c.args.place in_range) }

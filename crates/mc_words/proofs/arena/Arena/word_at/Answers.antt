@@ -12,8 +12,8 @@ look-requires c =
     let ref = c.requires.reference in
     let view = c.args.hand.now.seat.me.0 in
     let chunk = c.args.reference.now.chunk in
-    let near = subst (λ (n : ℕ). c.args.place < n) (ap length (item_found view chunk ref.holding ref.found)) c.requires.near in
-    (refl, (refl, (c.requires.inside, (c.requires.arena, may_read view chunk c.args.reference.now.room c.args.place ref near c.args.at))))
+    let in_range = subst (λ (n : ℕ). c.args.place < n) (ap length (item_found view chunk ref.holding ref.found)) c.requires.in_range in
+    (refl, (refl, (c.requires.inside, (c.requires.arena, may_read view chunk c.args.reference.now.room c.args.place ref in_range c.args.at))))
 
 pub invariant_of-hand : goal.invariant_of-hand
 invariant_of-hand c =
@@ -32,10 +32,10 @@ returns-clause-word c =
     let chunk = c.args.reference.now.chunk in
     let room = c.args.reference.now.room in
     let same = item_found view chunk ref.holding ref.found in
-    let near = subst (λ (n : ℕ). c.args.place < n) (ap length same) c.requires.near in
+    let in_range = subst (λ (n : ℕ). c.args.place < n) (ap length same) c.requires.in_range in
     let happens = c.look.ensures.happens in
     let place : c.args.at ≡ data_word view.setup room chunk c.args.place = c.requires.at ∙ ap (λ (s : Setup). data_word s room chunk c.args.place) (sym arena.setup) in
-    sym happens.1 ∙ (ap (slice_index happens.0.was.words) place ∙ (word_is view chunk room ref happens.0.was c.args.place near ∙ ap (λ item. slice_index item c.args.place) (sym same)))
+    sym happens.1 ∙ (ap (slice_index happens.0.was.words) place ∙ (word_is view chunk room ref happens.0.was c.args.place in_range ∙ ap (λ item. slice_index item c.args.place) (sym same)))
 
 pub returns-clause-view : goal.returns-clause-view
 returns-clause-view c = read_word c.args.hand.now.seat.me.0 c.look.new.seat.me.0 c.args.reference.now.chunk c.args.place c.look.ensures.happens.0

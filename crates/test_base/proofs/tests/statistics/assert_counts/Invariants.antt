@@ -6,6 +6,6 @@ use Rattle.test_base.proofs.tests.statistics.assert_counts.Given as goal
 -- the classes so far have few pages, and no more free chunks than these have
 abbrev pub invariant-loop-place : goal.invariant-loop-place
 invariant-loop-place g l = record {
-  few : (k : ℕ) → k < l.place → slice_index l.pages k ≤ 127;
+  within_limit : (k : ℕ) → k < l.place → slice_index l.pages k ≤ 127;
   within : (k : ℕ) → k < l.place → slice_index l.free k ≤ slice_index l.pages k * per_page_of l.table (k + 1);
 }

@@ -13,8 +13,8 @@ overflow_add-word-2 c =
     let f = c.self.inside in
     let plan : Setup = f.plan in
     let left = c.self.invariant.2 in
-    let near = subst (λ (l : ArenaEnd). has_chunk l.setup.table c.args.chunk ≡ true) (sym c.self.view_is) c.requires.near in
-    let below = head_word_near plan c.args.chunk near in
+    let in_range = subst (λ (l : ArenaEnd). has_chunk l.setup.table c.args.chunk ≡ true) (sym c.self.view_is) c.requires.in_range in
+    let below = head_word_near plan c.args.chunk in_range in
     let first = c.self.invariant.3 in
     let most = ap (λ (n : ℕ). c.args.chunk.page * n) c.self.invariant.4 in
     let small = left.small in
@@ -25,8 +25,8 @@ word-requires c =
     let f = c.self.inside in
     let plan : Setup = f.plan in
     let left = c.self.invariant.2 in
-    let near = subst (λ (l : ArenaEnd). has_chunk l.setup.table c.args.chunk ≡ true) (sym c.self.view_is) c.requires.near in
-    let below = head_word_near plan c.args.chunk near in
+    let in_range = subst (λ (l : ArenaEnd). has_chunk l.setup.table c.args.chunk ≡ true) (sym c.self.view_is) c.requires.in_range in
+    let below = head_word_near plan c.args.chunk in_range in
     let first = c.self.invariant.3 in
     let most = ap (λ (n : ℕ). c.args.chunk.page * n) c.self.invariant.4 in
     let wide = left.wide in
@@ -38,10 +38,10 @@ returns c =
     let f = c.self.inside in
     let plan : Setup = f.plan in
     let left = c.self.invariant.2 in
-    let near = subst (λ (l : ArenaEnd). has_chunk l.setup.table c.args.chunk ≡ true) (sym c.self.view_is) c.requires.near in
+    let in_range = subst (λ (l : ArenaEnd). has_chunk l.setup.table c.args.chunk ≡ true) (sym c.self.view_is) c.requires.in_range in
     let place : f.first_head + c.args.chunk.page * f.most + c.args.chunk.index ≡ head_word plan c.args.chunk =
     let first = c.self.invariant.3 in let most = ap (λ (n : ℕ). c.args.chunk.page * n) c.self.invariant.4 in omega arith in
     record {
-      word = head_told plan (slots_items f.closed.words) (slots_items f.closed.slots) left c.args.chunk _ c.word.result near place c.word.ensures
+      word = head_told plan (slots_items f.closed.words) (slots_items f.closed.slots) left c.args.chunk _ c.word.result in_range place c.word.ensures
           ∙ ap (λ (l : ArenaEnd). slice_index l.heads (head_place l.setup.table c.args.chunk)) c.self.view_is;
     }

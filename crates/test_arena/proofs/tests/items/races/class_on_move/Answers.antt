@@ -8,5 +8,5 @@ use Rattle.test_arena.proofs.tests.items.races.class_on_move.Goals as goal
 pub owner-requires : goal.owner-requires
 owner-requires c =
     let arena = c.requires.arena in
-    let near = subst (λ (s : Setup). has_chunk s.table c.args.chunk ≡ true) (sym arena.setup) c.requires.near in
-    subst (λ (x : SlabState). c.args.chunk.page < length x.owners) (sym c.slabs.ensures.slabs) (owner_near c.args._hand.now.seat.me.0 c.args.held.now.shared c.requires.held c.args.chunk near arena.lawful)
+    let in_range = subst (λ (s : Setup). has_chunk s.table c.args.chunk ≡ true) (sym arena.setup) c.requires.in_range in
+    subst (λ (x : SlabState). c.args.chunk.page < length x.owners) (sym c.slabs.ensures.slabs) (owner_near c.args._hand.now.seat.me.0 c.args.held.now.shared c.requires.held c.args.chunk in_range arena.lawful)

@@ -27,7 +27,7 @@ word_held-key-requires-clause-inside c =
     let head = decode c.head-head.result in
     let mine = ap (λ (v : View). v.slabs) c.head-head.ensures.seen ∙ seen_slabs view c.args.chunk head slabs c.requires.held in
     let linked = linked_found view seen slabs c.requires.held c.args.chunk head c.head-head.ensures.seen (sym c.if-not-is_linked.ensures.linked) in
-    let places = three_places seen setup c.head-head.ensures.arena.lawful c.head-head.ensures.arena.setup slabs mine c.args.chunk c.requires.near linked (room_in setup.table (class_of_page slabs c.args.chunk.page)) refl in
+    let places = three_places seen setup c.head-head.ensures.arena.lawful c.head-head.ensures.arena.setup slabs mine c.args.chunk c.requires.in_range linked (room_in setup.table (class_of_page slabs c.args.chunk.page)) refl in
     let three = places.0 in omega arith
 
 pub returns-clause-leads : goal.returns-clause-leads
@@ -46,7 +46,7 @@ returns-clause-leads c =
     let leads = c.if-not-leads_to.ensures.leads refl in
     record {
       of_key = record {
-        near = c.requires.near;
+        in_range = c.requires.in_range;
         inside = search rules;
         key = stripe_found c.args.chunk seen read taken slabs key stripe value reads at c.in-Ok.ensures.taken c.in-Ok.ensures.lent c.in-Ok.ensures.whole c.in-Ok.ensures.seen ∙ ap (λ n. Some n) (sym c.in-Ok.ensures.number);
       };

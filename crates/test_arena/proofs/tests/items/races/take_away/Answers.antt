@@ -71,7 +71,7 @@ rescue-requires-clause-item g c =
     let there = popped_reaches swept popped kept chunk copy pops number value key stamp read at in
     record {
       of_key = record {
-        near = c.requires.leads.of_key.near;
+        in_range = c.requires.leads.of_key.in_range;
         inside = search rules;
         key = stripe_reached view popped (Rattle.mc_pages.specs.Changes.after_replace kept copy chunk) c.args.item.stripe.number number value key chunk stamp there (c.pop_off.ensures.arena.setup ∙ sym c.requires.arena.setup) c.requires.leads.of_key.key c.reserve.ensures.number;
       };
@@ -138,7 +138,7 @@ evict-requires-clause-item g c =
     let there = reaches_passed number value key chunk stamp read chunk.page (class_at kept own).free swept passed kept passes at in
     record {
       of_key = record {
-        near = c.requires.leads.of_key.near;
+        in_range = c.requires.leads.of_key.in_range;
         inside = search rules;
         key = stripe_reached view passed kept c.args.item.stripe.number number value key chunk stamp there (c.pop_off.ensures.arena.setup ∙ sym c.requires.arena.setup) c.requires.leads.of_key.key c.reserve.ensures.number;
       };
