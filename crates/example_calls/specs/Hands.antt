@@ -2,13 +2,9 @@
 use Rattle.mc_words.specs.declared.arena.Arena.{Arena}
 use Rattle.mc_words.specs.declared.hand.Hand.{Hand}
 use Rattle.mc_words.specs.hand.Arenas.{IsHandOf, view}
-use Rattle.mc_words.specs.hand.Ready.{IsReady}
+use Rattle.mc_words.specs.hand.Ready.{IsReady, IsReadyHandOf}
 use Rattle.mc_items.specs.declared.refs.Ref.{Ref}
 use Rattle.mc_items.specs.ItemRefs.{IsItemRef}
-
--- the hand is one of the arena's, and may make any call
-abbrev pub IsReadyHandOf : Arena → Hand → Type 0
-IsReadyHandOf arena hand = IsHandOf arena hand × IsReady (view hand)
 
 -- the hand is one of the arena's, may make any call, and refers to the item
 pub record IsReadyWithRef (arena : Arena) (item : Ref) (hand : Hand) : Type 0 where

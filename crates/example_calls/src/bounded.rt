@@ -3,11 +3,10 @@ ghost use Rattle.std.specs.Prelude.{◌+◌, ◌≡◌, IfOk, OnErr};
 ghost use Rattle.mc_stripe.specs.StripeState.{stamp_of_key};
 ghost use Rattle.mc_words.specs.hand.Arenas.{view};
 ghost use Rattle.mc_words.specs.hand.Observers.{locks_of, hand_number};
-ghost use Rattle.mc_words.specs.hand.Ready.{IsReady};
+ghost use Rattle.mc_words.specs.hand.Ready.{IsReady, IsReadyHandOf};
 ghost use Rattle.mc_words.specs.hand.Seats.{IsSeatedAt};
 ghost use Rattle.mc_words.specs.item.Refs.{KeepsRefs};
 ghost use Rattle.example_calls.specs.Bounded.{FindsStamp, GivesNoStamp, IsNextStamp, Makes, MakesAtMost, StoresKeyAndWords, SetsOwn, granted_as_given};
-ghost use Rattle.example_calls.specs.Hands.{IsReadyHandOf};
 
 use mc_items::{SetWithinError, set_within};
 use mc_stripe::{Key, Stamp, Stripe};

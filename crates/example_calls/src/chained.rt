@@ -3,7 +3,7 @@ ghost use Rattle.std.specs.Prelude.{◌≡◌, IfSome, true};
 ghost use Rattle.mc_core.specs.State.{has_chunk};
 ghost use Rattle.mc_words.specs.hand.Arenas.{setup_of};
 ghost use Rattle.mc_words.specs.hand.Observers.{hint_chunk, hand_number};
-ghost use Rattle.example_calls.specs.Hands.{IsReadyHandOf};
+ghost use Rattle.mc_words.specs.hand.Ready.{IsReadyHandOf};
 
 use mc_items::{again, delete, get, hint, read, release, set, touch, try_get};
 use mc_mover::{forget, reassign, set_mode, survey, trim, try_turn, turn};

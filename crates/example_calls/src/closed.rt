@@ -1,6 +1,6 @@
 //! The end of an arena, and the promise that holds of it.
 ghost use Rattle.example_calls.specs.Closed.{EndsWithPromise};
-ghost use Rattle.example_calls.specs.Hands.{IsReadyHandOf};
+ghost use Rattle.mc_words.specs.hand.Ready.{IsReadyHandOf};
 
 use mc_items::set;
 use mc_words::laws::views_give_headline;

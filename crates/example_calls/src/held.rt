@@ -3,7 +3,8 @@ ghost use Rattle.std.specs.Prelude.{◌≡◌, IfOk};
 ghost use Rattle.mc_words.specs.hand.Arenas.{view};
 ghost use Rattle.mc_words.specs.item.Refs.{KeepsRefs};
 ghost use Rattle.mc_items.specs.ItemRefs.{item_words};
-ghost use Rattle.example_calls.specs.Hands.{IsReadyHandOf, IsReadyWithRef};
+ghost use Rattle.mc_words.specs.hand.Ready.{IsReadyHandOf};
+ghost use Rattle.example_calls.specs.Hands.{IsReadyWithRef};
 
 use mc_items::{Ref, delete, get, read, release, set, touch};
 use mc_memory::Refused;

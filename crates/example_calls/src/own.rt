@@ -1,6 +1,6 @@
 //! A caller that sets an item and reads it, and gets its own words.
 ghost use Rattle.std.specs.Prelude.{◌≡◌, IfOk, IfSome};
-ghost use Rattle.example_calls.specs.Hands.{IsReadyHandOf};
+ghost use Rattle.mc_words.specs.hand.Ready.{IsReadyHandOf};
 
 use mc_items::{GetError, SetError, get, read, release, set};
 use mc_words::{Arena, Hand};

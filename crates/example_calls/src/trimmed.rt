@@ -3,9 +3,8 @@ ghost use Rattle.std.specs.Prelude.{◌≡◌, [], Contains, length, slice_get};
 ghost use Rattle.mc_pages.specs.Base.{base_pages};
 ghost use Rattle.mc_core.specs.Past.{StoredItem};
 ghost use Rattle.mc_words.specs.hand.Arenas.{IsHandOf, view};
-ghost use Rattle.mc_words.specs.hand.Ready.{IsReady};
+ghost use Rattle.mc_words.specs.hand.Ready.{IsReady, IsReadyHandOf};
 ghost use Rattle.mc_words.specs.rule.Joins.{KnowledgeAgrees};
-ghost use Rattle.example_calls.specs.Hands.{IsReadyHandOf};
 
 use mc_items::set;
 use mc_mover::trim;

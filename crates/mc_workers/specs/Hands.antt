@@ -4,14 +4,10 @@ use Rattle.mc_words.specs.declared.arena.Arena.{Arena}
 use Rattle.mc_words.specs.declared.hand.Hand.{Hand}
 use Rattle.mc_words.specs.hand.Arenas.{IsHandOf, view}
 use Rattle.mc_words.specs.hand.Observers.{hand_number}
-use Rattle.mc_words.specs.hand.Ready.{IsReady}
+use Rattle.mc_words.specs.hand.Ready.{IsReady, IsReadyHandOf}
 use Rattle.mc_items.specs.declared.refs.Ref.{Ref}
 use Rattle.mc_items.specs.ItemRefs.{RefersToEach}
 use Rattle.mc_items.specs.Keeping.{HoldsTheSame}
-
--- the hand is one of the arena's, and may make any call
-abbrev pub IsReadyHandOf : Arena → Hand → Type 0
-IsReadyHandOf arena hand = IsHandOf arena hand × IsReady (view hand)
 
 -- the worker's hand is one of the arena's, may make any call, and holds what these references are to
 pub record IsKeeping (arena : Arena) (hand : Hand) (kept : List Ref) : Type 0 where

@@ -5,7 +5,8 @@ ghost use Rattle.mc_words.specs.hand.Arenas.{setup_of, view};
 ghost use Rattle.mc_words.specs.item.Refs.{KeepsRefs};
 ghost use Rattle.mc_items.specs.Keeping.{HoldsAsOften};
 ghost use Rattle.mc_workers.specs.Asking.{is_workers};
-ghost use Rattle.mc_workers.specs.Hands.{IsKeeping, IsReadyHandOf, StaysHolding, StaysKeeping, StaysReady};
+ghost use Rattle.mc_words.specs.hand.Ready.{IsReadyHandOf};
+ghost use Rattle.mc_workers.specs.Hands.{IsKeeping, StaysHolding, StaysKeeping, StaysReady};
 ghost use Rattle.mc_workers.specs.OnHands.{ServesBy};
 ghost use Rattle.mc_workers.specs.Serving.{AnswersDelete, AnswersGet, AnswersTouch};
 

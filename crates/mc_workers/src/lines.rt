@@ -8,7 +8,8 @@ ghost use Rattle.mc_words.specs.hand.Observers.{hand_number};
 ghost use Rattle.mc_workers.specs.Asking.{asked_by, is_asked_by, is_workers};
 ghost use Rattle.mc_workers.specs.Ends.{PassesLines, StopsLines};
 ghost use Rattle.mc_workers.specs.Gates.{IsLetOn, StoppedAt};
-ghost use Rattle.mc_workers.specs.Hands.{IsKeeping, IsReadyHandOf, StaysKeeping};
+ghost use Rattle.mc_words.specs.hand.Ready.{IsReadyHandOf};
+ghost use Rattle.mc_workers.specs.Hands.{IsKeeping, StaysKeeping};
 ghost use Rattle.mc_workers.specs.Lines.{DoesLines};
 ghost use Rattle.mc_workers.specs.OnHands.{AddsReplyBy, ServesLinesBy};
 

@@ -3,7 +3,8 @@ ghost use Rattle.std.specs.Prelude.{◌≡◌, ◌+◌, ◌≤◌, Err, IfOk, On
 ghost use Rattle.mc_script.specs.Command.{IsValid};
 ghost use Rattle.mc_words.specs.hand.Arenas.{setup_of};
 ghost use Rattle.mc_workers.specs.Asking.{is_workers};
-ghost use Rattle.mc_workers.specs.Hands.{IsReadyHandOf, StaysHolding};
+ghost use Rattle.mc_words.specs.hand.Ready.{IsReadyHandOf};
+ghost use Rattle.mc_workers.specs.Hands.{StaysHolding};
 ghost use Rattle.mc_workers.specs.MoverReplies.{CanPrint};
 ghost use Rattle.mc_workers.specs.Moving.{RefusesMover, ServesMover, StopsMover, turns_of};
 ghost use Rattle.mc_workers.specs.Spending.{turns_asked};

@@ -5,7 +5,7 @@ ghost use Rattle.mc_script.specs.Command.{IsValid};
 ghost use Rattle.mc_words.specs.hand.Arenas.{view};
 ghost use Rattle.mc_workers.specs.Asking.{greatest_worker, asking_worker};
 ghost use Rattle.mc_workers.specs.Ends.{RunPasses, RunStops};
-ghost use Rattle.mc_workers.specs.Hands.{IsReadyHandOf};
+ghost use Rattle.mc_words.specs.hand.Ready.{IsReadyHandOf};
 ghost use Rattle.mc_workers.specs.Script.{IsOpened, ServesScript, PrintsAll};
 
 use crate::ended::Ended;

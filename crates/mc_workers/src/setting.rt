@@ -3,7 +3,8 @@ ghost use Rattle.std.specs.Prelude.{◌≡◌, ◌≤◌, IfOk, OnOk};
 ghost use Rattle.mc_serial_spec.specs.Item.{counting_words};
 ghost use Rattle.mc_words.specs.hand.Arenas.{view};
 ghost use Rattle.mc_words.specs.item.Refs.{KeepsRefs};
-ghost use Rattle.mc_workers.specs.Hands.{IsReadyHandOf, StaysHolding};
+ghost use Rattle.mc_words.specs.hand.Ready.{IsReadyHandOf};
+ghost use Rattle.mc_workers.specs.Hands.{StaysHolding};
 ghost use Rattle.mc_workers.specs.Serving.{AnswersSet};
 
 use crate::reply::Reply;

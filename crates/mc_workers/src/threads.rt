@@ -6,7 +6,7 @@ ghost use Rattle.mc_words.specs.hand.Arenas.{IsHandOf, view};
 ghost use Rattle.mc_words.specs.hand.Hands.{AreHandsFrom, IsNewHand};
 ghost use Rattle.mc_words.specs.hand.Idle.{is_idle};
 ghost use Rattle.mc_workers.specs.Ends.{AreTurns, EndsJoined, EndsServed, LetsAllOn, PassesLines, PassesMoves, StopsLines, StopsSome};
-ghost use Rattle.mc_workers.specs.Hands.{IsReadyHandOf};
+ghost use Rattle.mc_words.specs.hand.Ready.{IsReadyHandOf};
 ghost use Rattle.mc_workers.specs.Spending.{StopsMoves};
 ghost use Rattle.mc_workers.specs.Threads.{AreDone, IsMoved, LinesAreServed, JoinsBoth};
 

@@ -3,7 +3,8 @@ ghost use Rattle.std.specs.Prelude.{◌≡◌, ◌≢◌, ◌≤◌, ◌^◌, If
 ghost use Rattle.mc_serial_spec.specs.Mover.{AreAtMost};
 ghost use Rattle.mc_mover.specs.Telling.{counts_in};
 ghost use Rattle.mc_mover.specs.Turning.{AreBelow};
-ghost use Rattle.mc_workers.specs.Hands.{IsReadyHandOf, StaysHolding};
+ghost use Rattle.mc_words.specs.hand.Ready.{IsReadyHandOf};
+ghost use Rattle.mc_workers.specs.Hands.{StaysHolding};
 ghost use Rattle.mc_workers.specs.Moving.{DoesTurnsInRun, RunsOutOfTurns, counts_with, ending_of};
 
 use crate::ended::Ended;

@@ -1,6 +1,7 @@
 //! The end of a window of the automover.
 ghost use Rattle.std.specs.Prelude.{Err, IfOk, OnErr};
-ghost use Rattle.mc_workers.specs.Hands.{IsReadyHandOf, StaysHolding};
+ghost use Rattle.mc_words.specs.hand.Ready.{IsReadyHandOf};
+ghost use Rattle.mc_workers.specs.Hands.{StaysHolding};
 ghost use Rattle.mc_workers.specs.Moving.{ActsOnDecisionInRun, AsksForPage, EndsWindowInRun, RefusesPage, RefusesWindow, TrimsAs};
 
 use crate::mover::Mover;

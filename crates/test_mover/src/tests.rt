@@ -12,7 +12,7 @@ mod steps;
 mod surveys;
 mod trims;
 
-ghost use Rattle.testlib_hands.specs.Hands.{IsReadyHandOf};
+ghost use Rattle.mc_words.specs.hand.Ready.{IsReadyHandOf};
 
 use mc_pages::ChunkId;
 use mc_words::{Arena, Hand};

@@ -4,11 +4,7 @@ use Rattle.mc_words.specs.declared.arena.Arena.{Arena}
 use Rattle.mc_words.specs.declared.hand.Hand.{Hand}
 use Rattle.mc_words.specs.hand.Arenas.{IsHandOf, view}
 use Rattle.mc_words.specs.hand.View.{View}
-use Rattle.mc_words.specs.hand.Ready.{IsReady}
-
--- the hand is one of the arena's, and may make any call
-abbrev pub IsReadyHandOf : Arena → Hand → Type 0
-IsReadyHandOf arena hand = IsHandOf arena hand × IsReady (view hand)
+use Rattle.mc_words.specs.hand.Ready.{IsReady, IsReadyHandOf}
 
 -- the hand holds no chunk
 abbrev pub HoldsNothing : View → Type 0

@@ -2,7 +2,8 @@
 use Rattle.mc_words.specs.declared.arena.Arena.{Arena}
 use Rattle.testlib_hands.specs.declared.hands.Pair.{Pair}
 use Rattle.testlib_hands.specs.declared.hands.Two.{Two}
-use Rattle.testlib_hands.specs.Hands.{IsEmptyHandOf, IsReadyHandOf}
+use Rattle.mc_words.specs.hand.Ready.{IsReadyHandOf}
+use Rattle.testlib_hands.specs.Hands.{IsEmptyHandOf}
 
 -- the two hands are hands of the arena that may make any call
 abbrev pub AreReady : Two → Type 0

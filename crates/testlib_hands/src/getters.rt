@@ -4,7 +4,8 @@ ghost use Rattle.mc_core.specs.State.{has_chunk};
 ghost use Rattle.mc_words.specs.hand.Arenas.{setup_of, view};
 ghost use Rattle.mc_items.specs.ItemRefs.{IsItemRef, item_chunk};
 ghost use Rattle.mc_items.specs.Keeping.{HoldsToo};
-ghost use Rattle.testlib_hands.specs.Hands.{HoldsNothing, IsReadyHandOf};
+ghost use Rattle.mc_words.specs.hand.Ready.{IsReadyHandOf};
+ghost use Rattle.testlib_hands.specs.Hands.{HoldsNothing};
 
 use mc_items::{Ref, get, release, try_get};
 use mc_stripe::Key;

@@ -2,7 +2,7 @@
 ghost use Rattle.mc_words.specs.hand.Arenas.{view};
 ghost use Rattle.mc_items.specs.ItemRefs.{IsItemRef};
 ghost use Rattle.mc_items.specs.Keeping.{HoldsLess, HoldsTheSame};
-ghost use Rattle.testlib_hands.specs.Hands.{IsReadyHandOf};
+ghost use Rattle.mc_words.specs.hand.Ready.{IsReadyHandOf};
 
 use crate::words::{are_from, words_from};
 use mc_items::{Ref, read, release, set};

@@ -1,5 +1,5 @@
 //! Surveys, in the words of the statistics.
-ghost use Rattle.testlib_hands.specs.Hands.{IsReadyHandOf};
+ghost use Rattle.mc_words.specs.hand.Ready.{IsReadyHandOf};
 
 use mc_classes::{ClassId, ClassTable};
 use mc_mover::{Survey, survey};

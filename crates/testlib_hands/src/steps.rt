@@ -1,5 +1,5 @@
 //! Lists of calls, each with what it is to give. A list is one call of a test, so that it is checked fast.
-ghost use Rattle.testlib_hands.specs.Hands.{IsReadyHandOf};
+ghost use Rattle.mc_words.specs.hand.Ready.{IsReadyHandOf};
 
 use crate::drops::drop_two;
 use crate::hands::opened_two;

@@ -8,7 +8,7 @@ use Rattle.mc_words.specs.hand.Arenas.{setup_of, view}
 use Rattle.mc_words.specs.hand.Observers.{hint_chunk}
 use Rattle.mc_items.specs.declared.refs.Ref.{Ref}
 use Rattle.mc_items.specs.ItemRefs.{RefersToEach}
-use Rattle.testlib_hands.specs.Hands.{IsReadyHandOf}
+use Rattle.mc_words.specs.hand.Ready.{IsReadyHandOf}
 
 -- the hand may make any call, and keeps these references and no others
 abbrev pub IsKeeperOf : Arena → Hand → List Ref → Type 0

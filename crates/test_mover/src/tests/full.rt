@@ -1,5 +1,5 @@
 //! Counts and issue numbers at their greatest.
-ghost use Rattle.testlib_hands.specs.Hands.{IsReadyHandOf};
+ghost use Rattle.mc_words.specs.hand.Ready.{IsReadyHandOf};
 ghost use Rattle.testlib_hands.specs.Pairs.{AreReady};
 
 use super::steps::Step;

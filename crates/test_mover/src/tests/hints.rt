@@ -1,6 +1,6 @@
 //! Hints of items whose page has moved.
 ghost use Rattle.std.specs.Prelude.{◌≡◌, true, IfOk};
-ghost use Rattle.testlib_hands.specs.Hands.{IsReadyHandOf};
+ghost use Rattle.mc_words.specs.hand.Ready.{IsReadyHandOf};
 ghost use Rattle.testlib_hands.specs.Pairs.{AreReady};
 ghost use Rattle.mc_core.specs.State.{has_chunk};
 ghost use Rattle.mc_words.specs.hand.Arenas.{setup_of};

@@ -1,6 +1,6 @@
 //! Turns beside another hand's locks.
 ghost use Rattle.mc_words.specs.hand.Arenas.{IsHandOf};
-ghost use Rattle.testlib_hands.specs.Hands.{IsReadyHandOf};
+ghost use Rattle.mc_words.specs.hand.Ready.{IsReadyHandOf};
 ghost use Rattle.testlib_hands.specs.Pairs.{AreReady};
 
 use super::assert_equal;

@@ -1,6 +1,6 @@
 //! Hands that are lost with what they have: a value stays out with its lock, and a chunk stays held.
 ghost use Rattle.std.specs.Prelude.{IfOk};
-ghost use Rattle.testlib_hands.specs.Hands.{IsReadyHandOf};
+ghost use Rattle.mc_words.specs.hand.Ready.{IsReadyHandOf};
 
 use super::steps::{Step, reads_held};
 use super::{assert_equal, assert_head, assert_same};

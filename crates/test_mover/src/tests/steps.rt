@@ -1,5 +1,5 @@
 //! A call of a hand with what it is to give.
-ghost use Rattle.testlib_hands.specs.Hands.{IsReadyHandOf};
+ghost use Rattle.mc_words.specs.hand.Ready.{IsReadyHandOf};
 ghost use Rattle.mc_items.specs.ItemRefs.{IsItemRef};
 ghost use Rattle.mc_words.specs.hand.Arenas.{view};
 

@@ -1,6 +1,6 @@
 //! Stripes and a ledger that are trimmed between calls, and stripes that forget their calls: the answers are the same, and
 //! nothing before a trim is recorded.
-ghost use Rattle.testlib_hands.specs.Hands.{IsReadyHandOf};
+ghost use Rattle.mc_words.specs.hand.Ready.{IsReadyHandOf};
 
 use super::assert_same;
 use super::steps::Step;

@@ -1,5 +1,5 @@
 //! Calls that may be refused memory, as data, and what they give.
-ghost use Rattle.testlib_hands.specs.Hands.{IsReadyHandOf};
+ghost use Rattle.mc_words.specs.hand.Ready.{IsReadyHandOf};
 
 use mc_classes::ClassId;
 use mc_items::{GetError, SetError, TryGetError, delete, get, release, set, touch, try_get};

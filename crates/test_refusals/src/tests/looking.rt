@@ -1,5 +1,5 @@
 //! A hand that takes snapshots for another one, in room that was made before.
-ghost use Rattle.testlib_hands.specs.Hands.{IsReadyHandOf};
+ghost use Rattle.mc_words.specs.hand.Ready.{IsReadyHandOf};
 
 use super::lists::see_slabs;
 use super::snapshot::{LENGTH, MOST, PAGES, note};

@@ -1,5 +1,5 @@
 //! The numbers of a snapshot that are behind the locks of stripes.
-ghost use Rattle.testlib_hands.specs.Hands.{IsReadyHandOf};
+ghost use Rattle.mc_words.specs.hand.Ready.{IsReadyHandOf};
 
 use super::snapshot::{CALLS, KEYS, STRIPES, chunk_number, note, note_call};
 use mc_stripe::Stripe;

@@ -2,7 +2,8 @@
 ghost use Rattle.std.specs.Prelude.{◌≤◌, All, IfOk};
 ghost use Rattle.mc_script.specs.Command.{IsValid};
 ghost use Rattle.mc_words.specs.hand.Hands.{AreHandsFrom};
-ghost use Rattle.mc_workers.specs.Hands.{IsKeeping, IsReadyHandOf};
+ghost use Rattle.mc_words.specs.hand.Ready.{IsReadyHandOf};
+ghost use Rattle.mc_workers.specs.Hands.{IsKeeping};
 
 use super::Played;
 use super::seats::{MoverSeat, Seat, asked_by, mover_seat, seats_of, serve_mover, serve_worker};

@@ -5,7 +5,8 @@ ghost use Rattle.mc_words.specs.hand.Arenas.{setup_of, view};
 ghost use Rattle.mc_words.specs.item.Refs.{KeepsRefs};
 ghost use Rattle.mc_items.specs.ItemRefs.{IsItemRef, item_chunk};
 ghost use Rattle.mc_items.specs.Keeping.{HoldsTheSame, HoldsToo};
-ghost use Rattle.testlib_hands.specs.Hands.{IsEmptyHandOf, IsReadyHandOf};
+ghost use Rattle.mc_words.specs.hand.Ready.{IsReadyHandOf};
+ghost use Rattle.testlib_hands.specs.Hands.{IsEmptyHandOf};
 ghost use Rattle.testlib_threads.specs.Keepers.{IsKeeperOf, IsNear};
 
 use crate::races::words::are_words_of;

@@ -1,5 +1,6 @@
 //! The mover's thread of the stress: it begins moves between all classes and the pool, and turns without a pause.
-ghost use Rattle.testlib_hands.specs.Hands.{IsEmptyHandOf, IsReadyHandOf};
+ghost use Rattle.mc_words.specs.hand.Ready.{IsReadyHandOf};
+ghost use Rattle.testlib_hands.specs.Hands.{IsEmptyHandOf};
 
 use mc_mover::reassign;
 use mc_words::{Arena, Hand};

@@ -1,5 +1,5 @@
 //! Many calls at once, of hands that may make any.
-ghost use Rattle.testlib_hands.specs.Hands.{IsReadyHandOf};
+ghost use Rattle.mc_words.specs.hand.Ready.{IsReadyHandOf};
 
 use mc_items::{SetError, set};
 use mc_memory::Refused;

@@ -1,7 +1,7 @@
 //! Items that are set, looked up and given up, and what their headers are meanwhile.
 ghost use Rattle.mc_words.specs.hand.Arenas.{IsHandOf, view};
 ghost use Rattle.mc_items.specs.ItemRefs.{IsItemRef};
-ghost use Rattle.testlib_hands.specs.Hands.{IsReadyHandOf};
+ghost use Rattle.mc_words.specs.hand.Ready.{IsReadyHandOf};
 ghost use Rattle.testlib_hands.specs.Pairs.{AreReady};
 
 use super::MOST_WORDS;

@@ -1,5 +1,5 @@
 //! A call on items with what it is to give.
-ghost use Rattle.testlib_hands.specs.Hands.{IsReadyHandOf};
+ghost use Rattle.mc_words.specs.hand.Ready.{IsReadyHandOf};
 
 use super::calls::{are_there, hold_all, hold_often, refusal_of_set};
 use mc_items::SetError;

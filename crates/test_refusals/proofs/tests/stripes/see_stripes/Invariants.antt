@@ -1,4 +1,4 @@
-use Rattle.testlib_hands.specs.Hands.{IsReadyHandOf}
+use Rattle.mc_words.specs.hand.Ready.{IsReadyHandOf}
 use Rattle.test_refusals.proofs.tests.stripes.see_stripes.Given as goal
 
 abbrev pub invariant-loop-stripe : goal.invariant-loop-stripe

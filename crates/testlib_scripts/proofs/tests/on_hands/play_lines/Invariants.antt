@@ -1,5 +1,6 @@
 use Rattle.std.proofs.Common.{All}
-use Rattle.mc_workers.specs.Hands.{IsKeeping, IsReadyHandOf}
+use Rattle.mc_words.specs.hand.Ready.{IsReadyHandOf}
+use Rattle.mc_workers.specs.Hands.{IsKeeping}
 use Rattle.testlib_scripts.proofs.tests.on_hands.play_lines.Given as goal
 
 -- each seat is one

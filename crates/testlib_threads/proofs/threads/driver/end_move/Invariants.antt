@@ -1,4 +1,4 @@
-use Rattle.testlib_hands.specs.Hands.{IsReadyHandOf}
+use Rattle.mc_words.specs.hand.Ready.{IsReadyHandOf}
 use Rattle.testlib_threads.proofs.threads.driver.end_move.Given as goal
 
 abbrev pub invariant-loop-turn : goal.invariant-loop-turn

@@ -1,4 +1,4 @@
-use Rattle.testlib_hands.specs.Hands.{IsReadyHandOf}
+use Rattle.mc_words.specs.hand.Ready.{IsReadyHandOf}
 use Rattle.test_arena.proofs.tests.items.calls.are_there.Given as goal
 
 abbrev pub invariant-loop-key : goal.invariant-loop-key

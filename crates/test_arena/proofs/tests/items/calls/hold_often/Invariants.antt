@@ -1,4 +1,4 @@
-use Rattle.testlib_hands.specs.Hands.{IsReadyHandOf}
+use Rattle.mc_words.specs.hand.Ready.{IsReadyHandOf}
 use Rattle.test_arena.proofs.tests.items.calls.hold_often.Given as goal
 
 abbrev pub invariant-loop-time : goal.invariant-loop-time

@@ -1,4 +1,4 @@
-use Rattle.testlib_hands.specs.Hands.{IsReadyHandOf}
+use Rattle.mc_words.specs.hand.Ready.{IsReadyHandOf}
 use Rattle.test_arena.proofs.tests.items.hints.follow_behind.Given as goal
 
 abbrev pub invariant-loop-step : goal.invariant-loop-step
