@@ -13,16 +13,16 @@ use Rattle.mc_core.specs.declared.event.Event.{Event}
 use Rattle.mc_core.specs.declared.event.Step.{Step}
 use Rattle.mc_core.specs.declared.event.Step.TheVariants as step
 use Rattle.mc_core.specs.declared.head.Head.{Head}
-use Rattle.mc_core.specs.Head.{never_cut, uncut_from}
-use Rattle.mc_core.specs.Chunks.{with_tag_free}
-use Rattle.mc_core.specs.Past.{Moment, moment_after, moment_changed, moment_changes}
-use Rattle.mc_core.specs.Laws.{IsRun, moment_at_end}
-use Rattle.mc_core.specs.Run.{after_step}
-use Rattle.mc_core.specs.Silent.{after_change}
-use Rattle.mc_core.specs.State.{State, has_chunk, head_at, head_place, is_hand, most_of}
-use Rattle.mc_core.proofs.Base.{head_place_within}
-use Rattle.mc_core.proofs.Plays.{hand_there}
-use Rattle.mc_core.proofs.SameSlabs.{looked_keeps}
+use Rattle.mc_core.specs.model.Head.{never_cut, uncut_from}
+use Rattle.mc_core.specs.run.Chunks.{with_tag_free}
+use Rattle.mc_core.specs.past.Past.{Moment, moment_after, moment_changed, moment_changes}
+use Rattle.mc_core.specs.law.Laws.{IsRun, moment_at_end}
+use Rattle.mc_core.specs.run.Run.{after_step}
+use Rattle.mc_core.specs.run.Silent.{after_change}
+use Rattle.mc_core.specs.model.State.{State, has_chunk, head_at, head_place, is_hand, most_of}
+use Rattle.mc_core.proofs.Steps.Base.{head_place_within}
+use Rattle.mc_core.proofs.Steps.Plays.{hand_there}
+use Rattle.mc_core.proofs.Frame.SameSlabs.{looked_keeps}
 use Rattle.mc_words.specs.rule.Happens.{LawfulView}
 use Rattle.mc_words.specs.rule.Meaning.{beginning_of}
 use Rattle.mc_words.specs.hand.View.{OwnEvent, View, events_of, own_event}

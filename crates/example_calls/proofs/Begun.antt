@@ -12,11 +12,11 @@ use Rattle.mc_pages.proofs.Fresh.{IsInOrder-fresh}
 use Rattle.mc_pages.proofs.Owners.{position-AreGranted}
 use Rattle.mc_core.specs.declared.event.Event.{Event}
 use Rattle.mc_core.specs.declared.event.Step.TheVariants as step
-use Rattle.mc_core.specs.Laws.{IsRun, moment_at_end}
-use Rattle.mc_core.specs.Past.{Knowledge, Moment, SeenWord, moment_stepped, slabs_word}
-use Rattle.mc_core.specs.State.{has_slabs, is_hand}
-use Rattle.mc_core.specs.Views.{held_slabs}
-use Rattle.mc_core.proofs.Plays.{hand_there}
+use Rattle.mc_core.specs.law.Laws.{IsRun, moment_at_end}
+use Rattle.mc_core.specs.past.Past.{Knowledge, Moment, SeenWord, moment_stepped, slabs_word}
+use Rattle.mc_core.specs.model.State.{has_slabs, is_hand}
+use Rattle.mc_core.specs.model.Views.{held_slabs}
+use Rattle.mc_core.proofs.Steps.Plays.{hand_there}
 use Rattle.mc_words.specs.rule.Happens.{Happens, LawfulView}
 use Rattle.mc_words.specs.rule.Meaning.{beginning_of}
 use Rattle.mc_words.specs.hand.View.{OwnEvent, View, events_of, own_event}

@@ -3,7 +3,7 @@ use Rattle.std.proofs.Common.{◌≡◌, ℕ, ◌+◌, List, [], ◌∷◌, ◌+
 use Rattle.mc_pages.specs.SlabState.{SlabState}
 use Rattle.mc_stripe.specs.StripeState.{ReadyStripe}
 use Rattle.mc_core.specs.declared.event.Step.TheVariants as step
-use Rattle.mc_core.specs.Past.{end_hold, last_of}
+use Rattle.mc_core.specs.past.Past.{end_hold, last_of}
 use Rattle.mc_words.specs.hand.View.{OwnEvent, View, made}
 use Rattle.mc_words.specs.hand.Observers.{last_given}
 use Rattle.mc_words.specs.hand.Views.{slabs_missed, stripe_given, stripe_missed}

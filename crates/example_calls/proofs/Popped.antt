@@ -10,13 +10,13 @@ use Rattle.mc_core.specs.declared.event.Step.TheVariants as step
 use Rattle.mc_core.specs.declared.head.Head.{Head}
 use Rattle.mc_core.specs.declared.head.Tag.TheVariants.{Unlinked}
 use Rattle.mc_core.specs.declared.holding.Holding.{Holding}
-use Rattle.mc_core.specs.Chunks.{most_issue}
-use Rattle.mc_core.specs.Columns.{head_in, holder_count, link_count}
-use Rattle.mc_core.specs.Head.{code, decode}
-use Rattle.mc_core.specs.Holdings.{holding_of, is_fresh, is_of_chunk}
-use Rattle.mc_core.specs.State.{State, has_chunk, head_at, holdings_at, is_class, room_in}
-use Rattle.mc_core.proofs.Codes.{are_one_word}
-use Rattle.mc_core.proofs.Holders.{found_each}
+use Rattle.mc_core.specs.run.Chunks.{most_issue}
+use Rattle.mc_core.specs.model.Columns.{head_in, holder_count, link_count}
+use Rattle.mc_core.specs.model.Head.{code, decode}
+use Rattle.mc_core.specs.model.Holdings.{holding_of, is_fresh, is_of_chunk}
+use Rattle.mc_core.specs.model.State.{State, has_chunk, head_at, holdings_at, is_class, room_in}
+use Rattle.mc_core.proofs.ItemWords.Codes.{are_one_word}
+use Rattle.mc_core.proofs.Counts.Holders.{found_each}
 use Rattle.mc_words.specs.rule.Happens.{Happens, LawfulView}
 use Rattle.mc_words.specs.page.Owner.{PopsFirst, SeesOther}
 use Rattle.mc_words.specs.hand.View.{View}

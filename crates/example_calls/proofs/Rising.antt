@@ -12,17 +12,17 @@ use Rattle.mc_core.specs.declared.holding.Holding.{Holding}
 use Rattle.mc_core.specs.declared.holding.Kind.{Kind}
 use Rattle.mc_core.specs.declared.holding.Kind.TheVariants.{Reference, Fresh}
 use Rattle.mc_core.specs.declared.holding.Purpose.TheVariants.{Item, Copy, Rescue}
-use Rattle.mc_core.specs.Chunks.{head_after_hand_out, head_after_release, most_issue, next_free, state_after_pop_of, popped_off, target_of, with_tag_free, with_tag_out}
-use Rattle.mc_core.specs.Evictions.{head_after_condemn}
-use Rattle.mc_core.specs.Head.{never_cut, uncut_from}
-use Rattle.mc_core.specs.Holdings.{holding_of, is_of_chunk}
-use Rattle.mc_core.specs.Items.{after_link_of, chunk_of_key, head_after_link, head_after_refer, referred_to, recorded_link, head_after_unlink, with_got, with_unlinked}
-use Rattle.mc_core.specs.Laws.{moment_at_end}
-use Rattle.mc_core.specs.Past.{Moment, moment_after, moment_changes}
-use Rattle.mc_core.specs.Run.{after_step}
-use Rattle.mc_core.specs.State.{State, has_chunk, head_at, head_place, holdings_at, is_class, most_of, with_head, without_holding}
-use Rattle.mc_core.proofs.Base.{head_place_within}
-use Rattle.mc_core.proofs.SameSlabs.{looked_keeps}
+use Rattle.mc_core.specs.run.Chunks.{head_after_hand_out, head_after_release, most_issue, next_free, state_after_pop_of, popped_off, target_of, with_tag_free, with_tag_out}
+use Rattle.mc_core.specs.run.Evictions.{head_after_condemn}
+use Rattle.mc_core.specs.model.Head.{never_cut, uncut_from}
+use Rattle.mc_core.specs.model.Holdings.{holding_of, is_of_chunk}
+use Rattle.mc_core.specs.run.Items.{after_link_of, chunk_of_key, head_after_link, head_after_refer, referred_to, recorded_link, head_after_unlink, with_got, with_unlinked}
+use Rattle.mc_core.specs.law.Laws.{moment_at_end}
+use Rattle.mc_core.specs.past.Past.{Moment, moment_after, moment_changes}
+use Rattle.mc_core.specs.run.Run.{after_step}
+use Rattle.mc_core.specs.model.State.{State, has_chunk, head_at, head_place, holdings_at, is_class, most_of, with_head, without_holding}
+use Rattle.mc_core.proofs.Steps.Base.{head_place_within}
+use Rattle.mc_core.proofs.Frame.SameSlabs.{looked_keeps}
 use Rattle.mc_words.specs.rule.Happens.{LawfulView}
 use Rattle.mc_words.specs.rule.Meaning.{beginning_of}
 use Rattle.mc_words.specs.page.Owner.{PopsFirst}

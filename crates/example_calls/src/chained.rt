@@ -1,6 +1,6 @@
 //! Calls one after another, with no test of the hand between them.
 ghost use Rattle.std.specs.Prelude.{◌≡◌, IfSome, true};
-ghost use Rattle.mc_core.specs.State.{has_chunk};
+ghost use Rattle.mc_core.specs.model.State.{has_chunk};
 ghost use Rattle.mc_words.specs.hand.Arenas.{setup_of};
 ghost use Rattle.mc_words.specs.hand.Observers.{hint_chunk, hand_number};
 ghost use Rattle.mc_words.specs.hand.Ready.{IsReadyHandOf};

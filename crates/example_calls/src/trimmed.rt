@@ -1,7 +1,7 @@
 //! What remains behind a trim: what two hands stored, and what is recorded of the ledger.
 ghost use Rattle.std.specs.Prelude.{◌≡◌, [], Contains, length, slice_get};
 ghost use Rattle.mc_pages.specs.Base.{base_pages};
-ghost use Rattle.mc_core.specs.Past.{StoredItem};
+ghost use Rattle.mc_core.specs.past.Past.{StoredItem};
 ghost use Rattle.mc_words.specs.hand.Arenas.{IsHandOf, view};
 ghost use Rattle.mc_words.specs.hand.Ready.{IsReady, IsReadyHandOf};
 ghost use Rattle.mc_words.specs.rule.Joins.{KnowledgeAgrees};

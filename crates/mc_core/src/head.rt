@@ -1,6 +1,6 @@
 //! The header of a chunk: one word that records the chunk's state.
 ghost use Rattle.std.specs.Prelude.{◌≡◌, ◌^◌, ◌<◌};
-ghost use Rattle.mc_core.specs.Head.{code, is_dead};
+ghost use Rattle.mc_core.specs.model.Head.{code, is_dead};
 
 /// The state of a chunk.
 #[derive(Clone, Copy, PartialEq, Eq)]
@@ -26,7 +26,7 @@ pub struct Head {
 }
 
 impl Tag {
-    ghost use Rattle.mc_core.specs.Head.{number_of_tag};
+    ghost use Rattle.mc_core.specs.model.Head.{number_of_tag};
 
     /// The tag's number, 0 to 3.
     pub fn number(self) -> u64
@@ -50,7 +50,7 @@ impl Head {
     };
 
     /// The header as a word.
-    #[tactic(auto, unfolding(crate::specs::Head::code))]
+    #[tactic(auto, unfolding(crate::specs::model::Head::code))]
     pub fn word(self) -> u64
         requires { self.issue < 2 ^ 46 }
         ensures { result ≡ code self }

@@ -1,8 +1,8 @@
 //! The holdings of a hand: references, and fresh chunks that it fills.
 ghost use Rattle.std.specs.Prelude.{◌≡◌, true, if◌then◌else◌, IfOk, OnOk};
-ghost use Rattle.mc_core.specs.Holdings.{is_of_chunk, is_copy_of, change_each};
-ghost use Rattle.mc_core.specs.Chunks.{holding_with_word};
-ghost use Rattle.mc_core.specs.Evictions.{as_rescue};
+ghost use Rattle.mc_core.specs.model.Holdings.{is_of_chunk, is_copy_of, change_each};
+ghost use Rattle.mc_core.specs.run.Chunks.{holding_with_word};
+ghost use Rattle.mc_core.specs.run.Evictions.{as_rescue};
 
 use crate::series::Series;
 use crate::words;
@@ -41,10 +41,10 @@ pub enum Purpose {
 }
 
 impl Holding {
-    ghost use Rattle.mc_core.specs.Holdings.{is_fresh, is_of_chunk, is_copy_of, is_complete, word_in, holding_words};
-    ghost use Rattle.mc_core.specs.Items.{as_reference};
-    ghost use Rattle.mc_core.specs.Chunks.{holding_with_word};
-    ghost use Rattle.mc_core.specs.Evictions.{as_rescue};
+    ghost use Rattle.mc_core.specs.model.Holdings.{is_fresh, is_of_chunk, is_copy_of, is_complete, word_in, holding_words};
+    ghost use Rattle.mc_core.specs.run.Items.{as_reference};
+    ghost use Rattle.mc_core.specs.run.Chunks.{holding_with_word};
+    ghost use Rattle.mc_core.specs.run.Evictions.{as_rescue};
 
     /// Whether the chunk wasn't linked yet.
     pub fn is_fresh(&self) -> bool

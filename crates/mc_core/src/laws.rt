@@ -9,19 +9,19 @@ ghost use Rattle.mc_stripe.specs.Sequential.{StampMap, Leads};
 ghost use Rattle.mc_core.specs.declared.event.Event.{Event};
 ghost use Rattle.mc_core.specs.declared.event.Step.TheVariants.{TakeSlabs, TakeStripe, GiveSlabs, Pop, Head, Cut};
 ghost use Rattle.mc_core.specs.declared.event.Change.TheVariants.{Grow, FinishMove, TrimLedger};
-ghost use Rattle.mc_core.specs.Rows.{worked_ledger, growth_events, hand_event, makes_room, room_in_hold, pops_from, played_on, chunk_at, page_events, fill_events, store_events, full_page, one_of_four, three_of_four, look_events, takes_away, begins_move, begins_rescue, rescue_events, end_events, comes_again, ledger_of, state_left_by, first_page_events, gets_whole, recorded_of};
-ghost use Rattle.mc_core.specs.Chunks.{most_issue};
-ghost use Rattle.mc_core.specs.Lawful.{IsLawful, SizedIn, PagedIn, PlacedIn, CountedIn, HeldIn, IndexedIn, LegalIn, HandsIn, RowsIn, NumberedIn, SeenIn, KnownIn, RescuedIn, RecordedIn};
-ghost use Rattle.mc_core.specs.Laws.{IsKeptByAll, ArePlayed, AreLawful};
-ghost use Rattle.mc_core.specs.Frame.{AreFramed};
-ghost use Rattle.mc_core.specs.Effects.{WriteOneWord, HistoriesGrow, RunsArePlayed};
-ghost use Rattle.mc_core.specs.Learns.{AreLearned};
-ghost use Rattle.mc_core.specs.Reasons.{CondemnsAreReasoned};
-ghost use Rattle.mc_core.specs.Stretch.{StretchesKeep};
-ghost use Rattle.mc_core.specs.Codes.{AreOneWord, AllAreSums};
-ghost use Rattle.mc_core.specs.Needless.{AllAreNeedless};
-ghost use Rattle.mc_core.specs.Judged.{AllAreJudged};
-ghost use Rattle.mc_core.specs.Follows.{HoldingsAreKept, LinkedItemsAreStored, SeenGrows};
+ghost use Rattle.mc_core.specs.run.Rows.{worked_ledger, growth_events, hand_event, makes_room, room_in_hold, pops_from, played_on, chunk_at, page_events, fill_events, store_events, full_page, one_of_four, three_of_four, look_events, takes_away, begins_move, begins_rescue, rescue_events, end_events, comes_again, ledger_of, state_left_by, first_page_events, gets_whole, recorded_of};
+ghost use Rattle.mc_core.specs.run.Chunks.{most_issue};
+ghost use Rattle.mc_core.specs.law.Lawful.{IsLawful, SizedIn, PagedIn, PlacedIn, CountedIn, HeldIn, IndexedIn, LegalIn, HandsIn, RowsIn, NumberedIn, SeenIn, KnownIn, RescuedIn, RecordedIn};
+ghost use Rattle.mc_core.specs.law.Laws.{IsKeptByAll, ArePlayed, AreLawful};
+ghost use Rattle.mc_core.specs.law.Frame.{AreFramed};
+ghost use Rattle.mc_core.specs.run.Effects.{WriteOneWord, HistoriesGrow, RunsArePlayed};
+ghost use Rattle.mc_core.specs.past.Learns.{AreLearned};
+ghost use Rattle.mc_core.specs.law.Reasons.{CondemnsAreReasoned};
+ghost use Rattle.mc_core.specs.past.Stretch.{StretchesKeep};
+ghost use Rattle.mc_core.specs.model.Codes.{AreOneWord, AllAreSums};
+ghost use Rattle.mc_core.specs.run.Needless.{AllAreNeedless};
+ghost use Rattle.mc_core.specs.law.Judged.{AllAreJudged};
+ghost use Rattle.mc_core.specs.law.Follows.{HoldingsAreKept, LinkedItemsAreStored, SeenGrows};
 
 /// Runs of one hand: a page that is cut whole, one cut short, and a chunk from a class without a page; and where issue
 /// numbers count on from one below the greatest, a chunk is handed out once and not again.

@@ -1,6 +1,6 @@
 //! The looks of the hand that has the slabs lock: what it saw and changed.
 ghost use Rattle.std.specs.Prelude.{◌≡◌};
-ghost use Rattle.mc_core.specs.Looks.{stays_linked, stays_alive, was_linked, is_found_alive};
+ghost use Rattle.mc_core.specs.model.Looks.{stays_linked, stays_alive, was_linked, is_found_alive};
 
 use crate::event::Change;
 use crate::head::{Head, Tag};

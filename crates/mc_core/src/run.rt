@@ -1,7 +1,7 @@
 //! Lists of events, played from the beginning.
 ghost use Rattle.std.specs.Prelude.{◌≡◌, ◌≤◌, None};
 ghost use Rattle.mc_classes.specs.Refusals.{config_refusal};
-ghost use Rattle.mc_core.specs.Run.{state_after_all, EndsRunAs, IsPlayed};
+ghost use Rattle.mc_core.specs.run.Run.{state_after_all, EndsRunAs, IsPlayed};
 
 use crate::event::Event;
 use crate::state::State;

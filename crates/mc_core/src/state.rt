@@ -1,6 +1,6 @@
 //! The arena between two events.
 ghost use Rattle.std.specs.Prelude.{◌≡◌, ◌≢◌, ◌^◌, ◌<◌, slice_get, IfSome, MatchOption, Some};
-ghost use Rattle.mc_core.specs.State.{head_at, stripe_at};
+ghost use Rattle.mc_core.specs.model.State.{head_at, stripe_at};
 
 mod chunks;
 mod columns;
@@ -49,11 +49,11 @@ pub struct State {
 }
 
 impl Model for State {
-    ghost use Rattle.mc_core.specs.State.{State};
+    ghost use Rattle.mc_core.specs.model.State.{State};
 
     ghost Value = { State };
 
-    ghost use Rattle.mc_core.specs.InOrder.{callers_state, IsStateInOrder};
+    ghost use Rattle.mc_core.specs.model.InOrder.{callers_state, IsStateInOrder};
 
     ghost view = { callers_state };
 
@@ -61,7 +61,7 @@ impl Model for State {
 }
 
 impl State {
-    ghost use Rattle.mc_core.specs.InOrder.{IsOfTable};
+    ghost use Rattle.mc_core.specs.model.InOrder.{IsOfTable};
 
     /// The header of a chunk.
     pub fn head(&self, chunk: ChunkId) -> Head

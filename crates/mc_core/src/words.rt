@@ -1,8 +1,8 @@
 //! The words of a chunk, as far as they are known.
 ghost use Rattle.std.specs.Prelude.{◌≡◌, true, is_some, slice_index, IfOk};
 ghost use Rattle.std.specs.List.{list_all};
-ghost use Rattle.mc_core.specs.Holdings.{word_in, numbers_of_known, words_of_item, has_whole_item, is_complete};
-ghost use Rattle.mc_core.specs.Items.{are_same};
+ghost use Rattle.mc_core.specs.model.Holdings.{word_in, numbers_of_known, words_of_item, has_whole_item, is_complete};
+ghost use Rattle.mc_core.specs.run.Items.{are_same};
 
 use crate::series::Series;
 use mc_memory::Refused;

@@ -9,14 +9,14 @@ use Rattle.mc_pages.specs.declared.ids.ChunkId.{ChunkId}
 use Rattle.mc_core.specs.declared.holding.Holding.{Holding}
 use Rattle.mc_core.specs.declared.holding.Kind.{Kind}
 use Rattle.mc_core.specs.declared.holding.Kind.TheVariants.{Fresh, Reference}
-use Rattle.mc_core.specs.Columns.{Each, head_in}
-use Rattle.mc_core.specs.Holdings.{has_fresh, holding_of, is_fresh, is_fresh_kind, is_of_chunk, item_of, item_of_kind, key_of, length_of_item, without_first, stamp_in_words}
-use Rattle.mc_core.specs.Knowing.{WasStored}
-use Rattle.mc_core.specs.Past.{KnownItem, StoredItem, known_by}
-use Rattle.mc_core.specs.State.{has_chunk}
-use Rattle.mc_core.proofs.KnownQuiet.{IsStill}
-use Rattle.mc_core.proofs.MoreRows.{each_contained, row_of}
-use Rattle.mc_core.proofs.SeenLooks.{some_is}
+use Rattle.mc_core.specs.model.Columns.{Each, head_in}
+use Rattle.mc_core.specs.model.Holdings.{has_fresh, holding_of, is_fresh, is_fresh_kind, is_of_chunk, item_of, item_of_kind, key_of, length_of_item, without_first, stamp_in_words}
+use Rattle.mc_core.specs.law.Knowing.{WasStored}
+use Rattle.mc_core.specs.past.Past.{KnownItem, StoredItem, known_by}
+use Rattle.mc_core.specs.model.State.{has_chunk}
+use Rattle.mc_core.proofs.Known.KnownQuiet.{IsStill}
+use Rattle.mc_core.proofs.Hands.MoreRows.{each_contained, row_of}
+use Rattle.mc_core.proofs.Seen.SeenLooks.{some_is}
 use Rattle.mc_words.specs.declared.hand.Hand.{Hand}
 use Rattle.mc_words.specs.hand.View.{View}
 use Rattle.mc_words.specs.hand.Arenas.{view}

@@ -4,12 +4,12 @@ use Rattle.std.proofs.lemmas.Bool.{and_parts}
 use Rattle.std.proofs.lemmas.List.FromFn.{get_or-map-range_with_len, length-map-range_with_len}
 use Rattle.mc_pages.specs.declared.ids.ChunkId.{ChunkId}
 use Rattle.mc_core.specs.declared.holding.Holding.{Holding}
-use Rattle.mc_core.specs.Holdings.{item_of, key_of, stamp_in_words}
-use Rattle.mc_core.specs.Items.{can_count, has_place_unlocked, new_reference}
-use Rattle.mc_core.specs.Head.{is_linked}
-use Rattle.mc_core.specs.Past.{Moment}
-use Rattle.mc_core.specs.State.{State, has_chunk, head_at, item_at, chunk_room, word_at}
-use Rattle.mc_core.proofs.Entered.{tag_linked}
+use Rattle.mc_core.specs.model.Holdings.{item_of, key_of, stamp_in_words}
+use Rattle.mc_core.specs.run.Items.{can_count, has_place_unlocked, new_reference}
+use Rattle.mc_core.specs.model.Head.{is_linked}
+use Rattle.mc_core.specs.past.Past.{Moment}
+use Rattle.mc_core.specs.model.State.{State, has_chunk, head_at, item_at, chunk_room, word_at}
+use Rattle.mc_core.proofs.Index.Entered.{tag_linked}
 use Rattle.mc_words.specs.declared.item.refs.Hint.{Hint}
 use Rattle.mc_words.specs.hand.View.{View}
 use Rattle.mc_words.specs.hand.Views.{fields_seen}

@@ -2,7 +2,7 @@
 use Rattle.std.proofs.Common.{◌≡◌, ℕ, [], ◌+◌, Bool, true, false, ◌&&◌, if◌then◌else◌, is_some, refl, ap, ◌∙◌, Result, Ok, Err, IfOk, OnErr}
 use Rattle.mc_stripe.specs.StripeState.{ReadyStripe, chunk_and_stamp}
 use Rattle.mc_stripe.specs.Changes.{after_unlink, used_up, after_reserve_call}
-use Rattle.mc_core.specs.Holdings.{has_fresh}
+use Rattle.mc_core.specs.model.Holdings.{has_fresh}
 use Rattle.mc_words.specs.lock.Doing.{UsesRoomForCall}
 use Rattle.mc_words.specs.hand.View.{View}
 use Rattle.mc_words.specs.item.Calls.{key_deleted, key_lifted, key_not_deleted, key_unlinked}

@@ -11,8 +11,8 @@ use Rattle.mc_pages.specs.declared.ids.ChunkId.{ChunkId}
 use Rattle.mc_core.specs.declared.holding.Holding.{Holding}
 use Rattle.mc_core.specs.declared.holding.Kind.{Kind}
 use Rattle.mc_core.specs.declared.holding.Kind.TheVariants.{Reference, Fresh}
-use Rattle.mc_core.specs.Chunks.{holding_with_word, filled_kind}
-use Rattle.mc_core.specs.Holdings.{Words, all_known, change_each, holding_of, is_complete, is_of_chunk, words_of_item, known_key, stamp_in, holding_words}
+use Rattle.mc_core.specs.run.Chunks.{holding_with_word, filled_kind}
+use Rattle.mc_core.specs.model.Holdings.{Words, all_known, change_each, holding_of, is_complete, is_of_chunk, words_of_item, known_key, stamp_in, holding_words}
 use Rattle.mc_words.specs.hand.View.{View}
 use Rattle.mc_stripe.proofs.Entries.{nat_eq_other}
 use Rattle.mc_words.specs.item.Fresh.{IsFreshOf}

@@ -7,7 +7,7 @@ use Rattle.mc_pages.specs.SlabState.{SlabState, HasClass, class_at, class_of_pag
 use Rattle.mc_pages.proofs.OneClass.{IsClass-with_class, class_at-with_class_same}
 use Rattle.mc_stripe.specs.StripeState.{ReadyStripe}
 use Rattle.mc_stripe.specs.declared.history.Call.TheVariants.{Evict}
-use Rattle.mc_core.specs.Past.{Own}
+use Rattle.mc_core.specs.past.Past.{Own}
 use Rattle.mc_words.specs.lock.Doing.{UsesRoomForCall}
 use Rattle.mc_words.specs.hand.View.{View}
 use Rattle.mc_words.specs.item.Calls.{with_own_call}

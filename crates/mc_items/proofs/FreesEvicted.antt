@@ -8,8 +8,8 @@ use Rattle.mc_pages.specs.SlabState.{SlabState}
 use Rattle.mc_core.specs.declared.look.Look.TheVariants.{Changed}
 use Rattle.mc_core.specs.declared.event.Change.TheVariants as change
 use Rattle.mc_core.specs.declared.event.Step.TheVariants as step
-use Rattle.mc_core.specs.Head.{is_dead}
-use Rattle.mc_core.specs.Seen.{last_head, seen_head}
+use Rattle.mc_core.specs.model.Head.{is_dead}
+use Rattle.mc_core.specs.law.Seen.{last_head, seen_head}
 use Rattle.mc_words.specs.hand.View.{View}
 use Rattle.mc_words.specs.rule.Happens.{Happens}
 use Rattle.mc_words.specs.page.Owner.{PutsBack}

@@ -3,12 +3,12 @@ use Rattle.std.proofs.Common.{◌≡◌, ◌<◌, ℕ, Bool, true, [], ◌∷◌
 use Rattle.std.specs.Option.{option_map}
 use Rattle.mc_classes.specs.Limits.{most_refs}
 use Rattle.mc_pages.specs.declared.ids.ChunkId.{ChunkId}
-use Rattle.mc_core.specs.Past.{known_by}
+use Rattle.mc_core.specs.past.Past.{known_by}
 use Rattle.mc_words.specs.declared.item.refs.Again.{Again}
 use Rattle.mc_words.specs.declared.item.refs.Again.TheVariants.{Gone, Contended, TooManyRefs}
 use Rattle.mc_words.specs.declared.item.refs.Ref as words
 use Rattle.mc_words.specs.item.Again.{FindsContended, FindsGone}
-use Rattle.mc_core.specs.State.{has_chunk}
+use Rattle.mc_core.specs.model.State.{has_chunk}
 use Rattle.mc_words.specs.declared.hand.Hand.{Hand}
 use Rattle.mc_words.specs.hand.Arenas.{view}
 use Rattle.mc_words.specs.rule.Happens.{LawfulView}

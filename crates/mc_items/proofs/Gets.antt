@@ -6,8 +6,8 @@ use Rattle.mc_stripe.specs.StripeState.{ReadyStripe, chunk_and_stamp, stamp_of_k
 use Rattle.mc_stripe.specs.Changes.{after_got, used_up, after_reserve_call}
 use Rattle.mc_core.specs.declared.holding.Holding.{Holding}
 use Rattle.std.specs.Option.{option_map}
-use Rattle.mc_core.specs.Holdings as items
-use Rattle.mc_core.specs.Past.{known_by}
+use Rattle.mc_core.specs.model.Holdings as items
+use Rattle.mc_core.specs.past.Past.{known_by}
 use Rattle.mc_core.specs.declared.event.StripeChange.{StripeChange}
 use Rattle.mc_words.specs.lock.Doing.{Doing, UsesRoomForCall, IsDoneBehind}
 use Rattle.mc_words.specs.hand.View.{View}

@@ -7,7 +7,7 @@ use Rattle.mc_stripe.specs.StripeState.{ReadyStripe}
 use Rattle.mc_core.specs.declared.event.Step.TheVariants as step
 use Rattle.mc_core.specs.declared.holding.Holding.{Holding}
 use Rattle.mc_core.specs.declared.ids.Ids.{Ids}
-use Rattle.mc_core.specs.Past.{KnownItem, StoredItem, known_by}
+use Rattle.mc_core.specs.past.Past.{KnownItem, StoredItem, known_by}
 use Rattle.mc_words.specs.hand.View.{View}
 use Rattle.mc_words.specs.item.Calls.{key_deleted, key_not_deleted}
 use Rattle.mc_words.specs.item.Again.{FindsContended, FindsGone, GetsAgain}

@@ -10,12 +10,12 @@ use Rattle.mc_pages.specs.Eviction.{eviction_candidates}
 use Rattle.mc_pages.specs.SlabState.{SlabState, HasClass, class_at, class_of_chunk, class_of_page}
 use Rattle.mc_pages.proofs.Chunks.{same_from_is_chunk}
 use Rattle.mc_pages.proofs.OneClass.{IsClass-with_class}
-use Rattle.mc_core.specs.Head.{is_dead}
+use Rattle.mc_core.specs.model.Head.{is_dead}
 use Rattle.mc_core.specs.declared.head.Head.{Head}
 use Rattle.mc_core.specs.declared.ids.Ids.{Ids}
 use Rattle.mc_core.specs.declared.holding.Holding.{Holding}
-use Rattle.mc_core.specs.Past.{KnownItem, Own, StoredItem}
-use Rattle.mc_core.specs.State.{is_class, room_in}
+use Rattle.mc_core.specs.past.Past.{KnownItem, Own, StoredItem}
+use Rattle.mc_core.specs.model.State.{is_class, room_in}
 use Rattle.mc_words.specs.hand.Views.{fresh_holding}
 use Rattle.mc_words.specs.lock.Doing.{HoldsSlabs}
 use Rattle.mc_words.specs.hand.View.{View}

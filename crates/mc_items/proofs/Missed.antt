@@ -1,7 +1,7 @@
 -- Sets that missed a lock at each try: what they leave of what the hand has.
 use Rattle.std.proofs.Common.{◌≡◌, ℕ, false, List, [], ◌∷◌, refl, ap, ◌∙◌, inl}
 use Rattle.mc_pages.specs.declared.ids.ChunkId.{ChunkId}
-use Rattle.mc_core.specs.Holdings.{has_fresh, is_of_chunk, without_first}
+use Rattle.mc_core.specs.model.Holdings.{has_fresh, is_of_chunk, without_first}
 use Rattle.mc_words.specs.hand.View.{View}
 use Rattle.mc_words.specs.hand.Views.{slabs_missed}
 use Rattle.mc_words.specs.item.Refs.{KeepsRefs}

@@ -12,9 +12,9 @@ use Rattle.mc_core.specs.declared.holding.Holding.{Holding}
 use Rattle.mc_core.specs.declared.ids.Ids.{Ids}
 use Rattle.mc_core.specs.declared.look.Look.{Look}
 use Rattle.mc_core.specs.declared.look.Look.TheVariants.{Read, Saw, SawStripe}
-use Rattle.mc_core.specs.Head.{is_dead}
-use Rattle.mc_core.specs.Looks.{is_found_alive, stays_alive}
-use Rattle.mc_core.specs.Past.{KnownItem, Own, StoredItem}
+use Rattle.mc_core.specs.model.Head.{is_dead}
+use Rattle.mc_core.specs.model.Looks.{is_found_alive, stays_alive}
+use Rattle.mc_core.specs.past.Past.{KnownItem, Own, StoredItem}
 use Rattle.mc_words.specs.lock.Doing.{Doing, UsesRoomForCall}
 use Rattle.mc_words.specs.hand.View.{View}
 use Rattle.mc_words.specs.item.Removal.{FindsHeld, key_seen}

@@ -20,12 +20,12 @@ use Rattle.mc_core.specs.declared.holding.Kind.TheVariants.{Fresh, Reference}
 use Rattle.mc_core.specs.declared.look.Look.{Look}
 use Rattle.mc_core.specs.declared.look.Look.TheVariants.{Read, Saw}
 use Rattle.mc_core.specs.declared.event.Step.TheVariants as step
-use Rattle.mc_core.specs.Evictions.{has_copy, is_linked_unheld}
-use Rattle.mc_core.specs.Head.{is_dead, is_linked, is_unlinked}
-use Rattle.mc_core.specs.Holdings.{has_fresh, is_copy_kind, is_fresh_kind}
-use Rattle.mc_core.specs.Looks.{is_found_alive, stays_linked, was_linked}
-use Rattle.mc_core.specs.Seen.{last_read}
-use Rattle.mc_core.specs.State.{is_class, room_in}
+use Rattle.mc_core.specs.run.Evictions.{has_copy, is_linked_unheld}
+use Rattle.mc_core.specs.model.Head.{is_dead, is_linked, is_unlinked}
+use Rattle.mc_core.specs.model.Holdings.{has_fresh, is_copy_kind, is_fresh_kind}
+use Rattle.mc_core.specs.model.Looks.{is_found_alive, stays_linked, was_linked}
+use Rattle.mc_core.specs.law.Seen.{last_read}
+use Rattle.mc_core.specs.model.State.{is_class, room_in}
 use Rattle.mc_words.specs.lock.Doing.{Doing, UsesRoomForCall}
 use Rattle.mc_words.specs.hand.View.{View}
 use Rattle.mc_words.specs.item.Removal.{key_seen, knows_reason, stripe_read}

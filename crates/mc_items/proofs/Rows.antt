@@ -9,12 +9,12 @@ use Rattle.mc_pages.specs.declared.ids.ChunkId.{ChunkId}
 use Rattle.mc_pages.specs.ClassState.{is_chunk}
 use Rattle.mc_pages.proofs.Chunks.{is_chunk-same, same_from_is_chunk}
 use Rattle.mc_core.specs.declared.holding.Holding.{Holding}
-use Rattle.mc_core.specs.Columns.{count_of_holdings}
-use Rattle.mc_core.specs.Holdings.{change_each, has_fresh, holding_of, is_fresh, is_of_chunk, without_first}
+use Rattle.mc_core.specs.model.Columns.{count_of_holdings}
+use Rattle.mc_core.specs.model.Holdings.{change_each, has_fresh, holding_of, is_fresh, is_of_chunk, without_first}
 use Rattle.mc_pages.specs.Accounted.{truth}
-use Rattle.mc_core.proofs.Base.{all_lose}
-use Rattle.mc_core.proofs.SeenLooks.{some_is}
-use Rattle.mc_core.proofs.Holders.{found_all, found_passes, holds-lose, holds-push, length-lose}
+use Rattle.mc_core.proofs.Steps.Base.{all_lose}
+use Rattle.mc_core.proofs.Seen.SeenLooks.{some_is}
+use Rattle.mc_core.proofs.Counts.Holders.{found_all, found_passes, holds-lose, holds-push, length-lose}
 
 -- what is found is among them
 pub found_among : (test : Holding → Bool) (row : List Holding) (one : Holding) → find test row ≡ Some one → Contains row one

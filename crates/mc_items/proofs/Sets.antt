@@ -3,7 +3,7 @@ use Rattle.std.proofs.Common.{◌≡◌, ℕ, ◌+◌, ◌*◌, ◌/◌, ◌≤�
 use Rattle.std.proofs.lemmas.Bool.{and_from, le-leb}
 use Rattle.mc_classes.specs.Classes.{Classes, IsClass, size_of}
 use Rattle.mc_pages.specs.declared.ids.ChunkId.{ChunkId}
-use Rattle.mc_core.specs.State.{is_class, room_in}
+use Rattle.mc_core.specs.model.State.{is_class, room_in}
 use Rattle.mc_words.specs.lock.Doing.{HoldsSlabs}
 use Rattle.mc_words.specs.hand.View.{View}
 use Rattle.mc_words.proofs.Chunks.Judging.{room_of}

@@ -4,8 +4,8 @@ use Rattle.std.specs.Option.{option_map_or}
 use Rattle.mc_pages.specs.declared.ids.ChunkId.{ChunkId}
 use Rattle.mc_stripe.specs.declared.history.Call.TheVariants.{Set}
 use Rattle.mc_core.specs.declared.holding.Holding.{Holding}
-use Rattle.mc_core.specs.Holdings.{Words, all_known, holding_of, is_complete, words_of_item, known_key, numbers_of_known, stamp_in, holding_words}
-use Rattle.mc_core.specs.Past.{Own, StoredItem}
+use Rattle.mc_core.specs.model.Holdings.{Words, all_known, holding_of, is_complete, words_of_item, known_key, numbers_of_known, stamp_in, holding_words}
+use Rattle.mc_core.specs.past.Past.{Own, StoredItem}
 use Rattle.mc_words.specs.hand.View.{View}
 use Rattle.mc_words.specs.item.Calls.{with_own_call}
 use Rattle.mc_words.specs.item.Items.{issue_in, known_words_in}

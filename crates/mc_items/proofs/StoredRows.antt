@@ -4,9 +4,9 @@ use Rattle.std.specs.Option.{option_or}
 use Rattle.std.proofs.lemmas.List.Folds.{find-append}
 use Rattle.mc_pages.specs.declared.ids.ChunkId.{ChunkId}
 use Rattle.mc_core.specs.declared.holding.Holding.{Holding}
-use Rattle.mc_core.specs.Holdings.{has_fresh, holding_of, is_fresh, is_of_chunk, words_of_item, without_first, numbers_of_known}
-use Rattle.mc_core.specs.Items.{ids_after_stamp}
-use Rattle.mc_core.specs.Past.{KnownItem, known_by}
+use Rattle.mc_core.specs.model.Holdings.{has_fresh, holding_of, is_fresh, is_of_chunk, words_of_item, without_first, numbers_of_known}
+use Rattle.mc_core.specs.run.Items.{ids_after_stamp}
+use Rattle.mc_core.specs.past.Past.{KnownItem, known_by}
 use Rattle.mc_words.specs.hand.View.{View}
 use Rattle.mc_words.specs.item.Items.{issue_in, known_words_in}
 use Rattle.mc_words.specs.item.Links.{own_item}
@@ -41,7 +41,7 @@ module _ (chunk : ChunkId) (item : List ℕ) (view between : View) (none : has_f
 
   filled_holds : filled.row.holdings ≡ view.row.holdings ++ holding_with item gains.fresh ∷ []
   filled_holds =
-      ap (Rattle.mc_core.specs.Holdings.change_each (is_of_chunk chunk) (holding_with item)) gains.holdings ∙ change_last chunk (holding_with item) view.row.holdings gains.fresh before (last_passes chunk gains.fresh gains.of)
+      ap (Rattle.mc_core.specs.model.Holdings.change_each (is_of_chunk chunk) (holding_with item)) gains.holdings ∙ change_last chunk (holding_with item) view.row.holdings gains.fresh before (last_passes chunk gains.fresh gains.of)
 
   pub lost_again : without_first (is_of_chunk chunk) filled.row.holdings ≡ view.row.holdings
   lost_again = ap (without_first (is_of_chunk chunk)) filled_holds ∙ lose_last chunk view.row.holdings (holding_with item gains.fresh) before (last_passes chunk (holding_with item gains.fresh) gains.of)

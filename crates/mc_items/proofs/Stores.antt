@@ -6,12 +6,12 @@ use Rattle.std.proofs.lemmas.List.{set-get_or}
 use Rattle.mc_pages.specs.declared.ids.ChunkId.{ChunkId}
 use Rattle.mc_stripe.specs.Entries.{AreRising, entry_at, without_entry}
 use Rattle.mc_stripe.proofs.Entries.{at_without_entry, nat_eq_same}
-use Rattle.mc_core.specs.Items.{is_none_else_aside}
+use Rattle.mc_core.specs.run.Items.{is_none_else_aside}
 use Rattle.mc_stripe.specs.StripeState.{Index, ReadyStripe, chunk_and_stamp}
 use Rattle.mc_core.specs.declared.holding.Holding.{Holding}
-use Rattle.mc_core.specs.Holdings.{has_fresh, holding_of, is_fresh, is_of_chunk}
+use Rattle.mc_core.specs.model.Holdings.{has_fresh, holding_of, is_fresh, is_of_chunk}
 use Rattle.mc_words.specs.hand.View.{View}
-use Rattle.mc_core.specs.Holdings.{has_fresh}
+use Rattle.mc_core.specs.model.Holdings.{has_fresh}
 use Rattle.mc_core.specs.declared.event.Step.TheVariants as step
 use Rattle.mc_words.specs.item.Calls.{key_deleted, key_lifted, key_unlinked}
 use Rattle.mc_words.specs.hand.Views.{with_event}

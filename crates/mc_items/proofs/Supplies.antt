@@ -8,11 +8,11 @@ use Rattle.mc_pages.specs.ClassState.{first_free}
 use Rattle.mc_pages.specs.SlabState.{SlabState, class_at}
 use Rattle.mc_pages.proofs.Chunks.{times_from_Contains}
 use Rattle.mc_core.specs.declared.head.Head.{Head}
-use Rattle.mc_core.specs.Chunks.{most_issue}
-use Rattle.mc_core.specs.Looks.{is_found_alive}
-use Rattle.mc_core.specs.Silent.{is_among}
-use Rattle.mc_core.specs.State.{room_in}
-use Rattle.mc_core.proofs.Listed.{Contains_from_among}
+use Rattle.mc_core.specs.run.Chunks.{most_issue}
+use Rattle.mc_core.specs.model.Looks.{is_found_alive}
+use Rattle.mc_core.specs.run.Silent.{is_among}
+use Rattle.mc_core.specs.model.State.{room_in}
+use Rattle.mc_core.proofs.Steps.Listed.{Contains_from_among}
 use Rattle.mc_words.specs.hand.View.{View}
 use Rattle.mc_words.specs.page.Owner.{PopsFirst, SeesOther}
 use Rattle.mc_words.specs.chunk.Sweeps.{Recovers, SeesHeaders, Sweeps, with_seen}

@@ -2,9 +2,9 @@
 use Rattle.std.proofs.Common.{◌≡◌, ◌≤◌, ◌∙◌, ℕ, List, [], ◌∷◌, ◌++◌, false, refl, ap, arith, length}
 use Rattle.mc_pages.specs.declared.ids.ChunkId.{ChunkId}
 use Rattle.mc_core.specs.declared.holding.Holding.{Holding}
-use Rattle.mc_core.specs.Columns.{count_of_holdings}
-use Rattle.mc_core.specs.Holdings.{has_fresh, is_of_chunk, without_first}
-use Rattle.mc_core.specs.Past.{known_by}
+use Rattle.mc_core.specs.model.Columns.{count_of_holdings}
+use Rattle.mc_core.specs.model.Holdings.{has_fresh, is_of_chunk, without_first}
+use Rattle.mc_core.specs.past.Past.{known_by}
 use Rattle.mc_words.specs.hand.View.{View}
 use Rattle.mc_words.specs.item.References.{reference_to}
 use Rattle.mc_words.specs.item.Refs.{KeepsRefs}

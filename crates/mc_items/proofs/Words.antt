@@ -5,7 +5,7 @@ use Rattle.mc_pages.specs.declared.ids.ChunkId.{ChunkId}
 use Rattle.mc_core.specs.declared.event.Step.TheVariants as step
 use Rattle.mc_words.specs.hand.View.{OwnEvent, Setup, View, made}
 use Rattle.mc_words.specs.hand.Views.{word_seen}
-use Rattle.mc_core.specs.Holdings.{item_of}
+use Rattle.mc_core.specs.model.Holdings.{item_of}
 use Rattle.mc_words.specs.declared.arena.Arena.{Arena}
 use Rattle.mc_words.specs.declared.hand.Hand.{Hand}
 use Rattle.mc_words.specs.hand.Arenas.{IsHandOf, view}

@@ -1,8 +1,8 @@
 -- Items that are got by hints: each is the current item of its key at the one exchange by which it is got.
 use Rattle.std.specs.Prelude.{◌≡◌, ℕ, Some}
 use Rattle.mc_pages.specs.declared.ids.ChunkId.{ChunkId}
-use Rattle.mc_core.specs.Items.{chunk_of_key}
-use Rattle.mc_core.specs.Past.{Moment}
+use Rattle.mc_core.specs.run.Items.{chunk_of_key}
+use Rattle.mc_core.specs.past.Past.{Moment}
 use Rattle.mc_words.specs.declared.item.refs.Hint.{Hint}
 use Rattle.mc_words.specs.hand.Observers.{hint_chunk}
 use Rattle.mc_words.specs.hand.View.{View}

@@ -4,7 +4,7 @@ use Rattle.mc_pages.specs.declared.ids.ChunkId.{ChunkId}
 use Rattle.mc_pages.specs.Changes.{after_back}
 use Rattle.mc_pages.specs.Eviction.{eviction_candidates}
 use Rattle.mc_pages.specs.SlabState.{SlabState}
-use Rattle.mc_core.specs.Head.{is_dead}
+use Rattle.mc_core.specs.model.Head.{is_dead}
 use Rattle.mc_stripe.specs.declared.history.Call.TheVariants as call
 use Rattle.mc_words.specs.item.Removal.{Condemns}
 use Rattle.mc_words.specs.lock.Doing.{SlabsDoing}

@@ -1,6 +1,6 @@
 -- What clauses state of a fresh chunk of the hand: what it is for, and how it is stored.
 use Rattle.std.specs.Prelude.{◌≡◌, ℕ, List}
-use Rattle.mc_core.specs.State.{room_in}
+use Rattle.mc_core.specs.model.State.{room_in}
 use Rattle.mc_words.specs.declared.hand.Hand.{Hand}
 use Rattle.mc_words.specs.declared.hand.held.Fresh.{Fresh}
 use Rattle.mc_words.specs.declared.hand.held.StripeHeld.{StripeHeld}

@@ -2,8 +2,8 @@
 use Rattle.std.specs.Prelude.{◌≡◌, ℕ, ◌+◌, Bool, List, All, count_by, drop, length}
 use Rattle.mc_pages.specs.declared.ids.ChunkId.{ChunkId}
 use Rattle.mc_pages.specs.ClassState.{is_chunk}
-use Rattle.mc_core.specs.Columns.{count_of_holdings}
-use Rattle.mc_core.specs.Holdings.{key_of, stamp_in_words}
+use Rattle.mc_core.specs.model.Columns.{count_of_holdings}
+use Rattle.mc_core.specs.model.Holdings.{key_of, stamp_in_words}
 use Rattle.mc_words.specs.hand.View.{View}
 use Rattle.mc_words.specs.item.Items.{held_item}
 use Rattle.mc_words.specs.item.Refs.{IsIssueOf, IsRefOf}

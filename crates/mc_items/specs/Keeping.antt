@@ -2,10 +2,10 @@
 use Rattle.std.specs.Prelude.{◌≡◌, ℕ, ◌++◌, [], ◌∷◌, true, List, Option, Some, None, is_some, Contains}
 use Rattle.mc_pages.specs.declared.ids.ChunkId.{ChunkId}
 use Rattle.mc_core.specs.declared.holding.Holding.{Holding}
-use Rattle.mc_core.specs.Columns.{count_of_holdings}
-use Rattle.mc_core.specs.Holdings.{holding_of, is_of_chunk, without_first}
-use Rattle.mc_core.specs.Knowing.{WasStored}
-use Rattle.mc_core.specs.Past.{StoredItem}
+use Rattle.mc_core.specs.model.Columns.{count_of_holdings}
+use Rattle.mc_core.specs.model.Holdings.{holding_of, is_of_chunk, without_first}
+use Rattle.mc_core.specs.law.Knowing.{WasStored}
+use Rattle.mc_core.specs.past.Past.{StoredItem}
 use Rattle.mc_words.specs.hand.View.{View}
 use Rattle.mc_words.specs.rule.Happens.{LawfulView}
 use Rattle.mc_words.specs.item.Items.{held_item}

@@ -3,8 +3,8 @@ use Rattle.std.specs.Prelude.{◌≡◌, ◌≢◌, ℕ, ◌%◌, Bool, is_some,
 use Rattle.std.specs.Option.{option_map}
 use Rattle.mc_stripe.specs.declared.history.Call.{Call}
 use Rattle.mc_stripe.specs.declared.history.Call.TheVariants as call
-use Rattle.mc_core.specs.Holdings.{key_of, stamp_in_words}
-use Rattle.mc_core.specs.Past.{KnownItem}
+use Rattle.mc_core.specs.model.Holdings.{key_of, stamp_in_words}
+use Rattle.mc_core.specs.past.Past.{KnownItem}
 use Rattle.mc_words.specs.declared.hand.Hand.{Hand}
 use Rattle.mc_words.specs.declared.hand.held.SlabsHeld.{SlabsHeld}
 use Rattle.mc_words.specs.declared.hand.held.StripeHeld.{StripeHeld}

@@ -7,8 +7,8 @@ use Rattle.mc_pages.specs.Changes.{HasNoPageFor, after_pop, next_page}
 use Rattle.mc_pages.specs.ClassState.{first_free}
 use Rattle.mc_pages.specs.Eviction.{eviction_candidates}
 use Rattle.mc_pages.specs.SlabState.{SlabState, class_at}
-use Rattle.mc_core.specs.Chunks.{most_issue}
-use Rattle.mc_core.specs.Looks.{is_found_alive}
+use Rattle.mc_core.specs.run.Chunks.{most_issue}
+use Rattle.mc_core.specs.model.Looks.{is_found_alive}
 use Rattle.mc_words.specs.lock.Doing.{SlabsDoing}
 use Rattle.mc_words.specs.page.Owner.{PopsFirst, SeesOther}
 use Rattle.mc_words.specs.page.Moves.{Reassigns}

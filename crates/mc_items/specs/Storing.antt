@@ -6,7 +6,7 @@ use Rattle.mc_stripe.specs.Changes.{after_lift, after_link, used_up}
 use Rattle.mc_core.specs.declared.holding.Holding.{Holding}
 use Rattle.mc_core.specs.declared.holding.Kind.{Kind}
 use Rattle.mc_core.specs.declared.holding.Kind.TheVariants.{Reference, Fresh}
-use Rattle.mc_core.specs.Holdings.{Words, change_each, holding_of, is_of_chunk}
+use Rattle.mc_core.specs.model.Holdings.{Words, change_each, holding_of, is_of_chunk}
 use Rattle.mc_words.specs.lock.Doing.{Doing}
 use Rattle.mc_words.specs.hand.View.{OwnEvent, View, made}
 use Rattle.mc_core.specs.declared.event.Step.TheVariants as step

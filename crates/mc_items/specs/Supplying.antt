@@ -9,10 +9,10 @@ use Rattle.mc_pages.specs.SlabState.{SlabState, class_at}
 use Rattle.mc_core.specs.declared.event.Change.TheVariants as change
 use Rattle.mc_core.specs.declared.event.Step.TheVariants as step
 use Rattle.mc_core.specs.declared.head.Head.{Head}
-use Rattle.mc_core.specs.Chunks.{most_issue}
-use Rattle.mc_core.specs.Evictions.{is_linked_unheld}
+use Rattle.mc_core.specs.run.Chunks.{most_issue}
+use Rattle.mc_core.specs.run.Evictions.{is_linked_unheld}
 use Rattle.mc_stripe.specs.StripeState.{ReadyStripe}
-use Rattle.mc_core.specs.Looks.{is_found_alive}
+use Rattle.mc_core.specs.model.Looks.{is_found_alive}
 use Rattle.mc_items.specs.Calls.{IsFull}
 use Rattle.mc_words.specs.lock.Doing.{Doing, UsesRoomForCall}
 use Rattle.mc_words.specs.hand.View.{View}

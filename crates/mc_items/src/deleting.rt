@@ -1,6 +1,6 @@
 //! The delete of a key.
 ghost use Rattle.std.specs.Prelude.{◌≡◌, IfOk, OnErr, false};
-ghost use Rattle.mc_core.specs.Holdings.{has_fresh};
+ghost use Rattle.mc_core.specs.model.Holdings.{has_fresh};
 ghost use Rattle.mc_words.specs.hand.Arenas.{IsHandOf, setup_of, view};
 ghost use Rattle.mc_words.specs.lock.Lent.{IsLentStripe};
 ghost use Rattle.mc_words.specs.hand.Observers.{locks_of, hand_number, stripe_lent, stripe_number};

@@ -5,12 +5,12 @@ ghost use Rattle.std.specs.Prelude.{◌<◌, ◌≡◌, Contains, IfOk, IfSome, 
 ghost use Rattle.mc_pages.specs.Changes.{next_page};
 ghost use Rattle.mc_pages.specs.ClassState.{first_free};
 ghost use Rattle.mc_pages.specs.SlabState.{class_at};
-ghost use Rattle.mc_core.specs.Evictions.{has_copy};
-ghost use Rattle.mc_core.specs.Head.{is_dead};
-ghost use Rattle.mc_core.specs.Holdings.{has_fresh};
-ghost use Rattle.mc_core.specs.Looks.{is_found_alive};
-ghost use Rattle.mc_core.specs.Seen.{seen_head};
-ghost use Rattle.mc_core.specs.State.{has_chunk, is_class};
+ghost use Rattle.mc_core.specs.run.Evictions.{has_copy};
+ghost use Rattle.mc_core.specs.model.Head.{is_dead};
+ghost use Rattle.mc_core.specs.model.Holdings.{has_fresh};
+ghost use Rattle.mc_core.specs.model.Looks.{is_found_alive};
+ghost use Rattle.mc_core.specs.law.Seen.{seen_head};
+ghost use Rattle.mc_core.specs.model.State.{has_chunk, is_class};
 ghost use Rattle.mc_words.specs.hand.Arenas.{IsHandOf, setup_of, view};
 ghost use Rattle.mc_words.specs.item.Removal.{Condemns, knows_reason, stripe_read};
 ghost use Rattle.mc_words.specs.hand.Idle.{has_no_stripes};

@@ -1,6 +1,6 @@
 //! Fresh chunks that are filled with items.
 ghost use Rattle.std.specs.Prelude.{◌+◌, ◌≡◌, ◌≤◌, length};
-ghost use Rattle.mc_core.specs.Holdings.{all_known, words_of_item};
+ghost use Rattle.mc_core.specs.model.Holdings.{all_known, words_of_item};
 ghost use Rattle.mc_words.specs.hand.Arenas.{IsHandOf, view};
 ghost use Rattle.mc_words.specs.item.Fresh.{IsFreshOf};
 ghost use Rattle.mc_words.specs.item.Items.{item_with, known_words_in};

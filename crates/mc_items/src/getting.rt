@@ -2,8 +2,8 @@
 ghost use Rattle.std.specs.Option.{option_map};
 ghost use Rattle.std.specs.Prelude.{◌<◌, ◌↔◌, ◌≡◌, ◌≤◌, Err, IfOk, IfSome, OnErr, false, length, true};
 ghost use Rattle.mc_classes.specs.Limits.{most_refs};
-ghost use Rattle.mc_core.specs.State.{has_chunk};
-ghost use Rattle.mc_core.specs.Chunks.{most_holdings};
+ghost use Rattle.mc_core.specs.model.State.{has_chunk};
+ghost use Rattle.mc_core.specs.run.Chunks.{most_holdings};
 ghost use Rattle.mc_words.specs.hand.Arenas.{IsHandOf, setup_of, view};
 ghost use Rattle.mc_words.specs.lock.Lent.{IsLentStripe};
 ghost use Rattle.mc_words.specs.hand.Observers.{locks_of, hand_number, stripe_lent, stripe_number};

@@ -1,7 +1,7 @@
 //! References to items that are had again by hints, with no lock.
 ghost use Rattle.std.specs.Prelude.{◌↔◌, ◌≡◌, ◌≤◌, Err, IfOk, OnErr, Some, length, true};
 ghost use Rattle.mc_classes.specs.Limits.{most_refs};
-ghost use Rattle.mc_core.specs.State.{has_chunk};
+ghost use Rattle.mc_core.specs.model.State.{has_chunk};
 ghost use Rattle.mc_words.specs.hand.Arenas.{IsHandOf, setup_of, view};
 ghost use Rattle.mc_words.specs.item.Again.{FindsContended, FindsGone};
 ghost use Rattle.mc_words.specs.item.Items.{held_item};

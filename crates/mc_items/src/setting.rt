@@ -1,8 +1,8 @@
 //! The set of an item, which waits for its locks.
 ghost use Rattle.std.specs.Prelude.{◌≡◌, ◌≤◌, IfErr, IfOk, OnErr, false, length, true};
 ghost use Rattle.mc_classes.specs.Limits.{most_refs};
-ghost use Rattle.mc_core.specs.Holdings.{has_fresh};
-ghost use Rattle.mc_core.specs.State.{is_class};
+ghost use Rattle.mc_core.specs.model.Holdings.{has_fresh};
+ghost use Rattle.mc_core.specs.model.State.{is_class};
 ghost use Rattle.mc_words.specs.hand.Arenas.{IsHandOf, setup_of, view};
 ghost use Rattle.mc_words.specs.hand.Idle.{is_unlocked};
 ghost use Rattle.mc_words.specs.item.Items.{item_with};

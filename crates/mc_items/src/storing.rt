@@ -1,6 +1,6 @@
 //! Items that are linked to their keys, in place of those that were there.
 ghost use Rattle.std.specs.Prelude.{◌+◌, ◌≡◌, ◌≤◌, IfOk, None, OnErr, OnOk, Some, false, length, true};
-ghost use Rattle.mc_core.specs.Holdings.{has_fresh, words_of_item, numbers_of_known};
+ghost use Rattle.mc_core.specs.model.Holdings.{has_fresh, words_of_item, numbers_of_known};
 ghost use Rattle.mc_words.specs.hand.Arenas.{IsHandOf, setup_of, view};
 ghost use Rattle.mc_words.specs.item.Fresh.{IsFreshOf};
 ghost use Rattle.mc_words.specs.hand.Idle.{is_unlocked};

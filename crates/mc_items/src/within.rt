@@ -1,8 +1,8 @@
 //! Items that are set without a wait: a hand tries for each lock n times. A caller that can't wait uses these calls: a static library can't. (own)
 ghost use Rattle.std.specs.Prelude.{◌+◌, ◌≡◌, ◌≤◌, IfErr, IfOk, OnErr, OnOk, Some, false, length, true};
 ghost use Rattle.mc_classes.specs.Limits.{most_refs};
-ghost use Rattle.mc_core.specs.Holdings.{has_fresh, words_of_item, numbers_of_known};
-ghost use Rattle.mc_core.specs.State.{is_class};
+ghost use Rattle.mc_core.specs.model.Holdings.{has_fresh, words_of_item, numbers_of_known};
+ghost use Rattle.mc_core.specs.model.State.{is_class};
 ghost use Rattle.mc_words.specs.hand.Arenas.{IsHandOf, setup_of, view};
 ghost use Rattle.mc_words.specs.hand.Idle.{is_unlocked};
 ghost use Rattle.mc_words.specs.hand.Observers.{fresh_chunk, fresh_key, fresh_room, fresh_stamp, locks_of, hand_number};

@@ -6,7 +6,7 @@ use Rattle.mc_pages.specs.declared.ids.Moving.{Moving}
 use Rattle.mc_pages.specs.Changes.{after_cut}
 use Rattle.mc_pages.specs.Moves.{after_finish, begun_anew, after_move_end}
 use Rattle.mc_pages.specs.SlabState.{SlabState}
-use Rattle.mc_core.proofs.SamePages.{arrived_if}
+use Rattle.mc_core.proofs.Places.SamePages.{arrived_if}
 use Rattle.mc_words.specs.hand.View.{View}
 use Rattle.mc_words.specs.page.Cuts.{CutsEach}
 use Rattle.mc_mover.specs.declared.counts.Counts.{Counts}

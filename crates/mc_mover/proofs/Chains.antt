@@ -7,8 +7,8 @@ use Rattle.mc_pages.specs.SlabState.{SlabState}
 use Rattle.mc_core.specs.declared.event.Change.{Change}
 use Rattle.mc_core.specs.declared.event.Change.TheVariants as change
 use Rattle.mc_core.specs.declared.holding.Holding.{Holding}
-use Rattle.mc_core.specs.Holdings.{has_fresh, holding_of}
-use Rattle.mc_core.specs.Past.{KnownItem, known_by}
+use Rattle.mc_core.specs.model.Holdings.{has_fresh, holding_of}
+use Rattle.mc_core.specs.past.Past.{KnownItem, known_by}
 use Rattle.mc_words.specs.declared.hand.Hand.{Hand}
 use Rattle.mc_words.specs.hand.View.{View}
 use Rattle.mc_words.specs.hand.Arenas.{view}

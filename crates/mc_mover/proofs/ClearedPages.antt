@@ -14,10 +14,10 @@ use Rattle.mc_pages.proofs.OneClass.{class_at-with_class_same, length-with_class
 use Rattle.mc_pages.proofs.Redistributed.{is_cut-kept}
 use Rattle.mc_core.specs.declared.head.Tag.{Tag}
 use Rattle.mc_core.specs.declared.head.Tag.TheVariants.{Free, Linked, Out, Unlinked}
-use Rattle.mc_core.specs.Chunks.{can_clear}
-use Rattle.mc_core.specs.Head.{is_free, is_out}
-use Rattle.mc_core.specs.State.{head_at}
-use Rattle.mc_core.proofs.Listed.{places_from_listed}
+use Rattle.mc_core.specs.run.Chunks.{can_clear}
+use Rattle.mc_core.specs.model.Head.{is_free, is_out}
+use Rattle.mc_core.specs.model.State.{head_at}
+use Rattle.mc_core.proofs.Steps.Listed.{places_from_listed}
 use Rattle.mc_words.specs.hand.View.{View}
 use Rattle.mc_words.specs.rule.Happens.{LawfulView}
 use Rattle.mc_words.specs.page.Owner.{Clears}

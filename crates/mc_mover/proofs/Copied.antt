@@ -9,14 +9,14 @@ use Rattle.mc_pages.specs.SlabState.{SlabState, class_of_page}
 use Rattle.mc_pages.proofs.Chunks.{is_chunk-same}
 use Rattle.mc_stripe.proofs.Entries.{nat_eq_other, nat_eq_same}
 use Rattle.mc_core.specs.declared.look.Look.TheVariants.{Read}
-use Rattle.mc_core.specs.Columns.{IsHandedOut}
-use Rattle.mc_core.specs.Looks.{stays_linked, was_linked}
-use Rattle.mc_core.specs.Seen.{last_read, linked_issue}
-use Rattle.mc_core.specs.State.{has_chunk, head_at, is_class, looks_at, room_in}
-use Rattle.mc_core.proofs.Base.{placed_at}
-use Rattle.mc_core.proofs.OfTable.{class_count}
-use Rattle.mc_core.proofs.SeenAdds.{was_linked_is}
-use Rattle.mc_core.proofs.SeenLooks.{some_is}
+use Rattle.mc_core.specs.model.Columns.{IsHandedOut}
+use Rattle.mc_core.specs.model.Looks.{stays_linked, was_linked}
+use Rattle.mc_core.specs.law.Seen.{last_read, linked_issue}
+use Rattle.mc_core.specs.model.State.{has_chunk, head_at, is_class, looks_at, room_in}
+use Rattle.mc_core.proofs.Steps.Base.{placed_at}
+use Rattle.mc_core.proofs.Places.OfTable.{class_count}
+use Rattle.mc_core.proofs.Seen.SeenAdds.{was_linked_is}
+use Rattle.mc_core.proofs.Seen.SeenLooks.{some_is}
 use Rattle.mc_words.specs.rule.Happens.{LawfulView}
 use Rattle.mc_words.specs.item.Items.{word_read}
 use Rattle.mc_words.specs.hand.View.{Setup, View}

@@ -13,7 +13,7 @@ use Rattle.mc_pages.specs.SlabState.{SlabState, HasClass, class_at, class_of_chu
 use Rattle.mc_pages.proofs.ClassChanges.{per_pages-with_class}
 use Rattle.mc_pages.proofs.Cuts.{per_page-map}
 use Rattle.mc_pages.proofs.Kept.{all_cleared_at_end}
-use Rattle.mc_core.proofs.SamePages.{arrived_if}
+use Rattle.mc_core.proofs.Places.SamePages.{arrived_if}
 use Rattle.mc_words.specs.hand.View.{View}
 use Rattle.mc_words.specs.rule.Happens.{LawfulView}
 use Rattle.mc_words.proofs.Pages.MoveChanges.{move_near}

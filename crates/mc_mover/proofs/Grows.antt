@@ -9,9 +9,9 @@ use Rattle.mc_stripe.specs.Changes.{after_reserve}
 use Rattle.mc_stripe.specs.StripeState.{ReadyStripe}
 use Rattle.mc_core.specs.declared.head.Head.{Head}
 use Rattle.mc_core.specs.declared.ids.Ids.{Ids}
-use Rattle.mc_core.specs.Holdings.{words_of_item, numbers_of_known}
-use Rattle.mc_core.specs.Past.{KnownItem, StoredItem, known_by}
-use Rattle.mc_core.specs.State.{room_in}
+use Rattle.mc_core.specs.model.Holdings.{words_of_item, numbers_of_known}
+use Rattle.mc_core.specs.past.Past.{KnownItem, StoredItem, known_by}
+use Rattle.mc_core.specs.model.State.{room_in}
 use Rattle.mc_words.specs.hand.View.{View}
 use Rattle.mc_words.specs.item.Removal.{FindsHeld}
 use Rattle.mc_words.specs.page.Cuts.{CutsEach}

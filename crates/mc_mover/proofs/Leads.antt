@@ -14,15 +14,15 @@ use Rattle.mc_core.specs.declared.head.Tag.{Tag}
 use Rattle.mc_core.specs.declared.head.Tag.TheVariants.{Linked}
 use Rattle.mc_core.specs.declared.look.Look.{Look}
 use Rattle.mc_core.specs.declared.look.Look.TheVariants.{PutBack, Saw}
-use Rattle.mc_core.specs.Chunks.{can_put_back, with_tag_free}
-use Rattle.mc_core.specs.Head.{is_dead, is_linked, is_unlinked}
-use Rattle.mc_core.specs.Looks.{stays_linked, was_linked}
-use Rattle.mc_core.specs.Past.{Moment, header}
-use Rattle.mc_core.specs.Seen.{last_read}
-use Rattle.mc_core.specs.Silent.{is_among, is_handed_out}
-use Rattle.mc_core.specs.State.{head_at}
-use Rattle.mc_core.proofs.Base.{placed_at}
-use Rattle.mc_core.proofs.Listed.{none_among}
+use Rattle.mc_core.specs.run.Chunks.{can_put_back, with_tag_free}
+use Rattle.mc_core.specs.model.Head.{is_dead, is_linked, is_unlinked}
+use Rattle.mc_core.specs.model.Looks.{stays_linked, was_linked}
+use Rattle.mc_core.specs.past.Past.{Moment, header}
+use Rattle.mc_core.specs.law.Seen.{last_read}
+use Rattle.mc_core.specs.run.Silent.{is_among, is_handed_out}
+use Rattle.mc_core.specs.model.State.{head_at}
+use Rattle.mc_core.proofs.Steps.Base.{placed_at}
+use Rattle.mc_core.proofs.Steps.Listed.{none_among}
 use Rattle.mc_words.specs.hand.View.{View}
 use Rattle.mc_words.specs.rule.Happens.{LawfulView}
 use Rattle.mc_words.specs.item.Items.{word_read}

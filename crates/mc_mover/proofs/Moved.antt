@@ -15,12 +15,12 @@ use Rattle.mc_stripe.proofs.Entries.{at_with_entry, at_without_entry, nat_eq_sam
 use Rattle.mc_core.specs.declared.holding.Holding.{Holding}
 use Rattle.mc_core.specs.declared.holding.Kind.TheVariants.{Fresh, Reference}
 use Rattle.mc_core.specs.declared.holding.Purpose.TheVariants.{Copy, Rescue}
-use Rattle.mc_core.specs.Chunks.{holding_with_word}
-use Rattle.mc_core.specs.Evictions.{as_rescue, has_copy, lacks_room, none_dead}
-use Rattle.mc_core.specs.Holdings.{Words, all_known, change_each, holding_of, is_complete, is_copy_of, is_of_chunk, words_of_item, known_key, without_first, numbers_of_known, stamp_in, stamp_in_words, holding_words}
-use Rattle.mc_core.specs.Items.{are_same}
-use Rattle.mc_core.specs.Judged.{sees_no_target}
-use Rattle.mc_core.specs.State.{State, holdings_at, item_at}
+use Rattle.mc_core.specs.run.Chunks.{holding_with_word}
+use Rattle.mc_core.specs.run.Evictions.{as_rescue, has_copy, lacks_room, none_dead}
+use Rattle.mc_core.specs.model.Holdings.{Words, all_known, change_each, holding_of, is_complete, is_copy_of, is_of_chunk, words_of_item, known_key, without_first, numbers_of_known, stamp_in, stamp_in_words, holding_words}
+use Rattle.mc_core.specs.run.Items.{are_same}
+use Rattle.mc_core.specs.law.Judged.{sees_no_target}
+use Rattle.mc_core.specs.model.State.{State, holdings_at, item_at}
 use Rattle.mc_words.specs.hand.View.{View}
 use Rattle.mc_words.specs.item.Removal.{key_read, key_seen, knows_reason, stripe_read}
 use Rattle.mc_words.specs.item.Fresh.{IsFreshIn}

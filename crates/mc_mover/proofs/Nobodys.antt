@@ -11,12 +11,12 @@ use Rattle.mc_core.specs.declared.event.Step.TheVariants as step
 use Rattle.mc_core.specs.declared.head.Tag.{Tag}
 use Rattle.mc_core.specs.declared.head.Tag.TheVariants.{Free, Linked, Out, Unlinked}
 use Rattle.mc_core.specs.declared.head.Head.{Head}
-use Rattle.mc_core.specs.Columns.{holder_count}
-use Rattle.mc_core.specs.Counts.{AreCounted}
-use Rattle.mc_core.specs.Evictions.{can_lose_entry, has_copy, has_reason, is_linked_unheld, key_at}
-use Rattle.mc_core.specs.Silent.{is_listed}
-use Rattle.mc_core.specs.Head.{is_dead, is_free, is_linked, is_out, is_unlinked}
-use Rattle.mc_core.specs.State.{State, has_chunk, has_slabs, has_stripe, head_at, holdings_at, looks_at, stripe_at, stripe_of}
+use Rattle.mc_core.specs.model.Columns.{holder_count}
+use Rattle.mc_core.specs.law.Counts.{AreCounted}
+use Rattle.mc_core.specs.run.Evictions.{can_lose_entry, has_copy, has_reason, is_linked_unheld, key_at}
+use Rattle.mc_core.specs.run.Silent.{is_listed}
+use Rattle.mc_core.specs.model.Head.{is_dead, is_free, is_linked, is_out, is_unlinked}
+use Rattle.mc_core.specs.model.State.{State, has_chunk, has_slabs, has_stripe, head_at, holdings_at, looks_at, stripe_at, stripe_of}
 use Rattle.mc_words.specs.hand.View.{View}
 use Rattle.mc_words.specs.rule.Happens.{Happens}
 use Rattle.mc_words.proofs.Locks.LockViews.{may_step}

@@ -10,10 +10,10 @@ use Rattle.mc_pages.specs.Accounted.{truth}
 use Rattle.mc_stripe.specs.declared.history.Call.{Call}
 use Rattle.mc_stripe.specs.declared.history.Call.TheVariants.{Set, Get, Delete, Evict, Rescue}
 use Rattle.mc_stripe.specs.StripeState.{ReadyStripe}
-use Rattle.mc_core.specs.Histories.{hand_of}
-use Rattle.mc_core.specs.Identities.{count_in_hand}
-use Rattle.mc_core.specs.Past.{Own, with_more}
-use Rattle.mc_core.proofs.Base.{each_row}
+use Rattle.mc_core.specs.law.Histories.{hand_of}
+use Rattle.mc_core.specs.law.Identities.{count_in_hand}
+use Rattle.mc_core.specs.past.Past.{Own, with_more}
+use Rattle.mc_core.proofs.Steps.Base.{each_row}
 use Rattle.mc_words.specs.hand.View.{View}
 use Rattle.mc_words.specs.item.Calls.{with_own_call}
 use Rattle.mc_words.specs.rule.Happens.{LawfulView}

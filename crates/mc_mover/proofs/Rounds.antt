@@ -15,10 +15,10 @@ use Rattle.mc_pages.specs.declared.moves.Found.{Found}
 use Rattle.mc_pages.specs.declared.moves.Found.TheVariants.{Cleared, Rescued, Evicted, Busy, Locked, Already}
 use Rattle.mc_pages.specs.Moves.{chunk_at_position, moved_on}
 use Rattle.mc_pages.specs.SlabState.{SlabState, HasClass, class_at, class_of_owner, class_of_page}
-use Rattle.mc_core.specs.Past.{Moment}
-use Rattle.mc_core.specs.State.{has_chunk, is_class}
-use Rattle.mc_core.proofs.FreeChunks.{near_in}
-use Rattle.mc_core.proofs.Listed.{per_page_is, source_of_move}
+use Rattle.mc_core.specs.past.Past.{Moment}
+use Rattle.mc_core.specs.model.State.{has_chunk, is_class}
+use Rattle.mc_core.proofs.Places.FreeChunks.{near_in}
+use Rattle.mc_core.proofs.Steps.Listed.{per_page_is, source_of_move}
 use Rattle.mc_words.specs.hand.View.{Setup, View}
 use Rattle.mc_words.specs.rule.Happens.{LawfulView}
 use Rattle.mc_words.proofs.Pages.MoveChanges.{of_table_here}

@@ -14,12 +14,12 @@ use Rattle.mc_core.specs.declared.event.Event.{Event}
 use Rattle.mc_core.specs.declared.event.Step.TheVariants as step
 use Rattle.mc_core.specs.declared.head.Tag.TheVariants.{Unlinked}
 use Rattle.mc_core.specs.declared.holding.Holding.{Holding}
-use Rattle.mc_core.specs.Columns.{head_in, holder_count, count_of_holdings}
-use Rattle.mc_core.specs.Holdings.{holding_of, is_fresh, is_of_chunk}
-use Rattle.mc_core.specs.Past.{Moment, moment_after}
-use Rattle.mc_core.specs.State.{item_at, room_in}
-use Rattle.mc_core.proofs.Base.{each_row, holds_row}
-use Rattle.mc_core.proofs.LawKept.{lawful_events}
+use Rattle.mc_core.specs.model.Columns.{head_in, holder_count, count_of_holdings}
+use Rattle.mc_core.specs.model.Holdings.{holding_of, is_fresh, is_of_chunk}
+use Rattle.mc_core.specs.past.Past.{Moment, moment_after}
+use Rattle.mc_core.specs.model.State.{item_at, room_in}
+use Rattle.mc_core.proofs.Steps.Base.{each_row, holds_row}
+use Rattle.mc_core.proofs.Law.LawKept.{lawful_events}
 use Rattle.mc_words.specs.hand.View.{Setup, View}
 use Rattle.mc_words.specs.rule.Happens.{event_of}
 use Rattle.mc_words.specs.item.Items.{item_with}

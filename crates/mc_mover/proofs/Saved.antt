@@ -7,7 +7,7 @@ use Rattle.mc_pages.specs.Changes.{after_back, after_replace}
 use Rattle.mc_pages.specs.SlabState.{SlabState, class_at, class_of_page}
 use Rattle.mc_stripe.specs.Changes.{after_reserve}
 use Rattle.mc_stripe.specs.StripeState.{ReadyStripe}
-use Rattle.mc_core.specs.State.{room_in}
+use Rattle.mc_core.specs.model.State.{room_in}
 use Rattle.mc_words.specs.hand.View.{View}
 use Rattle.mc_words.specs.lock.Doing.{SlabsDoing}
 use Rattle.mc_words.specs.chunk.Sweeps.{SweepsOne}

@@ -20,12 +20,12 @@ use Rattle.mc_core.specs.declared.holding.Kind.{Kind}
 use Rattle.mc_core.specs.declared.holding.Kind.TheVariants.{Fresh, Reference}
 use Rattle.mc_core.specs.declared.look.Look.{Look}
 use Rattle.mc_core.specs.declared.look.Look.TheVariants.{PoppedOff, Saw, SawStripe}
-use Rattle.mc_core.specs.Chunks.{head_after_hand_out}
-use Rattle.mc_core.specs.Evictions.{has_copy}
-use Rattle.mc_core.specs.Head.{is_dead}
-use Rattle.mc_core.specs.Holdings.{has_fresh, holding_of, is_copy_kind, is_fresh, is_fresh_kind, is_of_chunk}
-use Rattle.mc_core.specs.Looks.{is_found_alive, stays_alive, stays_linked, was_linked}
-use Rattle.mc_core.specs.Seen.{last_read}
+use Rattle.mc_core.specs.run.Chunks.{head_after_hand_out}
+use Rattle.mc_core.specs.run.Evictions.{has_copy}
+use Rattle.mc_core.specs.model.Head.{is_dead}
+use Rattle.mc_core.specs.model.Holdings.{has_fresh, holding_of, is_copy_kind, is_fresh, is_fresh_kind, is_of_chunk}
+use Rattle.mc_core.specs.model.Looks.{is_found_alive, stays_alive, stays_linked, was_linked}
+use Rattle.mc_core.specs.law.Seen.{last_read}
 use Rattle.mc_words.specs.hand.View.{View}
 use Rattle.mc_words.specs.item.Removal.{stripe_read}
 use Rattle.mc_words.specs.item.Fresh.{IsFreshIn}
@@ -128,10 +128,10 @@ module _ (holdings : List Holding) (holding : Holding) (fresh : has_fresh holdin
       ∙ (ap (λ (o : Option Holding). option_or o (holding_of own_chunk (holding ∷ []))) none_before ∙ ap (λ (b : Bool). if b then Some holding else None) (is_chunk-same own_chunk))
 
 -- what the hand holds then
-pub popped_holds : (view now : View) (slabs : SlabState) (chunk copy : ChunkId) → (pops : PopsOff view slabs chunk copy now) → now.row.holdings ≡ view.row.holdings ++ copy_holding chunk copy (pops.finds.fit.head.issue + 1) (Rattle.mc_core.specs.State.room_in pops.seen.setup.table (Rattle.mc_pages.specs.SlabState.class_of_page slabs chunk.page)) ∷ []
+pub popped_holds : (view now : View) (slabs : SlabState) (chunk copy : ChunkId) → (pops : PopsOff view slabs chunk copy now) → now.row.holdings ≡ view.row.holdings ++ copy_holding chunk copy (pops.finds.fit.head.issue + 1) (Rattle.mc_core.specs.model.State.room_in pops.seen.setup.table (Rattle.mc_pages.specs.SlabState.class_of_page slabs chunk.page)) ∷ []
 popped_holds view now slabs chunk copy pops =
     let seen : pops.seen.row.holdings ≡ view.row.holdings = ap (λ (v : View). v.row.holdings) pops.finds.fit.is ∙ passed_holds chunk.page pops.finds.before view pops.finds.passed pops.finds.passes in
-    ap (λ (v : View). v.row.holdings) pops.is ∙ ap (λ (hs : List Holding). hs ++ copy_holding chunk copy (pops.finds.fit.head.issue + 1) (Rattle.mc_core.specs.State.room_in pops.seen.setup.table (Rattle.mc_pages.specs.SlabState.class_of_page slabs chunk.page)) ∷ []) seen
+    ap (λ (v : View). v.row.holdings) pops.is ∙ ap (λ (hs : List Holding). hs ++ copy_holding chunk copy (pops.finds.fit.head.issue + 1) (Rattle.mc_core.specs.model.State.room_in pops.seen.setup.table (Rattle.mc_pages.specs.SlabState.class_of_page slabs chunk.page)) ∷ []) seen
 
 -- a look at a free chunk finds no handed-out one dead
 others_alive : (looks : List Look) (other : ChunkId) (head : Head) (chunks : List ChunkId) → times_in other chunks ≡ 0 → list_all (is_found_alive looks) chunks ≡ true → list_all (is_found_alive (looks ++ Saw other head ∷ [])) chunks ≡ true

@@ -13,11 +13,11 @@ use Rattle.mc_core.specs.declared.head.Head.{Head}
 use Rattle.mc_core.specs.declared.look.Look.{Look}
 use Rattle.mc_core.specs.declared.look.Look.TheVariants.{Saw}
 use Rattle.mc_core.specs.declared.event.Step.TheVariants as step
-use Rattle.mc_core.specs.Evictions.{is_linked_unheld}
-use Rattle.mc_core.specs.Head.{is_dead, is_free, is_linked, is_out}
-use Rattle.mc_core.specs.Looks.{stays_linked, was_linked}
-use Rattle.mc_core.specs.Seen.{seen_head}
-use Rattle.mc_core.specs.State.{has_chunk, head_at}
+use Rattle.mc_core.specs.run.Evictions.{is_linked_unheld}
+use Rattle.mc_core.specs.model.Head.{is_dead, is_free, is_linked, is_out}
+use Rattle.mc_core.specs.model.Looks.{stays_linked, was_linked}
+use Rattle.mc_core.specs.law.Seen.{seen_head}
+use Rattle.mc_core.specs.model.State.{has_chunk, head_at}
 use Rattle.mc_words.specs.hand.View.{View}
 use Rattle.mc_words.specs.rule.Happens.{Happens, LawfulView}
 use Rattle.mc_words.specs.hand.Views.{head_seen}

@@ -6,7 +6,7 @@ use Rattle.std.proofs.lemmas.List.{map-id}
 use Rattle.mc_classes.specs.Classes.{Classes}
 use Rattle.mc_pages.specs.declared.ids.ChunkId.{ChunkId}
 use Rattle.mc_pages.specs.SlabState.{SlabState, class_at}
-use Rattle.mc_core.proofs.OfTable.{class_count}
+use Rattle.mc_core.proofs.Places.OfTable.{class_count}
 use Rattle.mc_words.specs.hand.View.{View}
 use Rattle.mc_words.specs.rule.Happens.{LawfulView}
 use Rattle.mc_words.specs.chunk.Sweeps.{Sweeps, SweepsEach, SweepsOne, with_seen}

@@ -12,11 +12,11 @@ use Rattle.mc_pages.specs.SlabState.{SlabState}
 use Rattle.mc_pages.proofs.Chunks.{is_chunk-same}
 use Rattle.mc_stripe.specs.StripeState.{ReadyStripe, chunk_and_stamp}
 use Rattle.mc_core.specs.declared.head.Head.{Head}
-use Rattle.mc_core.specs.Head.{is_dead, is_free}
+use Rattle.mc_core.specs.model.Head.{is_dead, is_free}
 use Rattle.mc_core.specs.declared.look.Look.{Look}
 use Rattle.mc_core.specs.declared.look.Look.TheVariants.{Read}
 use Rattle.mc_core.specs.declared.event.Step.TheVariants as step
-use Rattle.mc_core.specs.Seen.{last_read}
+use Rattle.mc_core.specs.law.Seen.{last_read}
 use Rattle.mc_words.specs.hand.View.{View}
 use Rattle.mc_words.specs.declared.hand.Hand.{Hand}
 use Rattle.mc_words.specs.declared.lock.locks.Locks.{Locks}

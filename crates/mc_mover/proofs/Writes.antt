@@ -10,9 +10,9 @@ use Rattle.mc_stripe.proofs.Entries.{nat_eq_same}
 use Rattle.mc_core.specs.declared.holding.Holding.{Holding}
 use Rattle.mc_core.specs.declared.holding.Kind.{Kind}
 use Rattle.mc_core.specs.declared.holding.Kind.TheVariants.{Reference, Fresh}
-use Rattle.mc_core.specs.Chunks.{holding_with_word, filled_kind}
-use Rattle.mc_core.specs.Holdings.{Words, all_known, change_each, holding_of, is_complete, is_of_chunk, words_of_item, known_key, without_first, stamp_in}
-use Rattle.mc_core.specs.Items.{are_same}
+use Rattle.mc_core.specs.run.Chunks.{holding_with_word, filled_kind}
+use Rattle.mc_core.specs.model.Holdings.{Words, all_known, change_each, holding_of, is_complete, is_of_chunk, words_of_item, known_key, without_first, stamp_in}
+use Rattle.mc_core.specs.run.Items.{are_same}
 use Rattle.mc_words.specs.item.Items.{item_with}
 
 -- the words of a chunk, with these in place of the first, as far as there is room

@@ -4,9 +4,9 @@ use Rattle.std.specs.Option.{option_map}
 use Rattle.mc_pages.specs.declared.ids.ChunkId.{ChunkId}
 use Rattle.mc_pages.specs.declared.moves.Found.{Found}
 use Rattle.mc_stripe.specs.StripeState.{chunk_and_stamp}
-use Rattle.mc_core.specs.Head.{is_dead}
-use Rattle.mc_core.specs.Holdings.{holding_of}
-use Rattle.mc_core.specs.Seen.{seen_head}
+use Rattle.mc_core.specs.model.Head.{is_dead}
+use Rattle.mc_core.specs.model.Holdings.{holding_of}
+use Rattle.mc_core.specs.law.Seen.{seen_head}
 use Rattle.mc_words.specs.declared.hand.Hand.{Hand}
 use Rattle.mc_words.specs.declared.hand.held.Fresh.{Fresh}
 use Rattle.mc_words.specs.declared.hand.held.SlabsHeld.{SlabsHeld}

@@ -6,7 +6,7 @@ use Rattle.mc_pages.specs.Changes.{after_trim}
 use Rattle.mc_core.specs.declared.event.Change.TheVariants.{TrimLedger}
 use Rattle.mc_core.specs.declared.event.StripeChange.{StripeChange}
 use Rattle.mc_core.specs.declared.event.StripeChange.TheVariants.{Trim}
-use Rattle.mc_core.specs.Silent.{stripe_after}
+use Rattle.mc_core.specs.run.Silent.{stripe_after}
 use Rattle.mc_words.specs.declared.hand.Hand.{Hand}
 use Rattle.mc_words.specs.hand.View.{View}
 use Rattle.mc_words.specs.hand.Arenas.{view}

@@ -3,9 +3,9 @@ use Rattle.std.specs.Prelude.{◌≡◌, ℕ, List, [], ◌∷◌, ◌++◌, Som
 use Rattle.mc_pages.specs.declared.ids.ChunkId.{ChunkId}
 use Rattle.mc_pages.specs.SlabState.{SlabState}
 use Rattle.mc_stripe.specs.StripeState.{ReadyStripe, chunk_and_stamp}
-use Rattle.mc_core.specs.Holdings.{key_of, stamp_in_words}
-use Rattle.mc_core.specs.Past.{KnownItem}
-use Rattle.mc_core.specs.State.{item_at}
+use Rattle.mc_core.specs.model.Holdings.{key_of, stamp_in_words}
+use Rattle.mc_core.specs.past.Past.{KnownItem}
+use Rattle.mc_core.specs.model.State.{item_at}
 use Rattle.mc_words.specs.hand.View.{View}
 use Rattle.mc_mover.specs.Saving.{Rescues}
 

@@ -8,7 +8,7 @@ use Rattle.mc_pages.specs.Changes.{after_replace}
 use Rattle.mc_pages.specs.SlabState.{SlabState, class_at, class_of_page}
 use Rattle.mc_stripe.specs.StripeState.{ReadyStripe}
 use Rattle.mc_stripe.specs.Changes.{after_rescue, used_up}
-use Rattle.mc_core.specs.State.{room_in}
+use Rattle.mc_core.specs.model.State.{room_in}
 use Rattle.mc_words.specs.hand.View.{View}
 use Rattle.mc_words.specs.item.Removal.{Condemns, FindsHeld}
 use Rattle.mc_words.specs.lock.Doing.{SlabsDoing}

@@ -4,7 +4,7 @@ use Rattle.std.specs.List.{sum_by}
 use Rattle.mc_pages.specs.declared.moves.Found.{Found}
 use Rattle.mc_stripe.specs.declared.history.Call.{Call}
 use Rattle.mc_stripe.specs.declared.history.Call.TheVariants.{Set, Get, Delete, Evict, Rescue}
-use Rattle.mc_core.specs.Past.{Own}
+use Rattle.mc_core.specs.past.Past.{Own}
 use Rattle.mc_words.specs.hand.View.{View}
 use Rattle.mc_words.specs.item.Calls.{with_own_call}
 use Rattle.mc_mover.specs.declared.counts.Counts.{Counts}

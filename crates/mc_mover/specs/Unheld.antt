@@ -8,8 +8,8 @@ use Rattle.mc_pages.specs.SlabState.{SlabState}
 use Rattle.mc_core.specs.declared.event.Step.{Step}
 use Rattle.mc_core.specs.declared.event.Step.TheVariants as step
 use Rattle.mc_core.specs.declared.head.Head.{Head}
-use Rattle.mc_core.specs.Columns.{holder_count}
-use Rattle.mc_core.specs.Head.{is_out}
+use Rattle.mc_core.specs.model.Columns.{holder_count}
+use Rattle.mc_core.specs.model.Head.{is_out}
 use Rattle.mc_words.specs.hand.View.{View}
 use Rattle.mc_words.specs.rule.Happens.{Happens}
 use Rattle.mc_words.specs.hand.Views.{head_seen}

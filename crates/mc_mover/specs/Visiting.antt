@@ -7,8 +7,8 @@ use Rattle.mc_pages.specs.Changes.{after_clear}
 use Rattle.mc_pages.specs.SlabState.{SlabState}
 use Rattle.mc_core.specs.declared.head.Head.{Head}
 use Rattle.mc_core.specs.declared.event.Step.TheVariants as step
-use Rattle.mc_core.specs.Evictions.{is_linked_unheld}
-use Rattle.mc_core.specs.Head.{is_linked, is_out}
+use Rattle.mc_core.specs.run.Evictions.{is_linked_unheld}
+use Rattle.mc_core.specs.model.Head.{is_linked, is_out}
 use Rattle.mc_words.specs.hand.View.{View}
 use Rattle.mc_words.specs.lock.Doing.{SlabsDoing}
 use Rattle.mc_words.specs.rule.Happens.{Happens}

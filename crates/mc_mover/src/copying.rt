@@ -1,8 +1,8 @@
 //! Copies of items: the words of a chunk on the moving page are written into another one.
 ghost use Rattle.std.specs.Prelude.{◌≡◌, ◌+◌, ◌<◌, ◌≤◌, ◌==◌, if◌then◌else◌, true, IfSome};
 ghost use Rattle.mc_pages.specs.SlabState.{class_of_page};
-ghost use Rattle.mc_core.specs.Looks.{was_linked};
-ghost use Rattle.mc_core.specs.State.{has_chunk, room_in};
+ghost use Rattle.mc_core.specs.model.Looks.{was_linked};
+ghost use Rattle.mc_core.specs.model.State.{has_chunk, room_in};
 ghost use Rattle.mc_words.specs.hand.Arenas.{IsHandOf, setup_of, view};
 ghost use Rattle.mc_words.specs.item.Removal.{key_read};
 ghost use Rattle.mc_words.specs.item.Fresh.{IsFreshOf};

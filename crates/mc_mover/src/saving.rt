@@ -3,10 +3,10 @@ ghost use Rattle.std.specs.Prelude.{◌≡◌, ◌<◌, true, false, None, Some,
 ghost use Rattle.mc_pages.specs.Moves.{is_held_up};
 ghost use Rattle.mc_pages.specs.Pages.{is_on_the_move};
 ghost use Rattle.mc_pages.specs.SlabState.{class_of_page};
-ghost use Rattle.mc_core.specs.Evictions.{has_copy};
-ghost use Rattle.mc_core.specs.Holdings.{holding_of, is_of_chunk, without_first};
-ghost use Rattle.mc_core.specs.Looks.{was_linked};
-ghost use Rattle.mc_core.specs.State.{has_chunk, room_in};
+ghost use Rattle.mc_core.specs.run.Evictions.{has_copy};
+ghost use Rattle.mc_core.specs.model.Holdings.{holding_of, is_of_chunk, without_first};
+ghost use Rattle.mc_core.specs.model.Looks.{was_linked};
+ghost use Rattle.mc_core.specs.model.State.{has_chunk, room_in};
 ghost use Rattle.mc_words.specs.hand.Arenas.{IsHandOf, setup_of, view};
 ghost use Rattle.mc_words.specs.item.Removal.{stripe_read};
 ghost use Rattle.mc_words.specs.item.Fresh.{IsFreshOf};

@@ -3,7 +3,7 @@ ghost use Rattle.std.specs.Prelude.{◌≡◌, ◌<◌, ◌≤◌, true, false, 
 ghost use Rattle.mc_classes.specs.Limits.{most_refs};
 ghost use Rattle.mc_pages.specs.Moves.{chunk_at_position, moved_on};
 ghost use Rattle.mc_pages.specs.SlabState.{class_at};
-ghost use Rattle.mc_core.specs.Holdings.{has_fresh};
+ghost use Rattle.mc_core.specs.model.Holdings.{has_fresh};
 ghost use Rattle.mc_words.specs.hand.Arenas.{IsHandOf, view};
 ghost use Rattle.mc_words.specs.hand.Idle.{has_no_stripes};
 ghost use Rattle.mc_words.specs.hand.Observers.{HasSlabs, locks_of, slabs_lent};

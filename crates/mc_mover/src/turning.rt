@@ -1,7 +1,7 @@
 //! A turn of the mover, under one hold of the slabs lock.
 ghost use Rattle.std.specs.Prelude.{◌≡◌, ◌≤◌, true, false, length, None, Err, IfOk, OnErr};
 ghost use Rattle.mc_classes.specs.Limits.{most_refs};
-ghost use Rattle.mc_core.specs.Holdings.{has_fresh};
+ghost use Rattle.mc_core.specs.model.Holdings.{has_fresh};
 ghost use Rattle.mc_words.specs.hand.Arenas.{IsHandOf, view};
 ghost use Rattle.mc_words.specs.hand.Idle.{has_no_stripes};
 ghost use Rattle.mc_words.specs.hand.Observers.{HasSlabs, locks_of, hand_number, slabs_lent};

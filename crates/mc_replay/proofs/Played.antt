@@ -5,8 +5,8 @@ use Rattle.mc_classes.specs.declared.config.Config.{Config}
 use Rattle.mc_core.specs.declared.event.Event.{Event}
 use Rattle.mc_core.specs.declared.stop.Stop.{Stop}
 use Rattle.mc_core.specs.declared.stop.Stop.TheVariants.{NotAllowed}
-use Rattle.mc_core.specs.State.{State, new_state}
-use Rattle.mc_core.specs.Run.{EndsRunAs, IsPlayed, state_after_all}
+use Rattle.mc_core.specs.model.State.{State, new_state}
+use Rattle.mc_core.specs.run.Run.{EndsRunAs, IsPlayed, state_after_all}
 use Rattle.mc_replay.specs.Written.{IsAnswer, IsWritten, WritesList, outcome_text}
 
 from_end : (stripes : ℕ) (end : Result State ℕ) (told : Result State Stop) (state : State) → EndsRunAs end told → told ≡ Ok state → outcome_text stripes (Ok state) ≡ outcome_text stripes end

@@ -7,7 +7,7 @@ use Rattle.mc_pages.specs.declared.moves.Found.TheVariants as found
 use Rattle.mc_core.specs.declared.event.Change.{Change}
 use Rattle.mc_core.specs.declared.event.Change.TheVariants as change
 use Rattle.mc_core.specs.declared.event.StripeChange.TheVariants.{Reserve, Trim}
-use Rattle.mc_core.specs.Rows.{chunk_at}
+use Rattle.mc_core.specs.run.Rows.{chunk_at}
 use Rattle.mc_script.specs.Words.{◌>>=◌, parsed_number, line_words}
 use Rattle.mc_script.specs.Forms.{parsed_source}
 

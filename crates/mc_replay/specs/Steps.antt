@@ -3,7 +3,7 @@ use Rattle.std.specs.Prelude.{ℕ, codes, if◌then◌else◌, List, [], ◌∷�
 use Rattle.std.specs.Str.{bytes_eq}
 use Rattle.mc_core.specs.declared.event.Step.{Step}
 use Rattle.mc_core.specs.declared.event.Step.TheVariants as step
-use Rattle.mc_core.specs.Rows.{chunk_at}
+use Rattle.mc_core.specs.run.Rows.{chunk_at}
 use Rattle.mc_script.specs.Words.{◌>>=◌, parsed_number}
 
 -- the steps without arguments

@@ -16,10 +16,10 @@ use Rattle.mc_pages.specs.SlabState.{SlabState, class_at, totals_of}
 use Rattle.mc_stripe.specs.declared.history.Call.{Call}
 use Rattle.mc_stripe.specs.declared.history.Call.TheVariants as call
 use Rattle.mc_stripe.specs.StripeState.{StripeState, base_stamps, chunk_and_stamp, history_tail, trimmed_of}
-use Rattle.mc_core.specs.Head.{code}
+use Rattle.mc_core.specs.model.Head.{code}
 use Rattle.mc_core.specs.declared.event.Event.{Event}
-use Rattle.mc_core.specs.Run.{state_after_all}
-use Rattle.mc_core.specs.State.{State, head_at, most_of, new_state, stripe_at}
+use Rattle.mc_core.specs.run.Run.{state_after_all}
+use Rattle.mc_core.specs.model.State.{State, head_at, most_of, new_state, stripe_at}
 use Rattle.mc_pages.specs.declared.ledger.Entry.{Entry}
 use Rattle.mc_pages.specs.declared.ledger.Entry.TheVariants as entry
 use Rattle.mc_pages.specs.declared.ledger.Owner.{Owner}

@@ -13,13 +13,13 @@ use Rattle.mc_core.specs.declared.event.Event.{Event}
 use Rattle.mc_core.specs.declared.head.Head.{Head}
 use Rattle.mc_core.specs.declared.head.Tag.TheVariants.{Free, Linked, Out, Unlinked}
 use Rattle.mc_core.specs.declared.holding.Holding.{Holding}
-use Rattle.mc_core.specs.Columns.{IsHandedOut, holder_count, count_of_holdings, link_count}
-use Rattle.mc_core.specs.Head.{decode}
-use Rattle.mc_core.specs.Holdings.{is_fresh, holding_words}
-use Rattle.mc_core.specs.InOrder.{IsOfTable}
-use Rattle.mc_core.specs.Past.{Moment}
-use Rattle.mc_core.specs.State.{has_chunk, holdings_at, room_in}
-use Rattle.mc_core.specs.Stretch.{HoldsChunk, KeepsHolding, is_fill_of}
+use Rattle.mc_core.specs.model.Columns.{IsHandedOut, holder_count, count_of_holdings, link_count}
+use Rattle.mc_core.specs.model.Head.{decode}
+use Rattle.mc_core.specs.model.Holdings.{is_fresh, holding_words}
+use Rattle.mc_core.specs.model.InOrder.{IsOfTable}
+use Rattle.mc_core.specs.past.Past.{Moment}
+use Rattle.mc_core.specs.model.State.{has_chunk, holdings_at, room_in}
+use Rattle.mc_core.specs.past.Stretch.{HoldsChunk, KeepsHolding, is_fill_of}
 use Rattle.mc_words.specs.declared.lock.slot.Slot.TheVariants.{OfSlabs}
 use Rattle.mc_words.specs.rule.Happens.{LawfulView}
 use Rattle.mc_words.specs.rule.Joins.{Rule}

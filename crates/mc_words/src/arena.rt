@@ -7,8 +7,8 @@ pub(crate) mod refusal;
 
 ghost use Rattle.std.specs.Prelude.{◌≡◌, ◌+◌, ◌^◌, ◌<◌, ◌≤◌};
 ghost use Rattle.mc_classes.specs.Classes.{IsSound};
-ghost use Rattle.mc_core.specs.Chunks.{most_issue};
-ghost use Rattle.mc_core.specs.State.{most_of, page_words};
+ghost use Rattle.mc_core.specs.run.Chunks.{most_issue};
+ghost use Rattle.mc_core.specs.model.State.{most_of, page_words};
 ghost use Rattle.mc_words.specs.rule.Layout.{data_from, heads_from, pages_from, word_count};
 ghost use Rattle.mc_words.specs.lock.Slots.{slot_count};
 
@@ -50,7 +50,7 @@ pub struct Arena {
 }
 
 impl Arena {
-    ghost use Rattle.mc_core.specs.State.{has_chunk};
+    ghost use Rattle.mc_core.specs.model.State.{has_chunk};
     ghost use Rattle.mc_words.specs.hand.Arenas.{setup_of};
 
     /// The configuration of the arena.

@@ -3,7 +3,7 @@ pub(crate) mod held;
 pub(crate) mod join;
 pub(crate) mod recall;
 
-ghost use Rattle.mc_core.specs.Chunks.{most_holdings};
+ghost use Rattle.mc_core.specs.run.Chunks.{most_holdings};
 ghost use Rattle.mc_words.specs.lock.Out.{IsNoted};
 ghost use Rattle.mc_words.specs.hand.Tallies.{IsTallied};
 
@@ -34,7 +34,7 @@ pub struct Hand {
 
 impl Hand {
     ghost use Rattle.std.specs.Prelude.{◌≡◌, ◌≤◌, length};
-    ghost use Rattle.mc_core.specs.Holdings.{has_fresh};
+    ghost use Rattle.mc_core.specs.model.Holdings.{has_fresh};
     ghost use Rattle.mc_words.specs.hand.Arenas.{view};
     ghost use Rattle.mc_words.specs.rule.Happens.{LawfulView};
     ghost use Rattle.mc_words.specs.hand.Idle.{is_idle, is_unlocked};

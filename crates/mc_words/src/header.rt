@@ -1,7 +1,7 @@
 //! The parts of a header's word, which is `issue * 2^18 + tag * 2^16 + count`.
 ghost use Rattle.std.specs.Prelude.{◌≡◌};
-ghost use Rattle.mc_core.specs.Evictions.{is_linked_unheld};
-ghost use Rattle.mc_core.specs.Head.{decode, is_linked, is_out};
+ghost use Rattle.mc_core.specs.run.Evictions.{is_linked_unheld};
+ghost use Rattle.mc_core.specs.model.Head.{decode, is_linked, is_out};
 ghost use Rattle.mc_words.specs.item.Again.{is_there};
 ghost use Rattle.mc_words.specs.page.Owner.{is_unused};
 

@@ -5,7 +5,7 @@ use Rattle.std.proofs.lemmas.List.{nil_from_length}
 use Rattle.mc_words.specs.declared.arena.Arena.{Arena}
 use Rattle.mc_words.specs.declared.hand.Hand.{Hand}
 use Rattle.mc_words.specs.hand.Arenas.{setup_of, view}
-use Rattle.mc_core.specs.Holdings.{has_fresh}
+use Rattle.mc_core.specs.model.Holdings.{has_fresh}
 use Rattle.mc_words.specs.hand.Idle.{is_idle}
 use Rattle.mc_words.specs.hand.Ready.{IsReady}
 use Rattle.mc_words.specs.hand.View.{View}

@@ -10,9 +10,9 @@ use Rattle.mc_pages.specs.ClassState.{is_chunk}
 use Rattle.mc_pages.specs.Accounted.{truth}
 use Rattle.mc_pages.proofs.Chunks.{is_chunk-same}
 use Rattle.mc_core.specs.declared.holding.Holding.{Holding}
-use Rattle.mc_core.specs.Columns.{count_of_holdings}
-use Rattle.mc_core.specs.Holdings.{holding_of, is_of_chunk, without_first}
-use Rattle.mc_core.proofs.Holders.{holds-cons, holds-lose, holds-push}
+use Rattle.mc_core.specs.model.Columns.{count_of_holdings}
+use Rattle.mc_core.specs.model.Holdings.{holding_of, is_of_chunk, without_first}
+use Rattle.mc_core.proofs.Counts.Holders.{holds-cons, holds-lose, holds-push}
 use Rattle.mc_words.specs.hand.View.{View}
 use Rattle.mc_words.specs.hand.Views.{chunk_released}
 use Rattle.mc_words.specs.hand.Idle.{is_idle}

@@ -14,14 +14,14 @@ use Rattle.mc_pages.specs.ClassState.{ClassState, new_class, numbers_of}
 use Rattle.mc_pages.specs.SlabState.{SlabState, HasClass, class_at, granted_count, is_untouched}
 use Rattle.mc_pages.proofs.GrantedPage.{length-pages_le}
 use Rattle.mc_core.specs.declared.event.Step.TheVariants as step
-use Rattle.mc_core.specs.InOrder.{IsOfTable}
-use Rattle.mc_core.specs.Lawful.{IsLawful}
-use Rattle.mc_core.specs.Past.{Moment, moment_after}
-use Rattle.mc_core.specs.State.{has_slabs}
-use Rattle.mc_core.specs.Views.{held_slabs}
-use Rattle.mc_core.proofs.LawKept.{lawful_events}
-use Rattle.mc_core.proofs.Listed.{per_page_is}
-use Rattle.mc_core.proofs.OfTable.{class_count}
+use Rattle.mc_core.specs.model.InOrder.{IsOfTable}
+use Rattle.mc_core.specs.law.Lawful.{IsLawful}
+use Rattle.mc_core.specs.past.Past.{Moment, moment_after}
+use Rattle.mc_core.specs.model.State.{has_slabs}
+use Rattle.mc_core.specs.model.Views.{held_slabs}
+use Rattle.mc_core.proofs.Law.LawKept.{lawful_events}
+use Rattle.mc_core.proofs.Steps.Listed.{per_page_is}
+use Rattle.mc_core.proofs.Places.OfTable.{class_count}
 use Rattle.mc_watch.specs.Texts.{AreCounts}
 use Rattle.mc_words.specs.declared.arena.Arena.{Arena}
 use Rattle.mc_words.specs.declared.hand.Hand.{Hand}

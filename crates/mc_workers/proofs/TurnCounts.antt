@@ -4,8 +4,8 @@ use Rattle.mc_classes.specs.Classes.{IsSound}
 use Rattle.mc_pages.specs.declared.moves.Found.{Found}
 use Rattle.mc_pages.specs.declared.moves.Found.TheVariants.{Cleared, Rescued, Evicted, Busy, Locked, Already}
 use Rattle.mc_pages.specs.SlabState.{SlabState}
-use Rattle.mc_core.specs.InOrder.{IsOfTable}
-use Rattle.mc_core.proofs.Listed.{per_page_is, source_of_move}
+use Rattle.mc_core.specs.model.InOrder.{IsOfTable}
+use Rattle.mc_core.proofs.Steps.Listed.{per_page_is, source_of_move}
 use Rattle.mc_words.specs.hand.View.{View}
 use Rattle.mc_words.specs.lock.Doing.{HoldsSlabs}
 use Rattle.mc_mover.specs.declared.counts.Counts as mover

@@ -5,7 +5,7 @@ use Rattle.std.proofs.lemmas.List.Elements.{All-from_recursion}
 use Rattle.std.specs.Option.{option_map, option_map_or}
 use Rattle.mc_pages.specs.declared.ids.ChunkId.{ChunkId}
 use Rattle.mc_stripe.specs.StripeState.{StripeState}
-use Rattle.mc_core.specs.Silent.{is_aside}
+use Rattle.mc_core.specs.run.Silent.{is_aside}
 use Rattle.mc_words.specs.declared.arena.Arena.{Arena}
 use Rattle.mc_words.specs.declared.hand.Hand.{Hand}
 use Rattle.mc_words.specs.hand.Arenas.{IsHandOf}

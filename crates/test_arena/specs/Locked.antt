@@ -2,8 +2,8 @@
 use Rattle.std.specs.Prelude.{◌≡◌, ◌<◌, ℕ, true, None, Some}
 use Rattle.mc_pages.specs.declared.ids.ChunkId.{ChunkId}
 use Rattle.mc_stripe.specs.StripeState.{chunk_and_stamp}
-use Rattle.mc_core.specs.Looks.{was_linked}
-use Rattle.mc_core.specs.State.{has_chunk}
+use Rattle.mc_core.specs.model.Looks.{was_linked}
+use Rattle.mc_core.specs.model.State.{has_chunk}
 use Rattle.mc_words.specs.declared.arena.Arena.{Arena}
 use Rattle.mc_words.specs.declared.hand.Hand.{Hand}
 use Rattle.mc_words.specs.declared.hand.held.StripeHeld.{StripeHeld}

@@ -1,6 +1,6 @@
 //! The two calls that look a key up, so that a test can try both.
 ghost use Rattle.std.specs.Prelude.{◌≡◌, true, IfSome};
-ghost use Rattle.mc_core.specs.State.{has_chunk};
+ghost use Rattle.mc_core.specs.model.State.{has_chunk};
 ghost use Rattle.mc_words.specs.hand.Arenas.{setup_of, view};
 ghost use Rattle.mc_items.specs.ItemRefs.{IsItemRef, item_chunk};
 ghost use Rattle.mc_items.specs.Keeping.{HoldsToo};

@@ -1,6 +1,6 @@
 -- Hands that keep references, and hints of items that they knew.
 use Rattle.std.specs.Prelude.{◌≡◌, ℕ, List, true, All, Option, IfSome}
-use Rattle.mc_core.specs.State.{has_chunk}
+use Rattle.mc_core.specs.model.State.{has_chunk}
 use Rattle.mc_words.specs.declared.arena.Arena.{Arena}
 use Rattle.mc_words.specs.declared.hand.Hand.{Hand}
 use Rattle.mc_words.specs.declared.item.refs.Hint.{Hint}

@@ -2,7 +2,7 @@ use Rattle.std.proofs.Common.{◌≡◌, ℕ, [], ◌∷◌, ◌∙◌, List, Op
 use Rattle.std.specs.Result.{result_ok}
 use Rattle.std.proofs.lemmas.List.Elements.{Contains-push}
 use Rattle.std.proofs.lemmas.Result.{IfOk-weaker}
-use Rattle.mc_core.specs.Past.{StoredItem}
+use Rattle.mc_core.specs.past.Past.{StoredItem}
 use Rattle.mc_words.specs.hand.Arenas.{view}
 use Rattle.mc_words.specs.item.Items.{item_with}
 use Rattle.mc_items.specs.ItemRefs.{item_key, item_stamp}

@@ -2,9 +2,9 @@
 use Rattle.std.proofs.Common.{◌≡◌, ◌∙◌, Bool, List, [], ◌∷◌, ◌++◌, ap, arith, if◌then◌else◌, refl, Some}
 use Rattle.mc_pages.specs.declared.ids.ChunkId.{ChunkId}
 use Rattle.mc_core.specs.declared.holding.Holding.{Holding}
-use Rattle.mc_core.specs.Columns.{count_of_holdings}
-use Rattle.mc_core.specs.Holdings.{is_of_chunk, without_first}
-use Rattle.mc_core.proofs.Holders.{holds-cons}
+use Rattle.mc_core.specs.model.Columns.{count_of_holdings}
+use Rattle.mc_core.specs.model.Holdings.{is_of_chunk, without_first}
+use Rattle.mc_core.proofs.Counts.Holders.{holds-cons}
 use Rattle.mc_pages.specs.Accounted.{truth}
 use Rattle.mc_pages.proofs.Chunks.{is_chunk-same}
 use Rattle.mc_words.specs.hand.View.{View}

@@ -1,6 +1,6 @@
 -- Hands between two calls, and what hands of the arena stored.
 use Rattle.std.specs.Prelude.{◌≡◌, ℕ, List, []}
-use Rattle.mc_core.specs.Past.{StoredItem}
+use Rattle.mc_core.specs.past.Past.{StoredItem}
 use Rattle.mc_words.specs.declared.arena.Arena.{Arena}
 use Rattle.mc_words.specs.declared.hand.Hand.{Hand}
 use Rattle.mc_words.specs.hand.Arenas.{IsHandOf, view}

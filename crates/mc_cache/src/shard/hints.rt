@@ -1,7 +1,7 @@
 //! Hints of where items are, in words beside the arenas. No proof rests on them: the words may have any numbers, and a get looks
 //! at the chunk's header before it takes a hint for true. (own)
 ghost use Rattle.std.specs.Prelude.{◌≡◌, true, IfSome};
-ghost use Rattle.mc_core.specs.State.{has_chunk};
+ghost use Rattle.mc_core.specs.model.State.{has_chunk};
 ghost use Rattle.mc_words.specs.hand.Arenas.{setup_of};
 ghost use Rattle.mc_words.specs.hand.Observers.{hint_chunk};
 

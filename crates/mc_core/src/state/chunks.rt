@@ -2,9 +2,9 @@
 ghost use Rattle.std.specs.Prelude.{◌≡◌, ◌<◌, true, length, None, Some, IfOk, OnOk, replicate};
 ghost use Rattle.std.specs.Option.{option_map};
 ghost use Rattle.mc_pages.specs.Pages.{is_on_the_move};
-ghost use Rattle.mc_core.specs.Holdings.{holding_of};
-ghost use Rattle.mc_core.specs.State.{head_at, chunk_room, holdings_at};
-ghost use Rattle.mc_core.specs.Chunks.{has_place, can_hand_out, with_fresh, next_free, can_pop, state_after_pop, target_of, can_pop_off, after_pop_off, can_fill, after_fill, holds_as, can_discard, can_release, after_drop, can_put_back, after_put_back, can_clear, state_after_clear, can_cut, state_after_cut, head_after_hand_out, head_after_release, with_tag_free, with_tag_out, most_issue};
+ghost use Rattle.mc_core.specs.model.Holdings.{holding_of};
+ghost use Rattle.mc_core.specs.model.State.{head_at, chunk_room, holdings_at};
+ghost use Rattle.mc_core.specs.run.Chunks.{has_place, can_hand_out, with_fresh, next_free, can_pop, state_after_pop, target_of, can_pop_off, after_pop_off, can_fill, after_fill, holds_as, can_discard, can_release, after_drop, can_put_back, after_put_back, can_clear, state_after_clear, can_cut, state_after_cut, head_after_hand_out, head_after_release, with_tag_free, with_tag_out, most_issue};
 
 use super::State;
 use crate::head::{Head, Tag};
@@ -108,7 +108,7 @@ impl State {
     }
 
     /// No word of the chunk is filled.
-    #[tactic(auto, using(crate::proofs::Lists::replicate_more))]
+    #[tactic(auto, using(crate::proofs::Steps::Lists::replicate_more))]
     fn blank(&self, chunk: ChunkId) -> Result<Series<Option<u64>>, Refused>
         ensures { IfOk result (λ words. words ≡ replicate (chunk_room self.now chunk) None) }
     {

@@ -2,10 +2,10 @@
 ghost use Rattle.std.specs.Prelude.{◌≡◌, ◌^◌, ◌<◌, [], length, slice_index, IfOk, OnOk};
 ghost use Rattle.std.specs.List.{position};
 ghost use Rattle.std.specs.Option.{option_map};
-ghost use Rattle.mc_core.specs.Holdings.{is_of_chunk, holding_of, without_first};
-ghost use Rattle.mc_core.specs.State.{with_head, word_at, with_word, item_at, number_at, is_hand, is_held_by, has_slabs, has_stripe, stripe_of, holdings_at, with_holding, without_holding, looks_at, with_look, with_looks};
-ghost use Rattle.mc_core.specs.Silent.{writer_of};
-ghost use Rattle.mc_core.specs.Locks.{lock_word, state_after_look};
+ghost use Rattle.mc_core.specs.model.Holdings.{is_of_chunk, holding_of, without_first};
+ghost use Rattle.mc_core.specs.model.State.{with_head, word_at, with_word, item_at, number_at, is_hand, is_held_by, has_slabs, has_stripe, stripe_of, holdings_at, with_holding, without_holding, looks_at, with_look, with_looks};
+ghost use Rattle.mc_core.specs.run.Silent.{writer_of};
+ghost use Rattle.mc_core.specs.run.Locks.{lock_word, state_after_look};
 
 use super::State;
 use crate::head::Head;
@@ -74,7 +74,7 @@ impl State {
     }
 
     /// The words of the item in a chunk.
-    #[tactic(auto, using(crate::proofs::Lists::map_range_more))]
+    #[tactic(auto, using(crate::proofs::Steps::Lists::map_range_more))]
     pub(super) fn item(&self, chunk: ChunkId) -> Result<Series<u64>, Refused>
         ensures { IfOk result (λ words. words ≡ item_at self.now chunk) }
     {

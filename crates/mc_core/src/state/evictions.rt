@@ -2,9 +2,9 @@
 ghost use Rattle.std.specs.Prelude.{◌≡◌, ◌<◌, true, length, is_some, IfOk, OnOk};
 ghost use Rattle.mc_pages.specs.Changes.{next_page};
 ghost use Rattle.mc_pages.specs.SlabState.{class_of_page};
-ghost use Rattle.mc_core.specs.State.{stripe_of, stripe_at, with_stripe, holdings_at, looks_at};
-ghost use Rattle.mc_core.specs.Silent.{writer_of};
-ghost use Rattle.mc_core.specs.Evictions.{has_copy, none_dead, must_leave, lacks_room, has_reason, is_linked_unheld, can_lose_entry, can_condemn, head_after_condemn, stripe_condemned, with_bound, after_condemn};
+ghost use Rattle.mc_core.specs.model.State.{stripe_of, stripe_at, with_stripe, holdings_at, looks_at};
+ghost use Rattle.mc_core.specs.run.Silent.{writer_of};
+ghost use Rattle.mc_core.specs.run.Evictions.{has_copy, none_dead, must_leave, lacks_room, has_reason, is_linked_unheld, can_lose_entry, can_condemn, head_after_condemn, stripe_condemned, with_bound, after_condemn};
 
 use super::State;
 use crate::head::{Head, Tag};

@@ -1,6 +1,6 @@
 //! Hands that become one.
 ghost use Rattle.std.specs.Prelude.{◌≡◌, ◌<◌, length};
-ghost use Rattle.mc_core.specs.Hands.{hand_has_no_stripe, is_hand_idle, can_join, after_join};
+ghost use Rattle.mc_core.specs.run.Hands.{hand_has_no_stripe, is_hand_idle, can_join, after_join};
 
 use super::State;
 use super::columns::is_held_by;

@@ -1,9 +1,9 @@
 //! Items that are linked, referred to, read and unlinked.
 ghost use Rattle.std.specs.Prelude.{◌≡◌, ◌<◌, true, length, Some, OnOk};
 ghost use Rattle.mc_stripe.specs.StripeState.{key_aside};
-ghost use Rattle.mc_core.specs.Holdings.{has_fresh, is_complete, known_key, holding_words};
-ghost use Rattle.mc_core.specs.State.{head_at, holdings_at, ids_at, stripe_of, stripe_at};
-ghost use Rattle.mc_core.specs.Items.{head_after_link, head_after_unlink, head_after_refer, can_count, is_next_stamp, is_allowed_for, can_link_key, can_link_holding, can_link, state_after_link, can_record_link, with_recorded_link, with_rescued, with_set, is_none_else_aside, most_stamps, with_reference, chunk_of_key, can_look_up, can_refer, after_refer, with_got, can_unlink, state_after_unlink, can_again, can_word, can_word_held, after_word_held};
+ghost use Rattle.mc_core.specs.model.Holdings.{has_fresh, is_complete, known_key, holding_words};
+ghost use Rattle.mc_core.specs.model.State.{head_at, holdings_at, ids_at, stripe_of, stripe_at};
+ghost use Rattle.mc_core.specs.run.Items.{head_after_link, head_after_unlink, head_after_refer, can_count, is_next_stamp, is_allowed_for, can_link_key, can_link_holding, can_link, state_after_link, can_record_link, with_recorded_link, with_rescued, with_set, is_none_else_aside, most_stamps, with_reference, chunk_of_key, can_look_up, can_refer, after_refer, with_got, can_unlink, state_after_unlink, can_again, can_word, can_word_held, after_word_held};
 
 use super::State;
 use crate::head::{Head, Tag};

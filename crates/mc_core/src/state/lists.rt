@@ -1,7 +1,7 @@
 //! The free list and the hand-out order of a class, copied, and what is in them.
 ghost use Rattle.std.specs.Prelude.{◌≡◌, IfOk};
 ghost use Rattle.mc_pages.specs.SlabState.{HasClass, class_at};
-ghost use Rattle.mc_core.specs.Silent.{is_among, has_page, is_handed_out, is_listed, has_listed};
+ghost use Rattle.mc_core.specs.run.Silent.{is_among, has_page, is_handed_out, is_listed, has_listed};
 
 use super::State;
 use mc_classes::{ClassId, PageId};

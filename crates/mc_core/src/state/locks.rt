@@ -1,7 +1,7 @@
 //! Looks at words, and the locks that are taken and given.
 ghost use Rattle.std.specs.Prelude.{◌≡◌, ◌<◌, length, is_none, OnOk};
-ghost use Rattle.mc_core.specs.State.{stripe_at};
-ghost use Rattle.mc_core.specs.Locks.{after_look, has_stripes, after_miss_stripe, can_take_slabs, after_take_slabs, can_take_stripe, after_take_stripe, can_give_slabs, after_give_slabs, can_give_stripe, after_give_stripe, with_stripe_lock};
+ghost use Rattle.mc_core.specs.model.State.{stripe_at};
+ghost use Rattle.mc_core.specs.run.Locks.{after_look, has_stripes, after_miss_stripe, can_take_slabs, after_take_slabs, can_take_stripe, after_take_stripe, can_give_slabs, after_give_slabs, can_give_stripe, after_give_stripe, with_stripe_lock};
 
 use super::State;
 use crate::look::Look;

@@ -5,9 +5,9 @@ ghost use Rattle.mc_stripe.specs.StripeState.{new_stripe};
 ghost use Rattle.mc_classes.specs.Classes.{arena_pages_of};
 ghost use Rattle.mc_pages.specs.SlabState.{fresh_slabs};
 ghost use Rattle.mc_pages.specs.Accounted.{IsAccounted};
-ghost use Rattle.mc_core.specs.Head.{uncut_from};
-ghost use Rattle.mc_core.specs.State.{most_of, new_state};
-ghost use Rattle.mc_core.specs.Chunks.{most_issue};
+ghost use Rattle.mc_core.specs.model.Head.{uncut_from};
+ghost use Rattle.mc_core.specs.model.State.{most_of, new_state};
+ghost use Rattle.mc_core.specs.run.Chunks.{most_issue};
 
 use super::State;
 use crate::head::Head;
@@ -125,7 +125,7 @@ fn slabs_of(alloc: Global, table: &ClassTable) -> Result<Slabs, Refused>
 }
 
 /// A vector of n stripes, without items.
-#[tactic(auto, using(crate::proofs::Lists::replicate_more))]
+#[tactic(auto, using(crate::proofs::Steps::Lists::replicate_more))]
 fn stripes_of(alloc: Global, count: u64) -> Result<Vec<Stripe>, Refused>
     ensures { IfOk result (λ stripes. stripes.items ≡ replicate count new_stripe) }
 {
@@ -137,7 +137,7 @@ fn stripes_of(alloc: Global, count: u64) -> Result<Vec<Stripe>, Refused>
 }
 
 /// The numbers of n hands, counted from 0.
-#[tactic(auto, using(crate::proofs::Lists::map_range_more))]
+#[tactic(auto, using(crate::proofs::Steps::Lists::map_range_more))]
 fn ids_of(alloc: Global, count: u64) -> Result<Vec<Ids>, Refused>
     requires { count ≤ 64 }
     ensures { IfOk result (λ ids. ids.items ≡ map (λ number. record { number = Some number; stamps = 0 }) (range_with_len 0 count)) }
@@ -151,7 +151,7 @@ fn ids_of(alloc: Global, count: u64) -> Result<Vec<Ids>, Refused>
 }
 
 /// A vector of n empty rows.
-#[tactic(auto, using(crate::proofs::Lists::replicate_more))]
+#[tactic(auto, using(crate::proofs::Steps::Lists::replicate_more))]
 fn rows_of<T: Drop>(alloc: Global, count: u64) -> Result<Vec<Series<T>>, Refused>
     ensures { IfOk result (λ rows. rows.items ≡ replicate count []) }
 {

@@ -4,9 +4,9 @@ ghost use Rattle.mc_pages.specs.SlabState.{class_of_page, class_of_chunk};
 ghost use Rattle.mc_pages.specs.Changes.{after_pop, after_back, after_touch, after_replace, after_clear, after_cut};
 ghost use Rattle.mc_pages.specs.Moves.{after_finish, after_passed, after_wrap};
 ghost use Rattle.mc_pages.specs.Pages.{is_on_the_move};
-ghost use Rattle.mc_core.specs.State.{is_class, with_slabs};
-ghost use Rattle.mc_core.specs.Silent.{is_among, is_handed_out, is_listed, run_of, can_finish, can_pass, can_wrap};
-ghost use Rattle.mc_core.specs.Chunks.{next_free, is_next_uncut};
+ghost use Rattle.mc_core.specs.model.State.{is_class, with_slabs};
+ghost use Rattle.mc_core.specs.run.Silent.{is_among, is_handed_out, is_listed, run_of, can_finish, can_pass, can_wrap};
+ghost use Rattle.mc_core.specs.run.Chunks.{next_free, is_next_uncut};
 
 use super::State;
 use mc_classes::ClassId;

@@ -2,7 +2,7 @@
 ghost use Rattle.std.specs.Prelude.{◌≡◌, ◌+◌, ◌*◌, ◌^◌, ◌<◌, ◌≤◌, length, slice_index_or, MatchOption};
 ghost use Rattle.mc_classes.specs.Limits.{most_page_chunks};
 ghost use Rattle.mc_pages.specs.SlabState.{class_of_page};
-ghost use Rattle.mc_core.specs.State.{most_of, is_class, room_in, has_chunk, head_place, chunk_room, word_place};
+ghost use Rattle.mc_core.specs.model.State.{most_of, is_class, room_in, has_chunk, head_place, chunk_room, word_place};
 
 use super::State;
 use mc_classes::ClassId;

@@ -6,9 +6,9 @@ ghost use Rattle.mc_stripe.specs.Changes.{used_up};
 ghost use Rattle.mc_core.specs.declared.event.Change.TheVariants.{BeginMove, FinishMove, Touch, SetAutomove, TrimLedger, Passed, Wrap, Evicted, OfStripe};
 ghost use Rattle.mc_core.specs.declared.event.StripeChange.TheVariants.{Trim};
 ghost use Rattle.mc_core.specs.declared.look.Look.TheVariants.{Changed};
-ghost use Rattle.mc_core.specs.State.{has_slabs, stripe_of, stripe_at, with_slabs, with_stripe, with_look};
-ghost use Rattle.mc_core.specs.Silent.{none_half_cut, run_of, is_cleared_at, can_finish, can_pass, can_wrap, can_record_miss, can_change_stripe, stripe_after, writer_of, slabs_after, can_change_slabs, allows_change, after_change, allows_changes, after_changes, stripe_after_miss, call_of};
-ghost use Rattle.mc_core.specs.Done.{IsResultOf};
+ghost use Rattle.mc_core.specs.model.State.{has_slabs, stripe_of, stripe_at, with_slabs, with_stripe, with_look};
+ghost use Rattle.mc_core.specs.run.Silent.{none_half_cut, run_of, is_cleared_at, can_finish, can_pass, can_wrap, can_record_miss, can_change_stripe, stripe_after, writer_of, slabs_after, can_change_slabs, allows_change, after_change, allows_changes, after_changes, stripe_after_miss, call_of};
+ghost use Rattle.mc_core.specs.run.Done.{IsResultOf};
 
 use super::State;
 use crate::event::{Change, StripeChange};

@@ -1,7 +1,7 @@
 //! Events, played one after another: whether a step is allowed, and what it does.
 ghost use Rattle.std.specs.Prelude.{◌≡◌, ◌<◌, true, length, IfOk, OnOk};
-ghost use Rattle.mc_core.specs.Done.{IsResultOf};
-ghost use Rattle.mc_core.specs.Run.{allows_step, after_step, is_allowed, state_after_event};
+ghost use Rattle.mc_core.specs.run.Done.{IsResultOf};
+ghost use Rattle.mc_core.specs.run.Run.{allows_step, after_step, is_allowed, state_after_event};
 
 use super::State;
 use crate::event::{Event, Step};

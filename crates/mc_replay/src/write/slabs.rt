@@ -2,7 +2,7 @@
 ghost use Rattle.std.specs.Prelude.{◌≡◌, ◌++◌, OnOk, flat_map, length, string_bytes};
 ghost use Rattle.mc_classes.specs.Classes.{arena_pages_of};
 ghost use Rattle.mc_pages.specs.SlabState.{HasClass, class_at, totals_of};
-ghost use Rattle.mc_core.specs.InOrder.{IsOfTable};
+ghost use Rattle.mc_core.specs.model.InOrder.{IsOfTable};
 ghost use Rattle.mc_replay.specs.Written.{chunk_text, chunks_text, class_state_line, class_states_text, ledger_entry_line, ledger_entry_text, evictions_text, free_text, item_counts, stored_ledger_text, mode_text, moving_line, moving_text, order_text, owner_line, owners_text, page_counts, slab_state_text, totals_line, trimmed_entries};
 
 use crate::fault::NoMemory;

@@ -10,14 +10,14 @@ use Rattle.mc_core.specs.declared.head.Head.{Head}
 use Rattle.mc_core.specs.declared.head.Tag.{Tag}
 use Rattle.mc_core.specs.declared.head.Tag.TheVariants.{Free}
 use Rattle.mc_core.specs.declared.event.Step.TheVariants as core
-use Rattle.mc_core.specs.Chunks.{can_clear, with_tag_out}
-use Rattle.mc_core.specs.Codes.{FitsBits, word_minus}
-use Rattle.mc_core.specs.Head.{code, decode, tag_of, is_dead, is_free, is_unlinked}
-use Rattle.mc_core.specs.Seen.{seen_head}
-use Rattle.mc_core.specs.Silent.{is_listed}
-use Rattle.mc_core.specs.State.{has_chunk, head_at}
-use Rattle.mc_core.proofs.Codes.{are_one_word, all_are_sums}
-use Rattle.mc_core.proofs.Listed.{places_from_listed}
+use Rattle.mc_core.specs.run.Chunks.{can_clear, with_tag_out}
+use Rattle.mc_core.specs.model.Codes.{FitsBits, word_minus}
+use Rattle.mc_core.specs.model.Head.{code, decode, tag_of, is_dead, is_free, is_unlinked}
+use Rattle.mc_core.specs.law.Seen.{seen_head}
+use Rattle.mc_core.specs.run.Silent.{is_listed}
+use Rattle.mc_core.specs.model.State.{has_chunk, head_at}
+use Rattle.mc_core.proofs.ItemWords.Codes.{are_one_word, all_are_sums}
+use Rattle.mc_core.proofs.Steps.Listed.{places_from_listed}
 use Rattle.mc_words.specs.hand.View.{View}
 use Rattle.mc_words.specs.rule.Layout.{head_word}
 use Rattle.mc_words.specs.rule.Happens.{LawfulView, Happens, MayWrite}

@@ -17,19 +17,19 @@ use Rattle.mc_core.specs.declared.head.Head.{Head}
 use Rattle.mc_core.specs.declared.head.Tag.TheVariants.{Free}
 use Rattle.mc_core.specs.declared.holding.Holding.{Holding}
 use Rattle.mc_core.specs.declared.event.Step.TheVariants as core
-use Rattle.mc_core.specs.Chunks as chunks
-use Rattle.mc_core.specs.Chunks.{head_after_hand_out, has_place, most_holdings, most_issue, popped_off, target_of}
-use Rattle.mc_core.specs.Codes.{FitsBits, word_plus}
-use Rattle.mc_core.specs.Columns.{holder_count}
-use Rattle.mc_core.specs.Head.{decode, is_free}
-use Rattle.mc_core.specs.Holdings.{holding_of, is_of_chunk}
-use Rattle.mc_core.specs.InOrder.{IsOfTable}
-use Rattle.mc_core.specs.Judged.{SeesTarget}
-use Rattle.mc_core.specs.Silent.{is_handed_out}
-use Rattle.mc_core.specs.State.{head_at, head_place, has_chunk, holdings_at, is_class, looks_at, room_in}
-use Rattle.mc_core.proofs.Codes.{all_are_sums}
-use Rattle.mc_core.proofs.Holders.{none_held}
-use Rattle.mc_core.proofs.OfTable.{class_count}
+use Rattle.mc_core.specs.run.Chunks as chunks
+use Rattle.mc_core.specs.run.Chunks.{head_after_hand_out, has_place, most_holdings, most_issue, popped_off, target_of}
+use Rattle.mc_core.specs.model.Codes.{FitsBits, word_plus}
+use Rattle.mc_core.specs.model.Columns.{holder_count}
+use Rattle.mc_core.specs.model.Head.{decode, is_free}
+use Rattle.mc_core.specs.model.Holdings.{holding_of, is_of_chunk}
+use Rattle.mc_core.specs.model.InOrder.{IsOfTable}
+use Rattle.mc_core.specs.law.Judged.{SeesTarget}
+use Rattle.mc_core.specs.run.Silent.{is_handed_out}
+use Rattle.mc_core.specs.model.State.{head_at, head_place, has_chunk, holdings_at, is_class, looks_at, room_in}
+use Rattle.mc_core.proofs.ItemWords.Codes.{all_are_sums}
+use Rattle.mc_core.proofs.Counts.Holders.{none_held}
+use Rattle.mc_core.proofs.Places.OfTable.{class_count}
 use Rattle.mc_words.specs.hand.View.{View}
 use Rattle.mc_words.specs.item.Fresh.{IsFreshOf}
 use Rattle.mc_words.specs.rule.Layout.{head_word}
@@ -75,9 +75,9 @@ module _ (view : View) (slabs : SlabState) (old chunk : ChunkId) (mine : view.sl
           after = sees.after;
           seen = sees.seen;
           stands = ap (λ (x : SlabState). (Rattle.mc_pages.specs.SlabState.class_at x (class_of_page x old.page)).free) (sym slabs_is) ∙ sees.stands;
-          unfit = ap (λ looks. Rattle.std.specs.List.list_all (Rattle.mc_core.specs.Judged.is_seen_unfit looks old.page) sees.before) (sym looks_is) ∙ sees.unfit;
+          unfit = ap (λ looks. Rattle.std.specs.List.list_all (Rattle.mc_core.specs.law.Judged.is_seen_unfit looks old.page) sees.before) (sym looks_is) ∙ sees.unfit;
           off = sees.off;
-          last = ap (λ looks. Rattle.mc_core.specs.Seen.seen_head looks chunk) (sym looks_is) ∙ sees.last;
+          last = ap (λ looks. Rattle.mc_core.specs.law.Seen.seen_head looks chunk) (sym looks_is) ∙ sees.last;
           unused = sees.unused;
         }
 

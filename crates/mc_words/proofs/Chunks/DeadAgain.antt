@@ -5,9 +5,9 @@ use Rattle.mc_pages.specs.declared.ids.ChunkId.{ChunkId}
 use Rattle.mc_pages.specs.SlabState.{SlabState}
 use Rattle.mc_core.specs.declared.head.Head.{Head}
 use Rattle.mc_core.specs.declared.event.Step.TheVariants as core
-use Rattle.mc_core.specs.Head.{decode, is_dead}
-use Rattle.mc_core.specs.Seen.{seen_head}
-use Rattle.mc_core.specs.State.{has_chunk, head_at}
+use Rattle.mc_core.specs.model.Head.{decode, is_dead}
+use Rattle.mc_core.specs.law.Seen.{seen_head}
+use Rattle.mc_core.specs.model.State.{has_chunk, head_at}
 use Rattle.mc_words.specs.hand.View.{View}
 use Rattle.mc_words.specs.rule.Layout.{head_word}
 use Rattle.mc_words.specs.rule.Happens.{Happens}

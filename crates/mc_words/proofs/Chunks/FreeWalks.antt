@@ -14,14 +14,14 @@ use Rattle.mc_pages.proofs.Cleared.{truth-le_one}
 use Rattle.mc_core.specs.declared.head.Head.{Head}
 use Rattle.mc_core.specs.declared.look.Look.{Look}
 use Rattle.mc_core.specs.declared.look.Look.TheVariants.{Saw}
-use Rattle.mc_core.specs.Chunks.{most_issue}
-use Rattle.mc_core.specs.Head.{is_free}
-use Rattle.mc_core.specs.Judged.{SeesTarget, is_seen_unfit, sees_no_target}
-use Rattle.mc_core.specs.Seen.{last_head, seen_head}
-use Rattle.mc_core.specs.Silent.{is_among}
-use Rattle.mc_core.specs.State.{has_chunk, head_at, is_class}
-use Rattle.mc_core.proofs.FreeChunks.{free_placed, near_placed}
-use Rattle.mc_core.proofs.Listed.{Contains_from_among}
+use Rattle.mc_core.specs.run.Chunks.{most_issue}
+use Rattle.mc_core.specs.model.Head.{is_free}
+use Rattle.mc_core.specs.law.Judged.{SeesTarget, is_seen_unfit, sees_no_target}
+use Rattle.mc_core.specs.law.Seen.{last_head, seen_head}
+use Rattle.mc_core.specs.run.Silent.{is_among}
+use Rattle.mc_core.specs.model.State.{has_chunk, head_at, is_class}
+use Rattle.mc_core.proofs.Places.FreeChunks.{free_placed, near_placed}
+use Rattle.mc_core.proofs.Steps.Listed.{Contains_from_among}
 use Rattle.mc_words.specs.hand.View.{View}
 use Rattle.mc_words.specs.rule.Happens.{LawfulView}
 use Rattle.mc_words.specs.chunk.Copies.{FindsFit, PassesAll, PassesOver}

@@ -4,9 +4,9 @@ use Rattle.mc_classes.specs.Classes.{arena_pages_of}
 use Rattle.mc_pages.specs.declared.ids.ChunkId.{ChunkId}
 use Rattle.mc_core.specs.declared.head.Head.{Head}
 use Rattle.mc_core.specs.declared.event.Step.TheVariants as core
-use Rattle.mc_core.specs.Head.{decode, never_cut}
-use Rattle.mc_core.specs.State.{State, has_chunk, head_at, head_place}
-use Rattle.mc_core.proofs.SameSlabs.{looked_keeps}
+use Rattle.mc_core.specs.model.Head.{decode, never_cut}
+use Rattle.mc_core.specs.model.State.{State, has_chunk, head_at, head_place}
+use Rattle.mc_core.proofs.Frame.SameSlabs.{looked_keeps}
 use Rattle.mc_words.specs.hand.View.{Setup, View}
 use Rattle.mc_words.specs.rule.Layout.{head_word, page_word, word_count}
 use Rattle.mc_words.specs.rule.Meaning.{WordsAreColumns}

@@ -7,11 +7,11 @@ use Rattle.mc_pages.specs.ClassState.{is_chunk, times_in}
 use Rattle.mc_pages.specs.SlabState.{SlabState, class_of_chunk}
 use Rattle.mc_pages.proofs.Chunks.{times-cons}
 use Rattle.mc_core.specs.declared.holding.Holding.{Holding}
-use Rattle.mc_core.specs.Holdings.{holding_of}
-use Rattle.mc_core.specs.Past.{Moment}
-use Rattle.mc_core.specs.Silent.{is_among, is_handed_out}
-use Rattle.mc_core.proofs.Base.{placed_at}
-use Rattle.mc_core.proofs.SeenQuiet.{held_handed_out, held_near}
+use Rattle.mc_core.specs.model.Holdings.{holding_of}
+use Rattle.mc_core.specs.past.Past.{Moment}
+use Rattle.mc_core.specs.run.Silent.{is_among, is_handed_out}
+use Rattle.mc_core.proofs.Steps.Base.{placed_at}
+use Rattle.mc_core.proofs.Seen.SeenQuiet.{held_handed_out, held_near}
 use Rattle.mc_words.specs.hand.View.{View}
 use Rattle.mc_words.specs.rule.Happens.{LawfulView}
 use Rattle.mc_words.proofs.Pages.Owners.{holdings_here, slabs_here}

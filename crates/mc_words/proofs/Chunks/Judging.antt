@@ -16,20 +16,20 @@ use Rattle.mc_core.specs.declared.head.Head.{Head}
 use Rattle.mc_core.specs.declared.holding.Holding.{Holding}
 use Rattle.mc_core.specs.declared.look.Look.TheVariants.{Saw}
 use Rattle.mc_core.specs.declared.event.Step.TheVariants as core
-use Rattle.mc_core.specs.Head.{decode, tag_of, is_unlinked, is_dead}
-use Rattle.mc_core.specs.Holdings.{is_of_chunk, holding_of}
-use Rattle.mc_core.specs.State.{is_class, has_chunk, head_at, room_in}
-use Rattle.mc_core.specs.Chunks.{most_issue, most_holdings, next_free}
-use Rattle.mc_core.specs.Past.{SeenWord, header}
-use Rattle.mc_core.specs.Seen.{last_head, seen_head}
-use Rattle.mc_core.specs.Columns.{holder_count}
-use Rattle.mc_core.specs.Silent.{is_handed_out}
-use Rattle.mc_core.proofs.Needless.{are_needless}
-use Rattle.mc_core.proofs.Judged.{all_are_judged}
-use Rattle.mc_core.proofs.FreeChunks.{first_placed}
-use Rattle.mc_core.proofs.OfTable.{class_count}
-use Rattle.mc_core.proofs.Listed.{Contains_from_among}
-use Rattle.mc_core.proofs.Holders.{none_held}
+use Rattle.mc_core.specs.model.Head.{decode, tag_of, is_unlinked, is_dead}
+use Rattle.mc_core.specs.model.Holdings.{is_of_chunk, holding_of}
+use Rattle.mc_core.specs.model.State.{is_class, has_chunk, head_at, room_in}
+use Rattle.mc_core.specs.run.Chunks.{most_issue, most_holdings, next_free}
+use Rattle.mc_core.specs.past.Past.{SeenWord, header}
+use Rattle.mc_core.specs.law.Seen.{last_head, seen_head}
+use Rattle.mc_core.specs.model.Columns.{holder_count}
+use Rattle.mc_core.specs.run.Silent.{is_handed_out}
+use Rattle.mc_core.proofs.Steps.Needless.{are_needless}
+use Rattle.mc_core.proofs.Seen.Judged.{all_are_judged}
+use Rattle.mc_core.proofs.Places.FreeChunks.{first_placed}
+use Rattle.mc_core.proofs.Places.OfTable.{class_count}
+use Rattle.mc_core.proofs.Steps.Listed.{Contains_from_among}
+use Rattle.mc_core.proofs.Counts.Holders.{none_held}
 use Rattle.mc_words.specs.hand.View.{View}
 use Rattle.mc_words.specs.rule.Happens.{LawfulView, Happens}
 use Rattle.mc_words.specs.item.Fresh.{IsFreshOf}
@@ -108,7 +108,7 @@ odd_alive word odd = word_alive word (λ is. omega (arith, odd, is))
 -- the next free chunk of a class was handed out
 module _ (view now : View) (slabs : SlabState) (mine : view.slabs ≡ Some slabs) (class : ℕ) (chunk : ChunkId) (head : Head) (is : is_class view.setup.table class ≡ true) (first : first_free (class_at slabs class) ≡ Some chunk) where
   module _ (was : LawfulView view) where
-    abbrev m : Rattle.mc_core.specs.Past.Moment
+    abbrev m : Rattle.mc_core.specs.past.Past.Moment
     m = was.moment
 
     class_here : is_class m.state.table class ≡ true
@@ -157,7 +157,7 @@ module _ (view now : View) (slabs : SlabState) (mine : view.slabs ≡ Some slabs
 
 -- a dead chunk was put back
 module _ (view now : View) (slabs : SlabState) (mine : view.slabs ≡ Some slabs) (chunk : ChunkId) (head : Head) (in_range : has_chunk view.setup.table chunk ≡ true) (last : seen_head view.row.looks chunk ≡ Some head) (dead : is_dead head ≡ true) where
-  judged_back : (was : LawfulView view) → (head_at was.moment.state chunk ≡ head) × (Rattle.mc_core.specs.Chunks.can_put_back was.moment.state was.hand chunk ≡ true)
+  judged_back : (was : LawfulView view) → (head_at was.moment.state chunk ≡ head) × (Rattle.mc_core.specs.run.Chunks.can_put_back was.moment.state was.hand chunk ≡ true)
   judged_back was =
       (all_are_judged was.moment was.lawful was.hand (slabs_here view was slabs mine).0).put_back chunk head (near_here view chunk in_range was) (ap (λ looks. seen_head looks chunk) (looks_here view was) ∙ last) dead
 

@@ -13,11 +13,11 @@ use Rattle.mc_pages.proofs.Cleared.{truth-le_one}
 use Rattle.mc_pages.proofs.HandedOut.{IsClass-handed_out}
 use Rattle.mc_core.specs.declared.look.Look.{Look}
 use Rattle.mc_core.specs.declared.look.Look.TheVariants.{PutBack, Saw}
-use Rattle.mc_core.specs.Chunks.{with_tag_free}
-use Rattle.mc_core.specs.Head.{is_free, is_out}
-use Rattle.mc_core.specs.Past.{Moment}
-use Rattle.mc_core.specs.State.{has_chunk, head_at, is_class, most_of}
-use Rattle.mc_core.proofs.FreeChunks.{near_in, near_placed, placed_in}
+use Rattle.mc_core.specs.run.Chunks.{with_tag_free}
+use Rattle.mc_core.specs.model.Head.{is_free, is_out}
+use Rattle.mc_core.specs.past.Past.{Moment}
+use Rattle.mc_core.specs.model.State.{has_chunk, head_at, is_class, most_of}
+use Rattle.mc_core.proofs.Places.FreeChunks.{near_in, near_placed, placed_in}
 use Rattle.mc_words.specs.hand.View.{View}
 use Rattle.mc_words.specs.rule.Happens.{LawfulView}
 use Rattle.mc_words.specs.chunk.Sweeps.{SweepsEach, SweepsOne, with_seen}

@@ -15,11 +15,11 @@ use Rattle.mc_pages.proofs.RestOfList.{rest_from}
 use Rattle.mc_core.specs.declared.head.Head.{Head}
 use Rattle.mc_core.specs.declared.look.Look.{Look}
 use Rattle.mc_core.specs.declared.look.Look.TheVariants.{PutBack, Saw}
-use Rattle.mc_core.specs.Evictions.{none_dead}
-use Rattle.mc_core.specs.Head.{is_dead}
-use Rattle.mc_core.specs.Looks.{is_found_alive, stays_alive}
-use Rattle.mc_core.specs.Silent.{is_among}
-use Rattle.mc_core.proofs.Listed.{Contains_from_among}
+use Rattle.mc_core.specs.run.Evictions.{none_dead}
+use Rattle.mc_core.specs.model.Head.{is_dead}
+use Rattle.mc_core.specs.model.Looks.{is_found_alive, stays_alive}
+use Rattle.mc_core.specs.run.Silent.{is_among}
+use Rattle.mc_core.proofs.Steps.Listed.{Contains_from_among}
 
 -- the walk comes to this chunk of the class's hand-out order, or to its end, and each chunk before it was found alive
 pub record IsSweptTo (slabs : SlabState) (looks : List Look) (class : ℕ) (next : Option ChunkId) : Type 0 where

@@ -11,22 +11,22 @@ use Rattle.atomic_table.specs.Table.{Joins, Allows, keeps}
 use Rattle.atomic_table.proofs.Lists.{at_set, set_else, set_again, at_map}
 use Rattle.mc_core.specs.declared.event.Step.TheVariants as core
 use Rattle.mc_core.specs.declared.ids.Ids.{Ids}
-use Rattle.mc_core.specs.State.{State, no_ids, is_held_by, is_hand, number_at, has_slabs, has_stripe, holdings_at, stripe_at}
-use Rattle.mc_core.specs.Hands as hands
-use Rattle.mc_core.specs.Frame.{HasSame}
-use Rattle.mc_core.specs.Columns.{Each}
-use Rattle.mc_core.specs.Holdings.{stamp_in_words}
-use Rattle.mc_core.specs.Knowing.{WasStored}
-use Rattle.mc_core.specs.Lawful.{IsLawful}
-use Rattle.mc_core.specs.Past.{Moment, knowledge_at, moment_stepped}
-use Rattle.mc_core.proofs.MoreRows.{each_contained}
-use Rattle.mc_core.proofs.SaidOnce.{said_one}
-use Rattle.mc_core.specs.Views.{Row, hand_row, held_stripe}
-use Rattle.mc_core.specs.Laws.{MayStep}
-use Rattle.mc_core.proofs.Framed.{framed_steps}
-use Rattle.mc_core.proofs.Learns.{are_learned}
-use Rattle.mc_core.proofs.LawKept.{lawful_steps}
-use Rattle.mc_core.proofs.Plays.{hand_there}
+use Rattle.mc_core.specs.model.State.{State, no_ids, is_held_by, is_hand, number_at, has_slabs, has_stripe, holdings_at, stripe_at}
+use Rattle.mc_core.specs.run.Hands as hands
+use Rattle.mc_core.specs.law.Frame.{HasSame}
+use Rattle.mc_core.specs.model.Columns.{Each}
+use Rattle.mc_core.specs.model.Holdings.{stamp_in_words}
+use Rattle.mc_core.specs.law.Knowing.{WasStored}
+use Rattle.mc_core.specs.law.Lawful.{IsLawful}
+use Rattle.mc_core.specs.past.Past.{Moment, knowledge_at, moment_stepped}
+use Rattle.mc_core.proofs.Hands.MoreRows.{each_contained}
+use Rattle.mc_core.proofs.Histories.SaidOnce.{said_one}
+use Rattle.mc_core.specs.model.Views.{Row, hand_row, held_stripe}
+use Rattle.mc_core.specs.law.Laws.{MayStep}
+use Rattle.mc_core.proofs.Frame.Framed.{framed_steps}
+use Rattle.mc_core.proofs.Known.Learns.{are_learned}
+use Rattle.mc_core.proofs.Law.LawKept.{lawful_steps}
+use Rattle.mc_core.proofs.Steps.Plays.{hand_there}
 use Rattle.mc_words.specs.declared.lock.slot.Slot.{Slot}
 use Rattle.mc_words.specs.declared.lock.slot.Slot.TheVariants.{Empty, OfSlabs, OfStripe}
 use Rattle.mc_core.specs.declared.event.Event.{Event}
@@ -126,7 +126,7 @@ module _ (setup : Setup) (t : WordsOfTable) (r : IsRuled setup t) (id other : �
   second : other < length m.state.ids
   second = hand_there m.state other here_too.0
 
-  ids_kept : Rattle.mc_core.specs.State.ids_at after.state id ≡ Rattle.mc_core.specs.State.ids_at m.state id
+  ids_kept : Rattle.mc_core.specs.model.State.ids_at after.state id ≡ Rattle.mc_core.specs.model.State.ids_at m.state id
   ids_kept = get_or-set_other m.state.ids other id no_ids no_ids (λ e. apart (sym e))
 
   -- the join is an event of the one hand
@@ -139,7 +139,7 @@ module _ (setup : Setup) (t : WordsOfTable) (r : IsRuled setup t) (id other : �
   -- what is known of the one hand
   pub kept_view : view_at setup v.spare (v.events ++ joined ∷ []) after id ≡ both_views v w
   kept_view =
-      let now : view_at setup v.spare (events_of id r.run ++ joined ∷ []) after id ≡ record (view_at setup v.spare (events_of id r.run) m id) { events = events_of id r.run ++ joined ∷ []; row = record (hand_row m id) { knows = Rattle.mc_core.specs.Learns.both_know (hand_row m id).knows (hand_row m other).knows } } = λ k. record {
+      let now : view_at setup v.spare (events_of id r.run ++ joined ∷ []) after id ≡ record (view_at setup v.spare (events_of id r.run) m id) { events = events_of id r.run ++ joined ∷ []; row = record (hand_row m id) { knows = Rattle.mc_core.specs.past.Learns.both_know (hand_row m id).knows (hand_row m other).knows } } = λ k. record {
         setup = setup;
         spare = v.spare;
         events = events_of id r.run ++ joined ∷ [];

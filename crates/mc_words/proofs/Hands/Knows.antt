@@ -4,12 +4,12 @@ use Rattle.mc_stripe.specs.declared.history.Call.{Call}
 use Rattle.mc_stripe.specs.StripeState.{ReadyStripe, new_stripe}
 use Rattle.mc_core.specs.declared.event.Step.{Step}
 use Rattle.mc_core.specs.declared.event.Step.TheVariants as core
-use Rattle.mc_core.specs.State.{State, number_at}
-use Rattle.mc_core.specs.Past.{Moment, Knowledge, Own, Hold, SeenWord, history_at, new_calls, calls_with_new, own_after, own_calls_after, knowledge_at, hold_after, seen_after, seen_words_of, items_stored_by_step, known_of, moment_stepped}
-use Rattle.mc_core.specs.Laws.{MayStep}
-use Rattle.mc_core.specs.Run.{after_step}
-use Rattle.mc_core.proofs.Learns.{are_learned}
-use Rattle.mc_core.proofs.Learned.{is_join}
+use Rattle.mc_core.specs.model.State.{State, number_at}
+use Rattle.mc_core.specs.past.Past.{Moment, Knowledge, Own, Hold, SeenWord, history_at, new_calls, calls_with_new, own_after, own_calls_after, knowledge_at, hold_after, seen_after, seen_words_of, items_stored_by_step, known_of, moment_stepped}
+use Rattle.mc_core.specs.law.Laws.{MayStep}
+use Rattle.mc_core.specs.run.Run.{after_step}
+use Rattle.mc_core.proofs.Known.Learns.{are_learned}
+use Rattle.mc_core.proofs.Known.Learned.{is_join}
 
 drop_all : {A : Type 0} (xs : List A) → drop (length xs) xs ≡ []
 drop_all [] = refl

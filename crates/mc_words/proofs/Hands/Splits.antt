@@ -6,7 +6,7 @@ use Rattle.atomic_table.specs.Table as table
 use Rattle.atomic_table.proofs.Lists.{at_set, at_map}
 use Rattle.std.proofs.lemmas.List.{map-set, map-append}
 use mathlib.Core.Option as maybe
-use Rattle.mc_core.specs.Past.{Moment}
+use Rattle.mc_core.specs.past.Past.{Moment}
 use Rattle.mc_words.specs.declared.arena.Arena.{Arena}
 use Rattle.mc_words.specs.declared.hand.Hand.{Hand}
 use Rattle.mc_words.specs.hand.View.{Setup, View, new_view, settled_view}

@@ -7,8 +7,8 @@ use Rattle.mc_core.specs.declared.holding.Holding.{Holding}
 use Rattle.mc_core.specs.declared.holding.Kind.{Kind}
 use Rattle.mc_core.specs.declared.holding.Kind.TheVariants.{Reference, Fresh}
 use Rattle.mc_core.specs.declared.ids.Ids.{Ids}
-use Rattle.mc_core.specs.Chunks.{holding_with_word, filled_kind}
-use Rattle.mc_core.specs.Holdings.{change_each, has_fresh, holding_of, is_fresh, is_fresh_kind, is_of_chunk, without_first}
+use Rattle.mc_core.specs.run.Chunks.{holding_with_word, filled_kind}
+use Rattle.mc_core.specs.model.Holdings.{change_each, has_fresh, holding_of, is_fresh, is_fresh_kind, is_of_chunk, without_first}
 use Rattle.mc_words.specs.hand.Tallies.{fresh_count, IsTallied}
 use Rattle.mc_words.specs.rule.Told.{Sits}
 

@@ -7,14 +7,14 @@ use Rattle.mc_pages.specs.declared.ids.ChunkId.{ChunkId}
 use Rattle.mc_core.specs.declared.head.Head.{Head}
 use Rattle.mc_core.specs.declared.holding.Holding.{Holding}
 use Rattle.mc_core.specs.declared.event.Step.TheVariants as core
-use Rattle.mc_core.specs.Head.{code, decode, tag_of, is_linked}
-use Rattle.mc_core.specs.State.{State, has_chunk, head_at, holdings_at, chunk_room, item_at}
-use Rattle.mc_core.specs.Items.{can_count, has_place_unlocked, new_reference, head_after_refer}
-use Rattle.mc_core.specs.Codes.{word_plus, FitsBits}
-use Rattle.mc_core.specs.Past.{Moment, KnownItem, Knowledge, SeenWord, header, known_by, knowledge_at, moment_stepped}
-use Rattle.mc_core.proofs.Codes.{all_are_sums, are_one_word}
-use Rattle.mc_core.proofs.Entered.{tag_linked}
-use Rattle.mc_core.proofs.SameSlabs.{looked_keeps}
+use Rattle.mc_core.specs.model.Head.{code, decode, tag_of, is_linked}
+use Rattle.mc_core.specs.model.State.{State, has_chunk, head_at, holdings_at, chunk_room, item_at}
+use Rattle.mc_core.specs.run.Items.{can_count, has_place_unlocked, new_reference, head_after_refer}
+use Rattle.mc_core.specs.model.Codes.{word_plus, FitsBits}
+use Rattle.mc_core.specs.past.Past.{Moment, KnownItem, Knowledge, SeenWord, header, known_by, knowledge_at, moment_stepped}
+use Rattle.mc_core.proofs.ItemWords.Codes.{all_are_sums, are_one_word}
+use Rattle.mc_core.proofs.Index.Entered.{tag_linked}
+use Rattle.mc_core.proofs.Frame.SameSlabs.{looked_keeps}
 use Rattle.mc_words.specs.hand.View.{View}
 use Rattle.mc_words.specs.rule.Layout.{head_word}
 use Rattle.mc_words.specs.rule.Happens.{LawfulView, Happens, MayExchange}

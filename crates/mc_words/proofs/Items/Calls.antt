@@ -1,8 +1,8 @@
 -- What a hand knows of its own calls, where one call came into the history of a stripe.
 use Rattle.std.proofs.Common.{◌≡◌, ◌≢◌, ℕ, zero, suc, ◌+◌, ◌<◌, ◌==◌, List, [], ◌∷◌, ◌++◌, drop, length, map, Some, refl, ap, ap₂, ◌∙◌, if◌then◌else◌, append-nil, arith}
 use Rattle.mc_stripe.specs.declared.history.Call.{Call}
-use Rattle.mc_core.specs.State.{State, number_at}
-use Rattle.mc_core.specs.Past.{Own, history_at, new_calls, calls_with_new, own_after, own_calls_after, with_more}
+use Rattle.mc_core.specs.model.State.{State, number_at}
+use Rattle.mc_core.specs.past.Past.{Own, history_at, new_calls, calls_with_new, own_after, own_calls_after, with_more}
 use Rattle.mc_words.specs.item.Calls.{with_own_call}
 
 drop_first : {A : Type 0} (xs ys : List A) → drop (length xs) (xs ++ ys) ≡ ys

@@ -14,16 +14,16 @@ use Rattle.mc_core.specs.declared.head.Tag.{Tag}
 use Rattle.mc_core.specs.declared.head.Tag.TheVariants.{Linked}
 use Rattle.mc_core.specs.declared.look.Look.TheVariants.{Condemned, Read, Saw}
 use Rattle.mc_core.specs.declared.event.Step.TheVariants as core
-use Rattle.mc_core.specs.Codes.{word_minus}
-use Rattle.mc_core.specs.Evictions.{head_after_condemn, has_copy, is_linked_unheld}
-use Rattle.mc_core.specs.Head.{code, decode, tag_of, is_dead, is_free, is_linked, is_out, is_unlinked}
-use Rattle.mc_core.specs.Looks.{was_linked}
-use Rattle.mc_core.specs.Past.{header}
-use Rattle.mc_core.specs.Seen.{IsStill, last_head, last_read, seen_head}
-use Rattle.mc_core.specs.State.{State, has_chunk, head_at, item_at, looks_at, room_in, word_at}
-use Rattle.mc_core.proofs.Codes.{are_one_word}
-use Rattle.mc_core.proofs.Entered.{tag_linked}
-use Rattle.mc_core.proofs.SeenAdds.{was_linked_is}
+use Rattle.mc_core.specs.model.Codes.{word_minus}
+use Rattle.mc_core.specs.run.Evictions.{head_after_condemn, has_copy, is_linked_unheld}
+use Rattle.mc_core.specs.model.Head.{code, decode, tag_of, is_dead, is_free, is_linked, is_out, is_unlinked}
+use Rattle.mc_core.specs.model.Looks.{was_linked}
+use Rattle.mc_core.specs.past.Past.{header}
+use Rattle.mc_core.specs.law.Seen.{IsStill, last_head, last_read, seen_head}
+use Rattle.mc_core.specs.model.State.{State, has_chunk, head_at, item_at, looks_at, room_in, word_at}
+use Rattle.mc_core.proofs.ItemWords.Codes.{are_one_word}
+use Rattle.mc_core.proofs.Index.Entered.{tag_linked}
+use Rattle.mc_core.proofs.Seen.SeenAdds.{was_linked_is}
 use Rattle.mc_words.specs.hand.View.{Setup, View}
 use Rattle.mc_words.specs.rule.Layout.{head_word}
 use Rattle.mc_words.specs.rule.Happens.{LawfulView, Happens, HappensAt}

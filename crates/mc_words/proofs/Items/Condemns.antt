@@ -16,25 +16,25 @@ use Rattle.mc_core.specs.declared.holding.Holding.{Holding}
 use Rattle.mc_core.specs.declared.look.Look.{Look}
 use Rattle.mc_core.specs.declared.look.Look.TheVariants.{Condemned}
 use Rattle.mc_core.specs.declared.event.Step.TheVariants as core
-use Rattle.mc_core.specs.Codes.{word_minus, FitsBits}
-use Rattle.mc_core.specs.Evictions.{after_condemn, as_rescue, can_lose_entry, head_after_condemn, has_copy, has_reason, is_linked_unheld, key_at, stripe_condemned}
-use Rattle.mc_core.specs.Head.{decode}
-use Rattle.mc_core.specs.Holdings.{change_each, is_copy_kind, is_copy_of, is_fresh, is_fresh_kind, key_of, length_of_item, stamp_in_words}
+use Rattle.mc_core.specs.model.Codes.{word_minus, FitsBits}
+use Rattle.mc_core.specs.run.Evictions.{after_condemn, as_rescue, can_lose_entry, head_after_condemn, has_copy, has_reason, is_linked_unheld, key_at, stripe_condemned}
+use Rattle.mc_core.specs.model.Head.{decode}
+use Rattle.mc_core.specs.model.Holdings.{change_each, is_copy_kind, is_copy_of, is_fresh, is_fresh_kind, key_of, length_of_item, stamp_in_words}
 use Rattle.mc_core.specs.declared.holding.Kind.{Kind}
 use Rattle.mc_core.specs.declared.holding.Kind.TheVariants.{Fresh, Reference}
-use Rattle.mc_core.specs.Indexed.{IsEntry}
-use Rattle.mc_core.proofs.KnownChunks.{entry_of}
+use Rattle.mc_core.specs.law.Indexed.{IsEntry}
+use Rattle.mc_core.proofs.Known.KnownChunks.{entry_of}
 use Rattle.mc_words.specs.item.Originals.{original_condemned}
 use Rattle.mc_words.specs.hand.Tallies.{fresh_count}
 use Rattle.mc_words.proofs.Items.GetsItems.{item_word}
 use Rattle.mc_words.proofs.Hands.Knows.{mine_alike}
-use Rattle.mc_core.specs.Past.{Moment, Knowledge, Own, history_at, knowledge_at, moment_stepped, own_calls_after}
-use Rattle.mc_core.specs.Seen.{last_read}
-use Rattle.mc_core.specs.Silent.{writer_of}
-use Rattle.mc_core.specs.State.{State, has_chunk, has_stripe, head_at, holdings_at, item_at, looks_at, number_at, chunk_room, stripe_at, stripe_of, word_at}
-use Rattle.mc_core.proofs.Codes.{all_are_sums}
-use Rattle.mc_core.proofs.Entered.{tag_linked}
-use Rattle.mc_core.proofs.Learns.{are_learned}
+use Rattle.mc_core.specs.past.Past.{Moment, Knowledge, Own, history_at, knowledge_at, moment_stepped, own_calls_after}
+use Rattle.mc_core.specs.law.Seen.{last_read}
+use Rattle.mc_core.specs.run.Silent.{writer_of}
+use Rattle.mc_core.specs.model.State.{State, has_chunk, has_stripe, head_at, holdings_at, item_at, looks_at, number_at, chunk_room, stripe_at, stripe_of, word_at}
+use Rattle.mc_core.proofs.ItemWords.Codes.{all_are_sums}
+use Rattle.mc_core.proofs.Index.Entered.{tag_linked}
+use Rattle.mc_core.proofs.Known.Learns.{are_learned}
 use Rattle.mc_words.specs.hand.View.{View, held_stripes}
 use Rattle.mc_words.specs.rule.Layout.{head_word}
 use Rattle.mc_words.specs.rule.Happens.{LawfulView, Happens, MayExchange}

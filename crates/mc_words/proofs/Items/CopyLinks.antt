@@ -11,18 +11,18 @@ use Rattle.mc_core.specs.declared.head.Head.{Head}
 use Rattle.mc_core.specs.declared.holding.Holding.{Holding}
 use Rattle.mc_core.specs.declared.ids.Ids.{Ids}
 use Rattle.mc_core.specs.declared.event.Step.TheVariants as core
-use Rattle.mc_core.specs.Head.{decode, is_unlinked}
-use Rattle.mc_core.specs.Holdings.{Words, has_whole_item, holding_of, is_of_chunk, words_of_item, known_key, without_first, numbers_of_known, word_in}
-use Rattle.mc_core.specs.State.{State, is_held_by, has_stripe, head_at, head_place, holdings_at, ids_at, looks_at, number_at, chunk_room, stripe_at, stripe_of, without_holding}
-use Rattle.mc_core.specs.Silent.{writer_of}
-use Rattle.mc_core.specs.Items as items
-use Rattle.mc_core.specs.Items.{after_link_of, are_same, can_link, can_link_holding, is_entry_aside, is_none_else_aside, head_after_link}
-use Rattle.mc_core.specs.Codes.{word_plus, FitsBits}
-use Rattle.mc_core.specs.Past.{Moment, Knowledge, Own, history_at, knowledge_at, known_by, known_of_holding, moment_stepped, own_calls_after, item_stored_by_link, StoredItem}
-use Rattle.mc_core.specs.Views.{held_slabs}
-use Rattle.mc_core.proofs.Codes.{all_are_sums}
-use Rattle.mc_core.proofs.Learns.{are_learned}
-use Rattle.mc_core.proofs.SeenQuiet.{held_handed_out}
+use Rattle.mc_core.specs.model.Head.{decode, is_unlinked}
+use Rattle.mc_core.specs.model.Holdings.{Words, has_whole_item, holding_of, is_of_chunk, words_of_item, known_key, without_first, numbers_of_known, word_in}
+use Rattle.mc_core.specs.model.State.{State, is_held_by, has_stripe, head_at, head_place, holdings_at, ids_at, looks_at, number_at, chunk_room, stripe_at, stripe_of, without_holding}
+use Rattle.mc_core.specs.run.Silent.{writer_of}
+use Rattle.mc_core.specs.run.Items as items
+use Rattle.mc_core.specs.run.Items.{after_link_of, are_same, can_link, can_link_holding, is_entry_aside, is_none_else_aside, head_after_link}
+use Rattle.mc_core.specs.model.Codes.{word_plus, FitsBits}
+use Rattle.mc_core.specs.past.Past.{Moment, Knowledge, Own, history_at, knowledge_at, known_by, known_of_holding, moment_stepped, own_calls_after, item_stored_by_link, StoredItem}
+use Rattle.mc_core.specs.model.Views.{held_slabs}
+use Rattle.mc_core.proofs.ItemWords.Codes.{all_are_sums}
+use Rattle.mc_core.proofs.Known.Learns.{are_learned}
+use Rattle.mc_core.proofs.Seen.SeenQuiet.{held_handed_out}
 use Rattle.mc_words.specs.hand.View.{View, held_stripes, made}
 use Rattle.mc_words.specs.rule.Layout.{head_word}
 use Rattle.mc_words.specs.rule.Happens.{LawfulView, Happens, MayWrite}

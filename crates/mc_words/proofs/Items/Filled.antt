@@ -7,8 +7,8 @@ use Rattle.mc_pages.specs.declared.ids.ChunkId.{ChunkId}
 use Rattle.mc_core.specs.declared.holding.Holding.{Holding}
 use Rattle.mc_core.specs.declared.holding.Kind.{Kind}
 use Rattle.mc_core.specs.declared.holding.Kind.TheVariants.{Fresh, Reference}
-use Rattle.mc_core.specs.Holdings.{holding_of, is_of_chunk, change_each, is_fresh_kind, words_of_kind}
-use Rattle.mc_core.specs.Chunks.{holding_with_word, filled_kind}
+use Rattle.mc_core.specs.model.Holdings.{holding_of, is_of_chunk, change_each, is_fresh_kind, words_of_kind}
+use Rattle.mc_core.specs.run.Chunks.{holding_with_word, filled_kind}
 use Rattle.mc_words.specs.hand.View.{View}
 use Rattle.mc_words.specs.hand.Views.{word_filled}
 use Rattle.mc_words.specs.item.Fresh.{IsFreshOf}

@@ -7,10 +7,10 @@ use Rattle.mc_stripe.specs.StripeState.{ReadyStripe}
 use Rattle.mc_core.specs.declared.head.Head.{Head}
 use Rattle.mc_core.specs.declared.holding.Holding.{Holding}
 use Rattle.mc_core.specs.declared.event.Step.TheVariants as core
-use Rattle.mc_core.specs.Head.{decode}
-use Rattle.mc_core.specs.State.{State, item_at, chunk_room, word_at}
-use Rattle.mc_core.specs.Past.{Moment, known_by}
-use Rattle.mc_core.proofs.Entered.{entry_of}
+use Rattle.mc_core.specs.model.Head.{decode}
+use Rattle.mc_core.specs.model.State.{State, item_at, chunk_room, word_at}
+use Rattle.mc_core.specs.past.Past.{Moment, known_by}
+use Rattle.mc_core.proofs.Index.Entered.{entry_of}
 use Rattle.mc_words.specs.hand.View.{View}
 use Rattle.mc_words.specs.rule.Layout.{head_word}
 use Rattle.mc_words.specs.rule.Happens.{LawfulView, Happens, HappensAt}

@@ -8,23 +8,23 @@ use Rattle.mc_pages.specs.SlabState.{SlabState, class_of_page}
 use Rattle.mc_core.specs.declared.look.Look.{Look}
 use Rattle.mc_core.specs.declared.look.Look.TheVariants.{Read}
 use Rattle.mc_core.specs.declared.event.Step.TheVariants as core
-use Rattle.mc_core.specs.Columns.{IsHandedOut, Shows, head_in, place_in}
-use Rattle.mc_core.specs.Holdings.{all_known, word_in}
-use Rattle.mc_core.specs.Knowing.{IsTrueStill}
-use Rattle.mc_core.specs.Looks.{was_linked}
-use Rattle.mc_core.specs.Past.{Moment, moment_stepped}
-use Rattle.mc_core.specs.Seen.{last_read, linked_issue}
-use Rattle.mc_core.specs.State.{State, has_chunk, head_at, is_class, looks_at, page_words, room_in, word_at}
-use Rattle.mc_core.proofs.Base.{IsPlaced, chunk_within, placed_at, word_within}
-use Rattle.mc_core.proofs.MoreRows.{each_contained}
-use Rattle.mc_core.specs.Knowing.{WasStored}
-use Rattle.mc_core.specs.Past.{KnownItem}
-use Rattle.mc_core.specs.Holdings.{stamp_in_words}
+use Rattle.mc_core.specs.model.Columns.{IsHandedOut, Shows, head_in, place_in}
+use Rattle.mc_core.specs.model.Holdings.{all_known, word_in}
+use Rattle.mc_core.specs.law.Knowing.{IsTrueStill}
+use Rattle.mc_core.specs.model.Looks.{was_linked}
+use Rattle.mc_core.specs.past.Past.{Moment, moment_stepped}
+use Rattle.mc_core.specs.law.Seen.{last_read, linked_issue}
+use Rattle.mc_core.specs.model.State.{State, has_chunk, head_at, is_class, looks_at, page_words, room_in, word_at}
+use Rattle.mc_core.proofs.Steps.Base.{IsPlaced, chunk_within, placed_at, word_within}
+use Rattle.mc_core.proofs.Hands.MoreRows.{each_contained}
+use Rattle.mc_core.specs.law.Knowing.{WasStored}
+use Rattle.mc_core.specs.past.Past.{KnownItem}
+use Rattle.mc_core.specs.model.Holdings.{stamp_in_words}
 use Rattle.mc_words.specs.item.Items.{IsWordOfItem}
-use Rattle.mc_core.proofs.Numbers.{known_at, known_long, whole_known}
-use Rattle.mc_core.proofs.SeenAdds.{was_linked_is}
-use Rattle.mc_core.proofs.SeenLooks.{some_is}
-use Rattle.mc_core.proofs.ShownItems.{IsWhole, whole_word}
+use Rattle.mc_core.proofs.ItemWords.Numbers.{known_at, known_long, whole_known}
+use Rattle.mc_core.proofs.Seen.SeenAdds.{was_linked_is}
+use Rattle.mc_core.proofs.Seen.SeenLooks.{some_is}
+use Rattle.mc_core.proofs.ItemWords.ShownItems.{IsWhole, whole_word}
 use Rattle.mc_words.specs.hand.View.{Setup, View}
 use Rattle.mc_words.specs.rule.Layout.{data_word, data_from, data_count, config_from}
 use Rattle.mc_words.specs.rule.Happens.{LawfulView, HappensAt, MayWrite}

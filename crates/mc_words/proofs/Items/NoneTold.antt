@@ -8,15 +8,15 @@ use Rattle.mc_stripe.specs.Changes.{after_got, after_unlink, used_up}
 use Rattle.mc_core.specs.declared.event.Change.{Change}
 use Rattle.mc_core.specs.declared.event.Change.TheVariants.{GotNone, DeletedNone}
 use Rattle.mc_core.specs.declared.event.Step.TheVariants as core
-use Rattle.mc_core.specs.State.{State, has_stripe, ids_at, holdings_at, looks_at, number_at, stripe_at, stripe_of, with_stripe}
-use Rattle.mc_core.specs.Silent.{allows_change, after_change, call_of, is_aside, writer_of}
-use Rattle.mc_core.specs.Past.{Moment, Own, history_at, knowledge_at, moment_changed}
-use Rattle.mc_core.specs.Views.{held_slabs}
-use Rattle.mc_core.specs.Laws.{MayChange, MayStep}
-use Rattle.mc_core.proofs.LawKept.{lawful_changes}
-use Rattle.mc_core.proofs.Learns.{are_learned}
-use Rattle.mc_core.proofs.SameSlabs.{looked_keeps}
-use Rattle.mc_core.proofs.SeenHolder.{held_is}
+use Rattle.mc_core.specs.model.State.{State, has_stripe, ids_at, holdings_at, looks_at, number_at, stripe_at, stripe_of, with_stripe}
+use Rattle.mc_core.specs.run.Silent.{allows_change, after_change, call_of, is_aside, writer_of}
+use Rattle.mc_core.specs.past.Past.{Moment, Own, history_at, knowledge_at, moment_changed}
+use Rattle.mc_core.specs.model.Views.{held_slabs}
+use Rattle.mc_core.specs.law.Laws.{MayChange, MayStep}
+use Rattle.mc_core.proofs.Law.LawKept.{lawful_changes}
+use Rattle.mc_core.proofs.Known.Learns.{are_learned}
+use Rattle.mc_core.proofs.Frame.SameSlabs.{looked_keeps}
+use Rattle.mc_core.proofs.Seen.SeenHolder.{held_is}
 use Rattle.mc_words.specs.hand.View.{View, held_stripes, view_at, events_of, own_event}
 use Rattle.mc_words.specs.rule.Layout.{lock_address}
 use Rattle.mc_words.specs.rule.Meaning.{AreCut}
@@ -29,7 +29,7 @@ use Rattle.mc_words.proofs.Locks.LockViews.{stripes_set, stripes_were, slabs_wer
 use Rattle.mc_words.proofs.Rules.Quiet.{columns}
 use Rattle.mc_words.proofs.Locks.StripeChanges.{stripe_near, stripe_here}
 use Rattle.mc_words.proofs.Rules.Written.{unwritten}
-use Rattle.mc_core.specs.Lawful.{IsLawful}
+use Rattle.mc_core.specs.law.Lawful.{IsLawful}
 
 same_number : (a b : ℕ) → Some a ≡ Some b → a ≡ b
 same_number a b e = cc
@@ -141,7 +141,7 @@ module _ (view : View) (number stripe : ℕ) (value : ReadyStripe) (change : Cha
       let was = h.was in
       let held = stripe_here view stripe value w.mine was in
       let parts = and_parts _ _ h.allowed in
-      let there : Rattle.mc_core.specs.State.is_hand (changed was).state was.hand ≡ true = ap (λ (s : State). Rattle.mc_core.specs.State.is_hand s was.hand) (state_is was) ∙ was.there in
+      let there : Rattle.mc_core.specs.model.State.is_hand (changed was).state was.hand ≡ true = ap (λ (s : State). Rattle.mc_core.specs.model.State.is_hand s was.hand) (state_is was) ∙ was.there in
       let then_may : MayStep (changed was) was.hand (core.MissStripe stripe) = record { lawful = lawful_changed was; there = there; allowed = (and_parts _ _ parts.1).1 } in
       let lock : slice_index was.moment.state.stripe_locks stripe ≡ number + 1 =
       (let (n, is_n, word) = held_is (slice_index was.moment.state.stripe_locks stripe) (number_at was.moment.state was.hand) held.0 in word ∙ ap (λ (k : ℕ). k + 1) (same_number n number (sym is_n ∙ number_is was))) in

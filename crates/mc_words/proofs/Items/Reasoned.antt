@@ -14,16 +14,16 @@ use Rattle.mc_core.specs.declared.head.Head.{Head}
 use Rattle.mc_core.specs.declared.holding.Holding.{Holding}
 use Rattle.mc_core.specs.declared.look.Look.{Look}
 use Rattle.mc_core.specs.declared.look.Look.TheVariants.{Changed, Cleared, Condemned, Cut, Popped, PoppedOff, PutBack, Read, Saw, SawStripe}
-use Rattle.mc_core.specs.Chunks.{most_issue}
-use Rattle.mc_core.specs.Evictions.{has_copy, has_reason, lacks_room, must_leave, none_dead}
-use Rattle.mc_core.specs.Head.{is_dead}
-use Rattle.mc_core.specs.Judged.{IsJudged, is_seen_unfit, sees_no_target}
-use Rattle.mc_core.specs.Reasons.{is_look_at, is_taking_look}
-use Rattle.mc_core.specs.Looks.{stays_alive, is_found_alive}
-use Rattle.mc_core.specs.Past.{Moment}
-use Rattle.mc_core.specs.Seen.{last_head, seen_head}
-use Rattle.mc_core.specs.Silent.{none_half_cut}
-use Rattle.mc_core.specs.State.{looks_at, holdings_at}
+use Rattle.mc_core.specs.run.Chunks.{most_issue}
+use Rattle.mc_core.specs.run.Evictions.{has_copy, has_reason, lacks_room, must_leave, none_dead}
+use Rattle.mc_core.specs.model.Head.{is_dead}
+use Rattle.mc_core.specs.law.Judged.{IsJudged, is_seen_unfit, sees_no_target}
+use Rattle.mc_core.specs.law.Reasons.{is_look_at, is_taking_look}
+use Rattle.mc_core.specs.model.Looks.{stays_alive, is_found_alive}
+use Rattle.mc_core.specs.past.Past.{Moment}
+use Rattle.mc_core.specs.law.Seen.{last_head, seen_head}
+use Rattle.mc_core.specs.run.Silent.{none_half_cut}
+use Rattle.mc_core.specs.model.State.{looks_at, holdings_at}
 use Rattle.mc_words.specs.item.Removal.{knows_reason}
 
 -- what all pass, all pass that is weaker

@@ -7,14 +7,14 @@ use Rattle.mc_pages.specs.declared.ids.ChunkId.{ChunkId}
 use Rattle.mc_pages.specs.SlabState.{class_of_page}
 use Rattle.mc_pages.proofs.Chunks.{same_from_is_chunk, is_chunk-same}
 use Rattle.mc_core.specs.declared.holding.Holding.{Holding}
-use Rattle.mc_core.specs.Holdings.{is_of_chunk, is_fresh, holding_of, item_of, length_of_item}
-use Rattle.mc_core.specs.State.{room_in, holdings_at}
-use Rattle.mc_core.specs.Columns.{Each, head_in}
-use Rattle.mc_core.specs.Past.{Moment, KnownItem, known_by}
-use Rattle.mc_core.proofs.Base.{IsOut, held_out}
-use Rattle.mc_core.proofs.Holders.{found_passes, found_all, found_each}
-use Rattle.mc_core.proofs.KnownQuiet.{IsStill}
-use Rattle.mc_core.proofs.MoreRows.{row_of, each_contained}
+use Rattle.mc_core.specs.model.Holdings.{is_of_chunk, is_fresh, holding_of, item_of, length_of_item}
+use Rattle.mc_core.specs.model.State.{room_in, holdings_at}
+use Rattle.mc_core.specs.model.Columns.{Each, head_in}
+use Rattle.mc_core.specs.past.Past.{Moment, KnownItem, known_by}
+use Rattle.mc_core.proofs.Steps.Base.{IsOut, held_out}
+use Rattle.mc_core.proofs.Counts.Holders.{found_passes, found_all, found_each}
+use Rattle.mc_core.proofs.Known.KnownQuiet.{IsStill}
+use Rattle.mc_core.proofs.Hands.MoreRows.{row_of, each_contained}
 use Rattle.mc_words.specs.hand.View.{View}
 use Rattle.mc_words.specs.rule.Happens.{LawfulView}
 use Rattle.mc_words.specs.item.Items.{held_item}

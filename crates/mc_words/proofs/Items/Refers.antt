@@ -8,16 +8,16 @@ use Rattle.mc_stripe.specs.Changes.{after_got, used_up}
 use Rattle.mc_core.specs.declared.head.Head.{Head}
 use Rattle.mc_core.specs.declared.holding.Holding.{Holding}
 use Rattle.mc_core.specs.declared.event.Step.TheVariants as core
-use Rattle.mc_core.specs.Head.{decode, is_linked}
-use Rattle.mc_core.specs.State.{State, has_chunk, has_stripe, head_at, head_place, holdings_at, ids_at, looks_at, number_at, chunk_room, stripe_at, stripe_of}
-use Rattle.mc_core.specs.Silent.{is_aside, writer_of}
-use Rattle.mc_core.specs.Chunks.{has_place, most_holdings}
-use Rattle.mc_core.specs.Items.{after_refer, can_refer_to, can_look_up, chunk_of_key, new_reference, head_after_refer, referred_to, with_got}
-use Rattle.mc_core.specs.Codes.{word_plus, FitsBits}
-use Rattle.mc_core.specs.Past.{Moment, Knowledge, Own, history_at, knowledge_at, known_of_place, moment_stepped, own_calls_after}
-use Rattle.mc_core.specs.Views.{held_slabs}
-use Rattle.mc_core.proofs.Codes.{all_are_sums}
-use Rattle.mc_core.proofs.Learns.{are_learned}
+use Rattle.mc_core.specs.model.Head.{decode, is_linked}
+use Rattle.mc_core.specs.model.State.{State, has_chunk, has_stripe, head_at, head_place, holdings_at, ids_at, looks_at, number_at, chunk_room, stripe_at, stripe_of}
+use Rattle.mc_core.specs.run.Silent.{is_aside, writer_of}
+use Rattle.mc_core.specs.run.Chunks.{has_place, most_holdings}
+use Rattle.mc_core.specs.run.Items.{after_refer, can_refer_to, can_look_up, chunk_of_key, new_reference, head_after_refer, referred_to, with_got}
+use Rattle.mc_core.specs.model.Codes.{word_plus, FitsBits}
+use Rattle.mc_core.specs.past.Past.{Moment, Knowledge, Own, history_at, knowledge_at, known_of_place, moment_stepped, own_calls_after}
+use Rattle.mc_core.specs.model.Views.{held_slabs}
+use Rattle.mc_core.proofs.ItemWords.Codes.{all_are_sums}
+use Rattle.mc_core.proofs.Known.Learns.{are_learned}
 use Rattle.mc_words.specs.hand.View.{View, held_stripes}
 use Rattle.mc_words.specs.rule.Layout.{head_word}
 use Rattle.mc_words.specs.rule.Happens.{LawfulView, Happens, MayWrite}

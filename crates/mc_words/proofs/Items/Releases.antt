@@ -4,14 +4,14 @@ use Rattle.mc_pages.specs.declared.ids.ChunkId.{ChunkId}
 use Rattle.mc_core.specs.declared.head.Head.{Head}
 use Rattle.mc_core.specs.declared.holding.Holding.{Holding}
 use Rattle.mc_core.specs.declared.event.Step.TheVariants as core
-use Rattle.mc_core.specs.Head.{decode}
-use Rattle.mc_core.specs.Holdings.{is_of_chunk, is_fresh, holding_of, without_first}
-use Rattle.mc_core.specs.State.{has_chunk, head_at, holdings_at}
-use Rattle.mc_core.specs.Chunks.{head_after_release, holds_as}
-use Rattle.mc_core.specs.Codes.{word_minus, FitsBits}
-use Rattle.mc_core.specs.Past.{Moment, moment_stepped}
-use Rattle.mc_core.proofs.Codes.{all_are_sums}
-use Rattle.mc_core.proofs.SeenQuiet.{held_near, held_count}
+use Rattle.mc_core.specs.model.Head.{decode}
+use Rattle.mc_core.specs.model.Holdings.{is_of_chunk, is_fresh, holding_of, without_first}
+use Rattle.mc_core.specs.model.State.{has_chunk, head_at, holdings_at}
+use Rattle.mc_core.specs.run.Chunks.{head_after_release, holds_as}
+use Rattle.mc_core.specs.model.Codes.{word_minus, FitsBits}
+use Rattle.mc_core.specs.past.Past.{Moment, moment_stepped}
+use Rattle.mc_core.proofs.ItemWords.Codes.{all_are_sums}
+use Rattle.mc_core.proofs.Seen.SeenQuiet.{held_near, held_count}
 use Rattle.mc_words.specs.hand.View.{View}
 use Rattle.mc_words.specs.rule.Layout.{head_word}
 use Rattle.mc_words.specs.rule.Happens.{LawfulView, Happens, MayWrite}

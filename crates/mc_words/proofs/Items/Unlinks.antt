@@ -8,17 +8,17 @@ use Rattle.mc_core.specs.declared.head.Head.{Head}
 use Rattle.mc_core.specs.declared.head.Tag.{Tag}
 use Rattle.mc_core.specs.declared.head.Tag.TheVariants.{Linked}
 use Rattle.mc_core.specs.declared.event.Step.TheVariants as core
-use Rattle.mc_core.specs.Head.{decode, is_linked}
-use Rattle.mc_core.specs.Holdings.{has_fresh}
-use Rattle.mc_core.specs.State.{State, has_stripe, head_at, head_place, holdings_at, ids_at, looks_at, number_at, stripe_at, stripe_of, with_stripe}
-use Rattle.mc_core.specs.Silent.{is_aside, writer_of}
-use Rattle.mc_core.specs.Columns.{holder_count, link_count}
-use Rattle.mc_core.specs.Items.{state_after_unlink, can_lift, can_look_up, chunk_of_key, is_linked_at, stripe_unlinked, head_after_unlink, with_unlinked}
-use Rattle.mc_core.specs.Codes.{word_minus, FitsBits}
-use Rattle.mc_core.specs.Past.{Moment, Knowledge, Own, history_at, knowledge_at, moment_stepped, own_calls_after}
-use Rattle.mc_core.specs.Views.{held_slabs}
-use Rattle.mc_core.proofs.Codes.{all_are_sums}
-use Rattle.mc_core.proofs.Learns.{are_learned}
+use Rattle.mc_core.specs.model.Head.{decode, is_linked}
+use Rattle.mc_core.specs.model.Holdings.{has_fresh}
+use Rattle.mc_core.specs.model.State.{State, has_stripe, head_at, head_place, holdings_at, ids_at, looks_at, number_at, stripe_at, stripe_of, with_stripe}
+use Rattle.mc_core.specs.run.Silent.{is_aside, writer_of}
+use Rattle.mc_core.specs.model.Columns.{holder_count, link_count}
+use Rattle.mc_core.specs.run.Items.{state_after_unlink, can_lift, can_look_up, chunk_of_key, is_linked_at, stripe_unlinked, head_after_unlink, with_unlinked}
+use Rattle.mc_core.specs.model.Codes.{word_minus, FitsBits}
+use Rattle.mc_core.specs.past.Past.{Moment, Knowledge, Own, history_at, knowledge_at, moment_stepped, own_calls_after}
+use Rattle.mc_core.specs.model.Views.{held_slabs}
+use Rattle.mc_core.proofs.ItemWords.Codes.{all_are_sums}
+use Rattle.mc_core.proofs.Known.Learns.{are_learned}
 use Rattle.mc_words.specs.hand.View.{View, held_stripes, made}
 use Rattle.mc_words.specs.rule.Layout.{head_word}
 use Rattle.mc_words.specs.rule.Happens.{Happens, MayWrite}

@@ -12,16 +12,16 @@ use Rattle.mc_core.specs.declared.holding.Holding.{Holding}
 use Rattle.mc_core.specs.declared.holding.Kind.{Kind}
 use Rattle.mc_core.specs.declared.holding.Kind.TheVariants.{Reference, Fresh}
 use Rattle.mc_core.specs.declared.event.Step.TheVariants as core
-use Rattle.mc_core.specs.Holdings.{is_of_chunk, is_fresh_kind, holding_of, holding_words, words_of_kind, item_of, item_of_kind}
-use Rattle.mc_core.specs.State.{State, head_at, holdings_at, room_in, page_words}
-use Rattle.mc_core.specs.Items.{can_read_in}
-use Rattle.mc_core.specs.Columns.{Shows, IsHandedOut, place_in, head_in}
-use Rattle.mc_core.specs.Past.{Moment, KnownItem, known_by, moment_stepped}
-use Rattle.mc_core.proofs.Base.{IsPlaced, placed_at, word_within}
-use Rattle.mc_core.proofs.Holders.{found_passes, found_each}
-use Rattle.mc_core.proofs.KnownQuiet.{IsStill}
-use Rattle.mc_core.proofs.MoreRows.{each_contained}
-use Rattle.mc_core.proofs.SeenQuiet.{held_near, held_handed_out}
+use Rattle.mc_core.specs.model.Holdings.{is_of_chunk, is_fresh_kind, holding_of, holding_words, words_of_kind, item_of, item_of_kind}
+use Rattle.mc_core.specs.model.State.{State, head_at, holdings_at, room_in, page_words}
+use Rattle.mc_core.specs.run.Items.{can_read_in}
+use Rattle.mc_core.specs.model.Columns.{Shows, IsHandedOut, place_in, head_in}
+use Rattle.mc_core.specs.past.Past.{Moment, KnownItem, known_by, moment_stepped}
+use Rattle.mc_core.proofs.Steps.Base.{IsPlaced, placed_at, word_within}
+use Rattle.mc_core.proofs.Counts.Holders.{found_passes, found_each}
+use Rattle.mc_core.proofs.Known.KnownQuiet.{IsStill}
+use Rattle.mc_core.proofs.Hands.MoreRows.{each_contained}
+use Rattle.mc_core.proofs.Seen.SeenQuiet.{held_near, held_handed_out}
 use Rattle.mc_words.specs.hand.View.{View}
 use Rattle.mc_words.specs.rule.Layout.{data_word, data_from, data_count, config_from}
 use Rattle.mc_words.specs.rule.Happens.{LawfulView, Happens, MayWrite}

@@ -6,14 +6,14 @@ use Rattle.mc_core.specs.declared.look.Look.{Look}
 use Rattle.mc_core.specs.declared.look.Look.TheVariants.{Changed}
 use Rattle.mc_core.specs.declared.event.Change.{Change}
 use Rattle.mc_core.specs.declared.event.Step.TheVariants as core
-use Rattle.mc_core.specs.State.{State, has_slabs, is_held_by, number_at, looks_at, with_look, with_slabs}
-use Rattle.mc_core.specs.Silent.{after_change, slabs_after}
-use Rattle.mc_core.specs.Past.{Moment, Own, slabs_word, knowledge_at, moment_changed, moment_stepped}
-use Rattle.mc_core.specs.Views.{held_slabs}
-use Rattle.mc_core.specs.Laws.{MayChange, MayStep}
-use Rattle.mc_core.proofs.LawKept.{lawful_changes}
-use Rattle.mc_core.proofs.Learns.{are_learned}
-use Rattle.mc_core.proofs.SeenHolder.{held_is}
+use Rattle.mc_core.specs.model.State.{State, has_slabs, is_held_by, number_at, looks_at, with_look, with_slabs}
+use Rattle.mc_core.specs.run.Silent.{after_change, slabs_after}
+use Rattle.mc_core.specs.past.Past.{Moment, Own, slabs_word, knowledge_at, moment_changed, moment_stepped}
+use Rattle.mc_core.specs.model.Views.{held_slabs}
+use Rattle.mc_core.specs.law.Laws.{MayChange, MayStep}
+use Rattle.mc_core.proofs.Law.LawKept.{lawful_changes}
+use Rattle.mc_core.proofs.Known.Learns.{are_learned}
+use Rattle.mc_core.proofs.Seen.SeenHolder.{held_is}
 use Rattle.mc_words.specs.hand.View.{View}
 use Rattle.mc_words.specs.rule.Happens.{Happens}
 use Rattle.mc_words.specs.hand.Views.{slabs_changed}
@@ -50,7 +50,7 @@ changed_slabs view now slabs change number of mine numbered h =
     ∙ (said_none ((knowledge_at changed.past id).seen_words ++ slabs_word changed.state.slabs_lock ∷ []) (knowledge_at changed.past id) (knowledge_at changed.past id).hold (knowledge_at changed.past id).seen
     ∙ (λ k. let knows = first k in record knows { seen_words = knows.seen_words ++ slabs_word (lock k) ∷ [] })) in
     h.is
-    ∙ view_from view h.was _ after (ap (λ (s : State). Rattle.mc_core.specs.State.ids_at s id) is) view.row.holdings (ap (λ (s : State). Rattle.mc_core.specs.State.holdings_at s id) is ∙ holdings_were view now h.was)
+    ∙ view_from view h.was _ after (ap (λ (s : State). Rattle.mc_core.specs.model.State.ids_at s id) is) view.row.holdings (ap (λ (s : State). Rattle.mc_core.specs.model.State.holdings_at s id) is ∙ holdings_were view now h.was)
     (view.row.looks ++ Changed change ∷ [])
     (ap (λ (s : State). looks_at s id) is ∙ (get_or-set_same m.state.looks id (looks_at m.state id ++ Changed change ∷ []) [] (rows view now h.was) ∙ ap (λ (looks : List Look). looks ++ Changed change ∷ []) (looks_were view now h.was)))
     (record view.row.knows { seen_words = view.row.knows.seen_words ++ slabs_word (number + 1) ∷ [] }) knows

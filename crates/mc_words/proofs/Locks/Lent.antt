@@ -12,19 +12,19 @@ use Rattle.mc_stripe.specs.StripeState.{ReadyStripe, new_stripe}
 use Rattle.mc_stripe.specs.Legal.{IsLegal}
 use Rattle.mc_core.specs.declared.event.Step.TheVariants as core
 use Rattle.mc_core.specs.declared.holding.Holding.{Holding}
-use Rattle.mc_core.specs.InOrder.{IsOfTable}
-use Rattle.mc_core.specs.Past.{Moment, moment_stepped}
-use Rattle.mc_core.specs.State.{has_slabs, has_stripe, stripe_at, holdings_at}
-use Rattle.mc_core.specs.Locks.{has_stripes}
-use Rattle.mc_core.specs.Views.{held_slabs, held_stripe}
-use Rattle.mc_core.proofs.Base.{IsOut, held_out, placed_at}
+use Rattle.mc_core.specs.model.InOrder.{IsOfTable}
+use Rattle.mc_core.specs.past.Past.{Moment, moment_stepped}
+use Rattle.mc_core.specs.model.State.{has_slabs, has_stripe, stripe_at, holdings_at}
+use Rattle.mc_core.specs.run.Locks.{has_stripes}
+use Rattle.mc_core.specs.model.Views.{held_slabs, held_stripe}
+use Rattle.mc_core.proofs.Steps.Base.{IsOut, held_out, placed_at}
 use Rattle.mc_words.specs.hand.View.{View}
 use Rattle.mc_words.specs.rule.Happens.{Happens}
 use Rattle.mc_words.specs.lock.Lent.{IsLent, IsLentStripe, BeginsWithSeen}
 use Rattle.mc_stripe.specs.declared.history.Call.{Call}
 use Rattle.std.proofs.lemmas.List.{get_or-map}
-use Rattle.mc_core.specs.Histories.{hand_of}
-use Rattle.mc_core.specs.Past.{Own}
+use Rattle.mc_core.specs.law.Histories.{hand_of}
+use Rattle.mc_core.specs.past.Past.{Own}
 use Rattle.mc_words.proofs.Locks.LockViews.{may_step, lock_count, rows_there, taken_stripe}
 use Rattle.mc_words.proofs.Locks.TakeAndGive.{held_from}
 

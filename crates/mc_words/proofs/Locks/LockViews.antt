@@ -12,16 +12,16 @@ use Rattle.mc_core.specs.declared.look.Look.{Look}
 use Rattle.mc_core.specs.declared.look.Look.TheVariants.{Saw, SawStripe}
 use Rattle.mc_core.specs.declared.ids.Ids.{Ids}
 use Rattle.mc_core.specs.declared.holding.Holding.{Holding}
-use Rattle.mc_core.specs.Head.{decode, never_cut}
-use Rattle.mc_core.specs.State.{State, is_held_by, has_slabs, has_stripe, has_chunk, head_at, head_place, stripe_at, number_at, ids_at, holdings_at, with_look, looks_at}
-use Rattle.mc_core.specs.Locks as core_locks
-use Rattle.mc_core.specs.Locks.{state_after_look}
-use Rattle.mc_core.specs.Past.{Moment, Knowledge, SeenWord, begin_hold, end_hold, slabs_word, stripe_word, header, history_at, knowledge_at, moment_stepped}
-use Rattle.mc_core.specs.Views.{held_slabs, held_stripe}
-use Rattle.mc_core.specs.Laws.{MayStep}
-use Rattle.mc_core.proofs.Framed.{free_lock}
-use Rattle.mc_core.proofs.Plays.{hand_there}
-use Rattle.mc_core.proofs.SameSlabs.{looked_keeps}
+use Rattle.mc_core.specs.model.Head.{decode, never_cut}
+use Rattle.mc_core.specs.model.State.{State, is_held_by, has_slabs, has_stripe, has_chunk, head_at, head_place, stripe_at, number_at, ids_at, holdings_at, with_look, looks_at}
+use Rattle.mc_core.specs.run.Locks as core_locks
+use Rattle.mc_core.specs.run.Locks.{state_after_look}
+use Rattle.mc_core.specs.past.Past.{Moment, Knowledge, SeenWord, begin_hold, end_hold, slabs_word, stripe_word, header, history_at, knowledge_at, moment_stepped}
+use Rattle.mc_core.specs.model.Views.{held_slabs, held_stripe}
+use Rattle.mc_core.specs.law.Laws.{MayStep}
+use Rattle.mc_core.proofs.Frame.Framed.{free_lock}
+use Rattle.mc_core.proofs.Steps.Plays.{hand_there}
+use Rattle.mc_core.proofs.Frame.SameSlabs.{looked_keeps}
 use Rattle.mc_words.specs.hand.View.{Setup, View, view_at, held_stripes, OwnEvent, own_event, events_of}
 use Rattle.mc_words.specs.rule.Layout.{head_word, lock_address}
 use Rattle.mc_words.specs.rule.Happens.{LawfulView, Happens, HappensAt}

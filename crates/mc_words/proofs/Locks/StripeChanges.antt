@@ -7,15 +7,15 @@ use Rattle.mc_core.specs.declared.event.Change.TheVariants.{OfStripe}
 use Rattle.mc_core.specs.declared.event.StripeChange.{StripeChange}
 use Rattle.mc_core.specs.declared.event.StripeChange.TheVariants.{Reserve, ReserveCall, Trim, Forget}
 use Rattle.mc_core.specs.declared.event.Step.TheVariants as core
-use Rattle.mc_core.specs.State.{State, has_stripe, number_at, stripe_at}
-use Rattle.mc_core.specs.Silent.{after_change, can_change_stripe, stripe_after}
-use Rattle.mc_core.specs.Past.{Moment, Own, history_at, knowledge_at, moment_changed}
-use Rattle.mc_core.specs.Views.{held_stripe}
-use Rattle.mc_core.specs.Laws.{MayChange, MayStep}
-use Rattle.mc_core.proofs.LawKept.{lawful_changes}
-use Rattle.mc_core.proofs.Learns.{are_learned}
-use Rattle.mc_core.proofs.SameSlabs.{looked_keeps}
-use Rattle.mc_core.proofs.SeenHolder.{held_is}
+use Rattle.mc_core.specs.model.State.{State, has_stripe, number_at, stripe_at}
+use Rattle.mc_core.specs.run.Silent.{after_change, can_change_stripe, stripe_after}
+use Rattle.mc_core.specs.past.Past.{Moment, Own, history_at, knowledge_at, moment_changed}
+use Rattle.mc_core.specs.model.Views.{held_stripe}
+use Rattle.mc_core.specs.law.Laws.{MayChange, MayStep}
+use Rattle.mc_core.proofs.Law.LawKept.{lawful_changes}
+use Rattle.mc_core.proofs.Known.Learns.{are_learned}
+use Rattle.mc_core.proofs.Frame.SameSlabs.{looked_keeps}
+use Rattle.mc_core.proofs.Seen.SeenHolder.{held_is}
 use Rattle.mc_words.specs.hand.View.{View, held_stripes, view_at, events_of, own_event}
 use Rattle.mc_words.specs.rule.Layout.{lock_address}
 use Rattle.mc_words.specs.rule.Meaning.{AreCut}
@@ -28,7 +28,7 @@ use Rattle.mc_words.proofs.Locks.LockViews.{stripes_set, stripes_were, knew, loc
 use Rattle.mc_words.proofs.Rules.Quiet.{columns}
 use Rattle.mc_words.proofs.Locks.TakeAndGive.{held_from}
 use Rattle.mc_words.proofs.Rules.Written.{unwritten}
-use Rattle.mc_core.specs.Lawful.{IsLawful}
+use Rattle.mc_core.specs.law.Lawful.{IsLawful}
 
 -- what is found stands inside
 pub inside : (all : List (Option ReadyStripe)) (i : ℕ) (value : ReadyStripe) → slice_index_or all i None ≡ Some value → i < length all

@@ -13,16 +13,16 @@ use Rattle.atomic_table.specs.Table.{takes, gives, rest, Allows}
 use Rattle.atomic_table.proofs.Lists.{exchanged, set_else, set_here}
 use Rattle.mc_stripe.specs.StripeState.{ReadyStripe, new_stripe}
 use Rattle.mc_core.specs.declared.event.Step.{Step}
-use Rattle.mc_core.specs.State.{State, is_held_by, is_hand, number_at, has_slabs, has_stripe, stripe_at}
-use Rattle.mc_core.specs.Locks as core_locks
-use Rattle.mc_core.specs.Past.{Moment, moment_stepped}
-use Rattle.mc_core.specs.Views.{held_stripe}
-use Rattle.mc_core.specs.Run.{allows_step, after_step}
-use Rattle.mc_core.specs.Laws.{MayStep}
-use Rattle.mc_core.proofs.Learned.{is_join}
-use Rattle.mc_core.proofs.Framed.{free_lock, step_next}
-use Rattle.mc_core.proofs.Next.{IsNext}
-use Rattle.mc_core.proofs.SameSlabs.{looked_keeps}
+use Rattle.mc_core.specs.model.State.{State, is_held_by, is_hand, number_at, has_slabs, has_stripe, stripe_at}
+use Rattle.mc_core.specs.run.Locks as core_locks
+use Rattle.mc_core.specs.past.Past.{Moment, moment_stepped}
+use Rattle.mc_core.specs.model.Views.{held_stripe}
+use Rattle.mc_core.specs.run.Run.{allows_step, after_step}
+use Rattle.mc_core.specs.law.Laws.{MayStep}
+use Rattle.mc_core.proofs.Known.Learned.{is_join}
+use Rattle.mc_core.proofs.Frame.Framed.{free_lock, step_next}
+use Rattle.mc_core.proofs.Law.Next.{IsNext}
+use Rattle.mc_core.proofs.Frame.SameSlabs.{looked_keeps}
 use Rattle.mc_words.specs.declared.lock.slot.Slot.{Slot}
 use Rattle.mc_words.specs.declared.lock.slot.Slot.TheVariants.{Empty, OfSlabs, OfStripe}
 use Rattle.mc_words.specs.declared.lock.locks.Lock.{Lock}
@@ -316,7 +316,7 @@ module _ (setup : Setup) (slots id : ℕ) (me : Sits) (live : IsSettled me.0) (o
 
       allowed_give : (l : Lock) (y : Slot) → Has m.state (lock_number l) y → is_held_by (word_of m.state l) (number_at m.state id) ≡ true → may_be_given_back y ≡ true → allows_step m.state id (give_of l) ≡ true
       allowed_give SlabsLock Empty has held can = absurd has
-      allowed_give SlabsLock (OfSlabs y) has held can = and_from _ _ held (ap Rattle.mc_core.specs.Silent.none_half_cut (sym has) ∙ can)
+      allowed_give SlabsLock (OfSlabs y) has held can = and_from _ _ held (ap Rattle.mc_core.specs.run.Silent.none_half_cut (sym has) ∙ can)
       allowed_give SlabsLock (OfStripe y) has held can = absurd has
       allowed_give (StripeLock stripe) Empty has held can = absurd has
       allowed_give (StripeLock stripe) (OfSlabs y) has held can = absurd has

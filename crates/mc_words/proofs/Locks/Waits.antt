@@ -1,8 +1,8 @@
 -- One look more, of those that came before a lock was taken; and why a lock's word may be read.
 use Rattle.std.proofs.Common.{◌≡◌, ◌≢◌, ℕ, suc, ◌<◌, true, false, eqb, eq-eqb, List, [], ◌∷◌, ◌++◌, length, refl, sym, ap, subst, ◌∙◌, arith, lt-ltb, slice_index, slice_set}
 use Rattle.mc_core.specs.declared.event.Step.TheVariants as core
-use Rattle.mc_core.specs.State.{State}
-use Rattle.mc_core.proofs.SameSlabs.{looked_keeps}
+use Rattle.mc_core.specs.model.State.{State}
+use Rattle.mc_core.proofs.Frame.SameSlabs.{looked_keeps}
 use Rattle.mc_words.specs.hand.View.{View}
 use Rattle.mc_words.specs.rule.Layout.{lock_address}
 use Rattle.mc_words.specs.rule.Happens.{Happens, MayWrite}

@@ -12,8 +12,8 @@ use Rattle.mc_pages.proofs.Chunks.{same_from_is_chunk}
 use Rattle.mc_core.specs.declared.head.Head.{Head}
 use Rattle.mc_core.specs.declared.look.Look.{Look}
 use Rattle.mc_core.specs.declared.look.Look.TheVariants.{Saw}
-use Rattle.mc_core.specs.Head.{decode, is_dead}
-use Rattle.mc_core.specs.Looks.{is_found_alive}
+use Rattle.mc_core.specs.model.Head.{decode, is_dead}
+use Rattle.mc_core.specs.model.Looks.{is_found_alive}
 use Rattle.mc_words.specs.chunk.Dead.{AreHandedOut, AreJudged, IsAliveOrNoted, IsOut, IsOutside, NotedChunks, Notes, ShareAnOrder}
 use Rattle.mc_words.specs.hand.View.{View}
 use Rattle.mc_words.specs.hand.Views.{head_seen}

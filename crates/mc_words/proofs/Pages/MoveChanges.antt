@@ -17,11 +17,11 @@ use Rattle.mc_pages.specs.SlabState.{SlabState, class_at, class_of_owner, class_
 use Rattle.mc_pages.proofs.RoomyFinish.{moving_within}
 use Rattle.mc_core.specs.declared.event.Change.TheVariants.{BeginMove, FinishMove, Passed, Wrap}
 use Rattle.mc_core.specs.declared.event.Step.TheVariants as core
-use Rattle.mc_core.specs.InOrder.{IsOfTable}
-use Rattle.mc_core.specs.State.{State}
-use Rattle.mc_core.specs.Silent.{after_reassign, can_finish, can_pass, can_wrap, has_page, is_cleared_at, is_listed, run_of}
-use Rattle.mc_core.proofs.Listed.{per_page_is, places_from_listed}
-use Rattle.mc_core.proofs.SamePages.{arrived_if, begun_pages, finished_other}
+use Rattle.mc_core.specs.model.InOrder.{IsOfTable}
+use Rattle.mc_core.specs.model.State.{State}
+use Rattle.mc_core.specs.run.Silent.{after_reassign, can_finish, can_pass, can_wrap, has_page, is_cleared_at, is_listed, run_of}
+use Rattle.mc_core.proofs.Steps.Listed.{per_page_is, places_from_listed}
+use Rattle.mc_core.proofs.Places.SamePages.{arrived_if, begun_pages, finished_other}
 use Rattle.mc_words.specs.hand.View.{View}
 use Rattle.mc_words.specs.rule.Layout.{lock_address, page_word}
 use Rattle.mc_words.specs.rule.Meaning.{AreCut}

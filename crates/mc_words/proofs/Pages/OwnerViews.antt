@@ -10,13 +10,13 @@ use Rattle.mc_core.specs.declared.look.Look.{Look}
 use Rattle.mc_core.specs.declared.look.Look.TheVariants.{Popped, PoppedOff, PutBack, Cleared, Cut}
 use Rattle.mc_core.specs.declared.event.Step.{Step}
 use Rattle.mc_core.specs.declared.event.Step.TheVariants as core
-use Rattle.mc_core.specs.Holdings.{is_of_chunk, without_first, change_each}
-use Rattle.mc_core.specs.State.{State, is_class, has_chunk, has_slabs, head_at, holdings_at, looks_at, room_in, with_slabs}
-use Rattle.mc_core.specs.Chunks.{next_free, head_after_hand_out, with_tag_free, with_tag_out, state_after_pop_of, popped_off, target_of, holding_with_word}
-use Rattle.mc_core.specs.Past.{Moment, Knowledge, knowledge_at, moment_stepped}
-use Rattle.mc_core.specs.Views.{held_slabs}
-use Rattle.mc_core.specs.Run.{after_step}
-use Rattle.mc_core.proofs.Learned.{is_join}
+use Rattle.mc_core.specs.model.Holdings.{is_of_chunk, without_first, change_each}
+use Rattle.mc_core.specs.model.State.{State, is_class, has_chunk, has_slabs, head_at, holdings_at, looks_at, room_in, with_slabs}
+use Rattle.mc_core.specs.run.Chunks.{next_free, head_after_hand_out, with_tag_free, with_tag_out, state_after_pop_of, popped_off, target_of, holding_with_word}
+use Rattle.mc_core.specs.past.Past.{Moment, Knowledge, knowledge_at, moment_stepped}
+use Rattle.mc_core.specs.model.Views.{held_slabs}
+use Rattle.mc_core.specs.run.Run.{after_step}
+use Rattle.mc_core.proofs.Known.Learned.{is_join}
 use Rattle.mc_words.specs.hand.View.{View}
 use Rattle.mc_words.specs.rule.Happens.{LawfulView, Happens}
 use Rattle.mc_words.specs.hand.Views.{copy_holding, fresh_holding, word_filled, chunk_discarded, chunk_popped, chunk_popped_off, chunk_put_back, chunk_cleared, chunk_cut}
@@ -117,7 +117,7 @@ module _ (view now : View) where
         let new : Holding = record { chunk = chunk; issue = (head_at m.state chunk).issue + 1; kind = Rattle.mc_core.specs.declared.holding.Kind.TheVariants.Fresh Rattle.mc_core.specs.declared.holding.Purpose.TheVariants.Item (replicate (room_in m.state.table (class_of_page m.state.slabs chunk.page)) None) } in
         let held : held_slabs (state_after_pop_of with id (Some chunk)) id ≡ Some (slabs_changes.after_pop slabs class) =
         (λ k. Rattle.std.specs.Prelude.if◌then◌else◌ ((slabs_here view h.was slabs mine).0 k) (Some (slabs_changes.after_pop (same k) class)) None) in
-        h.is ∙ view_from view h.was _ after (ap (λ (s : State). Rattle.mc_core.specs.State.ids_at s id) state_is)
+        h.is ∙ view_from view h.was _ after (ap (λ (s : State). Rattle.mc_core.specs.model.State.ids_at s id) state_is)
         (view.row.holdings ++ fresh_holding chunk (head.issue + 1) (room_in view.setup.table class) ∷ [])
         (ap (λ (s : State). holdings_at s id) state_is
         ∙ (get_or-set_same m.state.holdings id (holdings_at m.state id ++ new ∷ []) [] (holding_rows view h.was)
@@ -144,7 +144,7 @@ module _ (view now : View) where
         let new : Holding = record { chunk = chunk; issue = (head_at m.state chunk).issue + 1; kind = Rattle.mc_core.specs.declared.holding.Kind.TheVariants.Fresh (Rattle.mc_core.specs.declared.holding.Purpose.TheVariants.Copy old) (replicate (room_in m.state.table (class_of_page m.state.slabs chunk.page)) None) } in
         let held : held_slabs (popped_off m.state id old (Some chunk)) id ≡ Some (slabs_changes.after_replace slabs chunk old) =
         (λ k. Rattle.std.specs.Prelude.if◌then◌else◌ ((slabs_here view h.was slabs mine).0 k) (Some (slabs_changes.after_replace (same k) chunk old)) None) in
-        h.is ∙ view_from view h.was _ after (ap (λ (s : State). Rattle.mc_core.specs.State.ids_at s id) state_is)
+        h.is ∙ view_from view h.was _ after (ap (λ (s : State). Rattle.mc_core.specs.model.State.ids_at s id) state_is)
         (view.row.holdings ++ copy_holding old chunk (head.issue + 1) (room_in view.setup.table class) ∷ [])
         (ap (λ (s : State). holdings_at s id) state_is
         ∙ (get_or-set_same m.state.holdings id (holdings_at m.state id ++ new ∷ []) [] (holding_rows view h.was)

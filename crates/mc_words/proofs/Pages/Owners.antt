@@ -10,25 +10,25 @@ use Rattle.mc_core.specs.declared.head.Head.{Head}
 use Rattle.mc_core.specs.declared.head.Tag.TheVariants.{Out, Free}
 use Rattle.mc_core.specs.declared.holding.Holding.{Holding}
 use Rattle.mc_core.specs.declared.event.Step.TheVariants as core
-use Rattle.mc_core.specs.Head.{code, decode, is_free, is_dead}
-use Rattle.mc_core.specs.Holdings.{is_of_chunk, is_fresh, holding_of, without_first, holding_words}
-use Rattle.mc_core.specs.State.{State, is_class, has_chunk, has_slabs, head_at, head_place, holdings_at, looks_at, chunk_room, room_in, page_words, with_slabs}
-use Rattle.mc_core.specs.Chunks as chunks
-use Rattle.mc_core.specs.Chunks.{most_issue, most_holdings, has_place, next_free, head_after_hand_out, head_after_release, with_tag_free, holds_as, can_fill_in, state_after_pop_of, after_fill, holding_with_word}
-use Rattle.mc_core.specs.Codes.{word_plus, word_minus, FitsBits}
-use Rattle.mc_core.specs.Counts.{IsHoldingSized}
-use Rattle.mc_core.specs.Columns.{place_in}
-use Rattle.mc_core.specs.Seen.{seen_head}
-use Rattle.mc_core.specs.Judged.{IsJudged}
-use Rattle.mc_core.specs.Needless.{AreNeedless}
-use Rattle.mc_core.proofs.Codes.{are_one_word, all_are_sums}
-use Rattle.mc_core.proofs.Judged.{all_are_judged}
-use Rattle.mc_core.proofs.Needless.{are_needless}
-use Rattle.mc_core.proofs.KnownFills.{fill_at, fill_placed, fill_on}
-use Rattle.mc_core.proofs.Holders.{found_each}
-use Rattle.mc_core.proofs.SeenQuiet.{held_count}
-use Rattle.mc_core.proofs.Base.{word_within}
-use Rattle.mc_core.proofs.FreeChunks.{near_placed}
+use Rattle.mc_core.specs.model.Head.{code, decode, is_free, is_dead}
+use Rattle.mc_core.specs.model.Holdings.{is_of_chunk, is_fresh, holding_of, without_first, holding_words}
+use Rattle.mc_core.specs.model.State.{State, is_class, has_chunk, has_slabs, head_at, head_place, holdings_at, looks_at, chunk_room, room_in, page_words, with_slabs}
+use Rattle.mc_core.specs.run.Chunks as chunks
+use Rattle.mc_core.specs.run.Chunks.{most_issue, most_holdings, has_place, next_free, head_after_hand_out, head_after_release, with_tag_free, holds_as, can_fill_in, state_after_pop_of, after_fill, holding_with_word}
+use Rattle.mc_core.specs.model.Codes.{word_plus, word_minus, FitsBits}
+use Rattle.mc_core.specs.law.Counts.{IsHoldingSized}
+use Rattle.mc_core.specs.model.Columns.{place_in}
+use Rattle.mc_core.specs.law.Seen.{seen_head}
+use Rattle.mc_core.specs.law.Judged.{IsJudged}
+use Rattle.mc_core.specs.run.Needless.{AreNeedless}
+use Rattle.mc_core.proofs.ItemWords.Codes.{are_one_word, all_are_sums}
+use Rattle.mc_core.proofs.Seen.Judged.{all_are_judged}
+use Rattle.mc_core.proofs.Steps.Needless.{are_needless}
+use Rattle.mc_core.proofs.Known.KnownFills.{fill_at, fill_placed, fill_on}
+use Rattle.mc_core.proofs.Counts.Holders.{found_each}
+use Rattle.mc_core.proofs.Seen.SeenQuiet.{held_count}
+use Rattle.mc_core.proofs.Steps.Base.{word_within}
+use Rattle.mc_core.proofs.Places.FreeChunks.{near_placed}
 use Rattle.mc_words.specs.hand.View.{View}
 use Rattle.mc_words.specs.rule.Layout.{head_word, data_word, data_from, data_count, config_from}
 use Rattle.mc_words.specs.rule.Happens.{LawfulView, MayWrite}

@@ -11,9 +11,9 @@ use Rattle.mc_pages.specs.Ledger.{owner_at}
 use Rattle.mc_pages.specs.Changes.{next_page, after_grow}
 use Rattle.mc_core.specs.declared.event.Change.TheVariants.{Evicted, Grow, SetAutomove, Touch, TrimLedger}
 use Rattle.mc_core.specs.declared.event.Step.TheVariants as core
-use Rattle.mc_core.specs.State.{State, is_class}
-use Rattle.mc_core.specs.Silent.{after_growth, can_change_slabs, is_handed_out}
-use Rattle.mc_core.proofs.SamePages.{grown_owners, grown_pages}
+use Rattle.mc_core.specs.model.State.{State, is_class}
+use Rattle.mc_core.specs.run.Silent.{after_growth, can_change_slabs, is_handed_out}
+use Rattle.mc_core.proofs.Places.SamePages.{grown_owners, grown_pages}
 use Rattle.mc_words.specs.hand.View.{View}
 use Rattle.mc_words.specs.rule.Layout.{lock_address, page_word}
 use Rattle.mc_words.specs.rule.Meaning.{AreCut}

@@ -14,9 +14,9 @@ use Rattle.mc_pages.specs.declared.ids.ChunkId.{ChunkId}
 use Rattle.mc_pages.specs.SlabState.{SlabState}
 use Rattle.mc_stripe.specs.StripeState.{ReadyStripe}
 use Rattle.mc_core.specs.declared.head.Head.{Head}
-use Rattle.mc_core.specs.Head.{decode, never_cut}
-use Rattle.mc_core.specs.InOrder.{IsOfTable}
-use Rattle.mc_core.specs.State.{State, head_at, most_of, has_chunk, head_place, stripe_at}
+use Rattle.mc_core.specs.model.Head.{decode, never_cut}
+use Rattle.mc_core.specs.model.InOrder.{IsOfTable}
+use Rattle.mc_core.specs.model.State.{State, head_at, most_of, has_chunk, head_place, stripe_at}
 use Rattle.mc_words.specs.declared.lock.slot.Slot.{Slot}
 use Rattle.mc_words.specs.declared.lock.slot.Slot.TheVariants.{Empty, OfSlabs, OfStripe}
 use Rattle.mc_words.specs.hand.View.{Setup, View, settled_view}

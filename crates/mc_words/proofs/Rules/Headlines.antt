@@ -17,20 +17,20 @@ use Rattle.mc_core.specs.declared.head.Head.{Head}
 use Rattle.mc_core.specs.declared.head.Tag.{Tag}
 use Rattle.mc_core.specs.declared.head.Tag.TheVariants.{Free, Linked, Out, Unlinked}
 use Rattle.mc_core.specs.declared.holding.Holding.{Holding}
-use Rattle.mc_core.specs.Columns.{IsHandedOut, head_in, holder_count, count_of_holdings, link_count, place_in}
-use Rattle.mc_core.specs.Head.{is_free, is_out, never_cut}
-use Rattle.mc_core.specs.Holdings.{holding_words}
-use Rattle.mc_core.specs.InOrder.{IsOfTable}
-use Rattle.mc_core.specs.Lawful.{IsKept, IsLawful}
-use Rattle.mc_core.specs.Laws.{moment_at_end}
-use Rattle.mc_core.specs.Past.{Moment, moment_after}
-use Rattle.mc_core.specs.Stretch.{HasSameWords, HoldsChunk, KeepsHolding, StaysKept}
-use Rattle.mc_core.specs.State.{has_chunk, head_place, holdings_at, is_hand, number_at, page_words, chunk_room, room_in, word_at}
-use Rattle.mc_core.proofs.Base.{chunk_within, placed_at, word_within}
+use Rattle.mc_core.specs.model.Columns.{IsHandedOut, head_in, holder_count, count_of_holdings, link_count, place_in}
+use Rattle.mc_core.specs.model.Head.{is_free, is_out, never_cut}
+use Rattle.mc_core.specs.model.Holdings.{holding_words}
+use Rattle.mc_core.specs.model.InOrder.{IsOfTable}
+use Rattle.mc_core.specs.law.Lawful.{IsKept, IsLawful}
+use Rattle.mc_core.specs.law.Laws.{moment_at_end}
+use Rattle.mc_core.specs.past.Past.{Moment, moment_after}
+use Rattle.mc_core.specs.past.Stretch.{HasSameWords, HoldsChunk, KeepsHolding, StaysKept}
+use Rattle.mc_core.specs.model.State.{has_chunk, head_place, holdings_at, is_hand, number_at, page_words, chunk_room, room_in, word_at}
+use Rattle.mc_core.proofs.Steps.Base.{chunk_within, placed_at, word_within}
 use Rattle.mc_pages.proofs.GrantedPage.{length-owners}
-use Rattle.mc_core.proofs.Follows.{are_kept}
-use Rattle.mc_core.proofs.MoreRows.{each_contained}
-use Rattle.mc_core.proofs.Stretches.{stretches_keep}
+use Rattle.mc_core.proofs.Law.Follows.{are_kept}
+use Rattle.mc_core.proofs.Hands.MoreRows.{each_contained}
+use Rattle.mc_core.proofs.Law.Stretches.{stretches_keep}
 use Rattle.mc_words.specs.declared.lock.slot.Slot.{Slot}
 use Rattle.mc_words.specs.declared.lock.slot.Slot.TheVariants.{Empty, OfSlabs, OfStripe}
 use Rattle.mc_words.specs.Headline.{HasSameData, HeldStaysTheSame, HeldStaysThroughout, IsAccountedFor, IsInOnePlace, IsKeptIn, RuleGivesHeadline, StaysThroughout, ViewsGiveHeadline, ViewsStayThroughout, class_in, data_in, header_in, holders_among}

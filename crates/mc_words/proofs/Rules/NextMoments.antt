@@ -6,10 +6,10 @@ use mathlib.Core.Option.{some}
 use mathlib.Core.Option as maybe
 use lib.ListN.{get_elem?}
 use Rattle.atomic_table.proofs.Lists.{at_set}
-use Rattle.mc_core.specs.State.{is_hand}
-use Rattle.mc_core.specs.Past.{Moment}
-use Rattle.mc_core.specs.Views.{Row}
-use Rattle.mc_core.proofs.Next.{IsNext, IsQuiet}
+use Rattle.mc_core.specs.model.State.{is_hand}
+use Rattle.mc_core.specs.past.Past.{Moment}
+use Rattle.mc_core.specs.model.Views.{Row}
+use Rattle.mc_core.proofs.Law.Next.{IsNext, IsQuiet}
 use Rattle.mc_words.specs.declared.lock.slot.Slot.{Slot}
 use Rattle.mc_words.specs.declared.lock.slot.Slot.TheVariants.{Empty, OfSlabs, OfStripe}
 use Rattle.mc_core.specs.declared.event.Event.{Event}

@@ -12,14 +12,14 @@ use Rattle.mc_classes.specs.Classes.{IsSound, arena_pages_of}
 use Rattle.mc_pages.specs.Ledger.{all_untouched, owner_at}
 use Rattle.mc_pages.specs.SlabState.{fresh_slabs, class_of_owner}
 use Rattle.mc_stripe.specs.StripeState.{new_stripe}
-use Rattle.mc_core.specs.Head.{code, decode, uncut_from}
-use Rattle.mc_core.specs.State.{no_ids, is_held_by, number_at, stripe_at}
-use Rattle.mc_core.specs.Chunks.{most_issue}
-use Rattle.mc_core.specs.Past.{Moment, no_hold}
-use Rattle.mc_core.specs.Views.{held_slabs, held_stripe}
-use Rattle.mc_core.proofs.Codes.{are_one_word}
-use Rattle.mc_core.proofs.Framed.{free_lock}
-use Rattle.mc_core.proofs.LawKept.{lawful_first}
+use Rattle.mc_core.specs.model.Head.{code, decode, uncut_from}
+use Rattle.mc_core.specs.model.State.{no_ids, is_held_by, number_at, stripe_at}
+use Rattle.mc_core.specs.run.Chunks.{most_issue}
+use Rattle.mc_core.specs.past.Past.{Moment, no_hold}
+use Rattle.mc_core.specs.model.Views.{held_slabs, held_stripe}
+use Rattle.mc_core.proofs.ItemWords.Codes.{are_one_word}
+use Rattle.mc_core.proofs.Frame.Framed.{free_lock}
+use Rattle.mc_core.proofs.Law.LawKept.{lawful_first}
 use Rattle.mc_words.specs.declared.lock.slot.Slot.{Slot}
 use Rattle.mc_words.specs.declared.lock.slot.Slot.TheVariants.{Empty, OfSlabs, OfStripe}
 use Rattle.mc_words.specs.hand.View.{Setup, View, view_at, new_view}

@@ -8,12 +8,12 @@ use Rattle.atomic_table.specs.Table.{keeps, Allows}
 use Rattle.mc_classes.specs.Classes.{arena_pages_of}
 use Rattle.mc_pages.specs.declared.ids.ChunkId.{ChunkId}
 use Rattle.mc_pages.specs.SlabState.{class_of_page}
-use Rattle.mc_core.specs.State.{is_class, room_in}
-use Rattle.mc_core.specs.Past.{Moment}
-use Rattle.mc_core.specs.Lawful.{IsLawful}
-use Rattle.mc_core.proofs.Base.{chunk_within}
-use Rattle.mc_core.proofs.Next.{IsNext}
-use Rattle.mc_core.proofs.OfTable.{class_count}
+use Rattle.mc_core.specs.model.State.{is_class, room_in}
+use Rattle.mc_core.specs.past.Past.{Moment}
+use Rattle.mc_core.specs.law.Lawful.{IsLawful}
+use Rattle.mc_core.proofs.Steps.Base.{chunk_within}
+use Rattle.mc_core.proofs.Law.Next.{IsNext}
+use Rattle.mc_core.proofs.Places.OfTable.{class_count}
 use Rattle.mc_words.specs.hand.View.{Setup, View}
 use Rattle.mc_words.specs.rule.Layout.{page_word}
 use Rattle.mc_words.specs.rule.Meaning.{AreHome}

@@ -13,16 +13,16 @@ use Rattle.mc_core.specs.declared.event.Change.{Change}
 use Rattle.mc_core.specs.declared.event.Event.{Event}
 use Rattle.mc_core.specs.declared.event.Step.{Step}
 use Rattle.mc_core.specs.declared.event.Step.TheVariants as core
-use Rattle.mc_core.specs.State.{State, is_held_by, is_hand, has_slabs, has_stripe, stripe_at}
-use Rattle.mc_core.specs.Past.{Moment, moment_stepped, moment_changed}
-use Rattle.mc_core.specs.Views.{held_slabs, held_stripe}
-use Rattle.mc_core.specs.Run.{allows_step, after_step}
-use Rattle.mc_core.specs.Laws.{MayStep, MayChange}
-use Rattle.mc_core.proofs.Own.{is_plain}
-use Rattle.mc_core.proofs.Learned.{is_join}
-use Rattle.mc_core.proofs.SameSlabs.{owners_stay}
-use Rattle.mc_core.proofs.LawKept.{lawful_changes}
-use Rattle.mc_core.proofs.Next.{IsQuiet, quiet_step, quiet_change, quiet_then}
+use Rattle.mc_core.specs.model.State.{State, is_held_by, is_hand, has_slabs, has_stripe, stripe_at}
+use Rattle.mc_core.specs.past.Past.{Moment, moment_stepped, moment_changed}
+use Rattle.mc_core.specs.model.Views.{held_slabs, held_stripe}
+use Rattle.mc_core.specs.run.Run.{allows_step, after_step}
+use Rattle.mc_core.specs.law.Laws.{MayStep, MayChange}
+use Rattle.mc_core.proofs.Frame.Own.{is_plain}
+use Rattle.mc_core.proofs.Known.Learned.{is_join}
+use Rattle.mc_core.proofs.Frame.SameSlabs.{owners_stay}
+use Rattle.mc_core.proofs.Law.LawKept.{lawful_changes}
+use Rattle.mc_core.proofs.Law.Next.{IsQuiet, quiet_step, quiet_change, quiet_then}
 use Rattle.mc_pages.specs.SlabState.{SlabState, class_of_owner, class_of_page}
 use Rattle.mc_pages.specs.Ledger.{owner_at}
 use Rattle.mc_words.specs.declared.lock.slot.Slot.{Slot}

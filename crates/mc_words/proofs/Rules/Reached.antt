@@ -3,10 +3,10 @@ use Rattle.std.proofs.Common.{◌≡◌, ◌≢◌, ◌==◌, ℕ, Bool, true, f
 use Rattle.std.proofs.lemmas.Bool.{and_from}
 use Rattle.mc_core.specs.declared.event.Event.{Event}
 use Rattle.mc_core.specs.declared.event.Step.{Step}
-use Rattle.mc_core.specs.State.{is_hand}
-use Rattle.mc_core.specs.Past.{Moment, moment_after, moment_stepped}
-use Rattle.mc_core.specs.Run.{allows_step, is_allowed}
-use Rattle.mc_core.specs.Laws.{IsRun, moment_at_end}
+use Rattle.mc_core.specs.model.State.{is_hand}
+use Rattle.mc_core.specs.past.Past.{Moment, moment_after, moment_stepped}
+use Rattle.mc_core.specs.run.Run.{allows_step, is_allowed}
+use Rattle.mc_core.specs.law.Laws.{IsRun, moment_at_end}
 use Rattle.mc_words.specs.hand.View.{OwnEvent, Setup, events_of, own_event}
 use Rattle.mc_words.specs.rule.Meaning.{IsReachedBy, beginning_of}
 use Rattle.mc_words.specs.rule.Happens.{event_of}

@@ -7,8 +7,8 @@ use lib.ListN.{get_elem?}
 use Rattle.atomic_table.specs.Table.{Allows, homes_after}
 use Rattle.atomic_table.proofs.Lists.{at_set, at_map}
 use Rattle.mc_core.specs.declared.event.Event.{Event}
-use Rattle.mc_core.specs.State.{is_hand}
-use Rattle.mc_core.specs.Past.{Moment}
+use Rattle.mc_core.specs.model.State.{is_hand}
+use Rattle.mc_core.specs.past.Past.{Moment}
 use Rattle.mc_words.specs.hand.View.{Setup, View, settled_view}
 use Rattle.mc_words.specs.rule.Meaning.{IsViewOf, IsRuled}
 use Rattle.mc_words.specs.rule.Told.{Sits}

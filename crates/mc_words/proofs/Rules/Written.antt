@@ -6,9 +6,9 @@ use Rattle.std.proofs.lemmas.Nat.{mul-add-lt}
 use Rattle.mc_classes.specs.Classes.{arena_pages_of}
 use Rattle.mc_pages.specs.declared.ids.ChunkId.{ChunkId}
 use Rattle.mc_core.specs.declared.head.Head.{Head}
-use Rattle.mc_core.specs.Head.{decode}
-use Rattle.mc_core.specs.State.{has_chunk, head_place, most_of}
-use Rattle.mc_core.proofs.Base.{chunk_within}
+use Rattle.mc_core.specs.model.Head.{decode}
+use Rattle.mc_core.specs.model.State.{has_chunk, head_place, most_of}
+use Rattle.mc_core.proofs.Steps.Base.{chunk_within}
 use Rattle.mc_words.specs.hand.View.{Setup}
 use Rattle.mc_words.specs.rule.Layout.{words_apart, words_between, spread, slabs_word, lock_address, pages_from, heads_from, head_count, data_from, data_count, config_from}
 use Rattle.mc_words.specs.rule.Meaning.{WordsAreColumns}

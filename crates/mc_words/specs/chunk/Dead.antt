@@ -4,8 +4,8 @@ use Rattle.mc_classes.specs.Classes.{Classes}
 use Rattle.mc_pages.specs.declared.ids.ChunkId.{ChunkId}
 use Rattle.mc_pages.specs.SlabState.{SlabState, class_at, class_of_chunk, class_of_page}
 use Rattle.mc_core.specs.declared.look.Look.{Look}
-use Rattle.mc_core.specs.Looks.{is_found_alive}
-use Rattle.mc_core.specs.State.{has_chunk}
+use Rattle.mc_core.specs.model.Looks.{is_found_alive}
+use Rattle.mc_core.specs.model.State.{has_chunk}
 
 -- dead chunks that were noted, and whether there are more
 pub record NotedChunks : Type 0 where

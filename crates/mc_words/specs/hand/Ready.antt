@@ -1,7 +1,7 @@
 -- Hands that may make any call on items and pages.
 use Rattle.std.specs.Prelude.{◌≡◌, ◌≤◌, true, false, length}
 use Rattle.mc_classes.specs.Limits.{most_refs}
-use Rattle.mc_core.specs.Holdings.{has_fresh}
+use Rattle.mc_core.specs.model.Holdings.{has_fresh}
 use Rattle.mc_words.specs.declared.arena.Arena.{Arena}
 use Rattle.mc_words.specs.declared.hand.Hand.{Hand}
 use Rattle.mc_words.specs.hand.Arenas.{IsHandOf, view}

@@ -3,8 +3,8 @@ use Rattle.std.specs.Prelude.{◌≡◌, ℕ, ◌+◌, ◌*◌, ◌^◌, nat_lt,
 use Rattle.mc_pages.specs.Accounted.{truth}
 use Rattle.mc_core.specs.declared.holding.Holding.{Holding}
 use Rattle.mc_core.specs.declared.ids.Ids.{Ids}
-use Rattle.mc_core.specs.Holdings.{is_fresh}
-use Rattle.mc_core.specs.Items.{most_stamps}
+use Rattle.mc_core.specs.model.Holdings.{is_fresh}
+use Rattle.mc_core.specs.run.Items.{most_stamps}
 use Rattle.mc_words.specs.rule.Told.{Sits}
 
 -- how many of the holdings are fresh

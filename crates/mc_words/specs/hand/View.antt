@@ -9,10 +9,10 @@ use Rattle.mc_core.specs.declared.event.Change.{Change}
 use Rattle.mc_core.specs.declared.event.Event.{Event}
 use Rattle.mc_core.specs.declared.event.Step.{Step}
 use Rattle.mc_core.specs.declared.event.Step.TheVariants.{Join}
-use Rattle.mc_core.specs.State.{State, no_ids}
-use Rattle.mc_core.specs.Past.{Knowledge, Moment, no_hold}
-use Rattle.mc_core.specs.Learns.{both_know, knows_nothing}
-use Rattle.mc_core.specs.Views.{Row, hand_row, held_slabs, held_stripe}
+use Rattle.mc_core.specs.model.State.{State, no_ids}
+use Rattle.mc_core.specs.past.Past.{Knowledge, Moment, no_hold}
+use Rattle.mc_core.specs.past.Learns.{both_know, knows_nothing}
+use Rattle.mc_core.specs.model.Views.{Row, hand_row, held_slabs, held_stripe}
 
 -- what an arena is made with: its configuration, the table of that, how many hands there are, and the issue number of each chunk at first
 pub record Setup : Type 0 where

@@ -13,14 +13,14 @@ use Rattle.mc_core.specs.declared.event.Step.{Step}
 use Rattle.mc_core.specs.declared.event.StripeChange.{StripeChange}
 use Rattle.mc_core.specs.declared.event.StripeChange.TheVariants.{Reserve, ReserveCall}
 use Rattle.mc_core.specs.declared.event.Step.TheVariants as step
-use Rattle.mc_core.specs.Silent.{slabs_after, stripe_after}
-use Rattle.mc_core.specs.Past.{SeenWord, Knowledge, begin_hold, end_hold, header, slabs_word, stripe_word}
-use Rattle.mc_core.specs.Holdings.{is_of_chunk, without_first, change_each}
+use Rattle.mc_core.specs.run.Silent.{slabs_after, stripe_after}
+use Rattle.mc_core.specs.past.Past.{SeenWord, Knowledge, begin_hold, end_hold, header, slabs_word, stripe_word}
+use Rattle.mc_core.specs.model.Holdings.{is_of_chunk, without_first, change_each}
 use Rattle.mc_pages.specs.Changes.{after_pop, after_replace, after_back, after_clear, after_cut}
 use Rattle.mc_core.specs.declared.holding.Kind.TheVariants.{Fresh}
 use Rattle.mc_core.specs.declared.holding.Purpose.TheVariants.{Copy, Item}
-use Rattle.mc_core.specs.State.{room_in}
-use Rattle.mc_core.specs.Chunks.{holding_with_word, head_after_hand_out, with_tag_free, with_tag_out}
+use Rattle.mc_core.specs.model.State.{room_in}
+use Rattle.mc_core.specs.run.Chunks.{holding_with_word, head_after_hand_out, with_tag_free, with_tag_out}
 use Rattle.mc_words.specs.hand.View.{View, made}
 
 -- the hand made one event more

@@ -8,9 +8,9 @@ use Rattle.mc_stripe.specs.Changes.{after_evict, after_got, after_lift, after_un
 use Rattle.mc_core.specs.declared.head.Head.{Head}
 use Rattle.mc_core.specs.declared.holding.Holding.{Holding}
 use Rattle.mc_core.specs.declared.look.Look.TheVariants.{Condemned}
-use Rattle.mc_core.specs.Evictions.{head_after_condemn}
-use Rattle.mc_core.specs.Holdings.{has_fresh}
-use Rattle.mc_core.specs.Past.{Own, known_by, with_more}
+use Rattle.mc_core.specs.run.Evictions.{head_after_condemn}
+use Rattle.mc_core.specs.model.Holdings.{has_fresh}
+use Rattle.mc_core.specs.past.Past.{Own, known_by, with_more}
 use Rattle.mc_words.specs.hand.View.{View}
 use Rattle.mc_core.specs.declared.event.Change.TheVariants as change
 use Rattle.mc_core.specs.declared.event.Step.TheVariants as step

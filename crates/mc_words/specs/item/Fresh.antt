@@ -2,7 +2,7 @@
 use Rattle.std.specs.Prelude.{◌≡◌, ℕ, true, List, length, Some}
 use Rattle.mc_pages.specs.declared.ids.ChunkId.{ChunkId}
 use Rattle.mc_core.specs.declared.holding.Holding.{Holding}
-use Rattle.mc_core.specs.Holdings.{holding_of, is_fresh, holding_words}
+use Rattle.mc_core.specs.model.Holdings.{holding_of, is_fresh, holding_words}
 use Rattle.mc_words.specs.hand.View.{View}
 
 -- the first of these holdings that is of this chunk is fresh, and has n words

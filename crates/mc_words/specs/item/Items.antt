@@ -1,13 +1,13 @@
 -- The items of chunks, as a hand knows them.
 use Rattle.std.specs.Prelude.{◌≡◌, ◌<◌, ℕ, List, [], ◌∷◌, length, slice_index, slice_index_or, Option, None, Contains}
-use Rattle.mc_core.specs.Knowing.{WasStored}
-use Rattle.mc_core.specs.Past.{KnownItem, Moment}
+use Rattle.mc_core.specs.law.Knowing.{WasStored}
+use Rattle.mc_core.specs.past.Past.{KnownItem, Moment}
 use Rattle.std.specs.List.{fold}
 use Rattle.std.specs.Option.{option_map_or}
 use Rattle.mc_pages.specs.declared.ids.ChunkId.{ChunkId}
 use Rattle.mc_core.specs.declared.holding.Holding.{Holding}
-use Rattle.mc_core.specs.Holdings.{Words, holding_of, item_of, stamp_in_words, holding_words}
-use Rattle.mc_core.specs.Seen.{last_read}
+use Rattle.mc_core.specs.model.Holdings.{Words, holding_of, item_of, stamp_in_words, holding_words}
+use Rattle.mc_core.specs.law.Seen.{last_read}
 use Rattle.mc_words.specs.hand.View.{View}
 
 -- an item: key, stamp, how many words, and these

@@ -8,9 +8,9 @@ use Rattle.mc_core.specs.declared.holding.Holding.{Holding}
 use Rattle.mc_core.specs.declared.holding.Kind.TheVariants.{Fresh}
 use Rattle.mc_core.specs.declared.holding.Purpose.TheVariants.{Item}
 use Rattle.mc_core.specs.declared.holding.Purpose.TheVariants as purpose
-use Rattle.mc_core.specs.Holdings.{Words, holding_of, is_complete, is_of_chunk, words_of_item, known_key, without_first, numbers_of_known, stamp_in}
-use Rattle.mc_core.specs.Items.{are_same, is_entry_aside, ids_after_stamp}
-use Rattle.mc_core.specs.Past.{known_by}
+use Rattle.mc_core.specs.model.Holdings.{Words, holding_of, is_complete, is_of_chunk, words_of_item, known_key, without_first, numbers_of_known, stamp_in}
+use Rattle.mc_core.specs.run.Items.{are_same, is_entry_aside, ids_after_stamp}
+use Rattle.mc_core.specs.past.Past.{known_by}
 use Rattle.mc_core.specs.declared.event.Step.TheVariants.{Link}
 use Rattle.mc_words.specs.hand.View.{View, made}
 use Rattle.mc_words.specs.item.Calls.{with_own_call}

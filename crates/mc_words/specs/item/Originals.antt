@@ -6,8 +6,8 @@ use Rattle.mc_stripe.specs.Changes.{after_lift}
 use Rattle.mc_core.specs.declared.head.Head.{Head}
 use Rattle.mc_core.specs.declared.look.Look.TheVariants.{Condemned}
 use Rattle.mc_core.specs.declared.event.Step.TheVariants as step
-use Rattle.mc_core.specs.Evictions.{as_rescue, head_after_condemn, is_linked_unheld}
-use Rattle.mc_core.specs.Holdings.{change_each, is_copy_of, key_of, length_of_item, stamp_in_words}
+use Rattle.mc_core.specs.run.Evictions.{as_rescue, head_after_condemn, is_linked_unheld}
+use Rattle.mc_core.specs.model.Holdings.{change_each, is_copy_of, key_of, length_of_item, stamp_in_words}
 use Rattle.mc_words.specs.hand.View.{View}
 use Rattle.mc_words.specs.rule.Happens.{Happens}
 use Rattle.mc_words.specs.item.Items.{word_read}

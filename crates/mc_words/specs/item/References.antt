@@ -5,7 +5,7 @@ use Rattle.mc_stripe.specs.StripeState.{ReadyStripe, chunk_and_stamp}
 use Rattle.mc_core.specs.declared.holding.Holding.{Holding}
 use Rattle.mc_core.specs.declared.holding.Kind.TheVariants.{Reference}
 use Rattle.mc_core.specs.declared.event.Step.TheVariants as step
-use Rattle.mc_core.specs.Holdings.{key_of, stamp_in_words, length_of_item}
+use Rattle.mc_core.specs.model.Holdings.{key_of, stamp_in_words, length_of_item}
 use Rattle.mc_words.specs.hand.View.{View}
 use Rattle.mc_words.specs.rule.Happens.{Happens}
 use Rattle.mc_words.specs.item.Items.{held_item}

@@ -3,8 +3,8 @@ use Rattle.std.specs.Prelude.{◌≡◌, ℕ, true, false, List, Contains, is_so
 use Rattle.std.specs.Option.{option_map}
 use Rattle.mc_pages.specs.declared.ids.ChunkId.{ChunkId}
 use Rattle.mc_core.specs.declared.holding.Holding.{Holding}
-use Rattle.mc_core.specs.Holdings.{holding_of, is_fresh}
-use Rattle.mc_core.specs.Past.{KnownItem, known_by}
+use Rattle.mc_core.specs.model.Holdings.{holding_of, is_fresh}
+use Rattle.mc_core.specs.past.Past.{KnownItem, known_by}
 use Rattle.mc_words.specs.hand.View.{View}
 
 -- the first of these holdings that is of this chunk is a reference, and is known to have room for n words

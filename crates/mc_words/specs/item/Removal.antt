@@ -10,8 +10,8 @@ use Rattle.mc_core.specs.declared.head.Head.{Head}
 use Rattle.mc_core.specs.declared.holding.Holding.{Holding}
 use Rattle.mc_core.specs.declared.look.Look.{Look}
 use Rattle.mc_core.specs.declared.event.Step.TheVariants as step
-use Rattle.mc_core.specs.Evictions.{has_copy, is_linked_unheld, lacks_room, none_dead}
-use Rattle.mc_core.specs.Judged.{sees_no_target}
+use Rattle.mc_core.specs.run.Evictions.{has_copy, is_linked_unheld, lacks_room, none_dead}
+use Rattle.mc_core.specs.law.Judged.{sees_no_target}
 use Rattle.mc_words.specs.hand.View.{View}
 use Rattle.mc_words.specs.rule.Happens.{Happens}
 use Rattle.mc_words.specs.item.Items.{word_read}

@@ -4,7 +4,7 @@ use Rattle.mc_pages.specs.SlabState.{SlabState}
 use Rattle.mc_stripe.specs.StripeState.{ReadyStripe}
 use Rattle.mc_core.specs.declared.event.StripeChange.{StripeChange}
 use Rattle.mc_core.specs.declared.event.StripeChange.TheVariants.{Reserve, ReserveCall}
-use Rattle.mc_core.specs.Silent.{stripe_after}
+use Rattle.mc_core.specs.run.Silent.{stripe_after}
 use Rattle.mc_words.specs.hand.View.{View}
 use Rattle.mc_words.specs.hand.Views.{slabs_given, stripe_changed, stripe_given}
 use Rattle.mc_words.specs.lock.Wait.{WaitsForSlabs, WaitsForStripe}

@@ -6,9 +6,9 @@ use Rattle.mc_pages.specs.SlabState.{SlabState, class_of_chunk}
 use Rattle.mc_stripe.specs.StripeState.{ReadyStripe, new_stripe, chunk_and_stamp}
 use Rattle.mc_stripe.specs.declared.history.Call.{Call}
 use Rattle.mc_stripe.specs.Legal.{IsLegal}
-use Rattle.mc_core.specs.Histories.{IsBeginning, hand_of}
-use Rattle.mc_core.specs.Past.{Own}
-use Rattle.mc_core.specs.InOrder.{IsOfTable}
+use Rattle.mc_core.specs.law.Histories.{IsBeginning, hand_of}
+use Rattle.mc_core.specs.past.Past.{Own}
+use Rattle.mc_core.specs.model.InOrder.{IsOfTable}
 use Rattle.mc_words.specs.hand.View.{View}
 
 -- the pages and lists are the hand's, are whole, and agree with what the hand holds

@@ -4,9 +4,9 @@ use Rattle.std.specs.List.{range_with_len}
 use Rattle.atomic_table.specs.Table.{rest}
 use Rattle.mc_core.specs.declared.event.Step.{Step}
 use Rattle.mc_core.specs.declared.event.Step.TheVariants as step
-use Rattle.mc_core.specs.Silent.{none_half_cut}
-use Rattle.mc_core.specs.Past.{SeenWord}
-use Rattle.mc_core.specs.Past as past
+use Rattle.mc_core.specs.run.Silent.{none_half_cut}
+use Rattle.mc_core.specs.past.Past.{SeenWord}
+use Rattle.mc_core.specs.past.Past as past
 use Rattle.mc_words.specs.declared.lock.slot.Slot.{Slot}
 use Rattle.mc_words.specs.declared.lock.slot.Slot.TheVariants.{Empty, OfSlabs, OfStripe}
 use Rattle.mc_words.specs.declared.lock.locks.Lock.{Lock}

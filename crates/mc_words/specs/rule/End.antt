@@ -5,9 +5,9 @@ use mathlib.Core.Option.{some}
 use lib.ListN.{get_elem?}
 use Rattle.mc_pages.specs.SlabState.{SlabState}
 use Rattle.mc_stripe.specs.StripeState.{ReadyStripe}
-use Rattle.mc_core.specs.Head.{decode}
-use Rattle.mc_core.specs.InOrder.{IsOfTable}
-use Rattle.mc_core.specs.State.{stripe_at}
+use Rattle.mc_core.specs.model.Head.{decode}
+use Rattle.mc_core.specs.model.InOrder.{IsOfTable}
+use Rattle.mc_core.specs.model.State.{stripe_at}
 use Rattle.mc_words.specs.declared.lock.slot.Slot.{Slot}
 use Rattle.mc_words.specs.declared.lock.slot.Slot.TheVariants.{Empty, OfSlabs, OfStripe}
 use Rattle.mc_words.specs.hand.View.{Setup, View}

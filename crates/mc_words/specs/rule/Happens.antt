@@ -4,11 +4,11 @@ use Rattle.mc_core.specs.declared.event.Change.{Change}
 use Rattle.mc_core.specs.declared.event.Event.{Event}
 use Rattle.mc_core.specs.declared.event.Step.{Step}
 use Rattle.mc_core.specs.declared.event.Step.TheVariants.{TakeSlabs, TakeStripe, GiveSlabs, GiveStripe, Join}
-use Rattle.mc_core.specs.State.{is_hand}
-use Rattle.mc_core.specs.Past.{Moment, moment_after}
-use Rattle.mc_core.specs.Lawful.{IsLawful}
-use Rattle.mc_core.specs.Silent.{allows_change, after_change}
-use Rattle.mc_core.specs.Run.{allows_step, after_step, is_allowed}
+use Rattle.mc_core.specs.model.State.{is_hand}
+use Rattle.mc_core.specs.past.Past.{Moment, moment_after}
+use Rattle.mc_core.specs.law.Lawful.{IsLawful}
+use Rattle.mc_core.specs.run.Silent.{allows_change, after_change}
+use Rattle.mc_core.specs.run.Run.{allows_step, after_step, is_allowed}
 use Rattle.mc_words.specs.hand.View.{View, events_of, own_event, view_at}
 use Rattle.mc_words.specs.rule.Meaning.{WordsOf, AreCut, IsReachedBy}
 

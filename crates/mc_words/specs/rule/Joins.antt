@@ -3,10 +3,10 @@ use Rattle.std.specs.Prelude.{◌≡◌, ℕ, true, List, [], ◌∷◌, ◌++�
 use mathlib.Core.Option.{some}
 use lib.ListN.{get_elem?}
 use Rattle.mc_core.specs.declared.event.Step.TheVariants.{Join}
-use Rattle.mc_core.specs.Holdings.{stamp_in_words}
-use Rattle.mc_core.specs.Past.{KnownItem, Knowledge, StoredItem, moment_after}
-use Rattle.mc_core.specs.Run.{is_allowed}
-use Rattle.mc_core.specs.Views.{Row, hand_row}
+use Rattle.mc_core.specs.model.Holdings.{stamp_in_words}
+use Rattle.mc_core.specs.past.Past.{KnownItem, Knowledge, StoredItem, moment_after}
+use Rattle.mc_core.specs.run.Run.{is_allowed}
+use Rattle.mc_core.specs.model.Views.{Row, hand_row}
 use Rattle.mc_words.specs.hand.View.{OwnEvent, Setup, View, events_of, joined, view_at, settled_view}
 use Rattle.mc_words.specs.rule.Meaning.{WordsOfTable, IsRuled}
 use Rattle.mc_words.specs.rule.Happens.{LawfulView, event_of}

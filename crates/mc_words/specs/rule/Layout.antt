@@ -3,7 +3,7 @@ use Rattle.std.specs.Prelude.{ℕ, ◌+◌, ◌-◌, ◌*◌, List, [], ◌∷�
 use Rattle.mc_classes.specs.declared.config.Config.{Config}
 use Rattle.mc_classes.specs.Classes.{arena_pages_of}
 use Rattle.mc_pages.specs.declared.ids.ChunkId.{ChunkId}
-use Rattle.mc_core.specs.State.{most_of, page_words, head_place}
+use Rattle.mc_core.specs.model.State.{most_of, page_words, head_place}
 use Rattle.mc_words.specs.hand.View.{Setup}
 
 -- the words of 8 bytes from one lock's word to the next, and to what is written before and behind: 128 bytes, so that no two are in one

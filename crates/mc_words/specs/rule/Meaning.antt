@@ -6,12 +6,12 @@ use Rattle.atomic_table.specs.Table as table
 use Rattle.mc_classes.specs.Classes.{arena_pages_of}
 use Rattle.mc_pages.specs.SlabState.{SlabState, class_of_page}
 use Rattle.mc_core.specs.declared.head.Head.{Head}
-use Rattle.mc_core.specs.Head.{decode}
-use Rattle.mc_core.specs.State.{State, is_hand, stripe_at}
-use Rattle.mc_core.specs.Past.{Moment, first_moment}
+use Rattle.mc_core.specs.model.Head.{decode}
+use Rattle.mc_core.specs.model.State.{State, is_hand, stripe_at}
+use Rattle.mc_core.specs.past.Past.{Moment, first_moment}
 use Rattle.mc_core.specs.declared.event.Event.{Event}
-use Rattle.mc_core.specs.Laws.{IsRun, moment_at_end}
-use Rattle.mc_core.specs.Lawful.{IsLawful}
+use Rattle.mc_core.specs.law.Laws.{IsRun, moment_at_end}
+use Rattle.mc_core.specs.law.Lawful.{IsLawful}
 use Rattle.mc_words.specs.declared.lock.slot.Slot.{Slot}
 use Rattle.mc_words.specs.declared.lock.slot.Slot.TheVariants.{Empty, OfSlabs, OfStripe}
 use Rattle.mc_words.specs.hand.View.{Setup, View, events_of, view_at, new_view, spent_view}

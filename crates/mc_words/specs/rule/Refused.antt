@@ -3,7 +3,7 @@ use Rattle.std.specs.Prelude.{ℕ, nat_le, not, if◌then◌else◌, Option, Som
 use Rattle.mc_classes.specs.declared.config.Config.{Config}
 use Rattle.mc_classes.specs.declared.config.ConfigError.{ConfigError}
 use Rattle.mc_classes.specs.Refusals as classes
-use Rattle.mc_core.specs.Chunks.{most_issue}
+use Rattle.mc_core.specs.run.Chunks.{most_issue}
 use Rattle.mc_words.specs.declared.arena.refusal.NewError.{NewError}
 use Rattle.mc_words.specs.declared.arena.refusal.NewError.TheVariants as refused
 

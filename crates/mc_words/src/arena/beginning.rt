@@ -1,7 +1,7 @@
 //! The first words and slots of an arena's table, and its first hand.
 ghost use Rattle.std.specs.Prelude.{◌≡◌, ◌+◌, ◌*◌, ◌^◌, ◌<◌, ◌≤◌, ◌∷◌, ◌++◌, replicate, IfOk, OnOk};
 ghost use Rattle.mc_classes.specs.Classes.{IsSound};
-ghost use Rattle.mc_core.specs.Chunks.{most_issue};
+ghost use Rattle.mc_core.specs.run.Chunks.{most_issue};
 ghost use Rattle.mc_words.specs.hand.Arenas.{IsHandOf, setup_of, view};
 ghost use Rattle.mc_words.specs.rule.Layout.{word_count};
 ghost use Rattle.mc_words.specs.lock.Slots.{slots_between};

@@ -5,8 +5,8 @@ ghost use Rattle.std.specs.Slots.{IsFull, slots_items, slots_len};
 ghost use Rattle.mc_classes.specs.Classes.{arena_pages_of};
 ghost use Rattle.mc_pages.specs.Accounted.{IsAccounted};
 ghost use Rattle.mc_pages.specs.Ledger.{owner_at};
-ghost use Rattle.mc_core.specs.InOrder.{IsOfTable};
-ghost use Rattle.mc_core.specs.State.{has_chunk, head_place};
+ghost use Rattle.mc_core.specs.model.InOrder.{IsOfTable};
+ghost use Rattle.mc_core.specs.model.State.{has_chunk, head_place};
 ghost use Rattle.mc_words.specs.hand.Arenas.{IsHandOf, view};
 ghost use Rattle.mc_words.specs.rule.End.{Closes};
 
@@ -36,7 +36,7 @@ pub struct Final {
 impl Model for Final {
     ghost use Rattle.std.specs.Prelude.{◌≡◌};
     ghost use Rattle.std.specs.Slots.{IsFull, slots_items};
-    ghost use Rattle.mc_core.specs.State.{most_of};
+    ghost use Rattle.mc_core.specs.model.State.{most_of};
     ghost use Rattle.mc_words.specs.rule.Layout.{heads_from};
     ghost use Rattle.mc_words.specs.rule.End.{IsLeftOf, ArenaEnd, left_of};
 

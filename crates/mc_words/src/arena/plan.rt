@@ -1,6 +1,6 @@
 //! What an arena is made with: its configuration, its classes, the number of hands and the first issue number.
 ghost use Rattle.std.specs.Prelude.{◌≡◌, ◌≤◌};
-ghost use Rattle.mc_core.specs.Chunks.{most_issue};
+ghost use Rattle.mc_core.specs.run.Chunks.{most_issue};
 
 use mc_classes::{ClassTable, Config};
 use std::marker::Model;
@@ -16,7 +16,7 @@ pub(crate) struct Plan {
 
 impl Model for Plan {
     ghost use Rattle.std.specs.Prelude.{◌≤◌};
-    ghost use Rattle.mc_core.specs.Chunks.{most_issue};
+    ghost use Rattle.mc_core.specs.run.Chunks.{most_issue};
     ghost use Rattle.mc_words.specs.hand.View.{Setup};
 
     ghost Value = { Setup };

@@ -3,8 +3,8 @@ ghost use Rattle.std.specs.Prelude.{◌≡◌, [], true, false, Some, IsOk, OnOk
 ghost use Rattle.std.specs.Option.{option_map};
 ghost use Rattle.mc_pages.specs.Changes.{after_clear};
 ghost use Rattle.mc_pages.specs.Pages.{is_on_the_move};
-ghost use Rattle.mc_core.specs.Seen.{seen_head};
-ghost use Rattle.mc_core.specs.State.{has_chunk};
+ghost use Rattle.mc_core.specs.law.Seen.{seen_head};
+ghost use Rattle.mc_core.specs.model.State.{has_chunk};
 ghost use Rattle.mc_core.specs.declared.event.Step.TheVariants as step;
 ghost use Rattle.mc_words.specs.hand.Arenas.{IsHandOf, setup_of, view};
 ghost use Rattle.mc_words.specs.page.Owner as owner;

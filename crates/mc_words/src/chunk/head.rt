@@ -1,7 +1,7 @@
 //! Looks at headers.
 ghost use Rattle.std.specs.Prelude.{◌≡◌, ◌<◌, true, []};
-ghost use Rattle.mc_core.specs.Head.{decode};
-ghost use Rattle.mc_core.specs.State.{has_chunk};
+ghost use Rattle.mc_core.specs.model.Head.{decode};
+ghost use Rattle.mc_core.specs.model.State.{has_chunk};
 ghost use Rattle.mc_core.specs.declared.event.Step.TheVariants as step;
 ghost use Rattle.mc_words.specs.hand.Arenas.{IsHandOf, setup_of, view};
 ghost use Rattle.mc_words.specs.rule.Happens.{Happens};

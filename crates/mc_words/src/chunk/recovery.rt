@@ -4,7 +4,7 @@ ghost use Rattle.mc_classes.specs.Limits.{most_page_chunks};
 ghost use Rattle.mc_classes.specs.Classes.{arena_pages_of};
 ghost use Rattle.mc_pages.specs.declared.ids.ChunkId.{ChunkId};
 ghost use Rattle.mc_pages.specs.SlabState.{class_at, class_of_page};
-ghost use Rattle.mc_core.specs.State.{is_class, most_of};
+ghost use Rattle.mc_core.specs.model.State.{is_class, most_of};
 ghost use Rattle.mc_words.specs.hand.Arenas.{IsHandOf, setup_of, view};
 ghost use Rattle.mc_words.specs.chunk.Dead.{AreHandedOut, AreJudged, IsAliveOrNoted};
 ghost use Rattle.mc_words.specs.chunk.Sweeps.{Recovers, SeesHeaders, with_seen};

@@ -2,7 +2,7 @@
 ghost use Rattle.std.specs.Prelude.{◌≡◌, ◌%◌, [], true, slice_index_or, None, Some};
 ghost use Rattle.mc_stripe.specs.StripeState.{chunk_and_stamp, can_store};
 ghost use Rattle.mc_stripe.specs.Changes.{after_link, used_up};
-ghost use Rattle.mc_core.specs.Items.{is_none_else_aside};
+ghost use Rattle.mc_core.specs.run.Items.{is_none_else_aside};
 ghost use Rattle.mc_core.specs.declared.event.Step.TheVariants as step;
 ghost use Rattle.mc_words.specs.hand.Arenas.{IsHandOf, setup_of, view};
 ghost use Rattle.mc_words.specs.item.Fresh.{IsFreshOf};

@@ -1,10 +1,10 @@
 //! Items that go to a copy: the original is taken away under both locks.
 ghost use Rattle.std.specs.Prelude.{◌≡◌, [], true, slice_index_or, None, Some, OnOk, OnErr};
 ghost use Rattle.std.specs.Option.{option_map};
-ghost use Rattle.mc_core.specs.Evictions.{has_copy};
-ghost use Rattle.mc_core.specs.Head.{is_dead};
-ghost use Rattle.mc_core.specs.Seen.{seen_head};
-ghost use Rattle.mc_core.specs.State.{has_chunk};
+ghost use Rattle.mc_core.specs.run.Evictions.{has_copy};
+ghost use Rattle.mc_core.specs.model.Head.{is_dead};
+ghost use Rattle.mc_core.specs.law.Seen.{seen_head};
+ghost use Rattle.mc_core.specs.model.State.{has_chunk};
 ghost use Rattle.mc_words.specs.hand.Arenas.{IsHandOf, setup_of, view};
 ghost use Rattle.mc_words.specs.item.Removal.{FindsHeld, knows_reason, stripe_read};
 ghost use Rattle.mc_words.specs.item.Originals.{CondemnsOriginal};

@@ -2,10 +2,10 @@
 ghost use Rattle.std.specs.Prelude.{◌≡◌, ℕ, ◌<◌, ◌≤◌, ◌%◌, ◌↔◌, [], ◌∷◌, true, false, length, slice_index_or, None, Some, Ok, IfOk, IfSome, IsErr, OnOk, OnErr};
 ghost use Rattle.mc_stripe.specs.Changes.{after_got, used_up};
 ghost use Rattle.mc_stripe.specs.StripeState.{chunk_and_stamp};
-ghost use Rattle.mc_core.specs.Silent.{is_aside};
+ghost use Rattle.mc_core.specs.run.Silent.{is_aside};
 ghost use Rattle.mc_core.specs.declared.event.Change.TheVariants as change;
 ghost use Rattle.mc_core.specs.declared.event.Step.TheVariants as step;
-ghost use Rattle.mc_core.specs.Chunks.{most_holdings};
+ghost use Rattle.mc_core.specs.run.Chunks.{most_holdings};
 ghost use Rattle.mc_words.specs.hand.Arenas.{IsHandOf, setup_of, view};
 ghost use Rattle.mc_words.specs.item.Calls.{key_missed};
 ghost use Rattle.mc_words.specs.rule.Happens.{Happens};

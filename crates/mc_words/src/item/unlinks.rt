@@ -1,9 +1,9 @@
 //! Items that are unlinked from their keys.
 ghost use Rattle.std.specs.Prelude.{◌≡◌, ℕ, ◌%◌, ◌&&◌, [], ◌∷◌, true, false, is_some, slice_index_or, None, Some};
 ghost use Rattle.mc_stripe.specs.StripeState.{chunk_and_stamp};
-ghost use Rattle.mc_core.specs.Holdings.{has_fresh};
-ghost use Rattle.mc_core.specs.Items.{stripe_unlinked};
-ghost use Rattle.mc_core.specs.Silent.{is_aside};
+ghost use Rattle.mc_core.specs.model.Holdings.{has_fresh};
+ghost use Rattle.mc_core.specs.run.Items.{stripe_unlinked};
+ghost use Rattle.mc_core.specs.run.Silent.{is_aside};
 ghost use Rattle.mc_core.specs.declared.event.Change.TheVariants as change;
 ghost use Rattle.mc_core.specs.declared.event.Step.TheVariants as step;
 ghost use Rattle.mc_words.specs.hand.Arenas.{IsHandOf, setup_of, view};

@@ -1,9 +1,9 @@
 //! Reads of an item's words.
 ghost use Rattle.std.specs.Prelude.{◌≡◌, ◌+◌, ◌<◌, ◌≤◌, [], true, length, slice_index, Some, IfSome};
 ghost use Rattle.mc_pages.specs.SlabState.{class_of_page};
-ghost use Rattle.mc_core.specs.Holdings.{key_of, stamp_in_words};
-ghost use Rattle.mc_core.specs.Looks.{was_linked};
-ghost use Rattle.mc_core.specs.State.{has_chunk, room_in};
+ghost use Rattle.mc_core.specs.model.Holdings.{key_of, stamp_in_words};
+ghost use Rattle.mc_core.specs.model.Looks.{was_linked};
+ghost use Rattle.mc_core.specs.model.State.{has_chunk, room_in};
 ghost use Rattle.mc_core.specs.declared.event.Step.TheVariants as step;
 ghost use Rattle.mc_words.specs.hand.Arenas.{IsHandOf, setup_of, view};
 ghost use Rattle.mc_words.specs.rule.Happens.{Happens, LawfulView};

@@ -3,8 +3,8 @@ ghost use Rattle.std.specs.Prelude.{◌≡◌, ℕ, ◌+◌, ◌%◌, ◌<◌, �
 ghost use Rattle.mc_classes.specs.Classes.{arena_pages_of};
 ghost use Rattle.mc_pages.specs.Changes.{HasNoPageFor, after_evicted, after_grow, after_touch, after_trim, next_page};
 ghost use Rattle.mc_stripe.specs.StripeState.{chunk_and_stamp};
-ghost use Rattle.mc_core.specs.Silent.{call_of, is_aside, is_handed_out};
-ghost use Rattle.mc_core.specs.State.{is_class};
+ghost use Rattle.mc_core.specs.run.Silent.{call_of, is_aside, is_handed_out};
+ghost use Rattle.mc_core.specs.model.State.{is_class};
 ghost use Rattle.mc_core.specs.declared.event.Change.TheVariants as change;
 ghost use Rattle.mc_core.specs.declared.event.Step.TheVariants as step;
 ghost use Rattle.mc_words.specs.hand.Arenas.{IsHandOf, setup_of, view};

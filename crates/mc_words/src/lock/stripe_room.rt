@@ -3,7 +3,7 @@
 ghost use Rattle.std.specs.Prelude.{◌≡◌, ◌≤◌, ◌+◌, ◌^◌, ◌<◌, [], ◌∷◌, true, length, is_some, slice_index_or, None, Some, Err, IsOk, OnOk, OnErr};
 ghost use Rattle.mc_stripe.specs.StripeState.{can_store};
 ghost use Rattle.mc_stripe.specs.Changes.{after_reserve, after_reserve_call};
-ghost use Rattle.mc_core.specs.Silent.{can_change_stripe, stripe_after};
+ghost use Rattle.mc_core.specs.run.Silent.{can_change_stripe, stripe_after};
 ghost use Rattle.mc_core.specs.declared.event.Change.TheVariants as change;
 ghost use Rattle.mc_core.specs.declared.event.Step.TheVariants as step;
 ghost use Rattle.mc_core.specs.declared.event.StripeChange.TheVariants.{Reserve, ReserveCall, Trim as Trimmed, Forget};

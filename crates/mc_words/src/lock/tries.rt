@@ -1,7 +1,7 @@
 //! The locks of the slabs and of stripes: one try that takes a lock, and the call that gives it back.
 ghost use Rattle.std.specs.Prelude.{◌≡◌, ◌≢◌, ℕ, ◌<◌, [], true, slice_index_or, None, Some, IfOk, OnErr};
 ghost use Rattle.mc_core.specs.declared.event.Step.TheVariants as step;
-ghost use Rattle.mc_core.specs.Silent.{none_half_cut};
+ghost use Rattle.mc_core.specs.run.Silent.{none_half_cut};
 ghost use Rattle.mc_words.specs.hand.Arenas.{IsHandOf, setup_of, view};
 ghost use Rattle.mc_words.specs.rule.Happens.{Happens};
 ghost use Rattle.mc_words.specs.lock.Lent.{BeginsWithSeen, IsLent, IsLentStripe};

@@ -4,9 +4,9 @@ ghost use Rattle.std.specs.Prelude.{◌≡◌, ℕ, ◌+◌, ◌<◌, ◌≤◌,
 ghost use Rattle.mc_classes.specs.Classes.{arena_pages_of};
 ghost use Rattle.mc_pages.specs.declared.ids.ChunkId.{ChunkId};
 ghost use Rattle.mc_pages.specs.SlabState.{class_at, class_of_page};
-ghost use Rattle.mc_core.specs.Looks.{is_found_alive};
-ghost use Rattle.mc_core.specs.Silent.{is_among};
-ghost use Rattle.mc_core.specs.State.{has_chunk, is_class, most_of};
+ghost use Rattle.mc_core.specs.model.Looks.{is_found_alive};
+ghost use Rattle.mc_core.specs.run.Silent.{is_among};
+ghost use Rattle.mc_core.specs.model.State.{has_chunk, is_class, most_of};
 ghost use Rattle.mc_words.specs.hand.Arenas.{IsHandOf, setup_of, view};
 ghost use Rattle.mc_words.specs.chunk.Dead.{AreHandedOut, IsAliveOrNoted, IsOutside, NotedChunks};
 ghost use Rattle.mc_words.specs.rule.Layout.{head_word};

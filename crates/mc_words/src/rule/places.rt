@@ -1,7 +1,7 @@
 //! The places of the table's words.
 ghost use Rattle.std.specs.Prelude.{◌≡◌, ◌+◌, ◌<◌, ◌≤◌, ℕ, true};
 ghost use Rattle.mc_classes.specs.Classes.{arena_pages_of};
-ghost use Rattle.mc_core.specs.State.{has_chunk, most_of};
+ghost use Rattle.mc_core.specs.model.State.{has_chunk, most_of};
 ghost use Rattle.mc_words.specs.hand.Arenas.{setup_of};
 ghost use Rattle.mc_words.specs.rule.Layout.{config_from, data_word, head_word, page_word};
 

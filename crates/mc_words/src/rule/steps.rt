@@ -2,7 +2,7 @@
 ghost use Rattle.std.specs.Prelude.{◌≡◌, ◌≢◌, ◌<◌, ◌∷◌, true, []};
 ghost use Rattle.mc_core.specs.declared.event.Change.{Change};
 ghost use Rattle.mc_core.specs.declared.event.Step.{Step};
-ghost use Rattle.mc_core.specs.Codes.{word_plus, word_minus};
+ghost use Rattle.mc_core.specs.model.Codes.{word_plus, word_minus};
 ghost use Rattle.mc_words.specs.hand.Arenas.{IsOfArena};
 ghost use Rattle.mc_words.specs.rule.Happens.{Happens, HappensAt, IsSameHand, MayExchange, AllowsStep, MayWrite, keeps_locks_and_hands};
 

@@ -1,7 +1,7 @@
 //! The numbers of a snapshot that are behind the slabs lock.
 ghost use Rattle.std.specs.Prelude.{◌≡◌, Some};
 ghost use Rattle.mc_pages.specs.SlabState.{HasClass};
-ghost use Rattle.mc_core.specs.State.{is_class};
+ghost use Rattle.mc_core.specs.model.State.{is_class};
 ghost use Rattle.mc_words.specs.hand.Arenas.{IsHandOf, setup_of, view};
 ghost use Rattle.mc_words.specs.hand.Ready.{IsReadyHandOf};
 

@@ -1,6 +1,6 @@
 //! References that a hand keeps over other calls, each of which is read now and then.
 ghost use Rattle.std.specs.Prelude.{◌≡◌, IfOk, IfSome, OnErr, true};
-ghost use Rattle.mc_core.specs.State.{has_chunk};
+ghost use Rattle.mc_core.specs.model.State.{has_chunk};
 ghost use Rattle.mc_words.specs.hand.Arenas.{setup_of, view};
 ghost use Rattle.mc_words.specs.item.Refs.{KeepsRefs};
 ghost use Rattle.mc_items.specs.ItemRefs.{IsItemRef, item_chunk};

@@ -1,7 +1,7 @@
 //! Workers of the stress: each holds items with one hand, while it stores, reads and deletes others with a second. Each word of
 //! an item shows its key and stamp, so a word of another item would be seen.
 ghost use Rattle.std.specs.Prelude.{◌≡◌, true};
-ghost use Rattle.mc_core.specs.State.{has_chunk};
+ghost use Rattle.mc_core.specs.model.State.{has_chunk};
 ghost use Rattle.mc_words.specs.hand.Arenas.{setup_of};
 ghost use Rattle.mc_words.specs.hand.Observers.{hint_chunk};
 ghost use Rattle.testlib_hands.specs.Hands.{IsEmptyHandOf};

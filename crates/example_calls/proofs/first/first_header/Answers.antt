@@ -1,5 +1,5 @@
 use Rattle.std.proofs.Common.{◌≡◌, ◌∙◌, ℕ, Option, Some, ap}
-use Rattle.mc_core.specs.Head.{code}
+use Rattle.mc_core.specs.model.Head.{code}
 use Rattle.example_calls.specs.Preparing.{first_out}
 use Rattle.example_calls.proofs.Popped.{first_word, if_ok}
 use Rattle.example_calls.proofs.first.first_header.Goals as goal

@@ -1,7 +1,7 @@
 use Rattle.std.proofs.Common.{◌≡◌, ◌∙◌, ℕ, Option, IfSome, ap, subst}
 use Rattle.mc_pages.specs.Changes.{after_pop}
 use Rattle.mc_pages.specs.SlabState.{SlabState}
-use Rattle.mc_core.specs.State.{is_class}
+use Rattle.mc_core.specs.model.State.{is_class}
 use Rattle.mc_words.specs.page.Owner.{PopsFirst}
 use Rattle.mc_words.specs.hand.View.{Setup, View}
 use Rattle.mc_words.specs.declared.hand.held.Fresh.{Fresh}

@@ -4,7 +4,7 @@ use Rattle.mc_pages.specs.Changes.{after_cut}
 use Rattle.mc_pages.specs.ClassState.{first_free}
 use Rattle.mc_pages.specs.SlabState.{SlabState, HasClass, class_at, class_of_chunk}
 use Rattle.mc_pages.proofs.Cuts.{chunk_at}
-use Rattle.mc_core.specs.State.{is_class}
+use Rattle.mc_core.specs.model.State.{is_class}
 use Rattle.mc_core.specs.declared.event.Change.TheVariants.{Grow}
 use Rattle.mc_core.specs.declared.event.Step.TheVariants.{MissSlabs}
 use Rattle.mc_words.specs.hand.View.{Setup, View, made}

@@ -1,6 +1,6 @@
 use Rattle.std.proofs.Common.{◌∙◌, List, Contains, ap, drop, subst, sym}
 use Rattle.std.proofs.lemmas.List.Elements.{Contains-push}
-use Rattle.mc_core.specs.Past.{StoredItem}
+use Rattle.mc_core.specs.past.Past.{StoredItem}
 use Rattle.mc_words.specs.hand.Arenas.{view}
 use Rattle.mc_words.specs.item.Items.{item_with}
 use Rattle.example_calls.proofs.own.set_and_read.Goals as goal

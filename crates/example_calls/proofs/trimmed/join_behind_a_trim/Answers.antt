@@ -1,7 +1,7 @@
 use Rattle.std.proofs.Common.{ℕ, List, [], ◌∷◌, Result, Ok, Err, IfOk, OnErr, subst, sym}
 use Rattle.std.specs.Prelude.{Contains}
 use Rattle.std.proofs.lemmas.List.Elements.{Contains-append_left, Contains-append_right}
-use Rattle.mc_core.specs.Past.{StoredItem}
+use Rattle.mc_core.specs.past.Past.{StoredItem}
 use Rattle.mc_words.specs.hand.Arenas.{view}
 use Rattle.mc_words.specs.hand.View.{View}
 use Rattle.mc_words.specs.item.Items.{item_with}

@@ -1,8 +1,8 @@
 use Rattle.std.proofs.Common.{◌∙◌, ◌<◌, sym, ap, if◌then◌else◌, length, set, arith}
 use Rattle.mc_core.specs.declared.holding.Holding.{Holding}
-use Rattle.mc_core.specs.Holdings.{is_copy_of}
-use Rattle.mc_core.specs.Evictions.{as_rescue}
-use Rattle.mc_core.proofs.Lists.{changed_more, changed_whole}
+use Rattle.mc_core.specs.model.Holdings.{is_copy_of}
+use Rattle.mc_core.specs.run.Evictions.{as_rescue}
+use Rattle.mc_core.proofs.Steps.Lists.{changed_more, changed_whole}
 use Rattle.mc_core.proofs.holding.bind_copies.Goals as goal
 
 pub loop-holding-init : goal.loop-holding-init

@@ -1,7 +1,7 @@
 use Rattle.std.proofs.Common.{◌≡◌, if◌then◌else◌}
-use Rattle.mc_core.specs.Holdings.{is_copy_of}
-use Rattle.mc_core.specs.Evictions.{as_rescue}
-use Rattle.mc_core.proofs.Lists.{changed_to}
+use Rattle.mc_core.specs.model.Holdings.{is_copy_of}
+use Rattle.mc_core.specs.run.Evictions.{as_rescue}
+use Rattle.mc_core.proofs.Steps.Lists.{changed_to}
 use Rattle.mc_core.proofs.holding.bind_copies.Given as goal
 
 abbrev pub invariant-loop-holding : goal.invariant-loop-holding

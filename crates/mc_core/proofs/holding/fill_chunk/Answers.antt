@@ -1,8 +1,8 @@
 use Rattle.std.proofs.Common.{◌∙◌, ◌<◌, sym, ap, if◌then◌else◌, length, set, arith}
 use Rattle.mc_core.specs.declared.holding.Holding.{Holding}
-use Rattle.mc_core.specs.Holdings.{is_of_chunk}
-use Rattle.mc_core.specs.Chunks.{holding_with_word}
-use Rattle.mc_core.proofs.Lists.{changed_more, changed_whole}
+use Rattle.mc_core.specs.model.Holdings.{is_of_chunk}
+use Rattle.mc_core.specs.run.Chunks.{holding_with_word}
+use Rattle.mc_core.proofs.Steps.Lists.{changed_more, changed_whole}
 use Rattle.mc_core.proofs.holding.fill_chunk.Goals as goal
 
 pub loop-holding-init : goal.loop-holding-init

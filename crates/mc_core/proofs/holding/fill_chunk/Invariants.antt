@@ -1,7 +1,7 @@
 use Rattle.std.proofs.Common.{◌≡◌, if◌then◌else◌}
-use Rattle.mc_core.specs.Holdings.{is_of_chunk}
-use Rattle.mc_core.specs.Chunks.{holding_with_word}
-use Rattle.mc_core.proofs.Lists.{changed_to}
+use Rattle.mc_core.specs.model.Holdings.{is_of_chunk}
+use Rattle.mc_core.specs.run.Chunks.{holding_with_word}
+use Rattle.mc_core.proofs.Steps.Lists.{changed_to}
 use Rattle.mc_core.proofs.holding.fill_chunk.Given as goal
 
 abbrev pub invariant-loop-holding : goal.invariant-loop-holding

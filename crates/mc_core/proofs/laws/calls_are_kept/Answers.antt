@@ -1,7 +1,7 @@
-use Rattle.mc_core.specs.Lawful.{RecordedIn}
-use Rattle.mc_core.proofs.FirstHands.{told_first}
-use Rattle.mc_core.proofs.LawKept.{events_from_steps}
-use Rattle.mc_core.proofs.ToldSteps.{told_changes, told_steps}
+use Rattle.mc_core.specs.law.Lawful.{RecordedIn}
+use Rattle.mc_core.proofs.Hands.FirstHands.{told_first}
+use Rattle.mc_core.proofs.Law.LawKept.{events_from_steps}
+use Rattle.mc_core.proofs.Histories.ToldSteps.{told_changes, told_steps}
 use Rattle.mc_core.proofs.laws.calls_are_kept.Goals as goal
 
 pub returns : goal.returns

@@ -1,4 +1,4 @@
-use Rattle.mc_core.proofs.Reasons.{condemns_are_reasoned}
+use Rattle.mc_core.proofs.Seen.Reasons.{condemns_are_reasoned}
 use Rattle.mc_core.proofs.laws.condemns_have_a_reason.Goals as goal
 
 pub returns : goal.returns

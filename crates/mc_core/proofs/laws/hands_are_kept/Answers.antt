@@ -1,8 +1,8 @@
-use Rattle.mc_core.specs.Lawful.{HandsIn}
-use Rattle.mc_core.proofs.FirstHands.{hands_first}
-use Rattle.mc_core.proofs.HandsKept.{hands_changes}
-use Rattle.mc_core.proofs.HandsSteps.{hands_steps}
-use Rattle.mc_core.proofs.LawKept.{events_from_steps}
+use Rattle.mc_core.specs.law.Lawful.{HandsIn}
+use Rattle.mc_core.proofs.Hands.FirstHands.{hands_first}
+use Rattle.mc_core.proofs.Hands.HandsKept.{hands_changes}
+use Rattle.mc_core.proofs.Hands.HandsSteps.{hands_steps}
+use Rattle.mc_core.proofs.Law.LawKept.{events_from_steps}
 use Rattle.mc_core.proofs.laws.hands_are_kept.Goals as goal
 
 pub returns : goal.returns

@@ -1,4 +1,4 @@
-use Rattle.mc_core.proofs.Codes.{are_one_word, all_are_sums}
+use Rattle.mc_core.proofs.ItemWords.Codes.{are_one_word, all_are_sums}
 use Rattle.mc_core.proofs.laws.headers_are_words.Goals as goal
 
 pub returns-clause-one_word : goal.returns-clause-one_word

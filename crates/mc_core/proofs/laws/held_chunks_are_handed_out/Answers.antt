@@ -1,4 +1,4 @@
-use Rattle.mc_core.proofs.Follows.{are_kept}
+use Rattle.mc_core.proofs.Law.Follows.{are_kept}
 use Rattle.mc_core.proofs.laws.held_chunks_are_handed_out.Goals as goal
 
 pub returns : goal.returns

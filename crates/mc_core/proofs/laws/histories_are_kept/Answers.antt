@@ -1,6 +1,6 @@
-use Rattle.mc_core.specs.Lawful.{LegalIn}
-use Rattle.mc_core.proofs.LawKept.{events_from_steps}
-use Rattle.mc_core.proofs.LegalKept.{legal_first, legal_changes, legal_steps}
+use Rattle.mc_core.specs.law.Lawful.{LegalIn}
+use Rattle.mc_core.proofs.Law.LawKept.{events_from_steps}
+use Rattle.mc_core.proofs.Histories.LegalKept.{legal_first, legal_changes, legal_steps}
 use Rattle.mc_core.proofs.laws.histories_are_kept.Goals as goal
 
 pub returns : goal.returns

@@ -1,4 +1,4 @@
-use Rattle.mc_core.proofs.Effects.{histories_grow}
+use Rattle.mc_core.proofs.Frame.Effects.{histories_grow}
 use Rattle.mc_core.proofs.laws.histories_grow.Goals as goal
 
 pub returns : goal.returns

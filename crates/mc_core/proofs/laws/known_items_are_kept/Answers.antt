@@ -1,6 +1,6 @@
-use Rattle.mc_core.specs.Lawful.{KnownIn}
-use Rattle.mc_core.proofs.KnownSteps.{known_first, known_changes, known_steps}
-use Rattle.mc_core.proofs.LawKept.{events_from_steps}
+use Rattle.mc_core.specs.law.Lawful.{KnownIn}
+use Rattle.mc_core.proofs.Known.KnownSteps.{known_first, known_changes, known_steps}
+use Rattle.mc_core.proofs.Law.LawKept.{events_from_steps}
 use Rattle.mc_core.proofs.laws.known_items_are_kept.Goals as goal
 
 pub returns : goal.returns

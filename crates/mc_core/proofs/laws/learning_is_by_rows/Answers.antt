@@ -1,4 +1,4 @@
-use Rattle.mc_core.proofs.Learns.{are_learned}
+use Rattle.mc_core.proofs.Known.Learns.{are_learned}
 use Rattle.mc_core.proofs.laws.learning_is_by_rows.Goals as goal
 
 pub returns : goal.returns

@@ -1,4 +1,4 @@
-use Rattle.mc_core.proofs.Follows.{are_said_items}
+use Rattle.mc_core.proofs.Law.Follows.{are_said_items}
 use Rattle.mc_core.proofs.laws.linked_items_were_said.Goals as goal
 
 pub returns : goal.returns

@@ -1,6 +1,6 @@
-use Rattle.mc_core.specs.Lawful.{SeenIn}
-use Rattle.mc_core.proofs.LawKept.{events_from_steps}
-use Rattle.mc_core.proofs.SeenSteps.{seen_first, seen_changes, seen_steps}
+use Rattle.mc_core.specs.law.Lawful.{SeenIn}
+use Rattle.mc_core.proofs.Law.LawKept.{events_from_steps}
+use Rattle.mc_core.proofs.Seen.SeenSteps.{seen_first, seen_changes, seen_steps}
 use Rattle.mc_core.proofs.laws.looks_are_kept.Goals as goal
 
 pub returns : goal.returns

@@ -1,8 +1,8 @@
-use Rattle.mc_core.specs.Lawful.{NumberedIn}
-use Rattle.mc_core.proofs.FirstHands.{numbered_first}
-use Rattle.mc_core.proofs.LawKept.{events_from_steps}
-use Rattle.mc_core.proofs.NumberedKept.{numbered_changes}
-use Rattle.mc_core.proofs.NumberedSteps.{numbered_steps}
+use Rattle.mc_core.specs.law.Lawful.{NumberedIn}
+use Rattle.mc_core.proofs.Hands.FirstHands.{numbered_first}
+use Rattle.mc_core.proofs.Law.LawKept.{events_from_steps}
+use Rattle.mc_core.proofs.Hands.NumberedKept.{numbered_changes}
+use Rattle.mc_core.proofs.Hands.NumberedSteps.{numbered_steps}
 use Rattle.mc_core.proofs.laws.numbers_are_kept.Goals as goal
 
 pub returns : goal.returns

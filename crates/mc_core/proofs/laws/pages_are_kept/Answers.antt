@@ -1,7 +1,7 @@
-use Rattle.mc_core.specs.Lawful.{PagedIn}
-use Rattle.mc_core.proofs.LawKept.{events_from_steps}
-use Rattle.mc_core.proofs.PagedChanges.{paged_changes}
-use Rattle.mc_core.proofs.PagedSteps.{paged_first, paged_steps}
+use Rattle.mc_core.specs.law.Lawful.{PagedIn}
+use Rattle.mc_core.proofs.Law.LawKept.{events_from_steps}
+use Rattle.mc_core.proofs.Places.PagedChanges.{paged_changes}
+use Rattle.mc_core.proofs.Places.PagedSteps.{paged_first, paged_steps}
 use Rattle.mc_core.proofs.laws.pages_are_kept.Goals as goal
 
 pub returns : goal.returns

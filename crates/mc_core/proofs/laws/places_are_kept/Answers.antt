@@ -1,7 +1,7 @@
-use Rattle.mc_core.specs.Lawful.{PlacedIn}
-use Rattle.mc_core.proofs.LawKept.{events_from_steps}
-use Rattle.mc_core.proofs.PlacedChanges.{placed_changes}
-use Rattle.mc_core.proofs.PlacedSteps.{placed_first, placed_steps}
+use Rattle.mc_core.specs.law.Lawful.{PlacedIn}
+use Rattle.mc_core.proofs.Law.LawKept.{events_from_steps}
+use Rattle.mc_core.proofs.Places.PlacedChanges.{placed_changes}
+use Rattle.mc_core.proofs.Places.PlacedSteps.{placed_first, placed_steps}
 use Rattle.mc_core.proofs.laws.places_are_kept.Goals as goal
 
 pub returns : goal.returns

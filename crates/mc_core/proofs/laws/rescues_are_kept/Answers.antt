@@ -1,6 +1,6 @@
-use Rattle.mc_core.specs.Lawful.{RescuedIn}
-use Rattle.mc_core.proofs.LawKept.{events_from_steps}
-use Rattle.mc_core.proofs.RescuedSteps.{rescued_first, rescued_changes, rescued_steps}
+use Rattle.mc_core.specs.law.Lawful.{RescuedIn}
+use Rattle.mc_core.proofs.Law.LawKept.{events_from_steps}
+use Rattle.mc_core.proofs.ItemWords.RescuedSteps.{rescued_first, rescued_changes, rescued_steps}
 use Rattle.mc_core.proofs.laws.rescues_are_kept.Goals as goal
 
 pub returns : goal.returns

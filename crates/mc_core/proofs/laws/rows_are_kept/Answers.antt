@@ -1,6 +1,6 @@
-use Rattle.mc_core.specs.Lawful.{RowsIn}
-use Rattle.mc_core.proofs.LawKept.{events_from_steps}
-use Rattle.mc_core.proofs.RowsKept.{rows_changes, rows_first, rows_steps}
+use Rattle.mc_core.specs.law.Lawful.{RowsIn}
+use Rattle.mc_core.proofs.Law.LawKept.{events_from_steps}
+use Rattle.mc_core.proofs.Hands.RowsKept.{rows_changes, rows_first, rows_steps}
 use Rattle.mc_core.proofs.laws.rows_are_kept.Goals as goal
 
 pub returns : goal.returns

@@ -1,4 +1,4 @@
-use Rattle.mc_core.proofs.LawKept.{are_played, are_lawful}
+use Rattle.mc_core.proofs.Law.LawKept.{are_played, are_lawful}
 use Rattle.mc_core.proofs.laws.runs_are_lawful.Goals as goal
 
 pub returns-clause-played : goal.returns-clause-played

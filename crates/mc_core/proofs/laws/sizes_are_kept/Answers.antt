@@ -1,6 +1,6 @@
-use Rattle.mc_core.specs.Lawful.{SizedIn}
-use Rattle.mc_core.proofs.LawKept.{events_from_steps}
-use Rattle.mc_core.proofs.Sized.{sized_first, sized_changes, sized_steps}
+use Rattle.mc_core.specs.law.Lawful.{SizedIn}
+use Rattle.mc_core.proofs.Law.LawKept.{events_from_steps}
+use Rattle.mc_core.proofs.Places.Sized.{sized_first, sized_changes, sized_steps}
 use Rattle.mc_core.proofs.laws.sizes_are_kept.Goals as goal
 
 pub returns : goal.returns

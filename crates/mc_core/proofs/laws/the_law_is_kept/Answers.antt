@@ -1,4 +1,4 @@
-use Rattle.mc_core.proofs.LawKept.{lawful_first, lawful_changes, lawful_steps, lawful_events}
+use Rattle.mc_core.proofs.Law.LawKept.{lawful_first, lawful_changes, lawful_steps, lawful_events}
 use Rattle.mc_core.proofs.laws.the_law_is_kept.Goals as goal
 
 pub returns : goal.returns

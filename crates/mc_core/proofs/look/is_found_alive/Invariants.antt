@@ -1,6 +1,6 @@
 use Rattle.std.proofs.Common.{◌≡◌, false, drop}
 use Rattle.std.specs.List.{fold}
-use Rattle.mc_core.specs.Looks.{stays_alive}
+use Rattle.mc_core.specs.model.Looks.{stays_alive}
 use Rattle.mc_core.proofs.look.is_found_alive.Given as goal
 
 -- the looks that are left make the same of what was found so far as all of them of nothing

@@ -1,6 +1,6 @@
 use Rattle.std.proofs.Common.{◌∙◌, sym}
-use Rattle.mc_core.specs.Run.{state_after_all}
-use Rattle.mc_core.proofs.Plays.{more_events, ends_at, tells_end}
+use Rattle.mc_core.specs.run.Run.{state_after_all}
+use Rattle.mc_core.proofs.Steps.Plays.{more_events, ends_at, tells_end}
 use Rattle.mc_core.proofs.run.play_all.Goals as goal
 
 pub loop-place-preserved : goal.loop-place-preserved

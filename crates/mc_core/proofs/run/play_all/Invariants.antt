@@ -1,5 +1,5 @@
 use Rattle.std.proofs.Common.{◌≡◌, drop}
-use Rattle.mc_core.specs.Run.{state_after_all, play_from}
+use Rattle.mc_core.specs.run.Run.{state_after_all, play_from}
 use Rattle.mc_core.proofs.run.play_all.Given as goal
 
 -- the events that are left lead on as all of them did at first

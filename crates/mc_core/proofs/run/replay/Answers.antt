@@ -1,5 +1,5 @@
 use Rattle.mc_classes.proofs.Accepted.{accepted}
-use Rattle.mc_core.proofs.Plays.{played}
+use Rattle.mc_core.proofs.Steps.Plays.{played}
 use Rattle.mc_core.proofs.run.replay.Goals as goal
 
 pub new-requires-clause-stripes : goal.new-requires-clause-stripes

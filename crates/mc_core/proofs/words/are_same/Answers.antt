@@ -1,4 +1,4 @@
-use Rattle.mc_core.proofs.Numbers.{other_length}
+use Rattle.mc_core.proofs.ItemWords.Numbers.{other_length}
 use Rattle.mc_core.proofs.words.are_same.Goals as goal
 
 pub returns-then-words-item : goal.returns-then-words-item

@@ -1,5 +1,5 @@
 use Rattle.std.proofs.Common.{◌≡◌, drop}
-use Rattle.mc_core.specs.Items.{are_same}
+use Rattle.mc_core.specs.run.Items.{are_same}
 use Rattle.mc_core.proofs.words.are_same.Given as goal
 
 -- what is left is the same exactly where all of it is

@@ -1,8 +1,8 @@
 use Rattle.std.proofs.Common.{◌+◌, refl, ap, ◌∙◌}
 use Rattle.mc_pages.specs.Changes.{after_touch}
 use Rattle.mc_core.specs.declared.event.Change.TheVariants.{Touch}
-use Rattle.mc_core.specs.Holdings.{holding_of}
-use Rattle.mc_core.specs.Silent.{is_handed_out}
+use Rattle.mc_core.specs.model.Holdings.{holding_of}
+use Rattle.mc_core.specs.run.Silent.{is_handed_out}
 use Rattle.mc_words.specs.hand.View.{View}
 use Rattle.mc_words.specs.hand.Views.{slabs_changed}
 use Rattle.mc_words.specs.lock.Out.{without_slabs}

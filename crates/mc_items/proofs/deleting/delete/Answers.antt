@@ -1,6 +1,6 @@
 use Rattle.std.proofs.Common.{◌≡◌, ◌%◌, ℕ, false, refl, ap, subst, ◌∙◌}
 use Rattle.mc_classes.specs.declared.config.Config.{Config}
-use Rattle.mc_core.specs.Holdings.{has_fresh}
+use Rattle.mc_core.specs.model.Holdings.{has_fresh}
 use Rattle.mc_words.specs.lock.Doing.{UsesRoomForCall}
 use Rattle.mc_words.specs.lock.Lent.{IsLentStripe}
 use Rattle.mc_words.specs.lock.Out.{without_stripe}

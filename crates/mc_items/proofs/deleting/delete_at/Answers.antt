@@ -1,7 +1,7 @@
 use Rattle.std.proofs.Common.{◌≡◌, Bool, false, ◌&&◌, ap, ◌∙◌}
 use Rattle.mc_stripe.specs.StripeState.{ReadyStripe}
-use Rattle.mc_core.specs.Holdings.{has_fresh}
-use Rattle.mc_core.specs.Items.{stripe_unlinked}
+use Rattle.mc_core.specs.model.Holdings.{has_fresh}
+use Rattle.mc_core.specs.run.Items.{stripe_unlinked}
 use Rattle.mc_words.specs.declared.hand.held.StripeHeld.{StripeHeld}
 use Rattle.mc_words.specs.hand.View.{View}
 use Rattle.mc_items.proofs.Deletes.{and_false, deleted_done, deleted_is}

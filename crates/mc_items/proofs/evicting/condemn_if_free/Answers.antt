@@ -1,7 +1,7 @@
 use Rattle.std.proofs.Common.{◌≡◌, ◌<◌, ◌%◌, ℕ, true, false, Some, [], refl, ap, sym, subst, ◌∙◌, inl, inr}
 use Rattle.mc_classes.specs.declared.config.Config.{Config}
-use Rattle.mc_core.specs.Head.{decode}
-use Rattle.mc_core.specs.State.{has_chunk, is_class, room_in}
+use Rattle.mc_core.specs.model.Head.{decode}
+use Rattle.mc_core.specs.model.State.{has_chunk, is_class, room_in}
 use Rattle.mc_words.specs.item.Removal.{Condemns, key_seen}
 use Rattle.mc_core.specs.declared.event.Step.TheVariants as step
 use Rattle.mc_words.specs.rule.Happens.{Happens}
@@ -83,7 +83,7 @@ condemn_at-requires-clause-no_copy c =
     let key = c.word_held-key.result in
     let same = holdings_stay c.args.hand.now.seat.me.0 c.args.slabs.now.shared c.requires.slabs c.args.chunk (decode c.head-head.result) (sym c.is_unheld.ensures.unheld ∙ c.if-not-is_unheld.false) c.head-head.new.hand.seat.me.0 c.head-head.ensures.seen
     key (key % c.config.result.now.stripes) c.in-Ok.held.stripe c.word_held-key.new.hand.seat.me.0 c.try_stripe.new.hand.seat.me.0 c.word_held-key.ensures.view c.in-Ok.ensures.lent in
-    no_copies c.try_stripe.new.hand.seat.me.0.row.holdings c.args.chunk (ap Rattle.mc_core.specs.Holdings.has_fresh same ∙ c.requires.fresh)
+    no_copies c.try_stripe.new.hand.seat.me.0.row.holdings c.args.chunk (ap Rattle.mc_core.specs.model.Holdings.has_fresh same ∙ c.requires.fresh)
 
 pub returns-clause-taken : goal.returns-clause-taken
 returns-clause-taken c e =

@@ -6,8 +6,8 @@ use Rattle.mc_pages.specs.ClassState.{behind}
 use Rattle.mc_pages.specs.Eviction.{eviction_tries}
 use Rattle.mc_pages.specs.SlabState.{SlabState, class_at, class_of_chunk}
 use Rattle.mc_core.specs.declared.look.Look.TheVariants.{Saw}
-use Rattle.mc_core.specs.Holdings.{has_fresh}
-use Rattle.mc_core.specs.State.{is_class}
+use Rattle.mc_core.specs.model.Holdings.{has_fresh}
+use Rattle.mc_core.specs.model.State.{is_class}
 use Rattle.mc_words.specs.hand.View.{Setup, View}
 use Rattle.mc_words.specs.lock.Out.{locks_have_no_stripe}
 use Rattle.mc_words.specs.declared.hand.Hand.{Hand}

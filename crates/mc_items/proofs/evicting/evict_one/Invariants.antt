@@ -3,7 +3,7 @@ use Rattle.std.specs.List.{list_all}
 use Rattle.mc_pages.specs.declared.ids.ChunkId.{ChunkId}
 use Rattle.mc_pages.specs.SlabState.{class_at}
 use Rattle.mc_core.specs.declared.look.Look.{Look}
-use Rattle.mc_core.specs.Looks.{is_found_alive}
+use Rattle.mc_core.specs.model.Looks.{is_found_alive}
 use Rattle.mc_words.specs.hand.Arenas.{IsHandOf, view}
 use Rattle.mc_words.proofs.Chunks.Sweeps.{IsSweptTo}
 use Rattle.mc_items.specs.Evicting.{PassesEach}

@@ -1,7 +1,7 @@
 use Rattle.std.proofs.Common.{◌≡◌, ℕ, true, Ok, ap, subst, ◌∙◌}
 use Rattle.mc_pages.specs.SlabState.{SlabState}
 use Rattle.mc_pages.specs.Changes.{after_back}
-use Rattle.mc_core.specs.State.{has_chunk, is_class}
+use Rattle.mc_core.specs.model.State.{has_chunk, is_class}
 use Rattle.mc_words.specs.hand.View.{Setup, View}
 use Rattle.mc_words.specs.declared.hand.held.SlabsHeld.{SlabsHeld}
 use Rattle.mc_words.specs.page.Owner.{PutsBack}

@@ -1,7 +1,7 @@
 use Rattle.std.proofs.Common.{◌≡◌, ℕ, ◌+◌, List, [], ◌∷◌, length, take, refl, ap, sym, subst, ◌∙◌, arith, slice_index, length-take-le, take_all, if◌then◌else◌, Bool}
 use Rattle.std.proofs.lemmas.List.{take_more}
 use Rattle.mc_pages.specs.declared.ids.ChunkId.{ChunkId}
-use Rattle.mc_core.specs.Holdings.{words_of_item}
+use Rattle.mc_core.specs.model.Holdings.{words_of_item}
 use Rattle.mc_words.specs.hand.View.{View}
 use Rattle.mc_words.specs.item.Items.{issue_in, item_with, known_words_in}
 use Rattle.mc_words.specs.item.Links.{IsItemFilled}

@@ -3,8 +3,8 @@ use Rattle.std.specs.Option.{option_map}
 use Rattle.mc_stripe.specs.declared.history.Call.TheVariants.{Get}
 use Rattle.std.proofs.Common.{[]}
 use Rattle.std.specs.Option.{option_map_or}
-use Rattle.mc_core.specs.Views.{Row}
-use Rattle.mc_core.specs.Holdings.{holding_of, item_of, stamp_in_words}
+use Rattle.mc_core.specs.model.Views.{Row}
+use Rattle.mc_core.specs.model.Holdings.{holding_of, item_of, stamp_in_words}
 use Rattle.mc_words.specs.declared.item.refs.Ref.{Ref}
 use Rattle.mc_words.specs.hand.View.{View}
 use Rattle.mc_words.specs.item.Calls.{with_own_call}

@@ -1,5 +1,5 @@
 use Rattle.std.proofs.Common.{Some, None, refl, ap, sym, subst, ◌∙◌}
-use Rattle.mc_core.specs.Holdings.{key_of}
+use Rattle.mc_core.specs.model.Holdings.{key_of}
 use Rattle.mc_words.specs.declared.hand.held.StripeHeld.{StripeHeld}
 use Rattle.mc_words.specs.hand.View.{View}
 use Rattle.mc_words.specs.item.Items.{held_item}

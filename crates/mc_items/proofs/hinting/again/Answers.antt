@@ -4,12 +4,12 @@ use Rattle.mc_words.specs.declared.item.refs.Ref.{Ref}
 use Rattle.mc_words.specs.hand.View.{View}
 use Rattle.std.proofs.Common.{[]}
 use Rattle.std.specs.Option.{option_map_or}
-use Rattle.mc_core.specs.Holdings.{holding_of, item_of}
-use Rattle.mc_core.specs.Views.{Row}
+use Rattle.mc_core.specs.model.Holdings.{holding_of, item_of}
+use Rattle.mc_core.specs.model.Views.{Row}
 use Rattle.mc_words.specs.item.Again.{GetsAgain}
 use Rattle.mc_words.specs.item.Items.{held_item}
 use Rattle.mc_pages.specs.declared.ids.ChunkId.{ChunkId}
-use Rattle.mc_core.specs.Past.{known_by}
+use Rattle.mc_core.specs.past.Past.{known_by}
 use Rattle.mc_words.specs.item.References.{reference_to}
 use Rattle.mc_words.specs.hand.Views.{fields_seen}
 use Rattle.std.proofs.Math.Nat.{lt_of_not-le}

@@ -1,7 +1,7 @@
 use Rattle.std.proofs.Common.{◌≡◌, List, length, ap, ◌∙◌, arith}
 use Rattle.mc_core.specs.declared.holding.Holding.{Holding}
-use Rattle.mc_core.specs.Holdings.{has_fresh, is_of_chunk, without_first}
-use Rattle.mc_core.proofs.Holders.{length-lose-le}
+use Rattle.mc_core.specs.model.Holdings.{has_fresh, is_of_chunk, without_first}
+use Rattle.mc_core.proofs.Counts.Holders.{length-lose-le}
 use Rattle.mc_words.specs.hand.View.{View}
 use Rattle.mc_items.proofs.Chains.{ready_less, refs_less}
 use Rattle.mc_items.proofs.Rows.{fresh_less}

@@ -2,8 +2,8 @@ use Rattle.std.proofs.Common.{◌≡◌, ℕ, [], List, Some, length, slice_inde
 use Rattle.std.specs.Option.{option_map, option_map_or}
 use Rattle.mc_pages.specs.declared.ids.ChunkId.{ChunkId}
 use Rattle.mc_core.specs.declared.holding.Holding.{Holding}
-use Rattle.mc_core.specs.Holdings.{holding_of, item_of}
-use Rattle.mc_core.specs.Views.{Row}
+use Rattle.mc_core.specs.model.Holdings.{holding_of, item_of}
+use Rattle.mc_core.specs.model.Views.{Row}
 use Rattle.mc_words.specs.hand.View.{View}
 use Rattle.mc_items.proofs.refs.look_at.Goals as goal
 

@@ -1,6 +1,6 @@
 use Rattle.std.proofs.Common.{◌≡◌, ◌+◌, ◌*◌, ◌≤◌, ◌%◌, ℕ, ◌∷◌, ◌++◌, [], List, length, Some, Option, IfSome, ap, sym, subst, ◌∙◌, inr}
 use Rattle.mc_classes.specs.Classes.{Classes, IsClass, class_of, size_of}
-use Rattle.mc_core.specs.Past.{StoredItem}
+use Rattle.mc_core.specs.past.Past.{StoredItem}
 use Rattle.mc_stripe.specs.declared.history.Call.TheVariants.{Set}
 use Rattle.mc_words.specs.lock.Doing.{HoldsSlabs}
 use Rattle.mc_words.specs.hand.View.{Setup, View}
@@ -13,7 +13,7 @@ use Rattle.mc_items.specs.Storing.{LeavesDead, StoresItem, item_filled}
 use Rattle.mc_words.proofs.Hands.HandNumbers.{number_stays}
 use Rattle.mc_words.specs.item.Items.{item_with}
 use Rattle.mc_core.specs.declared.ids.Ids.{Ids}
-use Rattle.mc_core.specs.Items.{ids_after_stamp}
+use Rattle.mc_core.specs.run.Items.{ids_after_stamp}
 use Rattle.mc_items.proofs.Chains.{number_kept, ready_still, refs_stay}
 use Rattle.mc_items.proofs.StoredRows.{dead_holds, dead_keeps, stored_holds, stored_ids, stored_keeps}
 use Rattle.mc_items.proofs.Locks.{still_unlocked}

@@ -1,8 +1,8 @@
 use Rattle.std.proofs.Common.{ℕ, ap, sym, subst, ◌∙◌}
 use Rattle.mc_stripe.specs.Entries.{AreRising}
 use Rattle.mc_stripe.specs.StripeState.{ReadyStripe, chunk_and_stamp, can_store}
-use Rattle.mc_core.specs.Holdings.{has_fresh}
-use Rattle.mc_core.specs.Items.{is_none_else_aside}
+use Rattle.mc_core.specs.model.Holdings.{has_fresh}
+use Rattle.mc_core.specs.run.Items.{is_none_else_aside}
 use Rattle.mc_words.specs.hand.View.{View}
 use Rattle.mc_words.specs.declared.hand.held.StripeHeld.{StripeHeld}
 use Rattle.mc_items.proofs.Stores.{fresh_among, lifted_alone, lifted_nowhere}

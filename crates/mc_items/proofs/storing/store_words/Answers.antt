@@ -1,6 +1,6 @@
 use Rattle.std.proofs.Common.{◌≡◌, ◌%◌, ℕ, List, [], ◌∷◌, ◌++◌, OnErr, OnOk, ap, subst, ◌∙◌}
-use Rattle.mc_core.specs.Holdings.{numbers_of_known}
-use Rattle.mc_core.specs.Past.{Own, StoredItem}
+use Rattle.mc_core.specs.model.Holdings.{numbers_of_known}
+use Rattle.mc_core.specs.past.Past.{Own, StoredItem}
 use Rattle.mc_words.specs.hand.View.{View}
 use Rattle.mc_words.specs.declared.hand.held.Fresh.{Fresh}
 use Rattle.mc_items.specs.Storing.{StoresItem}

@@ -3,7 +3,7 @@ use Rattle.mc_pages.specs.ClassState.{first_free}
 use Rattle.mc_pages.specs.Changes.{after_grow, next_page}
 use Rattle.mc_pages.specs.SlabState.{SlabState, HasClass, class_at, class_of_chunk}
 use Rattle.mc_pages.proofs.Cuts.{chunk_at}
-use Rattle.mc_core.specs.State.{is_class}
+use Rattle.mc_core.specs.model.State.{is_class}
 use Rattle.mc_words.specs.hand.View.{Setup, View}
 use Rattle.mc_words.proofs.Chunks.Judging.{class_of_slabs}
 use Rattle.mc_items.proofs.Growing.{accounted_here, class_grown, free_after_cuts, given_own, grown_uncut, page_left, per_page_given, some_here}

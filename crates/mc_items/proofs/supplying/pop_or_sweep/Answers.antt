@@ -1,7 +1,7 @@
 use Rattle.std.proofs.Common.{◌≡◌, ◌≤◌, ◌∙◌, Ok, Option, IfSome, ap, refl, sym, subst}
 use Rattle.mc_pages.specs.Changes.{after_pop}
 use Rattle.mc_pages.specs.SlabState.{SlabState, class_at}
-use Rattle.mc_core.specs.State.{is_class, room_in}
+use Rattle.mc_core.specs.model.State.{is_class, room_in}
 use Rattle.mc_words.specs.item.Fresh.{IsFreshOf}
 use Rattle.mc_words.specs.page.Owner.{PopsFirst}
 use Rattle.mc_words.specs.hand.View.{Setup, View}

@@ -4,8 +4,8 @@ use Rattle.mc_pages.specs.Changes.{after_pop}
 use Rattle.mc_pages.specs.ClassState.{first_free}
 use Rattle.mc_pages.specs.SlabState.{SlabState, class_at}
 use Rattle.mc_core.specs.declared.holding.Holding.{Holding}
-use Rattle.mc_core.specs.Chunks.{most_issue}
-use Rattle.mc_core.specs.State.{is_class, room_in}
+use Rattle.mc_core.specs.run.Chunks.{most_issue}
+use Rattle.mc_core.specs.model.State.{is_class, room_in}
 use Rattle.mc_words.specs.item.Fresh.{IsFreshIn, IsFreshOf}
 use Rattle.mc_words.specs.page.Owner.{PopsFirst, SeesOther}
 use Rattle.mc_words.specs.hand.View.{Setup, View}

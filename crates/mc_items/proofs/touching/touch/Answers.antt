@@ -4,7 +4,7 @@ use Rattle.mc_core.specs.declared.holding.Holding.{Holding}
 use Rattle.mc_words.specs.lock.Doing.{UsesRoomForCall}
 use Rattle.mc_words.specs.lock.Lent.{IsLentStripe}
 use Rattle.mc_words.specs.lock.Out.{without_stripe}
-use Rattle.mc_core.specs.Holdings.{key_of, stamp_in_words}
+use Rattle.mc_core.specs.model.Holdings.{key_of, stamp_in_words}
 use Rattle.mc_words.specs.declared.item.refs.Ref.{Ref}
 use Rattle.mc_words.specs.item.Items.{held_item}
 use Rattle.mc_words.specs.item.Refs.{IsIssueOf, IsRefOf}
@@ -14,7 +14,7 @@ use Rattle.mc_items.specs.Calls.{Finds, FindsNone, LooksUp}
 use Rattle.std.specs.Option.{option_map}
 use Rattle.mc_stripe.specs.declared.history.Call.TheVariants.{Get}
 use Rattle.mc_stripe.specs.StripeState.{stamp_of_key as stripe_stamp}
-use Rattle.mc_core.specs.Columns.{count_of_holdings}
+use Rattle.mc_core.specs.model.Columns.{count_of_holdings}
 use Rattle.mc_items.proofs.Chains.{ready_less, ready_still, refs_stay}
 use Rattle.mc_items.proofs.Left.{Kept, finds_one, none_keeps, only_keeps}
 use Rattle.mc_items.proofs.Gets.{called_on, only_waits}

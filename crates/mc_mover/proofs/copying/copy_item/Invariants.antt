@@ -1,5 +1,5 @@
 use Rattle.std.proofs.Common.{◌≡◌, ℕ, ◌+◌, ◌≤◌, ◌∷◌, List, true, Some, IfSome, length}
-use Rattle.mc_core.specs.Looks.{was_linked}
+use Rattle.mc_core.specs.model.Looks.{was_linked}
 use Rattle.mc_words.specs.hand.Arenas.{IsHandOf, view}
 use Rattle.mc_words.specs.item.Removal.{key_read}
 use Rattle.mc_words.specs.item.Fresh.{IsFreshOf}

@@ -1,5 +1,5 @@
 use Rattle.std.proofs.Common.{◌≤◌, ◌+◌, ap, sym, subst, ◌∙◌}
-use Rattle.mc_core.specs.Looks.{was_linked}
+use Rattle.mc_core.specs.model.Looks.{was_linked}
 use Rattle.mc_words.specs.hand.View.{View}
 use Rattle.mc_mover.proofs.Copied.{linked_read}
 use Rattle.mc_mover.proofs.copying.copy_word.Goals as goal

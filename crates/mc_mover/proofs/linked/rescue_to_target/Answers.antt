@@ -4,9 +4,9 @@ use Rattle.mc_pages.specs.SlabState.{SlabState, class_at, class_of_page}
 use Rattle.mc_pages.proofs.Chunks.{is_chunk-same}
 use Rattle.mc_pages.specs.Pages.{is_on_the_move}
 use Rattle.mc_core.specs.declared.holding.Holding.{Holding}
-use Rattle.mc_core.specs.Evictions.{has_copy}
-use Rattle.mc_core.specs.Holdings.{holding_of, is_of_chunk, without_first}
-use Rattle.mc_core.specs.State.{room_in}
+use Rattle.mc_core.specs.run.Evictions.{has_copy}
+use Rattle.mc_core.specs.model.Holdings.{holding_of, is_of_chunk, without_first}
+use Rattle.mc_core.specs.model.State.{room_in}
 use Rattle.mc_words.specs.hand.View.{Setup, View}
 use Rattle.mc_words.specs.item.Fresh.{IsFreshIn}
 use Rattle.mc_words.specs.item.Items.{word_read}

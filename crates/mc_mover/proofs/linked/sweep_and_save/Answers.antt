@@ -5,10 +5,10 @@ use Rattle.mc_pages.specs.declared.ids.ChunkId.{ChunkId}
 use Rattle.mc_pages.specs.ClassState.{times_in}
 use Rattle.mc_pages.specs.Pages.{is_on_the_move}
 use Rattle.mc_pages.specs.SlabState.{HasClass, SlabState, class_at, class_of_page}
-use Rattle.mc_core.specs.Evictions.{has_copy, lacks_room, none_dead}
-use Rattle.mc_core.specs.Judged.{sees_no_target}
-use Rattle.mc_core.specs.Looks.{is_found_alive}
-use Rattle.mc_core.specs.State.{is_class}
+use Rattle.mc_core.specs.run.Evictions.{has_copy, lacks_room, none_dead}
+use Rattle.mc_core.specs.law.Judged.{sees_no_target}
+use Rattle.mc_core.specs.model.Looks.{is_found_alive}
+use Rattle.mc_core.specs.model.State.{is_class}
 use Rattle.mc_words.specs.declared.hand.held.SlabsHeld.{SlabsHeld}
 use Rattle.mc_words.specs.declared.hand.held.StripeHeld.{StripeHeld}
 use Rattle.mc_words.specs.item.Removal.{knows_reason}

@@ -9,8 +9,8 @@ use Rattle.mc_pages.specs.ClassState.{ClassState}
 use Rattle.mc_pages.specs.SlabState.{SlabState, class_at, class_of_page}
 use Rattle.mc_pages.proofs.ClassChanges.{per_pages-with_class}
 use Rattle.mc_pages.proofs.Cuts.{per_page-map}
-use Rattle.mc_core.specs.Looks.{was_linked}
-use Rattle.mc_core.specs.State.{room_in}
+use Rattle.mc_core.specs.model.Looks.{was_linked}
+use Rattle.mc_core.specs.model.State.{room_in}
 use Rattle.mc_words.specs.hand.View.{Setup, View}
 use Rattle.mc_words.specs.hand.Idle.{has_no_stripes}
 use Rattle.mc_words.specs.lock.Out.{without_stripe}

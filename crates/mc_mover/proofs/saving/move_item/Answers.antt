@@ -3,7 +3,7 @@ use Rattle.mc_pages.specs.declared.ids.ChunkId.{ChunkId}
 use Rattle.mc_stripe.specs.Changes.{after_rescue, used_up}
 use Rattle.mc_stripe.specs.StripeState.{ReadyStripe}
 use Rattle.mc_core.specs.declared.holding.Holding.{Holding}
-use Rattle.mc_core.specs.Holdings.{is_of_chunk, without_first}
+use Rattle.mc_core.specs.model.Holdings.{is_of_chunk, without_first}
 use Rattle.mc_words.specs.item.Fresh.{IsFreshIn}
 use Rattle.mc_words.specs.item.Items.{issue_in, known_words_in}
 use Rattle.mc_words.specs.item.Links.{IsCopyFilled, copy_linked}

@@ -1,7 +1,7 @@
 use Rattle.std.proofs.Common.{◌≡◌, ◌+◌, true, ap, subst, ◌∙◌, ℕ}
 use Rattle.mc_pages.specs.Moves.{chunk_at_position}
 use Rattle.mc_core.specs.declared.event.Change.TheVariants as change
-use Rattle.mc_core.specs.State.{has_chunk, is_class}
+use Rattle.mc_core.specs.model.State.{has_chunk, is_class}
 use Rattle.mc_words.specs.hand.View.{Setup, View}
 use Rattle.mc_words.specs.hand.Views.{slabs_changed}
 use Rattle.mc_words.proofs.Hands.HandNumbers.{number_stays}

@@ -1,7 +1,7 @@
 use Rattle.std.proofs.Common.{◌≤◌, length, List, ap, sym, subst, ◌∙◌}
 use Rattle.mc_classes.specs.Limits.{most_refs}
 use Rattle.mc_core.specs.declared.holding.Holding.{Holding}
-use Rattle.mc_core.specs.Holdings.{has_fresh}
+use Rattle.mc_core.specs.model.Holdings.{has_fresh}
 use Rattle.mc_words.specs.lock.Doing.{HoldsSlabs}
 use Rattle.mc_words.specs.lock.Out.{locks_have_no_stripe, without_slabs}
 use Rattle.mc_words.specs.hand.View.{View}

@@ -4,8 +4,8 @@ use Rattle.mc_pages.specs.ClassState.{ClassState}
 use Rattle.mc_pages.specs.SlabState.{SlabState, class_of_page}
 use Rattle.mc_pages.proofs.ClassChanges.{per_pages-with_class}
 use Rattle.mc_pages.proofs.Cuts.{per_page-map}
-use Rattle.mc_core.specs.Head.{decode}
-use Rattle.mc_core.specs.State.{has_chunk, is_class}
+use Rattle.mc_core.specs.model.Head.{decode}
+use Rattle.mc_core.specs.model.State.{has_chunk, is_class}
 use Rattle.mc_words.specs.hand.View.{Setup, View}
 use Rattle.mc_words.proofs.Chunks.Judging.{class_of_slabs, seen_slabs}
 use Rattle.mc_mover.specs.Linked as linked

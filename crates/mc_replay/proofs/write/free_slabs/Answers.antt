@@ -1,5 +1,5 @@
 use Rattle.std.proofs.Common.{◌≡◌, ◌++◌, ℕ, Bool, List, OnOk, string_bytes, if◌then◌else◌, ap, ap₂, sym, ◌∙◌, subst, eq-eqb, ne_eqb, codes}
-use Rattle.mc_core.specs.State.{State}
+use Rattle.mc_core.specs.model.State.{State}
 use Rattle.mc_replay.specs.Written.{slab_state_text}
 use Rattle.mc_replay.proofs.write.free_slabs.Goals as goal
 

@@ -1,5 +1,5 @@
 use Rattle.std.proofs.Common.{◌≡◌, ℕ, ◌/◌, ◌%◌, nat_eq, arith}
-use Rattle.mc_core.specs.Head.{decode, is_linked}
+use Rattle.mc_core.specs.model.Head.{decode, is_linked}
 use Rattle.mc_words.proofs.Items.Agains.{three_linked}
 use Rattle.mc_words.proofs.header.is_linked.Goals as goal
 

@@ -1,5 +1,5 @@
 use Rattle.std.proofs.Common.{◌≡◌, ℕ, zero, suc, ◌/◌, ◌%◌, ◌<◌, nat_eq, refl, arith}
-use Rattle.mc_core.specs.Head.{decode, is_out, tag_of}
+use Rattle.mc_core.specs.model.Head.{decode, is_out, tag_of}
 use Rattle.mc_words.proofs.header.is_out.Goals as goal
 
 zero_out : (n : ℕ) → n < 4 → nat_eq n 0 ≡ is_out (tag_of n)

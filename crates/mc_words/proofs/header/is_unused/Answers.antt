@@ -1,6 +1,6 @@
 use Rattle.std.proofs.Common.{◌≡◌, ◌/◌, ◌%◌, true, false, nat_eq, sym, ◌∙◌, eq-eqb, inl, inr, eqb-true}
 use Rattle.std.proofs.lemmas.Bool.{cases_Bool}
-use Rattle.mc_core.specs.Head.{decode}
+use Rattle.mc_core.specs.model.Head.{decode}
 use Rattle.mc_words.proofs.Chunks.Clears.{neither_unused, or_dead, word_free}
 use Rattle.mc_words.proofs.Chunks.Judging.{word_alive, word_dead}
 use Rattle.mc_words.proofs.header.is_unused.Goals as goal

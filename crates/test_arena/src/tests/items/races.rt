@@ -4,9 +4,9 @@ ghost use Rattle.std.specs.Prelude.{◌≡◌, ◌≤◌, ℕ, IfSome, Some, fal
 ghost use Rattle.mc_stripe.specs.StripeState.{chunk_and_stamp};
 ghost use Rattle.mc_pages.specs.Pages.{is_on_the_move};
 ghost use Rattle.mc_pages.specs.SlabState.{class_of_page};
-ghost use Rattle.mc_core.specs.Evictions.{has_copy};
-ghost use Rattle.mc_core.specs.Holdings.{has_fresh};
-ghost use Rattle.mc_core.specs.State.{has_chunk, is_class};
+ghost use Rattle.mc_core.specs.run.Evictions.{has_copy};
+ghost use Rattle.mc_core.specs.model.Holdings.{has_fresh};
+ghost use Rattle.mc_core.specs.model.State.{has_chunk, is_class};
 ghost use Rattle.mc_words.specs.hand.Arenas.{IsHandOf, setup_of, view};
 ghost use Rattle.mc_words.specs.hand.Idle.{has_no_stripes};
 ghost use Rattle.mc_words.specs.hand.Observers.{HasSlabs, fresh_chunk, fresh_room, slabs_lent, stripe_lent};

@@ -1,6 +1,6 @@
 //! Refusals of calls on items.
 ghost use Rattle.std.specs.Prelude.{◌≡◌, true};
-ghost use Rattle.mc_core.specs.State.{has_chunk};
+ghost use Rattle.mc_core.specs.model.State.{has_chunk};
 ghost use Rattle.mc_words.specs.hand.Arenas.{setup_of};
 ghost use Rattle.mc_words.specs.hand.Observers.{hint_chunk};
 ghost use Rattle.mc_words.specs.hand.Ready.{IsReadyHandOf};

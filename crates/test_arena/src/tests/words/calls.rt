@@ -1,6 +1,6 @@
 //! Calls on the arena whose conditions are tested when they are made.
 ghost use Rattle.std.specs.Prelude.{◌≡◌, Some, IfSome, true};
-ghost use Rattle.mc_core.specs.State.{has_chunk, is_class};
+ghost use Rattle.mc_core.specs.model.State.{has_chunk, is_class};
 ghost use Rattle.mc_words.specs.hand.Arenas.{IsHandOf, setup_of, view};
 ghost use Rattle.mc_words.specs.item.Fresh.{IsFreshOf};
 

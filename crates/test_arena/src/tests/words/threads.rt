@@ -4,7 +4,7 @@ ghost use Rattle.test_arena.specs.Hands.{AreHandsOf};
 ghost use Rattle.std.specs.Thread.{IsSync};
 ghost use Rattle.mc_words.specs.hand.Arenas.{IsHandOf, setup_of, view};
 ghost use Rattle.mc_words.specs.item.Fresh.{IsFreshOf};
-ghost use Rattle.mc_core.specs.State.{is_class};
+ghost use Rattle.mc_core.specs.model.State.{is_class};
 
 use super::calls::{give, grow_page, has_chunk, head, is_class, listed_free};
 use crate::tests::{assert_equal, assert_same};

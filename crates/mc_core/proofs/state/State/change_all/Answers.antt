@@ -1,5 +1,5 @@
 use Rattle.std.proofs.Common.{◌∙◌}
-use Rattle.mc_core.proofs.Changes.{more_changes}
+use Rattle.mc_core.proofs.Steps.Changes.{more_changes}
 use Rattle.mc_core.proofs.state.State.change_all.Goals as goal
 
 pub loop-change-preserved : goal.loop-change-preserved

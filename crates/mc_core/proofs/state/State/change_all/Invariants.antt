@@ -1,5 +1,5 @@
 use Rattle.std.proofs.Common.{◌≡◌, length, drop}
-use Rattle.mc_core.specs.Silent.{allows_changes, after_changes}
+use Rattle.mc_core.specs.run.Silent.{allows_changes, after_changes}
 use Rattle.mc_core.proofs.state.State.change_all.Given as goal
 
 -- the changes that are left are allowed, and lead on, as all of them did at first

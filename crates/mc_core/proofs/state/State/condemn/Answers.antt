@@ -1,7 +1,7 @@
 use Rattle.std.proofs.Common.{◌≡◌, ℕ, Bool, true, sym, subst}
 use Rattle.std.proofs.lemmas.Bool.{and_parts}
-use Rattle.mc_core.specs.State.{stripe_of, stripe_at}
-use Rattle.mc_core.specs.Evictions.{can_lose_entry, key_at}
+use Rattle.mc_core.specs.model.State.{stripe_of, stripe_at}
+use Rattle.mc_core.specs.run.Evictions.{can_lose_entry, key_at}
 use Rattle.mc_core.proofs.state.State.condemn.Goals as goal
 
 pub tell_condemn-requires : goal.tell_condemn-requires

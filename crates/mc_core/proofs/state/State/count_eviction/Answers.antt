@@ -1,6 +1,6 @@
-use Rattle.mc_core.specs.InOrder.{callers_state}
-use Rattle.mc_core.proofs.OfTable.{evicted_shape}
-use Rattle.mc_core.proofs.Kept.{changed}
+use Rattle.mc_core.specs.model.InOrder.{callers_state}
+use Rattle.mc_core.proofs.Places.OfTable.{evicted_shape}
+use Rattle.mc_core.proofs.Steps.Kept.{changed}
 use Rattle.mc_core.proofs.state.State.count_eviction.Goals as goal
 
 pub invariant_of-self : goal.invariant_of-self

@@ -1,6 +1,6 @@
 use Rattle.std.proofs.Common.{refl}
-use Rattle.mc_core.specs.InOrder.{callers_state}
-use Rattle.mc_core.proofs.Kept.{changed, grown_shape}
+use Rattle.mc_core.specs.model.InOrder.{callers_state}
+use Rattle.mc_core.proofs.Steps.Kept.{changed, grown_shape}
 use Rattle.mc_core.proofs.state.State.grow.Goals as goal
 
 pub invariant_of-self : goal.invariant_of-self

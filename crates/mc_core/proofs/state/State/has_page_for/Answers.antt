@@ -5,7 +5,7 @@ use Rattle.mc_pages.specs.Ledger.{owner_at}
 use Rattle.mc_pages.specs.SlabState.{SlabState, class_of_page}
 use Rattle.mc_pages.specs.Accounted.{IsAccounted}
 use Rattle.mc_pages.proofs.Owners.{is_of_class-class_of_owner}
-use Rattle.mc_core.specs.State.{State}
+use Rattle.mc_core.specs.model.State.{State}
 use Rattle.mc_core.proofs.state.State.has_page_for.Goals as goal
 
 -- no class is past the last one

@@ -1,6 +1,6 @@
 use Rattle.std.proofs.Common.{◌≡◌, map}
 use Rattle.std.specs.List.{range_with_len}
-use Rattle.mc_core.specs.State.{word_at}
+use Rattle.mc_core.specs.model.State.{word_at}
 use Rattle.mc_core.proofs.state.State.item.Given as goal
 
 abbrev pub invariant-loop-place : goal.invariant-loop-place

@@ -1,9 +1,9 @@
 use Rattle.std.proofs.Common.{◌≡◌, ◌∙◌, true, length, Option, refl, sym, ap, subst, arith, length-set}
 use Rattle.std.proofs.lemmas.Bool.{and_parts}
 use Rattle.mc_core.specs.declared.holding.Holding.{Holding}
-use Rattle.mc_core.specs.State.{State}
-use Rattle.mc_core.specs.Items.{can_link_holding, can_record_link}
-use Rattle.mc_core.proofs.SameSlabs.{told_link_keeps}
+use Rattle.mc_core.specs.model.State.{State}
+use Rattle.mc_core.specs.run.Items.{can_link_holding, can_record_link}
+use Rattle.mc_core.proofs.Frame.SameSlabs.{told_link_keeps}
 use Rattle.mc_core.proofs.state.State.link.Goals as goal
 
 pub tell_link-requires-clause-allowed : goal.tell_link-requires-clause-allowed

@@ -1,10 +1,10 @@
 use Rattle.std.proofs.Common.{◌≡◌, true, sym, subst}
-use Rattle.mc_core.specs.InOrder.{callers_state}
-use Rattle.mc_core.specs.State.{State}
-use Rattle.mc_core.specs.Silent.{is_handed_out}
-use Rattle.mc_core.proofs.OfTable.{back_shape}
-use Rattle.mc_core.proofs.Listed.{Contains_from_among}
-use Rattle.mc_core.proofs.Kept.{changed}
+use Rattle.mc_core.specs.model.InOrder.{callers_state}
+use Rattle.mc_core.specs.model.State.{State}
+use Rattle.mc_core.specs.run.Silent.{is_handed_out}
+use Rattle.mc_core.proofs.Places.OfTable.{back_shape}
+use Rattle.mc_core.proofs.Steps.Listed.{Contains_from_among}
+use Rattle.mc_core.proofs.Steps.Kept.{changed}
 use Rattle.mc_core.proofs.state.State.list_back.Goals as goal
 
 pub back-requires : goal.back-requires

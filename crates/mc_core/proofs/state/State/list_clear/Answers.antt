@@ -1,12 +1,12 @@
 use Rattle.std.proofs.Common.{◌≡◌, true, sym, subst}
 use Rattle.mc_pages.specs.Pages.{is_on_the_move}
 use Rattle.mc_pages.specs.SlabState.{class_of_page}
-use Rattle.mc_core.specs.InOrder.{callers_state}
-use Rattle.mc_core.specs.State.{State}
-use Rattle.mc_core.specs.Silent.{is_listed}
-use Rattle.mc_core.proofs.OfTable.{clear_shape}
-use Rattle.mc_core.proofs.Listed.{page_of_move, places_from_listed}
-use Rattle.mc_core.proofs.Kept.{changed}
+use Rattle.mc_core.specs.model.InOrder.{callers_state}
+use Rattle.mc_core.specs.model.State.{State}
+use Rattle.mc_core.specs.run.Silent.{is_listed}
+use Rattle.mc_core.proofs.Places.OfTable.{clear_shape}
+use Rattle.mc_core.proofs.Steps.Listed.{page_of_move, places_from_listed}
+use Rattle.mc_core.proofs.Steps.Kept.{changed}
 use Rattle.mc_core.proofs.state.State.list_clear.Goals as goal
 
 pub clear-requires-clause-moving : goal.clear-requires-clause-moving

@@ -1,11 +1,11 @@
 use Rattle.std.proofs.Common.{◌≡◌, true, sym, ap, ◌∙◌, subst}
 use Rattle.mc_pages.specs.Changes.{after_cut}
-use Rattle.mc_core.specs.InOrder.{callers_state}
-use Rattle.mc_core.specs.State.{State, with_slabs}
-use Rattle.mc_core.specs.Chunks.{is_next_uncut}
-use Rattle.mc_core.proofs.OfTable.{cut_shape}
-use Rattle.mc_core.proofs.Listed.{next_uncut_is}
-use Rattle.mc_core.proofs.Kept.{changed}
+use Rattle.mc_core.specs.model.InOrder.{callers_state}
+use Rattle.mc_core.specs.model.State.{State, with_slabs}
+use Rattle.mc_core.specs.run.Chunks.{is_next_uncut}
+use Rattle.mc_core.proofs.Places.OfTable.{cut_shape}
+use Rattle.mc_core.proofs.Steps.Listed.{next_uncut_is}
+use Rattle.mc_core.proofs.Steps.Kept.{changed}
 use Rattle.mc_core.proofs.state.State.list_cut.Goals as goal
 
 pub cut-requires : goal.cut-requires

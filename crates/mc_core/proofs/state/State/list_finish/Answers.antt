@@ -1,10 +1,10 @@
 use Rattle.std.proofs.Common.{◌≡◌, true, refl, sym, subst}
-use Rattle.mc_core.specs.InOrder.{callers_state}
-use Rattle.mc_core.specs.State.{State}
-use Rattle.mc_core.specs.Silent.{can_finish}
-use Rattle.mc_core.proofs.OfTable.{finish_shape}
-use Rattle.mc_core.proofs.Asked.{finish_asked}
-use Rattle.mc_core.proofs.Kept.{changed}
+use Rattle.mc_core.specs.model.InOrder.{callers_state}
+use Rattle.mc_core.specs.model.State.{State}
+use Rattle.mc_core.specs.run.Silent.{can_finish}
+use Rattle.mc_core.proofs.Places.OfTable.{finish_shape}
+use Rattle.mc_core.proofs.Steps.Asked.{finish_asked}
+use Rattle.mc_core.proofs.Steps.Kept.{changed}
 use Rattle.mc_core.proofs.state.State.list_finish.Goals as goal
 
 pub finish_move-requires-clause-whole : goal.finish_move-requires-clause-whole

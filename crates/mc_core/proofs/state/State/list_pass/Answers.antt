@@ -1,10 +1,10 @@
 use Rattle.std.proofs.Common.{◌≡◌, true, refl, sym, subst}
-use Rattle.mc_core.specs.InOrder.{callers_state}
-use Rattle.mc_core.specs.State.{State}
-use Rattle.mc_core.specs.Silent.{can_pass, run_of}
-use Rattle.mc_core.proofs.OfTable.{passed_shape}
-use Rattle.mc_core.proofs.Asked.{pass_asked}
-use Rattle.mc_core.proofs.Kept.{changed}
+use Rattle.mc_core.specs.model.InOrder.{callers_state}
+use Rattle.mc_core.specs.model.State.{State}
+use Rattle.mc_core.specs.run.Silent.{can_pass, run_of}
+use Rattle.mc_core.proofs.Places.OfTable.{passed_shape}
+use Rattle.mc_core.proofs.Steps.Asked.{pass_asked}
+use Rattle.mc_core.proofs.Steps.Kept.{changed}
 use Rattle.mc_core.proofs.state.State.list_pass.Goals as goal
 
 pub passed-requires : goal.passed-requires

@@ -1,9 +1,9 @@
 use Rattle.std.proofs.Common.{◌≡◌, true, sym, subst}
-use Rattle.mc_core.specs.InOrder.{callers_state}
-use Rattle.mc_core.specs.State.{State, is_class}
-use Rattle.mc_core.proofs.OfTable.{pop_shape}
-use Rattle.mc_core.proofs.Listed.{IsClass_from}
-use Rattle.mc_core.proofs.Kept.{changed}
+use Rattle.mc_core.specs.model.InOrder.{callers_state}
+use Rattle.mc_core.specs.model.State.{State, is_class}
+use Rattle.mc_core.proofs.Places.OfTable.{pop_shape}
+use Rattle.mc_core.proofs.Steps.Listed.{IsClass_from}
+use Rattle.mc_core.proofs.Steps.Kept.{changed}
 use Rattle.mc_core.proofs.state.State.list_pop.Goals as goal
 
 pub pop-requires : goal.pop-requires

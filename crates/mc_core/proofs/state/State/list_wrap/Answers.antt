@@ -1,10 +1,10 @@
 use Rattle.std.proofs.Common.{◌≡◌, true, refl, sym, subst}
-use Rattle.mc_core.specs.InOrder.{callers_state}
-use Rattle.mc_core.specs.State.{State}
-use Rattle.mc_core.specs.Silent.{can_wrap, run_of}
-use Rattle.mc_core.proofs.OfTable.{wrap_shape}
-use Rattle.mc_core.proofs.Asked.{wrap_asked}
-use Rattle.mc_core.proofs.Kept.{changed}
+use Rattle.mc_core.specs.model.InOrder.{callers_state}
+use Rattle.mc_core.specs.model.State.{State}
+use Rattle.mc_core.specs.run.Silent.{can_wrap, run_of}
+use Rattle.mc_core.proofs.Places.OfTable.{wrap_shape}
+use Rattle.mc_core.proofs.Steps.Asked.{wrap_asked}
+use Rattle.mc_core.proofs.Steps.Kept.{changed}
 use Rattle.mc_core.proofs.state.State.list_wrap.Goals as goal
 
 pub wrap-requires : goal.wrap-requires

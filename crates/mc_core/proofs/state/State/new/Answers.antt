@@ -2,9 +2,9 @@ use Rattle.std.proofs.Common.{◌≡◌, ℕ, ◌*◌, ◌/◌, ◌∙◌, repli
 use Rattle.mc_classes.specs.Classes.{arena_pages_of}
 use Rattle.mc_pages.specs.SlabState.{SlabState}
 use Rattle.mc_pages.specs.Accounted.{IsAccounted}
-use Rattle.mc_core.specs.State.{State, new_state, page_words}
-use Rattle.mc_core.specs.InOrder.{IsStateInOrder, callers_state}
-use Rattle.mc_core.proofs.Made.{new_in_order}
+use Rattle.mc_core.specs.model.State.{State, new_state, page_words}
+use Rattle.mc_core.specs.model.InOrder.{IsStateInOrder, callers_state}
+use Rattle.mc_core.proofs.Steps.Made.{new_in_order}
 use Rattle.mc_core.proofs.state.State.new.Goals as goal
 
 pub invariant_of-result : goal.invariant_of-result

@@ -1,6 +1,6 @@
 use Rattle.std.proofs.Common.{◌∙◌, sym}
-use Rattle.mc_core.proofs.Changes.{still_there}
-use Rattle.mc_core.proofs.Plays.{hand_there}
+use Rattle.mc_core.proofs.Steps.Changes.{still_there}
+use Rattle.mc_core.proofs.Steps.Plays.{hand_there}
 use Rattle.mc_core.proofs.state.State.play.Goals as goal
 
 pub allows_step-requires : goal.allows_step-requires

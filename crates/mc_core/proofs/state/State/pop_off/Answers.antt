@@ -1,7 +1,7 @@
 use Rattle.std.proofs.Common.{◌∙◌, sym}
 use Rattle.mc_pages.specs.SlabState.{class_of_chunk}
-use Rattle.mc_core.specs.Chunks.{is_target}
-use Rattle.mc_core.proofs.Listed.{found_among}
+use Rattle.mc_core.specs.run.Chunks.{is_target}
+use Rattle.mc_core.proofs.Steps.Listed.{found_among}
 use Rattle.mc_core.proofs.state.State.pop_off.Goals as goal
 
 pub list_replace-requires-clause-free : goal.list_replace-requires-clause-free

@@ -1,5 +1,5 @@
 use Rattle.std.proofs.Common.{◌∙◌, sym}
-use Rattle.mc_core.proofs.Listed.{source_of_move}
+use Rattle.mc_core.proofs.Steps.Listed.{source_of_move}
 use Rattle.mc_core.proofs.state.State.run.Goals as goal
 
 pub per_page-requires : goal.per_page-requires

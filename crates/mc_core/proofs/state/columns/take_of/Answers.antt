@@ -1,8 +1,8 @@
 use Rattle.std.proofs.Common.{◌∙◌, ap, sym}
 use Rattle.std.specs.List.{position}
 use Rattle.std.proofs.lemmas.List.Quantifiers.{position-Some}
-use Rattle.mc_core.specs.Holdings.{is_of_chunk}
-use Rattle.mc_core.proofs.Lists.{lost_at, found_at, found_nowhere, lost_nowhere, holding_at}
+use Rattle.mc_core.specs.model.Holdings.{is_of_chunk}
+use Rattle.mc_core.proofs.Steps.Lists.{lost_at, found_at, found_nowhere, lost_nowhere, holding_at}
 use Rattle.mc_core.proofs.state.columns.take_of.Goals as goal
 
 pub returns-in-Some-clause-holding : goal.returns-in-Some-clause-holding

@@ -1,6 +1,6 @@
 use Rattle.std.proofs.Common.{◌∙◌, sym, ap, slice_get, vec_len}
 use Rattle.mc_pages.specs.SlabState.{class_at}
-use Rattle.mc_core.proofs.Lists.{copied_more, copied_all}
+use Rattle.mc_core.proofs.Steps.Lists.{copied_more, copied_all}
 use Rattle.mc_core.proofs.state.lists.free_of.Goals as goal
 
 pub loop-chunk-preserved : goal.loop-chunk-preserved

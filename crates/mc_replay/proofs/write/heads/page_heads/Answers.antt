@@ -1,5 +1,5 @@
 use Rattle.std.proofs.Common.{ap, ◌∙◌}
-use Rattle.mc_core.specs.Head.{code}
+use Rattle.mc_core.specs.model.Head.{code}
 use Rattle.mc_replay.specs.Written.{head_text, word_text}
 use Rattle.mc_replay.proofs.Ranges.{written_next}
 use Rattle.mc_replay.proofs.write.heads.page_heads.Goals as goal

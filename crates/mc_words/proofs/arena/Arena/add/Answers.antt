@@ -1,4 +1,4 @@
-use Rattle.mc_core.specs.Codes.{word_plus}
+use Rattle.mc_core.specs.model.Codes.{word_plus}
 use Rattle.mc_words.proofs.Rules.Quiet.{changes, has_number}
 use Rattle.mc_words.proofs.arena.Arena.add.Goals as goal
 

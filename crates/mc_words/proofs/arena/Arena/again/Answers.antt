@@ -1,6 +1,6 @@
 use Rattle.std.proofs.Common.{◌≡◌, ◌≢◌, true, false, sym, subst, inr}
-use Rattle.mc_core.specs.Head.{decode}
-use Rattle.mc_core.specs.State.{has_chunk}
+use Rattle.mc_core.specs.model.Head.{decode}
+use Rattle.mc_core.specs.model.State.{has_chunk}
 use Rattle.std.specs.Prelude.{Contains}
 use Rattle.mc_words.specs.hand.View.{View, Setup}
 use Rattle.mc_words.specs.item.Again.{is_there}

@@ -2,9 +2,9 @@ use Rattle.std.proofs.Common.{◌≡◌, ◌∙◌, ℕ, ◌+◌, ◌/◌, ◌%�
 use Rattle.std.proofs.lemmas.Bool.{and_from, cases_eq}
 use Rattle.mc_classes.specs.Classes.{arena_pages_of}
 use Rattle.mc_pages.proofs.Cuts.{chunk_at}
-use Rattle.mc_core.specs.Head.{decode}
-use Rattle.mc_core.specs.Looks.{is_found_alive}
-use Rattle.mc_core.specs.State.{most_of}
+use Rattle.mc_core.specs.model.Head.{decode}
+use Rattle.mc_core.specs.model.Looks.{is_found_alive}
+use Rattle.mc_core.specs.model.State.{most_of}
 use Rattle.mc_core.specs.declared.look.Look.{Look}
 use Rattle.mc_core.specs.declared.look.Look.TheVariants.{Saw}
 use Rattle.mc_words.specs.hand.Arenas.{setup_of, view}

@@ -1,6 +1,6 @@
 use Rattle.std.proofs.Common.{◌≡◌, ℕ, ◌+◌, ◌/◌, ◌%◌, ◌<◌, ◌≤◌, true, Some}
 use Rattle.mc_pages.specs.declared.ids.ChunkId.{ChunkId}
-use Rattle.mc_core.specs.Looks.{is_found_alive}
+use Rattle.mc_core.specs.model.Looks.{is_found_alive}
 use Rattle.mc_words.specs.hand.Arenas.{IsHandOf, view}
 use Rattle.mc_words.specs.chunk.Dead.{IsAliveOrNoted, IsOutside, NotedChunks}
 use Rattle.mc_words.specs.chunk.Sweeps.{LooksAlong}

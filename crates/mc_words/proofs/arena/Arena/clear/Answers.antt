@@ -3,11 +3,11 @@ use Rattle.mc_pages.specs.Accounted.{places_in}
 use Rattle.mc_pages.specs.Changes.{after_clear}
 use Rattle.mc_pages.specs.Pages.{is_on_the_move}
 use Rattle.mc_pages.specs.SlabState.{SlabState, class_of_page}
-use Rattle.mc_core.specs.Codes.{word_minus}
-use Rattle.mc_core.specs.Head.{decode}
-use Rattle.mc_core.specs.State.{has_chunk}
+use Rattle.mc_core.specs.model.Codes.{word_minus}
+use Rattle.mc_core.specs.model.Head.{decode}
+use Rattle.mc_core.specs.model.State.{has_chunk}
 use Rattle.mc_core.specs.declared.event.Step.TheVariants as core
-use Rattle.mc_core.proofs.Listed.{page_of_move}
+use Rattle.mc_core.proofs.Steps.Listed.{page_of_move}
 use Rattle.mc_words.specs.hand.View.{View, Setup}
 use Rattle.mc_words.specs.rule.Layout.{head_word}
 use Rattle.mc_words.specs.rule.Happens.{MayWrite}

@@ -2,8 +2,8 @@ use Rattle.std.proofs.Common.{◌≡◌, ◌-◌, ◌<◌, ℕ, [], Option, refl
 use Rattle.std.specs.Option.{IsSome}
 use Rattle.mc_stripe.specs.StripeState.{ReadyStripe, chunk_and_stamp}
 use Rattle.mc_stripe.specs.Changes.{after_lift}
-use Rattle.mc_core.specs.Codes.{word_minus}
-use Rattle.mc_core.specs.State.{room_in}
+use Rattle.mc_core.specs.model.Codes.{word_minus}
+use Rattle.mc_core.specs.model.State.{room_in}
 use Rattle.mc_core.specs.declared.event.Step.TheVariants as core
 use Rattle.mc_pages.specs.declared.ids.ChunkId.{ChunkId}
 use Rattle.mc_pages.specs.SlabState.{class_of_page}

@@ -1,7 +1,7 @@
 use Rattle.std.proofs.Common.{◌≡◌, ◌-◌, ℕ, true, refl, ap, sym, subst, arith, length, ◌∙◌}
 use Rattle.mc_pages.specs.Accounted.{truth}
-use Rattle.mc_core.specs.Codes.{word_minus}
-use Rattle.mc_core.specs.State.{has_chunk}
+use Rattle.mc_core.specs.model.Codes.{word_minus}
+use Rattle.mc_core.specs.model.State.{has_chunk}
 use Rattle.mc_core.specs.declared.event.Step.TheVariants as core
 use Rattle.mc_words.specs.hand.View.{View, Setup}
 use Rattle.mc_words.specs.rule.Layout.{head_word}

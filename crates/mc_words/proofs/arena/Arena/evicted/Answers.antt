@@ -1,5 +1,5 @@
 use Rattle.std.proofs.Common.{◌≡◌, true, refl, ap, sym, subst, ◌∙◌, length, arith}
-use Rattle.mc_core.specs.State.{is_class}
+use Rattle.mc_core.specs.model.State.{is_class}
 use Rattle.mc_words.proofs.Chunks.Judging.{class_of_slabs}
 use Rattle.mc_pages.specs.SlabState.{SlabState, HasClass}
 use Rattle.mc_core.specs.declared.event.Change.TheVariants.{Evicted}

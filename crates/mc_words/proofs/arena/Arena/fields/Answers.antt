@@ -1,8 +1,8 @@
 use Rattle.std.proofs.Common.{ℕ, ◌<◌, List, [], ap, subst, length, slice_index, ◌∙◌, arith}
 use Rattle.std.specs.Option.{option_map_or}
 use Rattle.mc_pages.specs.declared.ids.ChunkId.{ChunkId}
-use Rattle.mc_core.specs.Holdings.{holding_of, item_of}
-use Rattle.mc_core.specs.Views.{Row}
+use Rattle.mc_core.specs.model.Holdings.{holding_of, item_of}
+use Rattle.mc_core.specs.model.Views.{Row}
 use Rattle.mc_words.specs.hand.View.{View, Setup}
 use Rattle.mc_words.specs.item.Items.{held_item}
 use Rattle.mc_words.specs.item.Refs.{IsRefOf}

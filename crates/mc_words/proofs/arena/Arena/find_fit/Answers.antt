@@ -4,7 +4,7 @@ use Rattle.mc_pages.specs.declared.ids.ChunkId.{ChunkId}
 use Rattle.mc_pages.specs.ClassState.{behind, times_in}
 use Rattle.mc_pages.specs.SlabState.{SlabState, class_at, class_of_chunk}
 use Rattle.mc_pages.proofs.RestOfList.{rest_from}
-use Rattle.mc_core.specs.State.{has_chunk, is_class}
+use Rattle.mc_core.specs.model.State.{has_chunk, is_class}
 use Rattle.mc_words.specs.hand.View.{Setup}
 use Rattle.mc_words.specs.chunk.Copies.{PassesAll}
 use Rattle.mc_words.proofs.Chunks.Sweeps.{begins_with, behind_is, elsewhere, is_empty, left_is}

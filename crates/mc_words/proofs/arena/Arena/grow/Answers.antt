@@ -2,8 +2,8 @@ use Rattle.std.proofs.Common.{◌≡◌, ◌<◌, ℕ, true, Some, refl, ap, sym
 use Rattle.mc_classes.specs.Classes.{arena_pages_of}
 use Rattle.mc_pages.specs.SlabState.{SlabState, HasClass}
 use Rattle.mc_pages.specs.Changes.{after_grow, next_page}
-use Rattle.mc_core.specs.Silent.{after_growth}
-use Rattle.mc_core.specs.State.{is_class}
+use Rattle.mc_core.specs.run.Silent.{after_growth}
+use Rattle.mc_core.specs.model.State.{is_class}
 use Rattle.mc_core.specs.declared.event.Change.TheVariants.{Grow}
 use Rattle.mc_core.specs.declared.event.Step.TheVariants as core
 use Rattle.mc_words.specs.hand.View.{View, Setup}

@@ -1,7 +1,7 @@
 use Rattle.std.proofs.Common.{◌≡◌, ℕ, refl, ap, sym, subst, ◌∙◌, length, true, []}
-use Rattle.mc_core.specs.Past.{header}
-use Rattle.mc_core.specs.Head.{decode}
-use Rattle.mc_core.specs.State.{has_chunk}
+use Rattle.mc_core.specs.past.Past.{header}
+use Rattle.mc_core.specs.model.Head.{decode}
+use Rattle.mc_core.specs.model.State.{has_chunk}
 use Rattle.mc_core.specs.declared.look.Look.TheVariants.{Saw}
 use Rattle.mc_core.specs.declared.event.Step.TheVariants as core
 use Rattle.mc_words.specs.hand.View.{View, Setup}

@@ -1,5 +1,5 @@
 use Rattle.std.proofs.Common.{◌≡◌, ℕ, ◌*◌, true, ap, arith, subst}
-use Rattle.mc_core.specs.State.{has_chunk}
+use Rattle.mc_core.specs.model.State.{has_chunk}
 use Rattle.mc_words.specs.hand.View.{Setup}
 use Rattle.mc_words.proofs.Chunks.Heads.{head_word_near}
 use Rattle.mc_words.proofs.arena.Arena.head_word.Goals as goal

@@ -1,5 +1,5 @@
 use Rattle.std.proofs.Common.{◌/◌, refl, inr, ltb-true, ltb-false}
-use Rattle.mc_core.specs.Head.{decode}
+use Rattle.mc_core.specs.model.Head.{decode}
 use Rattle.mc_words.proofs.Chunks.Judging.{issue_left, issue_worn}
 use Rattle.mc_words.proofs.arena.Arena.is_fit.Goals as goal
 

@@ -2,8 +2,8 @@ use Rattle.std.proofs.Common.{◌≡◌, ℕ, true, Some, refl, sym, subst, List
 use Rattle.std.specs.Prelude.{Contains}
 use Rattle.mc_pages.specs.declared.ids.ChunkId.{ChunkId}
 use Rattle.mc_pages.specs.SlabState.{SlabState, class_of_chunk, class_of_page}
-use Rattle.mc_core.specs.Head.{decode, is_dead}
-use Rattle.mc_core.specs.State.{has_chunk}
+use Rattle.mc_core.specs.model.Head.{decode, is_dead}
+use Rattle.mc_core.specs.model.State.{has_chunk}
 use Rattle.mc_core.specs.declared.event.Step.TheVariants as core
 use Rattle.mc_core.specs.declared.look.Look.{Look}
 use Rattle.mc_words.specs.hand.Arenas.{setup_of}

@@ -3,9 +3,9 @@ use Rattle.std.specs.Option.{option_map_or}
 use Rattle.mc_pages.specs.Accounted.{truth}
 use Rattle.mc_stripe.specs.StripeState.{ReadyStripe, key_aside}
 use Rattle.mc_stripe.specs.Changes.{after_rescue, used_up}
-use Rattle.mc_core.specs.Codes.{word_plus}
-use Rattle.mc_core.specs.Holdings.{is_of_chunk, words_of_item, without_first, numbers_of_known, holding_words}
-use Rattle.mc_core.specs.State.{has_chunk}
+use Rattle.mc_core.specs.model.Codes.{word_plus}
+use Rattle.mc_core.specs.model.Holdings.{is_of_chunk, words_of_item, without_first, numbers_of_known, holding_words}
+use Rattle.mc_core.specs.model.State.{has_chunk}
 use Rattle.mc_core.specs.declared.holding.Holding.{Holding}
 use Rattle.mc_core.specs.declared.event.Step.TheVariants as core
 use Rattle.mc_words.specs.hand.View.{View, Setup}

@@ -1,6 +1,6 @@
 use Rattle.std.proofs.Common.{◌∙◌, ℕ, ◌≤◌, ◌++◌, ap, sym, subst}
 use Rattle.mc_pages.specs.SlabState.{SlabState, class_at, class_of_owner}
-use Rattle.mc_core.specs.State.{is_class, most_of}
+use Rattle.mc_core.specs.model.State.{is_class, most_of}
 use Rattle.mc_words.specs.hand.Arenas.{setup_of}
 use Rattle.mc_words.specs.chunk.Dead.{AreHandedOut}
 use Rattle.mc_words.specs.hand.View.{Setup}

@@ -1,7 +1,7 @@
 use Rattle.std.proofs.Common.{◌∙◌, ℕ, ◌+◌, sym, subst, inl, inr, arith, lt-ltb}
 use Rattle.std.proofs.lemmas.Bool.{and_from, cases_eq}
 use Rattle.mc_classes.specs.Classes.{arena_pages_of}
-use Rattle.mc_core.specs.State.{most_of}
+use Rattle.mc_core.specs.model.State.{most_of}
 use Rattle.mc_words.specs.hand.Arenas.{setup_of, view}
 use Rattle.mc_words.specs.chunk.Dead.{IsAliveOrNoted}
 use Rattle.mc_words.specs.chunk.Sweeps.{LooksAlong}

@@ -4,8 +4,8 @@ use Rattle.std.proofs.lemmas.Bool.{and_parts, cases_eq}
 use Rattle.mc_classes.specs.Classes.{arena_pages_of}
 use Rattle.mc_pages.specs.declared.ids.ChunkId.{ChunkId}
 use Rattle.mc_pages.specs.SlabState.{SlabState, class_at, class_of_owner, class_of_page}
-use Rattle.mc_core.specs.Silent.{is_among}
-use Rattle.mc_core.specs.State.{is_class, most_of}
+use Rattle.mc_core.specs.run.Silent.{is_among}
+use Rattle.mc_core.specs.model.State.{is_class, most_of}
 use Rattle.mc_words.specs.hand.Arenas.{setup_of}
 use Rattle.mc_words.specs.chunk.Dead.{AreHandedOut, IsAliveOrNoted}
 use Rattle.mc_words.specs.hand.View.{Setup, View}

@@ -1,7 +1,7 @@
 use Rattle.std.proofs.Common.{◌≡◌, ◌<◌, true, List, Some}
 use Rattle.mc_pages.specs.declared.ids.ChunkId.{ChunkId}
 use Rattle.mc_pages.specs.SlabState.{class_at, class_of_page}
-use Rattle.mc_core.specs.Silent.{is_among}
+use Rattle.mc_core.specs.run.Silent.{is_among}
 use Rattle.mc_words.specs.hand.Arenas.{IsHandOf, setup_of, view}
 use Rattle.mc_words.specs.chunk.Dead.{AreHandedOut, IsAliveOrNoted}
 use Rattle.mc_words.specs.chunk.Sweeps.{SeesHeaders}

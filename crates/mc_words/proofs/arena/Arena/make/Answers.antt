@@ -1,6 +1,6 @@
 use Rattle.std.proofs.Common.{◌≡◌, ℕ, ◌-◌, ◌≤◌, [], sym, ap, subst, ◌∙◌, arith, refl}
 use Rattle.mc_classes.specs.Classes.{IsSound}
-use Rattle.mc_core.specs.Chunks.{most_issue}
+use Rattle.mc_core.specs.run.Chunks.{most_issue}
 use Rattle.mc_words.specs.declared.arena.Arena.{Arena}
 use Rattle.mc_words.specs.declared.lock.locks.Locks.TheVariants.{Neither}
 use Rattle.mc_words.specs.hand.View.{Setup, View, new_view}

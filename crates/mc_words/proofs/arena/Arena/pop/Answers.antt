@@ -3,11 +3,11 @@ use Rattle.mc_classes.specs.Classes.{Classes}
 use Rattle.mc_pages.specs.ClassState.{first_free}
 use Rattle.mc_pages.specs.SlabState.{SlabState, HasClass, class_at}
 use Rattle.mc_pages.specs.Changes.{after_pop}
-use Rattle.mc_core.specs.Codes.{word_plus}
-use Rattle.mc_core.specs.Head.{decode}
-use Rattle.mc_core.specs.State.{has_chunk, is_class, room_in}
+use Rattle.mc_core.specs.model.Codes.{word_plus}
+use Rattle.mc_core.specs.model.Head.{decode}
+use Rattle.mc_core.specs.model.State.{has_chunk, is_class, room_in}
 use Rattle.mc_core.specs.declared.event.Step.TheVariants as core
-use Rattle.mc_core.specs.Chunks.{most_holdings}
+use Rattle.mc_core.specs.run.Chunks.{most_holdings}
 use Rattle.mc_words.specs.hand.View.{View, Setup}
 use Rattle.mc_words.specs.rule.Layout.{head_word}
 use Rattle.mc_words.specs.item.Fresh.{IsFreshOf}

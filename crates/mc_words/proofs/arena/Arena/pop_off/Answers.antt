@@ -4,11 +4,11 @@ use Rattle.mc_classes.specs.Classes.{Classes, size_of}
 use Rattle.mc_pages.specs.declared.ids.ChunkId.{ChunkId}
 use Rattle.mc_pages.specs.SlabState.{SlabState, class_at, class_of_chunk, class_of_owner, class_of_page}
 use Rattle.mc_pages.specs.Changes.{after_replace}
-use Rattle.mc_core.specs.Codes.{word_plus}
-use Rattle.mc_core.specs.State.{has_chunk, is_class, room_in}
+use Rattle.mc_core.specs.model.Codes.{word_plus}
+use Rattle.mc_core.specs.model.State.{has_chunk, is_class, room_in}
 use Rattle.mc_core.specs.declared.event.Step.TheVariants as core
-use Rattle.mc_core.proofs.Listed.{Contains_from_among}
-use Rattle.mc_core.specs.Chunks.{most_holdings}
+use Rattle.mc_core.proofs.Steps.Listed.{Contains_from_among}
+use Rattle.mc_core.specs.run.Chunks.{most_holdings}
 use Rattle.mc_words.specs.hand.View.{View, Setup}
 use Rattle.mc_words.specs.rule.Layout.{head_word}
 use Rattle.mc_words.specs.item.Fresh.{IsFreshOf}

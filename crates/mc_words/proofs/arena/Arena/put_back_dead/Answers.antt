@@ -4,8 +4,8 @@ use Rattle.std.proofs.lemmas.List.Sorted.{Contains-permutation, IsPermutation-sy
 use Rattle.mc_pages.specs.declared.ids.ChunkId.{ChunkId}
 use Rattle.mc_pages.specs.SlabState.{SlabState, class_at, class_of_chunk}
 use Rattle.mc_pages.proofs.Chunks.{times_from_Contains}
-use Rattle.mc_core.specs.Looks.{is_found_alive}
-use Rattle.mc_core.specs.State.{is_class}
+use Rattle.mc_core.specs.model.Looks.{is_found_alive}
+use Rattle.mc_core.specs.model.State.{is_class}
 use Rattle.mc_words.specs.hand.Arenas.{setup_of}
 use Rattle.mc_words.specs.chunk.Dead.{ShareAnOrder}
 use Rattle.mc_words.specs.chunk.Sweeps.{SweepsEach, is_in_sequence}

@@ -1,6 +1,6 @@
 use Rattle.std.proofs.Common.{◌≡◌, ◌<◌, ◌/◌, ℕ, true, sym, ap, subst, ◌∙◌}
 use Rattle.mc_classes.specs.Classes.{Classes, arena_pages_of}
-use Rattle.mc_core.specs.State.{is_class, room_in}
+use Rattle.mc_core.specs.model.State.{is_class, room_in}
 use Rattle.mc_words.specs.hand.View.{View, Setup}
 use Rattle.mc_words.specs.rule.Layout.{page_word}
 use Rattle.mc_words.specs.item.Refs.{IsRefOf}

@@ -1,7 +1,7 @@
 use Rattle.std.proofs.Common.{◌∙◌, ap}
 use Rattle.mc_pages.specs.SlabState.{class_at}
-use Rattle.mc_core.specs.Looks.{is_found_alive}
-use Rattle.mc_core.specs.State.{is_class}
+use Rattle.mc_core.specs.model.Looks.{is_found_alive}
+use Rattle.mc_core.specs.model.State.{is_class}
 use Rattle.mc_words.specs.chunk.Sweeps.{with_seen}
 use Rattle.mc_words.specs.hand.View.{Setup, View}
 use Rattle.mc_words.proofs.Pages.LookedOver.{all_pass, sees_headers_alone}

@@ -2,8 +2,8 @@ use Rattle.std.proofs.Common.{◌≡◌, ℕ, suc, ◌+◌, refl, ap, sym, subst
 use Rattle.mc_core.specs.declared.event.Change.TheVariants.{OfStripe}
 use Rattle.mc_core.specs.declared.event.Step.TheVariants as core
 use Rattle.mc_core.specs.declared.look.Look.TheVariants.{SawStripe}
-use Rattle.mc_core.specs.Past.{stripe_word}
-use Rattle.mc_core.specs.Silent.{stripe_after}
+use Rattle.mc_core.specs.past.Past.{stripe_word}
+use Rattle.mc_core.specs.run.Silent.{stripe_after}
 use Rattle.mc_words.specs.hand.View.{View, Setup}
 use Rattle.mc_words.specs.rule.Layout.{lock_address}
 use Rattle.mc_words.specs.rule.Happens.{AllowsStep}

@@ -1,5 +1,5 @@
 use Rattle.std.proofs.Common.{refl, ap, sym, subst, ◌∙◌, length, arith}
-use Rattle.mc_core.proofs.Listed.{Contains_from_among}
+use Rattle.mc_core.proofs.Steps.Listed.{Contains_from_among}
 use Rattle.mc_pages.specs.SlabState.{SlabState, class_of_chunk}
 use Rattle.std.specs.Prelude.{Contains}
 use Rattle.mc_core.specs.declared.event.Change.TheVariants.{Touch}

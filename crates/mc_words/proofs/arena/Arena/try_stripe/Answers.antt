@@ -1,7 +1,7 @@
 use Rattle.std.proofs.Common.{◌≡◌, ◌<◌, Some, None, length, slice_index_or, refl, sym, ap, subst, arith, ◌∙◌, lt-ltb}
 use Rattle.mc_words.specs.declared.lock.locks.Lock.TheVariants.{StripeLock}
 use Rattle.mc_core.specs.declared.look.Look.TheVariants.{SawStripe}
-use Rattle.mc_core.specs.Past.{stripe_word}
+use Rattle.mc_core.specs.past.Past.{stripe_word}
 use Rattle.mc_words.specs.hand.View.{View, Setup}
 use Rattle.mc_words.specs.hand.Views.{view_after_sight}
 use Rattle.mc_words.specs.lock.Out.{IsNoted}

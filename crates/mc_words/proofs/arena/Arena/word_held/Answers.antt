@@ -1,6 +1,6 @@
 use Rattle.std.proofs.Common.{◌≡◌, ◌+◌, ◌<◌, ◌≤◌, ℕ, [], true, length, refl, ap, sym, subst, ◌∙◌}
 use Rattle.mc_pages.specs.SlabState.{SlabState, class_of_owner, class_of_page}
-use Rattle.mc_core.specs.State.{has_chunk, room_in}
+use Rattle.mc_core.specs.model.State.{has_chunk, room_in}
 use Rattle.mc_core.specs.declared.event.Step.TheVariants as core
 use Rattle.mc_words.specs.hand.View.{Setup}
 use Rattle.mc_words.specs.rule.Layout.{data_word, config_from}

@@ -1,6 +1,6 @@
 use Rattle.std.proofs.Common.{◌≡◌, ◌*◌, ◌+◌, ℕ, true, sym, ap, subst, ◌∙◌, arith, slice_index}
 use Rattle.std.specs.Slots.{slots_counts, slots_items}
-use Rattle.mc_core.specs.State.{has_chunk, head_place}
+use Rattle.mc_core.specs.model.State.{has_chunk, head_place}
 use Rattle.mc_words.specs.hand.View.{Setup}
 use Rattle.mc_words.specs.rule.Layout.{head_word}
 use Rattle.mc_words.specs.rule.End.{ArenaEnd}

@@ -1,7 +1,7 @@
 use Rattle.std.proofs.Common.{Some, IfSome, Option, sym, ap, subst, ◌∙◌}
 use Rattle.std.specs.Slots.{slots_items}
 use Rattle.mc_pages.specs.SlabState.{SlabState}
-use Rattle.mc_core.specs.InOrder.{IsOfTable}
+use Rattle.mc_core.specs.model.InOrder.{IsOfTable}
 use Rattle.mc_words.specs.rule.End.{ArenaEnd, slabs_in}
 use Rattle.mc_words.proofs.Rules.Ends.{slabs_told}
 use Rattle.mc_words.proofs.arena.end.Final.slabs.Goals as goal

@@ -1,6 +1,6 @@
 use Rattle.std.proofs.Common.{◌≡◌, ◌<◌, true, length, sym, subst}
 use Rattle.mc_pages.specs.SlabState.{SlabState}
-use Rattle.mc_core.specs.State.{has_chunk}
+use Rattle.mc_core.specs.model.State.{has_chunk}
 use Rattle.mc_words.specs.hand.View.{Setup}
 use Rattle.mc_words.proofs.Items.HeldReads.{owner_near}
 use Rattle.test_arena.proofs.tests.items.races.class_on_move.Goals as goal

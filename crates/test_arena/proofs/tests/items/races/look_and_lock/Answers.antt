@@ -3,9 +3,9 @@ use Rattle.std.proofs.lemmas.List.Sums.{fold-append}
 use Rattle.mc_classes.specs.declared.config.Config.{Config}
 use Rattle.mc_pages.specs.SlabState.{class_of_page}
 use Rattle.mc_core.specs.declared.look.Look.TheVariants.{Read}
-use Rattle.mc_core.specs.Head.{decode}
-use Rattle.mc_core.specs.Looks.{stays_linked, was_linked}
-use Rattle.mc_core.specs.State.{room_in}
+use Rattle.mc_core.specs.model.Head.{decode}
+use Rattle.mc_core.specs.model.Looks.{stays_linked, was_linked}
+use Rattle.mc_core.specs.model.State.{room_in}
 use Rattle.mc_words.specs.hand.View.{Setup, View}
 use Rattle.mc_words.proofs.Chunks.Judging.{seen_slabs}
 use Rattle.mc_mover.specs.Linked.{ReadsKey}

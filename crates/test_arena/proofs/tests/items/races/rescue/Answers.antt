@@ -2,9 +2,9 @@ use Rattle.std.proofs.Common.{◌≡◌, ◌&&◌, ◌||◌, List, true, refl, s
 use Rattle.mc_pages.proofs.Chunks.{is_chunk-same}
 use Rattle.mc_pages.specs.Pages.{is_on_the_move}
 use Rattle.mc_core.specs.declared.holding.Holding.{Holding}
-use Rattle.mc_core.specs.Evictions.{has_copy, lacks_room, none_dead}
-use Rattle.mc_core.specs.Holdings.{is_copy_of}
-use Rattle.mc_core.specs.Judged.{sees_no_target}
+use Rattle.mc_core.specs.run.Evictions.{has_copy, lacks_room, none_dead}
+use Rattle.mc_core.specs.model.Holdings.{is_copy_of}
+use Rattle.mc_core.specs.law.Judged.{sees_no_target}
 use Rattle.mc_words.specs.item.Fresh.{IsFreshIn}
 use Rattle.mc_words.specs.hand.View.{View}
 use Rattle.mc_words.specs.hand.Views.{copy_holding}

@@ -6,11 +6,11 @@ use Rattle.mc_pages.specs.ClassState.{times_in}
 use Rattle.mc_pages.specs.Pages.{is_on_the_move}
 use Rattle.mc_pages.specs.SlabState.{SlabState, class_at, class_of_page}
 use Rattle.mc_core.specs.declared.holding.Holding.{Holding}
-use Rattle.mc_core.specs.Evictions.{has_copy, lacks_room, none_dead}
-use Rattle.mc_core.specs.Holdings.{has_fresh, holding_of}
-use Rattle.mc_core.specs.Judged.{sees_no_target}
-use Rattle.mc_core.specs.Looks.{is_found_alive}
-use Rattle.mc_core.specs.State.{is_class, room_in}
+use Rattle.mc_core.specs.run.Evictions.{has_copy, lacks_room, none_dead}
+use Rattle.mc_core.specs.model.Holdings.{has_fresh, holding_of}
+use Rattle.mc_core.specs.law.Judged.{sees_no_target}
+use Rattle.mc_core.specs.model.Looks.{is_found_alive}
+use Rattle.mc_core.specs.model.State.{is_class, room_in}
 use Rattle.mc_words.specs.hand.View.{Setup, View}
 use Rattle.mc_words.specs.declared.hand.held.StripeHeld.{StripeHeld}
 use Rattle.mc_words.specs.item.Fresh.{IsFreshIn}

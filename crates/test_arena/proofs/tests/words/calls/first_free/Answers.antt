@@ -1,6 +1,6 @@
 use Rattle.std.proofs.Common.{sym, ap, subst, ◌∙◌}
 use Rattle.mc_pages.specs.SlabState.{SlabState, HasClass}
-use Rattle.mc_core.specs.State.{is_class}
+use Rattle.mc_core.specs.model.State.{is_class}
 use Rattle.mc_words.specs.hand.View.{Setup}
 use Rattle.mc_words.proofs.Chunks.Judging.{class_of_slabs}
 use Rattle.test_arena.proofs.tests.words.calls.first_free.Goals as goal

@@ -1,0 +1,13 @@
+pub mod Holders
+pub mod Rows
+pub mod Changed
+pub mod Turns
+pub mod Tallied
+pub mod HandingOut
+pub mod Referring
+pub mod Linking
+pub mod Dropping
+pub mod Closing
+pub mod Filling
+pub mod Totals
+pub mod TalliedKept

@@ -1,0 +1,9 @@
+pub mod HandsKept
+pub mod HandsSteps
+pub mod MoreRows
+pub mod RowsKept
+pub mod NumberedKept
+pub mod NumberedLink
+pub mod NumberedJoin
+pub mod NumberedSteps
+pub mod FirstHands

@@ -1,0 +1,11 @@
+pub mod StripesKept
+pub mod Tellings
+pub mod ToldBy
+pub mod LegalKept
+pub mod SaidOnce
+pub mod SeenRows
+pub mod LinkKinds
+pub mod Grown
+pub mod ToldKept
+pub mod ToldSteps
+pub mod SeenGrows

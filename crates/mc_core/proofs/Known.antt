@@ -1,0 +1,11 @@
+pub mod KnownStill
+pub mod KnownQuiet
+pub mod Learned
+pub mod KnownChunks
+pub mod KnownFills
+pub mod KnownLearned
+pub mod KnownLinks
+pub mod KnownReferences
+pub mod KnownCondemned
+pub mod KnownSteps
+pub mod Learns

@@ -1,0 +1,4 @@
+pub mod LawKept
+pub mod Stretches
+pub mod Follows
+pub mod Next

@@ -1,0 +1,11 @@
+pub mod OfTable
+pub mod SamePages
+pub mod Sized
+pub mod PagedChanges
+pub mod PagedSteps
+pub mod FreeChunks
+pub mod PlacedAlike
+pub mod PlacedChanges
+pub mod PlacedWritten
+pub mod PlacedLists
+pub mod PlacedSteps

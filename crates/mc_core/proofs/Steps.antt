@@ -1,0 +1,10 @@
+pub mod Lists
+pub mod Listed
+pub mod Kept
+pub mod Made
+pub mod Asked
+pub mod Changes
+pub mod Plays
+pub mod Base
+pub mod StepTests
+pub mod Needless

@@ -1,0 +1,13 @@
+pub mod Places
+pub mod Counts
+pub mod Indexed
+pub mod Seen
+pub mod Identities
+pub mod Knowing
+pub mod Histories
+pub mod Lawful
+pub mod Laws
+pub mod Frame
+pub mod Reasons
+pub mod Follows
+pub mod Judged

@@ -1,0 +1,11 @@
+pub mod Silent
+pub mod Done
+pub mod Locks
+pub mod Chunks
+pub mod Items
+pub mod Evictions
+pub mod Hands
+pub mod Run
+pub mod Rows
+pub mod Effects
+pub mod Needless
