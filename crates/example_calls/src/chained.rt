@@ -43,7 +43,8 @@ fn get_and_hint<R: Wait>(
     requires { IsReadyHandOf arena.now hand.old }
     ensures ready { IsReadyHandOf arena.now hand.new }
     ensures number { hand_number hand.new ≡ hand_number hand.old }
-    ensures in_range { IfSome result (λ hint. has_chunk (setup_of arena.now).table (hint_chunk hint) ≡ true) }
+    ensures in_range { IfSome result (λ hint. has_chunk (setup_of arena.now).table (hint_chunk hint)
+        ≡ true) }
 {
     let Ok(Some(item)) = get(rt, arena, hand, key) else {
         return None;
@@ -58,7 +59,8 @@ fn get_and_hint<R: Wait>(
 // Gets the item of a hint, if there is one and it is there still, and releases it.
 fn get_by_hint(arena: &Arena, hand: &mut Hand, hint: Option<Hint>)
     requires ready { IsReadyHandOf arena.now hand.old }
-    requires in_range { IfSome hint (λ hint. has_chunk (setup_of arena.now).table (hint_chunk hint) ≡ true) }
+    requires in_range { IfSome hint (λ hint. has_chunk (setup_of arena.now).table (hint_chunk hint)
+        ≡ true) }
     ensures ready { IsReadyHandOf arena.now hand.new }
     ensures number { hand_number hand.new ≡ hand_number hand.old }
 {

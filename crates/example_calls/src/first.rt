@@ -58,7 +58,8 @@ fn prepare_page(
     ensures holdings { (view hand.new).row.holdings ≡ (view hand.old).row.holdings }
     ensures after { has_prepared (view hand.new) ≡ true }
     ensures whole { (slabs_lent held.new).uncut ≡ None }
-    ensures free { OnOk result (is_some (first_free (class_at (slabs_lent held.new) class)) ≡ true) }
+    ensures free { OnOk result (is_some (first_free (class_at (slabs_lent held.new) class))
+        ≡ true) }
 {
     let per_page = held.slabs().per_page(class);
     match arena.grow(hand, held, class) {
@@ -137,7 +138,8 @@ pub fn pop_worn(
 /// chunks are used up from the beginning.
 pub fn header_from(alloc: Global, start: u64) -> Result<Option<u64>, NewError>
     requires begun { start ≤ most_issue }
-    ensures header { IfOk result (λ found. found ≡ (if nat_lt start most_issue then Some (code (first_out start)) else None)) }
+    ensures header { IfOk result (λ found. found
+        ≡ (if nat_lt start most_issue then Some (code (first_out start)) else None)) }
     ensures memory { IfErr result (λ error. error ≡ refused.NoMemory tt) }
 {
     let (arena, mut hands) = match Arena::from_issue(alloc, &FOUR_CLASSES, 1, start) {

@@ -28,8 +28,10 @@ pub fn join_behind_a_trim<R: Wait>(
     requires none { ((view hand).row.holdings ≡ []) × ((view other).row.holdings ≡ []) }
     ensures arena { IsHandOf arena.now result }
     ensures agree { KnowledgeAgrees (view result).row.knows }
-    ensures first { (saying : StoredItem) → Contains (view hand).row.knows.stored saying → Contains (view result).row.knows.stored saying }
-    ensures second { (saying : StoredItem) → Contains (view other).row.knows.stored saying → Contains (view result).row.knows.stored saying }
+    ensures first { (saying : StoredItem) → Contains (view hand).row.knows.stored saying →
+        Contains (view result).row.knows.stored saying }
+    ensures second { (saying : StoredItem) → Contains (view other).row.knows.stored saying →
+        Contains (view result).row.knows.stored saying }
 {
     let mut hand = hand;
     let mut other = other;
@@ -62,7 +64,8 @@ pub fn page_behind_a_trim<R: Wait>(
 ) -> Option<BasePage>
     requires { IsReadyHandOf arena.now hand.old }
     ensures arena { IsHandOf arena.now hand.new }
-    ensures trimmed { (view hand.new).row.knows.hold.left.trimmed ≡ length (view hand.new).row.knows.hold.left.ledger }
+    ensures trimmed { (view hand.new).row.knows.hold.left.trimmed
+        ≡ length (view hand.new).row.knows.hold.left.ledger }
     ensures base { result ≡ slice_get (base_pages (view hand.new).row.knows.hold.left) page }
 {
     let mut held = arena.lock_slabs(rt, hand);

@@ -1,11 +1,12 @@
 //! Two threads share a cache of bytes: each stores a value, and then each gets what the other stored.
 #![tactic(auto)]
+
 ghost use Rattle.mc_cache.specs.Belonging.{BelongsTo};
 
 use mc_cache::{Cache, CacheConfig, HashKey};
 use mc_classes::Config;
-use std::{io, str};
 use std::thread::join_mut;
+use std::{io, str};
 
 const CACHE: CacheConfig = CacheConfig {
     arena: Config {

@@ -91,10 +91,12 @@ impl Cache {
         ensures hashing { IfOk result (λ made. hash_key made.0 ≡ hashing) }
         ensures belongs { IfOk result (λ made. All (BelongsTo made.0) made.1.items) }
         ensures tender { IfOk result (λ made. IsTenderOf made.0 made.2) }
-        ensures deciders { IfOk result (λ made. ArePaired IsFreshDecider (arenas_of made.0) (deciders_of made.2)) }
+        ensures deciders { IfOk result (λ made. ArePaired IsFreshDecider (arenas_of made.0)
+            (deciders_of made.2)) }
         ensures arenas { IfOk result (λ made. All (IsNewShard config.now) (arenas_of made.0)) }
         ensures bytes { IfOk result (λ made. table_bytes made.0 ≡ cache_bytes config.now) }
-        ensures refused { IfErr result (λ error. error ≡ unwrap_or (cache_refusal config.now) (refused.NoMemory tt)) }
+        ensures refused { IfErr result (λ error. error
+            ≡ unwrap_or (cache_refusal config.now) (refused.NoMemory tt)) }
     {
         if let Err(error) = test(config) {
             return Err(error);
@@ -126,7 +128,8 @@ fn open<R: Wait>(
     ensures count { IfOk result (λ made. length made.1.items ≡ config.now.workers) }
     ensures hands { IfOk result (λ made. HaveIdleHands made.0.items made.1.items) }
     ensures tender { IfOk result (λ made. AreIdleHands made.0.items (tender_hands made.2)) }
-    ensures deciders { IfOk result (λ made. ArePaired IsFreshDecider made.0.items (deciders_of made.2)) }
+    ensures deciders { IfOk result (λ made. ArePaired IsFreshDecider made.0.items
+        (deciders_of made.2)) }
     ensures new { IfOk result (λ made. All (IsNewShard config.now) made.0.items) }
 {
     let mut arenas = Vec::new(alloc);
@@ -229,7 +232,8 @@ fn open_arena<R: Wait>(
     requires { cache_refusal config.now ≡ None }
     ensures count { IfOk result (λ made. length made.1.items ≡ config.now.workers + 1) }
     ensures hands { IfOk result (λ made. AreIdleHandsOf made.0 made.1.items) }
-    ensures made { IfOk result (λ made. IsMadeWith config.now.arena (config.now.workers + 1) 0 (setup_of made.0)) }
+    ensures made { IfOk result (λ made. IsMadeWith config.now.arena (config.now.workers + 1) 0
+        (setup_of made.0)) }
     ensures history { IfOk result (λ made. KeepsNoHistory made.0) }
 {
     match Arena::new(alloc, &config.arena, config.workers + 1) {
@@ -246,7 +250,8 @@ fn open_arena<R: Wait>(
 fn deal(arenas: &[Arena], workers: &mut [Worker], hands: &mut Vec<Hand>) -> Result<(), Refused>
     requires some { 1 ≤ length arenas.now }
     requires enough { length workers.old ≤ length hands.old.items }
-    requires own { (last : Arena) → AreIdleHandsOf (slice_index_or arenas.now (length arenas.now - 1) last) hands.old.items }
+    requires own { (last : Arena) →
+        AreIdleHandsOf (slice_index_or arenas.now (length arenas.now - 1) last) hands.old.items }
     requires workers { HaveIdleHands (take (length arenas.now - 1) arenas.now) workers.old }
     ensures { OnOk result (HaveIdleHands arenas.now workers.new) }
 {

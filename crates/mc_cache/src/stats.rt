@@ -129,7 +129,8 @@ fn add_classes(rows: &mut Vec<ClassStats>, classes: &[Numbers]) -> Result<(), Re
 // Adds rows of nothing behind the others, until there are n.
 fn lengthen(rows: &mut Vec<ClassStats>, count: usize) -> Result<(), Refused>
     ensures count { OnOk result (length rows.new.items ≡ max (length rows.old.items) count) }
-    ensures same { OnOk result ((place : ℕ) → slice_index_or rows.new.items place no_statistics ≡ slice_index_or rows.old.items place no_statistics) }
+    ensures same { OnOk result ((place : ℕ) → slice_index_or rows.new.items place no_statistics
+        ≡ slice_index_or rows.old.items place no_statistics) }
 {
     let more = count.saturating_sub(rows.len());
     for _ in 0..more {
@@ -152,8 +153,19 @@ fn add_each(rows: &mut [ClassStats], classes: &[Numbers])
 /// Worked cases. Class 2 of two shards has the sum of what it has on each, and not of what all classes of one shard have; a shard that has
 /// no such class adds nothing, and there are as many rows as the shard with the most has classes; and a sum that would pass 2^64 - 1 stays there.
 pub fn worked_stats()
-    ensures sums { class_in_all 1 ((record { pages = 1; free = 2; evictions = 3 } ∷ record { pages = 4; free = 5; evictions = 6 } ∷ []) ∷ (record { pages = 7; free = 8; evictions = 9 } ∷ record { pages = 10; free = 20; evictions = 30 } ∷ []) ∷ []) ≡ record { pages = 14; free = 25; evictions = 36 } }
-    ensures lacks { class_in_all 1 ((record { pages = 1; free = 2; evictions = 3 } ∷ []) ∷ (record { pages = 7; free = 8; evictions = 9 } ∷ record { pages = 10; free = 20; evictions = 30 } ∷ []) ∷ []) ≡ record { pages = 10; free = 20; evictions = 30 } }
-    ensures most { most_classes_of_shards ((record { pages = 1; free = 2; evictions = 3 } ∷ record { pages = 4; free = 5; evictions = 6 } ∷ []) ∷ (record { pages = 7; free = 8; evictions = 9 } ∷ []) ∷ []) ≡ 2 }
+    ensures sums { class_in_all 1
+        ((record { pages = 1; free = 2; evictions = 3 } ∷
+        record { pages = 4; free = 5; evictions = 6 } ∷ []) ∷
+        (record { pages = 7; free = 8; evictions = 9 } ∷
+        record { pages = 10; free = 20; evictions = 30 } ∷ []) ∷ [])
+        ≡ record { pages = 14; free = 25; evictions = 36 } }
+    ensures lacks { class_in_all 1 ((record { pages = 1; free = 2; evictions = 3 } ∷ []) ∷
+        (record { pages = 7; free = 8; evictions = 9 } ∷
+        record { pages = 10; free = 20; evictions = 30 } ∷ []) ∷ [])
+        ≡ record { pages = 10; free = 20; evictions = 30 } }
+    ensures most { most_classes_of_shards
+        ((record { pages = 1; free = 2; evictions = 3 } ∷
+        record { pages = 4; free = 5; evictions = 6 } ∷ []) ∷
+        (record { pages = 7; free = 8; evictions = 9 } ∷ []) ∷ []) ≡ 2 }
     ensures stays { sum_in_all (λ number. number) ((2 ^ 64 - 2) ∷ 3 ∷ []) ≡ 2 ^ 64 - 1 }
 {}

@@ -29,7 +29,8 @@ pub(crate) fn tend_shard<R: Wait>(
     requires { IsIdleHandOf arena.now hand.old }
     ensures idle { IsIdleHandOf arena.now hand.new }
     ensures stores_nothing { StoresNothing (view hand.old) (view hand.new) }
-    ensures tends { IfOk result (λ done. TendsShard done decider.old hand.old decider.new hand.new) }
+    ensures tends { IfOk result (λ done.
+        TendsShard done decider.old hand.old decider.new hand.new) }
 {
     let answer = end_window(rt, alloc, arena, hand, decider)?;
     let mut done = do_turns(rt, arena, hand)?;
@@ -50,7 +51,8 @@ fn end_window<R: Wait>(
     requires { IsIdleHandOf arena.now hand.old }
     ensures idle { IsIdleHandOf arena.now hand.new }
     ensures stores_nothing { StoresNothing (view hand.old) (view hand.new) }
-    ensures ends { IfOk result (λ answer. EndsWindow answer decider.old hand.old decider.new hand.new) }
+    ensures ends { IfOk result (λ answer.
+        EndsWindow answer decider.old hand.old decider.new hand.new) }
 {
     let survey = survey(rt, alloc, arena, hand, true)?;
     let Some(decision) = decide(alloc, decider, &survey)? else {

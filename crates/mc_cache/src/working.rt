@@ -71,10 +71,13 @@ impl Worker {
         requires { BelongsTo cache.now self.old }
         ensures belongs { BelongsTo cache.now self.new }
         ensures key { (result ≡ Err set_error.KeyLength) ↔ ¬ IsKey key.now }
-        ensures value { (result ≡ Err set_error.ValueLength) ↔ IsKey key.now × (16384 < length value.now) }
+        ensures value { (result ≡ Err set_error.ValueLength) ↔ IsKey key.now
+            × (16384 < length value.now) }
         ensures same { ¬ IsKey key.now ⊎ (16384 < length value.now) → KeepsHands self.old self.new }
-        ensures stores { OnOk result (ActsOnKey cache.now key.now (StoresValue (hash_in cache.now key.now) key.now value.now) self.old self.new) }
-        ensures refused { (error : items.SetError) → result ≡ Err (set_error.Item error) → RefusesValueOf cache.now key.now value.now error self.old self.new }
+        ensures stores { OnOk result (ActsOnKey cache.now key.now
+            (StoresValue (hash_in cache.now key.now) key.now value.now) self.old self.new) }
+        ensures refused { (error : items.SetError) → result ≡ Err (set_error.Item error) →
+            RefusesValueOf cache.now key.now value.now error self.old self.new }
     {
         let Some(at) = cache.place_of(key) else {
             return Err(SetError::KeyLength);
@@ -105,11 +108,16 @@ impl Worker {
         ensures belongs { BelongsTo cache.now self.new }
         ensures key { (result ≡ Err call_error.KeyLength) ↔ ¬ IsKey key.now }
         ensures same { result ≡ Err call_error.KeyLength → KeepsHands self.old self.new }
-        ensures value { result ≡ Ok true → GivesValueOf cache.now key.now into.old.items into.new.items self.old self.new }
-        ensures none { result ≡ Ok false → ActsOnKey cache.now key.now (ReadsOther (hash_in cache.now key.now) key.now) self.old self.new }
+        ensures value { result ≡ Ok true →
+            GivesValueOf cache.now key.now into.old.items into.new.items self.old self.new }
+        ensures none { result ≡ Ok false →
+            ActsOnKey cache.now key.now (ReadsOther (hash_in cache.now key.now) key.now) self.old
+            self.new }
         ensures kept { (result ≡ Ok true → ⊥) → into.new.items ≡ into.old.items }
-        ensures refused { OnErr result (IsKey key.now → ActsOnKey cache.now key.now StoresNoMore self.old self.new) }
-        ensures untouched { IsKey key.now → ActsOnKey cache.now key.now TouchesNothing self.old self.new }
+        ensures refused { OnErr result (IsKey key.now →
+            ActsOnKey cache.now key.now StoresNoMore self.old self.new) }
+        ensures untouched { IsKey key.now →
+            ActsOnKey cache.now key.now TouchesNothing self.old self.new }
     {
         let Some(at) = cache.place_of(key) else {
             return Err(CallError::KeyLength);
@@ -135,13 +143,17 @@ impl Worker {
         ensures belongs { BelongsTo cache.now self.new }
         ensures key { (result ≡ Err call_error.KeyLength) ↔ ¬ IsKey key.now }
         ensures same { result ≡ Err call_error.KeyLength → KeepsHands self.old self.new }
-        ensures value { result ≡ Ok true → GivesAndTouches cache.now key.now into.old.items into.new.items self.old self.new }
+        ensures value { result ≡ Ok true →
+            GivesAndTouches cache.now key.now into.old.items into.new.items self.old self.new }
         ensures noted { result ≡ Ok true → NotesHashOf cache.now key.now self.old self.new }
         ensures counted { result ≡ Ok true → CountsAsk self.old self.new }
-        ensures none { result ≡ Ok false → ActsOnKey cache.now key.now (ReadsOther (hash_in cache.now key.now) key.now) self.old self.new }
+        ensures none { result ≡ Ok false →
+            ActsOnKey cache.now key.now (ReadsOther (hash_in cache.now key.now) key.now) self.old
+            self.new }
         ensures unasked { (result ≡ Ok true → ⊥) → self.new.recent ≡ self.old.recent }
         ensures kept { (result ≡ Ok true → ⊥) → into.new.items ≡ into.old.items }
-        ensures refused { OnErr result (IsKey key.now → ActsOnKey cache.now key.now StoresNoMore self.old self.new) }
+        ensures refused { OnErr result (IsKey key.now →
+            ActsOnKey cache.now key.now StoresNoMore self.old self.new) }
     {
         let Some(at) = cache.place_of(key) else {
             return Err(CallError::KeyLength);
@@ -171,12 +183,19 @@ impl Worker {
         ensures belongs { BelongsTo cache.now self.new }
         ensures key { (result ≡ Err try_error.KeyLength) ↔ ¬ IsKey key.now }
         ensures same { result ≡ Err try_error.KeyLength → KeepsHands self.old self.new }
-        ensures value { result ≡ Ok true → GivesValueOf cache.now key.now into.old.items into.new.items self.old self.new }
-        ensures none { result ≡ Ok false → ActsOnKey cache.now key.now (ReadsOther (hash_in cache.now key.now) key.now) self.old self.new }
+        ensures value { result ≡ Ok true →
+            GivesValueOf cache.now key.now into.old.items into.new.items self.old self.new }
+        ensures none { result ≡ Ok false →
+            ActsOnKey cache.now key.now (ReadsOther (hash_in cache.now key.now) key.now) self.old
+            self.new }
         ensures kept { (result ≡ Ok true → ⊥) → into.new.items ≡ into.old.items }
-        ensures held { result ≡ Err try_error.Held → ActsOnKey cache.now key.now (FindsStripeLocked (hash_in cache.now key.now)) self.old self.new }
-        ensures refused { OnErr result (IsKey key.now → ActsOnKey cache.now key.now StoresNoMore self.old self.new) }
-        ensures untouched { IsKey key.now → ActsOnKey cache.now key.now TouchesNothing self.old self.new }
+        ensures held { result ≡ Err try_error.Held →
+            ActsOnKey cache.now key.now (FindsStripeLocked (hash_in cache.now key.now)) self.old
+            self.new }
+        ensures refused { OnErr result (IsKey key.now →
+            ActsOnKey cache.now key.now StoresNoMore self.old self.new) }
+        ensures untouched { IsKey key.now →
+            ActsOnKey cache.now key.now TouchesNothing self.old self.new }
     {
         let Some(at) = cache.place_of(key) else {
             return Err(TryGetError::KeyLength);
@@ -202,10 +221,17 @@ impl Worker {
         ensures belongs { BelongsTo cache.now self.new }
         ensures key { (result ≡ Err call_error.KeyLength) ↔ ¬ IsKey key.now }
         ensures same { result ≡ Err call_error.KeyLength → KeepsHands self.old self.new }
-        ensures there { result ≡ Ok true → ActsOnKey cache.now key.now (FindsKeyInShard (hash_in cache.now key.now) key.now) self.old self.new }
-        ensures none { result ≡ Ok false → ActsOnKey cache.now key.now (ReadsOther (hash_in cache.now key.now) key.now) self.old self.new }
-        ensures refused { OnErr result (IsKey key.now → ActsOnKey cache.now key.now (LooksInVain (hash_in cache.now key.now)) self.old self.new) }
-        ensures untouched { IsKey key.now → ActsOnKey cache.now key.now TouchesNothing self.old self.new }
+        ensures there { result ≡ Ok true →
+            ActsOnKey cache.now key.now (FindsKeyInShard (hash_in cache.now key.now) key.now)
+            self.old self.new }
+        ensures none { result ≡ Ok false →
+            ActsOnKey cache.now key.now (ReadsOther (hash_in cache.now key.now) key.now) self.old
+            self.new }
+        ensures refused { OnErr result (IsKey key.now →
+            ActsOnKey cache.now key.now (LooksInVain (hash_in cache.now key.now)) self.old
+            self.new) }
+        ensures untouched { IsKey key.now →
+            ActsOnKey cache.now key.now TouchesNothing self.old self.new }
     {
         let Some(at) = cache.place_of(key) else {
             return Err(CallError::KeyLength);
@@ -223,9 +249,13 @@ impl Worker {
         ensures belongs { BelongsTo cache.now self.new }
         ensures key { (result ≡ Err call_error.KeyLength) ↔ ¬ IsKey key.now }
         ensures same { result ≡ Err call_error.KeyLength → KeepsHands self.old self.new }
-        ensures deletes { result ≡ Ok true → ActsOnKey cache.now key.now (DeletesThere (hash_in cache.now key.now) key.now true) self.old self.new }
+        ensures deletes { result ≡ Ok true →
+            ActsOnKey cache.now key.now (DeletesThere (hash_in cache.now key.now) key.now true)
+            self.old self.new }
         ensures none { result ≡ Ok false → DeletesNoneOf cache.now key.now self.old self.new }
-        ensures refused { OnErr result (IsKey key.now → ActsOnKey cache.now key.now (LooksInVain (hash_in cache.now key.now)) self.old self.new) }
+        ensures refused { OnErr result (IsKey key.now →
+            ActsOnKey cache.now key.now (LooksInVain (hash_in cache.now key.now)) self.old
+            self.new) }
     {
         let Some(at) = cache.place_of(key) else {
             return Err(CallError::KeyLength);
@@ -243,9 +273,15 @@ impl Worker {
         ensures belongs { BelongsTo cache.now self.new }
         ensures key { (result ≡ Err call_error.KeyLength) ↔ ¬ IsKey key.now }
         ensures same { result ≡ Err call_error.KeyLength → KeepsHands self.old self.new }
-        ensures touches { result ≡ Ok true → ActsOnKey cache.now key.now (TouchesThere (hash_in cache.now key.now) key.now) self.old self.new }
-        ensures none { result ≡ Ok false → ActsOnKey cache.now key.now (ReadsOther (hash_in cache.now key.now) key.now) self.old self.new }
-        ensures refused { OnErr result (IsKey key.now → ActsOnKey cache.now key.now (LooksInVain (hash_in cache.now key.now)) self.old self.new) }
+        ensures touches { result ≡ Ok true →
+            ActsOnKey cache.now key.now (TouchesThere (hash_in cache.now key.now) key.now) self.old
+            self.new }
+        ensures none { result ≡ Ok false →
+            ActsOnKey cache.now key.now (ReadsOther (hash_in cache.now key.now) key.now) self.old
+            self.new }
+        ensures refused { OnErr result (IsKey key.now →
+            ActsOnKey cache.now key.now (LooksInVain (hash_in cache.now key.now)) self.old
+            self.new) }
     {
         let Some(at) = cache.place_of(key) else {
             return Err(CallError::KeyLength);

@@ -11,5 +11,6 @@ pub fn one_table()
 
 /// The definitions alone keep the sizes and counts of a table within their bounds.
 pub fn sound_table()
-    ensures { (config : Config) (table : Classes) → config_refusal config ≡ None → IsTableOf config table → IsSound table }
+    ensures { (config : Config) (table : Classes) → config_refusal config ≡ None →
+        IsTableOf config table → IsSound table }
 {}

@@ -31,9 +31,9 @@ mod table;
 
 pub use config::{Config, ConfigError};
 pub use laws::{one_table, sound_table};
-pub use mc_io::{Failures, Fault, Sink};
 pub use limits::{
     LEAST_PAGE_BYTES, MOST_BULK, MOST_CLASSES, MOST_PAGE_BYTES, MOST_PAGE_CHUNKS, MOST_PAGES,
     MOST_REFS, MOST_STRIPES,
 };
+pub use mc_io::{Failures, Fault, Sink};
 pub use table::{ClassId, ClassTable, PageId};

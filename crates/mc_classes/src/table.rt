@@ -40,7 +40,8 @@ impl ClassTable {
         ensures accepted { IfOk result (λ _. config_refusal config.now ≡ None) }
         ensures table { IfOk result (λ table. IsTableOf config.now table) }
         ensures sound { IfOk result (λ table. IsSound table) }
-        ensures refused { IfErr result (λ error. error ≡ unwrap_or (config_refusal config.now) (ConfigError.NoMemory tt)) }
+        ensures refused { IfErr result (λ error. error
+            ≡ unwrap_or (config_refusal config.now) (ConfigError.NoMemory tt)) }
     {
         config.test()?;
         let sizes = sizes_of(alloc, config)?;
@@ -54,7 +55,8 @@ impl ClassTable {
     /// The lowest class with chunks of at least n bytes, if there is one (slabs.c's `slabs_clsid`).
     pub fn class_for(&self, bytes: u64) -> Option<ClassId>
         ensures class { result ≡ class_of self.now bytes }
-        ensures fits { IfSome result (λ class. IsClass self.now class × (bytes ≤ size_of self.now class)) }
+        ensures fits { IfSome result (λ class. IsClass self.now class
+            × (bytes ≤ size_of self.now class)) }
         ensures sound { IsSound self.now }
     {
         let place = place_for(&self.sizes, bytes)?;

@@ -95,7 +95,8 @@ impl Holding {
 
     /// A word of this chunk is written, if the holding is of it.
     fn fill(&mut self, chunk: ChunkId, place: u64, word: u64)
-        ensures { self.new ≡ (if is_of_chunk chunk self.old then holding_with_word place word self.old else self.old) }
+        ensures { self.new ≡ (if is_of_chunk chunk self.old then holding_with_word place word
+            self.old else self.old) }
     {
         if self.chunk == chunk {
             if let Kind::Fresh(_, words) = &mut self.kind {
@@ -106,7 +107,8 @@ impl Holding {
 
     /// The item of this chunk was condemned: if the holding is to be a copy of it, it is to have these words, and no others.
     fn bind(&mut self, alloc: Global, old: ChunkId, item: &[u64]) -> Result<(), Refused>
-        ensures { OnOk result (self.new ≡ (if is_copy_of old self.old then as_rescue old item.now self.old else self.old)) }
+        ensures { OnOk result (self.new
+            ≡ (if is_copy_of old self.old then as_rescue old item.now self.old else self.old)) }
     {
         if self.is_copy_of(old) {
             let item = Series::copy_of(alloc, item)?;
@@ -120,7 +122,8 @@ impl Holding {
 
 /// A word of this chunk is written, if it is among what a hand holds.
 pub(crate) fn fill_chunk(holdings: &mut Series<Holding>, chunk: ChunkId, place: u64, word: u64)
-    ensures { holdings.new ≡ change_each (is_of_chunk chunk) (holding_with_word place word) holdings.old }
+    ensures { holdings.new ≡ change_each (is_of_chunk chunk)
+        (holding_with_word place word) holdings.old }
 {
     for holding in holdings.items.iter_mut() {
         holding.fill(chunk, place, word);
@@ -134,7 +137,8 @@ pub(crate) fn bind_copies(
     chunk: ChunkId,
     item: &[u64],
 ) -> Result<(), Refused>
-    ensures { OnOk result (holdings.new ≡ change_each (is_copy_of chunk) (as_rescue chunk item.now) holdings.old) }
+    ensures { OnOk result (holdings.new ≡ change_each (is_copy_of chunk)
+        (as_rescue chunk item.now) holdings.old) }
 {
     for holding in holdings.items.iter_mut() {
         holding.bind(alloc, chunk, item)?;

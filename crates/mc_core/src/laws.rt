@@ -36,18 +36,26 @@ pub fn worked_runs()
 
 /// A class's first page is granted beyond the limit where none is left within it, and its second isn't; where one is left, that is granted.
 pub fn worked_grants()
-    ensures beyond { ledger_of (state_left_by 1 (first_page_events ++ gets_whole 1)) ≡ Ok (Granted 0 1 false ∷ Granted 1 2 true ∷ []) }
-    ensures one_a_class { ledger_of (state_left_by 1 (first_page_events ++ gets_whole 1 ++ gets_whole 2)) ≡ Err 4 }
-    ensures within { ledger_of (state_left_by 2 (first_page_events ++ gets_whole 1)) ≡ Ok (Granted 0 1 false ∷ Granted 1 2 false ∷ []) }
-    ensures no_more_within { ledger_of (state_left_by 2 (first_page_events ++ gets_whole 1 ++ gets_whole 2)) ≡ Err 4 }
+    ensures beyond { ledger_of (state_left_by 1 (first_page_events ++ gets_whole 1))
+        ≡ Ok (Granted 0 1 false ∷ Granted 1 2 true ∷ []) }
+    ensures one_a_class { ledger_of (state_left_by 1 (first_page_events ++ gets_whole 1
+        ++ gets_whole 2)) ≡ Err 4 }
+    ensures within { ledger_of (state_left_by 2 (first_page_events ++ gets_whole 1))
+        ≡ Ok (Granted 0 1 false ∷ Granted 1 2 false ∷ []) }
+    ensures no_more_within { ledger_of (state_left_by 2 (first_page_events ++ gets_whole 1
+        ++ gets_whole 2)) ≡ Err 4 }
 {}
 
 /// Entries before a trim of the ledger aren't recorded, and those behind it are. It is trimmed under the lock of the slabs alone.
 pub fn worked_trims()
-    ensures trimmed { recorded_of (state_left_by 1 (first_page_events ++ hand_event (TrimLedger ∷ Grow 2 ∷ []) (Cut 1 0) ∷ [])) ≡ Ok (Granted 1 2 true ∷ []) }
-    ensures twice { recorded_of (state_left_by 1 (first_page_events ++ hand_event (TrimLedger ∷ TrimLedger ∷ []) GiveSlabs ∷ [])) ≡ Ok [] }
-    ensures whole { ledger_of (state_left_by 1 (first_page_events ++ hand_event (TrimLedger ∷ []) GiveSlabs ∷ [])) ≡ Ok (Granted 0 1 false ∷ []) }
-    ensures without_the_lock { recorded_of (state_left_by 1 (first_page_events ++ hand_event [] GiveSlabs ∷ hand_event (TrimLedger ∷ []) TakeSlabs ∷ [])) ≡ Err 4 }
+    ensures trimmed { recorded_of (state_left_by 1 (first_page_events
+        ++ hand_event (TrimLedger ∷ Grow 2 ∷ []) (Cut 1 0) ∷ [])) ≡ Ok (Granted 1 2 true ∷ []) }
+    ensures twice { recorded_of (state_left_by 1 (first_page_events
+        ++ hand_event (TrimLedger ∷ TrimLedger ∷ []) GiveSlabs ∷ [])) ≡ Ok [] }
+    ensures whole { ledger_of (state_left_by 1 (first_page_events
+        ++ hand_event (TrimLedger ∷ []) GiveSlabs ∷ [])) ≡ Ok (Granted 0 1 false ∷ []) }
+    ensures without_the_lock { recorded_of (state_left_by 1 (first_page_events
+        ++ hand_event [] GiveSlabs ∷ hand_event (TrimLedger ∷ []) TakeSlabs ∷ [])) ≡ Err 4 }
 {}
 
 /// Of each stripe a hand knows how it last took it and how it last gave it back: the first as it was then, the second with what was done
@@ -55,35 +63,54 @@ pub fn worked_trims()
 pub fn worked_holds()
     ensures taken { room_in_hold 1 (hand_event [] (TakeStripe 1) ∷ []) ≡ (Some false, None) }
     ensures given { room_in_hold 1 makes_room ≡ (Some false, Some true) }
-    ensures again { room_in_hold 1 (makes_room ++ hand_event [] (TakeStripe 1) ∷ []) ≡ (Some true, Some true) }
+    ensures again { room_in_hold 1 (makes_room ++ hand_event [] (TakeStripe 1) ∷ [])
+        ≡ (Some true, Some true) }
     ensures other { room_in_hold 0 makes_room ≡ (None, None) }
 {}
 
 /// An item is evicted from a full class behind a sweep. It is refused without a sweep, behind half of one, and behind one that an
 /// eviction ended; where a chunk is free; where a page is left, or one is pooled; and where one is half cut.
 pub fn worked_evictions()
-    ensures evicted { played_on 1 (full_page ++ look_events 0 ++ takes_away (chunk_at 0 1)) ≡ Ok (Granted 0 1 false ∷ []) }
+    ensures evicted { played_on 1 (full_page ++ look_events 0 ++ takes_away (chunk_at 0 1))
+        ≡ Ok (Granted 0 1 false ∷ []) }
     ensures no_sweep { played_on 1 (full_page ++ takes_away (chunk_at 0 1)) ≡ Err 18 }
-    ensures half_a_sweep { played_on 1 (full_page ++ hand_event [] (Head (chunk_at 0 1)) ∷ takes_away (chunk_at 0 1)) ≡ Err 19 }
-    ensures one_a_sweep { played_on 1 (full_page ++ look_events 0 ++ takes_away (chunk_at 0 1) ++ takes_away (chunk_at 0 0)) ≡ Err 21 }
-    ensures a_free_chunk { played_on 1 (page_events 0 ++ store_events (chunk_at 0 1) 1 ++ hand_event [] (Head (chunk_at 0 1)) ∷ takes_away (chunk_at 0 1)) ≡ Err 12 }
-    ensures a_page_left { played_on 2 (full_page ++ look_events 0 ++ takes_away (chunk_at 0 1)) ≡ Err 20 }
-    ensures a_pooled_page { played_on 2 (one_of_four ++ begins_rescue ++ rescue_events ++ hand_event (FinishMove ∷ []) (Pop 1) ∷ fill_events (chunk_at 1 0) 2 ++ look_events 1 ++ takes_away (chunk_at 1 1)) ≡ Err 32 }
-    ensures half_a_page { played_on 2 (full_page ++ hand_event (Grow 1 ∷ []) (Cut 1 0) ∷ store_events (chunk_at 1 0) 3 ++ look_events 0 ++ hand_event [] (Head (chunk_at 1 0)) ∷ takes_away (chunk_at 0 1)) ≡ Err 29 }
+    ensures half_a_sweep { played_on 1 (full_page
+        ++ hand_event [] (Head (chunk_at 0 1)) ∷ takes_away (chunk_at 0 1)) ≡ Err 19 }
+    ensures one_a_sweep { played_on 1 (full_page ++ look_events 0 ++ takes_away (chunk_at 0 1)
+        ++ takes_away (chunk_at 0 0)) ≡ Err 21 }
+    ensures a_free_chunk { played_on 1 (page_events 0 ++ store_events (chunk_at 0 1) 1
+        ++ hand_event [] (Head (chunk_at 0 1)) ∷ takes_away (chunk_at 0 1)) ≡ Err 12 }
+    ensures a_page_left { played_on 2 (full_page ++ look_events 0 ++ takes_away (chunk_at 0 1))
+        ≡ Err 20 }
+    ensures a_pooled_page { played_on 2 (one_of_four ++ begins_rescue ++ rescue_events
+        ++ hand_event (FinishMove ∷ []) (Pop 1) ∷ fill_events (chunk_at 1 0) 2 ++ look_events 1
+        ++ takes_away (chunk_at 1 1)) ≡ Err 32 }
+    ensures half_a_page { played_on 2 (full_page
+        ++ hand_event (Grow 1 ∷ []) (Cut 1 0) ∷ store_events (chunk_at 1 0) 3 ++ look_events 0
+        ++ hand_event [] (Head (chunk_at 1 0)) ∷ takes_away (chunk_at 0 1)) ≡ Err 29 }
 {}
 
 /// An item is rescued off its moving page, which then comes to the pool. It isn't rescued onto that page, nor to a chunk that is
 /// for something else, nor when its page stays. Where no free chunk is off the page, the item leaves the page behind a sweep. It
 /// doesn't leave without one, nor behind one that a handing out ended, nor where a free chunk is there.
 pub fn worked_rescues()
-    ensures rescued { played_on 2 (one_of_four ++ begins_rescue ++ rescue_events ++ end_events) ≡ Ok (Granted 0 1 false ∷ Granted 1 1 false ∷ Began 0 1 0 ∷ Ended 0 0 ∷ []) }
+    ensures rescued { played_on 2 (one_of_four ++ begins_rescue ++ rescue_events ++ end_events)
+        ≡ Ok (Granted 0 1 false ∷ Granted 1 1 false ∷ Began 0 1 0 ∷ Ended 0 0 ∷ []) }
     ensures no_chunk_off { played_on 2 (three_of_four ++ begins_rescue) ≡ Err 27 }
-    ensures no_copy { played_on 2 (one_of_four ++ hand_event [] (Pop 1) ∷ begins_move ++ takes_away (chunk_at 0 1)) ≡ Err 15 }
-    ensures a_page_that_stays { played_on 2 (one_of_four ++ comes_again ++ takes_away (chunk_at 0 1)) ≡ Err 26 }
-    ensures leaves { played_on 2 (three_of_four ++ begins_move ++ look_events 1 ++ takes_away (chunk_at 0 1)) ≡ Ok (Granted 0 1 false ∷ Granted 1 1 false ∷ Began 0 1 0 ∷ []) }
-    ensures no_sweep { played_on 2 (three_of_four ++ begins_move ++ takes_away (chunk_at 0 1)) ≡ Err 28 }
-    ensures old_sweep { played_on 2 (one_of_four ++ store_events (chunk_at 1 1) 2 ++ begins_move ++ hand_event [] (Head (chunk_at 1 1)) ∷ hand_event [] (Pop 1) ∷ hand_event [] (Head (chunk_at 1 0)) ∷ takes_away (chunk_at 0 1)) ≡ Err 24 }
-    ensures a_chunk_off { played_on 2 (one_of_four ++ begins_move ++ takes_away (chunk_at 0 1)) ≡ Err 14 }
+    ensures no_copy { played_on 2 (one_of_four ++ hand_event [] (Pop 1) ∷ begins_move
+        ++ takes_away (chunk_at 0 1)) ≡ Err 15 }
+    ensures a_page_that_stays { played_on 2 (one_of_four ++ comes_again
+        ++ takes_away (chunk_at 0 1)) ≡ Err 26 }
+    ensures leaves { played_on 2 (three_of_four ++ begins_move ++ look_events 1
+        ++ takes_away (chunk_at 0 1))
+        ≡ Ok (Granted 0 1 false ∷ Granted 1 1 false ∷ Began 0 1 0 ∷ []) }
+    ensures no_sweep { played_on 2 (three_of_four ++ begins_move ++ takes_away (chunk_at 0 1))
+        ≡ Err 28 }
+    ensures old_sweep { played_on 2 (one_of_four ++ store_events (chunk_at 1 1) 2 ++ begins_move
+        ++ hand_event [] (Head (chunk_at 1 1)) ∷ hand_event [] (Pop 1) ∷ hand_event []
+        (Head (chunk_at 1 0)) ∷ takes_away (chunk_at 0 1)) ≡ Err 24 }
+    ensures a_chunk_off { played_on 2 (one_of_four ++ begins_move ++ takes_away (chunk_at 0 1))
+        ≡ Err 14 }
 {}
 
 /// Each chunk has its header, and each page all its data words.
@@ -249,5 +276,6 @@ pub fn what_is_seen_allows()
 
 /// A legal history leaves one map from keys to stamps.
 pub fn one_replay()
-    ensures { (start : StampMap) (history : List Call) (a b : StampMap) → Leads start history a → Leads start history b → (key : ℕ) → a key ≡ b key }
+    ensures { (start : StampMap) (history : List Call) (a b : StampMap) → Leads start history a →
+        Leads start history b → (key : ℕ) → a key ≡ b key }
 {}

@@ -83,7 +83,8 @@ impl State {
 
     /// Pages and free lists, where nobody has the slabs lock.
     pub fn slabs(&self) -> Option<&Slabs>
-        ensures free { MatchOption result (self.now.slabs_lock ≢ 0) (λ slabs. (slabs.now.state ≡ self.now.slabs) × (self.now.slabs_lock ≡ 0)) }
+        ensures free { MatchOption result (self.now.slabs_lock ≢ 0) (λ slabs.
+            (slabs.now.state ≡ self.now.slabs) × (self.now.slabs_lock ≡ 0)) }
         ensures of_table { IfSome result (λ slabs. IsOfTable self.now.table slabs.now.state) }
     {
         if self.slabs_lock == 0 {
@@ -95,7 +96,9 @@ impl State {
 
     /// A stripe, where it is there and nobody has its lock.
     pub fn stripe(&self, stripe: u64) -> Option<&Stripe>
-        ensures { MatchOption result (slice_get self.now.stripe_locks stripe ≢ Some 0) (λ value. (value.now ≡ stripe_at self.now stripe) × (slice_get self.now.stripe_locks stripe ≡ Some 0)) }
+        ensures { MatchOption result (slice_get self.now.stripe_locks stripe ≢ Some 0) (λ value.
+            (value.now ≡ stripe_at self.now stripe)
+            × (slice_get self.now.stripe_locks stripe ≡ Some 0)) }
     {
         if stripe < self.stripe_locks.len() as u64 && self.stripe_locks[stripe as usize] == 0 {
             Some(&self.stripes[stripe as usize])

@@ -17,13 +17,15 @@ const MOST: usize = MAX_SCRIPT + 1;
 
 /// Reads a script, and no more than one byte past the longest one. Any error of the reader ends the reading.
 pub(crate) fn read_script<R: Source>(alloc: Global, reader: &mut R) -> Result<Vec<u8>, RunFault>
-    ensures bytes { IfOk result (λ bytes. IfSome (R.remaining reader.old) (λ all. bytes.items ≡ take 1048577 all)) }
+    ensures bytes { IfOk result (λ bytes. IfSome (R.remaining reader.old) (λ all.
+        bytes.items ≡ take 1048577 all)) }
     ensures given { IfOk result (λ bytes. R.given reader.new ≡ R.given reader.old ++ bytes.items) }
     ensures ended { IfOk result (λ bytes. length bytes.items ≤ 1048576 → R.HasEnded reader.new) }
     ensures most { TakesAtMost 1048577 (R.remaining reader.old) (R.remaining reader.new) }
     ensures most_given { GivesAtMost 1048577 (R.given reader.old) (R.given reader.new) }
     ensures quiet { OnOk result (R.failures reader.new ≡ R.failures reader.old) }
-    ensures fault { IfErr result (λ fault. IsReadFault (R.failures reader.old) (R.failures reader.new) fault) }
+    ensures fault { IfErr result (λ fault. IsReadFault (R.failures reader.old)
+        (R.failures reader.new) fault) }
 {
     let mut bytes = Vec::new(alloc);
     let mut piece = room_for(alloc, PIECE)?;
@@ -51,14 +53,17 @@ fn read_piece<R: Source>(
     bytes: &mut Vec<u8>,
 ) -> Result<usize, RunFault>
     requires { 0 < length piece.old }
-    ensures taken { IfOk result (λ count. TakesPiece (R.given reader.old) (R.given reader.new) (R.remaining reader.old) (R.remaining reader.new) bytes.old.items bytes.new.items count) }
+    ensures taken { IfOk result (λ count. TakesPiece (R.given reader.old) (R.given reader.new)
+        (R.remaining reader.old) (R.remaining reader.new) bytes.old.items bytes.new.items count) }
     ensures within { IfOk result (λ count. count ≤ length piece.old) }
-    ensures most { TakesAtMost (length piece.old) (R.remaining reader.old) (R.remaining reader.new) }
+    ensures most { TakesAtMost (length piece.old) (R.remaining reader.old)
+        (R.remaining reader.new) }
     ensures most_given { GivesAtMost (length piece.old) (R.given reader.old) (R.given reader.new) }
     ensures ended { result ≡ Ok 0 → R.HasEnded reader.new }
     ensures end { result ≡ Ok 0 → IsAtEnd (R.remaining reader.new) }
     ensures quiet { OnOk result (R.failures reader.new ≡ R.failures reader.old) }
-    ensures fault { IfErr result (λ fault. IsReadFault (R.failures reader.old) (R.failures reader.new) fault) }
+    ensures fault { IfErr result (λ fault. IsReadFault (R.failures reader.old)
+        (R.failures reader.new) fault) }
 {
     let count = match reader.read(piece) {
         Ok(count) => count,

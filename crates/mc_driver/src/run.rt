@@ -34,8 +34,10 @@ pub fn run_serial<R: Source, W: Sink>(
     requires { run.now.automove ≤ 2 }
 
     // A refused configuration is returned, exactly then, and leaves reader and writer alone.
-    ensures refused { (number : ℕ) → (result ≡ Err (RunFault.Config number)) ↔ (config_refusal_number run.now.config ≡ Some number) }
-    ensures unread { IsSome (config_refusal run.now.config) → (reader.new ≡ reader.old) × (writer.new ≡ writer.old) }
+    ensures refused { (number : ℕ) → (result ≡ Err (RunFault.Config number))
+        ↔ (config_refusal_number run.now.config ≡ Some number) }
+    ensures unread { IsSome (config_refusal run.now.config) →
+        (reader.new ≡ reader.old) × (writer.new ≡ writer.old) }
 
     // No more is read than shows that a script is too long.
     ensures most { TakesAtMost 1048577 (R.remaining reader.old) (R.remaining reader.new) }
@@ -43,7 +45,8 @@ pub fn run_serial<R: Source, W: Sink>(
 
     // A failed read or write is returned, exactly then.
     ensures read { (result ≡ Err RunFault.Read) ↔ (R.failures reader.old < R.failures reader.new) }
-    ensures write { (result ≡ Err RunFault.Write) ↔ (W.failures writer.old < W.failures writer.new) }
+    ensures write { (result ≡ Err RunFault.Write)
+        ↔ (W.failures writer.old < W.failures writer.new) }
 
     // What is answered and written is what the plain machine replies to the bytes.
     ensures outcome { IfSome (R.remaining reader.old) (λ bytes.
@@ -51,8 +54,10 @@ pub fn run_serial<R: Source, W: Sink>(
 
     // The answer and the text are those of the bytes that the reader gave. These were all up to its end where a script got
     // replies.
-    ensures answered { IsOutcome run.now (since (R.given reader.old) (R.given reader.new)) (W.contents writer.old) (W.contents writer.new) result }
-    ensures whole { IsReadWhole (R.HasEnded reader.new) (Keeps (W.contents writer.old) (W.contents writer.new)) result }
+    ensures answered { IsOutcome run.now (since (R.given reader.old) (R.given reader.new))
+        (W.contents writer.old) (W.contents writer.new) result }
+    ensures whole { IsReadWhole (R.HasEnded reader.new)
+        (Keeps (W.contents writer.old) (W.contents writer.new)) result }
 {
     let table = match ClassTable::build(alloc, &run.config) {
         Ok(table) => table,
@@ -73,8 +78,11 @@ fn run_script<W: Sink>(
     requires sound { IsSound table }
     requires bulk { run.now.config.bulk ≤ 256 }
     requires automove { run.now.automove ≤ 2 }
-    ensures outcome { IsScriptOutcome bytes.now (fresh_machine table run.now.config.bulk run.now.automove) (W.contents writer.old) (W.contents writer.new) result }
-    ensures write { (result ≡ Err RunFault.Write) ↔ (W.failures writer.old < W.failures writer.new) }
+    ensures outcome { IsScriptOutcome bytes.now
+        (fresh_machine table run.now.config.bulk run.now.automove) (W.contents writer.old)
+        (W.contents writer.new) result }
+    ensures write { (result ≡ Err RunFault.Write)
+        ↔ (W.failures writer.old < W.failures writer.new) }
 {
     let commands = match commands_of(alloc, bytes) {
         Ok(commands) => commands,
@@ -126,10 +134,12 @@ fn serve_all<W: Sink>(
 ) -> Result<(), RunFault>
     requires { All IsValid commands.now }
     ensures done { OnOk result (is_done keeper.old commands.now ≡ true) }
-    ensures written { OnOk result (Appends (W.contents writer.old) (W.contents writer.new) (replies_to keeper.old commands.now)) }
+    ensures written { OnOk result (Appends (W.contents writer.old) (W.contents writer.new)
+        (replies_to keeper.old commands.now)) }
     ensures quiet { OnOk result (W.failures writer.new ≡ W.failures writer.old) }
     ensures fault { IfErr result (IsServeFault keeper.old commands.now
-        (W.contents writer.old) (W.contents writer.new) (W.failures writer.old) (W.failures writer.new)) }
+        (W.contents writer.old) (W.contents writer.new) (W.failures writer.old)
+        (W.failures writer.new)) }
 {
     let mut text = Vec::new(alloc);
     for command in commands {
@@ -146,10 +156,12 @@ fn serve_one<W: Sink>(
     writer: &mut W,
 ) -> Result<(), RunFault>
     requires { IsValid command }
-    ensures written { OnOk result (WroteReply keeper.old command (W.contents writer.old) (W.contents writer.new) keeper.new) }
+    ensures written { OnOk result (WroteReply keeper.old command (W.contents writer.old)
+        (W.contents writer.new) keeper.new) }
     ensures quiet { OnOk result (W.failures writer.new ≡ W.failures writer.old) }
     ensures fault { IfErr result (IsReplyFault keeper.old command
-        (W.contents writer.old) (W.contents writer.new) (W.failures writer.old) (W.failures writer.new)) }
+        (W.contents writer.old) (W.contents writer.new) (W.failures writer.old)
+        (W.failures writer.new)) }
 {
     text.clear();
     keeper.serve(command, text)?;

@@ -38,8 +38,10 @@ pub fn run_threads<T: Threads + Wait + Sync, G: Gate + Sync, R: Source, W: Sink>
     requires { run.now.automove ≤ 2 }
 
     // A refused configuration is returned, exactly then, and leaves reader and writer alone.
-    ensures refused { (number : ℕ) → (result ≡ Err (RunFault.Config number)) ↔ (config_refusal_number run.now.config ≡ Some number) }
-    ensures unread { IsSome (config_refusal run.now.config) → (reader.new ≡ reader.old) × (writer.new ≡ writer.old) }
+    ensures refused { (number : ℕ) → (result ≡ Err (RunFault.Config number))
+        ↔ (config_refusal_number run.now.config ≡ Some number) }
+    ensures unread { IsSome (config_refusal run.now.config) →
+        (reader.new ≡ reader.old) × (writer.new ≡ writer.old) }
 
     // No more is read than shows that a script is too long.
     ensures most { TakesAtMost 1048577 (R.remaining reader.old) (R.remaining reader.new) }
@@ -47,7 +49,8 @@ pub fn run_threads<T: Threads + Wait + Sync, G: Gate + Sync, R: Source, W: Sink>
 
     // A failed read or write is returned, exactly then.
     ensures read { (result ≡ Err RunFault.Read) ↔ (R.failures reader.old < R.failures reader.new) }
-    ensures write { (result ≡ Err RunFault.Write) ↔ (W.failures writer.old < W.failures writer.new) }
+    ensures write { (result ≡ Err RunFault.Write)
+        ↔ (W.failures writer.old < W.failures writer.new) }
 
     // What is answered and written is what threads may reply to the bytes.
     ensures outcome { IfSome (R.remaining reader.old) (λ bytes.
@@ -55,8 +58,10 @@ pub fn run_threads<T: Threads + Wait + Sync, G: Gate + Sync, R: Source, W: Sink>
 
     // The answer and the text are those of the bytes that the reader gave. These were all up to its end where a script got
     // replies.
-    ensures answered { IsThreadsOutcome run.now (since (R.given reader.old) (R.given reader.new)) (W.contents writer.old) (W.contents writer.new) result }
-    ensures whole { IsReadWhole (R.HasEnded reader.new) (Keeps (W.contents writer.old) (W.contents writer.new)) result }
+    ensures answered { IsThreadsOutcome run.now (since (R.given reader.old) (R.given reader.new))
+        (W.contents writer.old) (W.contents writer.new) result }
+    ensures whole { IsReadWhole (R.HasEnded reader.new)
+        (Keeps (W.contents writer.old) (W.contents writer.new)) result }
 
     // A run that is done was let on at each line. One that is out of turns was stopped, by its gate or by its limit, and nobody's
     // memory was refused.
@@ -84,8 +89,10 @@ fn run_by_threads<T: Threads + Wait + Sync, G: Gate + Sync, W: Sink>(
 ) -> Result<(), RunFault>
     requires accepted { config_refusal run.now.config ≡ None }
     requires automove { run.now.automove ≤ 2 }
-    ensures outcome { IsOutcomeByThreads run.now bytes.now (W.contents writer.old) (W.contents writer.new) result }
-    ensures write { (result ≡ Err RunFault.Write) ↔ (W.failures writer.old < W.failures writer.new) }
+    ensures outcome { IsOutcomeByThreads run.now bytes.now (W.contents writer.old)
+        (W.contents writer.new) result }
+    ensures write { (result ≡ Err RunFault.Write)
+        ↔ (W.failures writer.old < W.failures writer.new) }
     ensures passed { OnOk result (OfScript bytes.now (RunPasses (G.LetsOn gate.now))) }
     ensures stopped { result ≡ Err RunFault.Turns
         → OfScript bytes.now (RunStops (G.LetsOn gate.now) (G.Stops gate.now)) }

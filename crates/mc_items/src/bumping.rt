@@ -25,7 +25,8 @@ pub fn bump<R: Wait>(rt: &R, arena: &Arena, hand: &mut Hand, item: &Ref)
     ensures locks { locks_of hand.new ≡ locks_of hand.old }
     ensures number { hand_number hand.new ≡ hand_number hand.old }
     ensures item { IsItemRef (view hand.new) item.now }
-    ensures bumps { HoldsSlabs (Bumps (hand_number hand.old) (item_chunk item.now)) (view hand.old) (view hand.new) }
+    ensures bumps { HoldsSlabs (Bumps (hand_number hand.old) (item_chunk item.now)) (view hand.old)
+        (view hand.new) }
     ensures words { item_words (view hand.new) item.now ≡ item_words (view hand.old) item.now }
     ensures holdings { HoldsTheSame (view hand.old) (view hand.new) }
     ensures keeps { KeepsRefs (view hand.old) (view hand.new) }
@@ -39,10 +40,12 @@ pub fn bump<R: Wait>(rt: &R, arena: &Arena, hand: &mut Hand, item: &Ref)
 pub(crate) fn bump_chunk<R: Wait>(rt: &R, arena: &Arena, hand: &mut Hand, reference: &mc_words::Ref)
     requires arena { IsHandOf arena.now hand.old }
     requires unlocked { is_unlocked (view hand.old) ≡ true }
-    requires reference { IsRefOf (view hand.old) (ref_chunk reference.now) (ref_room reference.now) }
+    requires reference { IsRefOf (view hand.old) (ref_chunk reference.now)
+        (ref_room reference.now) }
     ensures arena { IsHandOf arena.now hand.new }
     ensures locks { locks_of hand.new ≡ locks_of hand.old }
-    ensures bumps { HoldsSlabs (Bumps (hand_number hand.old) (ref_chunk reference.now)) (view hand.old) (view hand.new) }
+    ensures bumps { HoldsSlabs (Bumps (hand_number hand.old) (ref_chunk reference.now))
+        (view hand.old) (view hand.new) }
 {
     let mut slabs = arena.lock_slabs(rt, hand);
     arena.touch(hand, &mut slabs, reference.chunk());

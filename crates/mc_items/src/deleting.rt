@@ -25,8 +25,10 @@ pub fn delete<R: Wait>(rt: &R, arena: &Arena, hand: &mut Hand, key: u64) -> Resu
     ensures ready { IsReady (view hand.new) }
     ensures locks { locks_of hand.new ≡ locks_of hand.old }
     ensures number { hand_number hand.new ≡ hand_number hand.old }
-    ensures deletes { IfOk result (λ there. ActsOn (setup_of arena.now) key (λ number stripe. Deletes number stripe key there) hand.old hand.new) }
-    ensures calls { IfOk result (λ there. RecordsOn (setup_of arena.now) key (λ number. call.Delete number key there) hand.old hand.new) }
+    ensures deletes { IfOk result (λ there. ActsOn (setup_of arena.now) key (λ number stripe.
+        Deletes number stripe key there) hand.old hand.new) }
+    ensures calls { IfOk result (λ there. RecordsOn (setup_of arena.now) key (λ number.
+        call.Delete number key there) hand.old hand.new) }
     ensures refused { OnErr result (RecordsNoCall (view hand.old) (view hand.new)) }
     ensures no_memory { OnErr result (FindsNoRoomFor (setup_of arena.now) key hand.old hand.new) }
     ensures holdings { HoldsTheSame (view hand.old) (view hand.new) }
@@ -46,7 +48,8 @@ fn delete_at(arena: &Arena, hand: &mut Hand, held: StripeHeld, key: u64) -> Resu
     requires fresh { has_fresh (view hand.old).row.holdings ≡ false }
     ensures arena { IsHandOf arena.now hand.new }
     ensures locks { locks_of hand.new ≡ without_stripe (locks_of hand.old) }
-    ensures done { IfOk result (λ there. DoesOn (λ number stripe. Deletes number stripe key there) hand.old held hand.new) }
+    ensures done { IfOk result (λ there. DoesOn (λ number stripe.
+        Deletes number stripe key there) hand.old held hand.new) }
     ensures given { OnErr result (GivesBack hand.old held hand.new) }
     ensures full { OnErr result (IsFull (stripe_lent held)) }
 {

@@ -42,15 +42,19 @@ pub(crate) fn condemn_at(
     requires lent { IsLentStripe (view hand.old) (stripe_number held) (stripe_lent held) }
     requires inside { (stripe_number held) < (setup_of arena.now).config.stripes }
     requires key { stripe_read (view hand.old) chunk ≡ Some (stripe_number held) }
-    requires reason { knows_reason (slabs_lent slabs.old) (view hand.old).row.looks (view hand.old).row.holdings chunk ≡ true }
+    requires reason { knows_reason (slabs_lent slabs.old) (view hand.old).row.looks
+        (view hand.old).row.holdings chunk ≡ true }
     requires no_copy { has_copy (view hand.old).row.holdings chunk ≡ false }
     ensures arena { IsHandOf arena.now hand.new }
     ensures locks { locks_of hand.new ≡ without_stripe (locks_of hand.old) }
     ensures slabs { HasSlabs hand.new slabs.new }
     ensures same_slabs { slabs.new ≡ slabs.old }
-    ensures taken { result ≡ Ok true → DoesOn (λ number stripe. Condemns number stripe chunk) hand.old held hand.new }
-    ensures dead { result ≡ Ok true → option_map is_dead (seen_head (view hand.new).row.looks chunk) ≡ Some true }
-    ensures moved { result ≡ Ok false → DoesOn (λ number stripe. FindsItemHeld chunk) hand.old held hand.new }
+    ensures taken { result ≡ Ok true → DoesOn (λ number stripe.
+        Condemns number stripe chunk) hand.old held hand.new }
+    ensures dead { result ≡ Ok true → option_map is_dead (seen_head (view hand.new).row.looks chunk)
+        ≡ Some true }
+    ensures moved { result ≡ Ok false → DoesOn (λ number stripe.
+        FindsItemHeld chunk) hand.old held hand.new }
     ensures no_memory { OnErr result (GivesBack hand.old held hand.new) }
     ensures full { OnErr result (IsFull (stripe_lent held)) }
 {
@@ -87,17 +91,21 @@ pub(crate) fn condemn_if_free(
     requires fresh { has_fresh (view hand.old).row.holdings ≡ false }
     requires out { Contains (class_at (slabs_lent slabs.old) class).order chunk }
     requires empty { first_free (class_at (slabs_lent slabs.old) class) ≡ None }
-    requires alive { list_all (is_found_alive (view hand.old).row.looks) (class_at (slabs_lent slabs.old) class).order ≡ true }
+    requires alive { list_all (is_found_alive (view hand.old).row.looks)
+        (class_at (slabs_lent slabs.old) class).order ≡ true }
     requires page { next_page (slabs_lent slabs.old) class ≡ None }
     requires whole { (slabs_lent slabs.old).uncut ≡ None }
     ensures arena { IsHandOf arena.now hand.new }
     ensures locks { locks_of hand.new ≡ locks_of hand.old }
     ensures slabs { HasSlabs hand.new slabs.new }
     ensures same_slabs { slabs.new ≡ slabs.old }
-    ensures taken { result ≡ Ok true → TakesAtOnce (hand_number hand.old) chunk (view hand.old) (view hand.new) }
-    ensures dead { result ≡ Ok true → option_map is_dead (seen_head (view hand.new).row.looks chunk) ≡ Some true }
+    ensures taken { result ≡ Ok true →
+        TakesAtOnce (hand_number hand.old) chunk (view hand.old) (view hand.new) }
+    ensures dead { result ≡ Ok true → option_map is_dead (seen_head (view hand.new).row.looks chunk)
+        ≡ Some true }
     ensures no_memory { OnErr result (LacksCall chunk (view hand.old) (view hand.new)) }
-    ensures passed { result ≡ Ok false → PassesItem (hand_number hand.old) chunk (view hand.old) (view hand.new) }
+    ensures passed { result ≡ Ok false →
+        PassesItem (hand_number hand.old) chunk (view hand.old) (view hand.new) }
 {
     let head = arena.head(hand, chunk);
     if !header::is_unheld(head) {
@@ -127,7 +135,8 @@ pub(crate) fn free_evicted(
     ensures arena { IsHandOf arena.now hand.new }
     ensures locks { locks_of hand.new ≡ locks_of hand.old }
     ensures slabs { HasSlabs hand.new slabs.new }
-    ensures freed { Acts (FreesEvicted (hand_number hand.old) class chunk) hand.old slabs.old hand.new slabs.new }
+    ensures freed { Acts (FreesEvicted (hand_number hand.old) class chunk) hand.old slabs.old
+        hand.new slabs.new }
 {
     arena.evicted(hand, slabs, class);
     let _ = arena.put_back(hand, slabs, chunk);
@@ -160,16 +169,23 @@ fn free_one(
     requires fresh { has_fresh (view hand.old).row.holdings ≡ false }
     requires out { Contains (class_at (slabs_lent slabs.old) class).order chunk }
     requires empty { first_free (class_at (slabs_lent slabs.old) class) ≡ None }
-    requires alive { list_all (is_found_alive (view hand.old).row.looks) (class_at (slabs_lent slabs.old) class).order ≡ true }
+    requires alive { list_all (is_found_alive (view hand.old).row.looks)
+        (class_at (slabs_lent slabs.old) class).order ≡ true }
     requires page { next_page (slabs_lent slabs.old) class ≡ None }
     requires whole { (slabs_lent slabs.old).uncut ≡ None }
     ensures arena { IsHandOf arena.now hand.new }
     ensures locks { locks_of hand.new ≡ locks_of hand.old }
     ensures slabs { HasSlabs hand.new slabs.new }
-    ensures frees { IfOk result (λ freed. IfSome freed (λ supply. Acts (FreesChunk (hand_number hand.old) class chunk supply) hand.old slabs.old hand.new slabs.new)) }
-    ensures free { IfOk result (λ freed. IfSome freed (λ supply. is_some (first_free (class_at (slabs_lent slabs.new) class)) ≡ true)) }
-    ensures passes { result ≡ Ok None → PassesOne (hand_number hand.old) chunk (view hand.old) (view hand.new) × AreUnchanged slabs.old slabs.new }
-    ensures no_memory { OnErr result (LacksCall chunk (view hand.old) (view hand.new) × AreUnchanged slabs.old slabs.new) }
+    ensures frees { IfOk result (λ freed. IfSome freed (λ supply.
+        Acts (FreesChunk (hand_number hand.old) class chunk supply) hand.old slabs.old hand.new
+        slabs.new)) }
+    ensures free { IfOk result (λ freed. IfSome freed (λ supply.
+        is_some (first_free (class_at (slabs_lent slabs.new) class)) ≡ true)) }
+    ensures passes { result ≡ Ok None →
+        PassesOne (hand_number hand.old) chunk (view hand.old) (view hand.new)
+        × AreUnchanged slabs.old slabs.new }
+    ensures no_memory { OnErr result (LacksCall chunk (view hand.old) (view hand.new)
+        × AreUnchanged slabs.old slabs.new) }
 {
     if condemn_if_free(arena, hand, slabs, class, chunk)? {
         free_evicted(arena, hand, slabs, class, chunk);
@@ -195,18 +211,26 @@ pub(crate) fn evict_one(
     requires one { has_no_stripes (view hand.old) ≡ true }
     requires fresh { has_fresh (view hand.old).row.holdings ≡ false }
     requires empty { first_free (class_at (slabs_lent slabs.old) class) ≡ None }
-    requires alive { list_all (is_found_alive (view hand.old).row.looks) (class_at (slabs_lent slabs.old) class).order ≡ true }
+    requires alive { list_all (is_found_alive (view hand.old).row.looks)
+        (class_at (slabs_lent slabs.old) class).order ≡ true }
     requires page { next_page (slabs_lent slabs.old) class ≡ None }
     requires whole { (slabs_lent slabs.old).uncut ≡ None }
     ensures arena { IsHandOf arena.now hand.new }
     ensures locks { locks_of hand.new ≡ locks_of hand.old }
     ensures slabs { HasSlabs hand.new slabs.new }
-    ensures frees { IfOk result (λ freed. IfSome freed (λ supply. Acts (FreesOneCandidate (hand_number hand.old) class supply) hand.old slabs.old hand.new slabs.new)) }
-    ensures free { IfOk result (λ freed. IfSome freed (λ supply. is_some (first_free (class_at (slabs_lent slabs.new) class)) ≡ true)) }
-    ensures none { result ≡ Ok None → Acts (PassesCandidates (hand_number hand.old) class) hand.old slabs.old hand.new slabs.new }
-    ensures alive { result ≡ Ok None → list_all (is_found_alive (view hand.new).row.looks) (class_at (slabs_lent slabs.old) class).order ≡ true }
+    ensures frees { IfOk result (λ freed. IfSome freed (λ supply.
+        Acts (FreesOneCandidate (hand_number hand.old) class supply) hand.old slabs.old hand.new
+        slabs.new)) }
+    ensures free { IfOk result (λ freed. IfSome freed (λ supply.
+        is_some (first_free (class_at (slabs_lent slabs.new) class)) ≡ true)) }
+    ensures none { result ≡ Ok None →
+        Acts (PassesCandidates (hand_number hand.old) class) hand.old slabs.old hand.new slabs.new }
+    ensures alive { result ≡ Ok None →
+        list_all (is_found_alive (view hand.new).row.looks)
+        (class_at (slabs_lent slabs.old) class).order ≡ true }
     ensures whole { (slabs_lent slabs.new).uncut ≡ None }
-    ensures no_memory { OnErr result (Acts (LacksEntryAtCandidate (hand_number hand.old) class) hand.old slabs.old hand.new slabs.new) }
+    ensures no_memory { OnErr result (Acts (LacksEntryAtCandidate (hand_number hand.old) class)
+        hand.old slabs.old hand.new slabs.new) }
 {
     let mut next = slabs.slabs().first_out(class);
     for _ in 0..EVICTION_TRIES {

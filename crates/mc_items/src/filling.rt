@@ -26,13 +26,15 @@ pub(crate) fn fill_item(
     requires room { 3 + length words.now ≤ (fresh_room fresh.old) }
     ensures arena { IsHandOf arena.now hand.new }
     ensures locks { locks_of hand.new ≡ locks_of hand.old }
-    ensures same { (fresh_chunk fresh.new ≡ fresh_chunk fresh.old) × (fresh_room fresh.new ≡ fresh_room fresh.old) }
+    ensures same { (fresh_chunk fresh.new ≡ fresh_chunk fresh.old)
+        × (fresh_room fresh.new ≡ fresh_room fresh.old) }
     ensures key { fresh_key fresh.new ≡ key }
     ensures stamp { fresh_stamp fresh.new ≡ stamp }
     ensures filled { view hand.new ≡ filled_with fresh.old key stamp words.now (view hand.old) }
     ensures fresh { IsFreshOf (view hand.new) (fresh_chunk fresh.new) (fresh_room fresh.new) }
     ensures item { IsFilledWith (view hand.new) fresh.new key stamp }
-    ensures words { words_of_item (known_words_in (view hand.new) (fresh_chunk fresh.new)) ≡ all_known (item_with key stamp words.now) }
+    ensures words { words_of_item (known_words_in (view hand.new) (fresh_chunk fresh.new))
+        ≡ all_known (item_with key stamp words.now) }
 {
     arena.fill(hand, fresh, 0, key);
     arena.fill(hand, fresh, 1, stamp);

@@ -53,14 +53,19 @@ pub fn get<R: Wait>(
     ensures locks { locks_of hand.new ≡ locks_of hand.old }
     ensures number { hand_number hand.new ≡ hand_number hand.old }
     ensures gets { IfOk result (λ found. Gets (setup_of arena.now) key found hand.old hand.new) }
-    ensures item { IfOk result (λ found. IfSome found (λ item. IsItemRef (view hand.new) item × (item_key item ≡ key))) }
-    ensures in_range { IfOk result (λ found. IfSome found (λ item. has_chunk (setup_of arena.now).table (item_chunk item) ≡ true)) }
+    ensures item { IfOk result (λ found. IfSome found (λ item. IsItemRef (view hand.new) item
+        × (item_key item ≡ key))) }
+    ensures in_range { IfOk result (λ found. IfSome found (λ item.
+        has_chunk (setup_of arena.now).table (item_chunk item) ≡ true)) }
     ensures stores_words { IfOk result (λ found. IfSome found (HasStoredWords (view hand.new))) }
-    ensures calls { IfOk result (λ found. RecordsOn (setup_of arena.now) key (λ number. call.Get number key (option_map item_stamp found)) hand.old hand.new) }
+    ensures calls { IfOk result (λ found. RecordsOn (setup_of arena.now) key (λ number.
+        call.Get number key (option_map item_stamp found)) hand.old hand.new) }
     ensures refused { OnErr result (RecordsNoCall (view hand.old) (view hand.new)) }
-    ensures at_limit { (result ≡ Err GetError.TooManyRefs) ↔ (most_refs ≤ length (view hand.old).row.holdings) }
+    ensures at_limit { (result ≡ Err GetError.TooManyRefs)
+        ↔ (most_refs ≤ length (view hand.old).row.holdings) }
     ensures same { result ≡ Err GetError.TooManyRefs → view hand.new ≡ view hand.old }
-    ensures no_memory { result ≡ Err (GetError.NoMemory tt) → FindsNoRoomFor (setup_of arena.now) key hand.old hand.new }
+    ensures no_memory { result ≡ Err (GetError.NoMemory tt) →
+        FindsNoRoomFor (setup_of arena.now) key hand.old hand.new }
     ensures holdings { IfOk result (λ found. HoldsToo found (view hand.old) (view hand.new)) }
     ensures no_more { OnErr result (HoldsTheSame (view hand.old) (view hand.new)) }
     ensures keeps { KeepsRefs (view hand.old) (view hand.new) }
@@ -101,15 +106,21 @@ pub fn try_get(arena: &Arena, hand: &mut Hand, key: u64) -> Result<Option<Ref>, 
     ensures locks { locks_of hand.new ≡ locks_of hand.old }
     ensures number { hand_number hand.new ≡ hand_number hand.old }
     ensures gets { IfOk result (λ found. Gets (setup_of arena.now) key found hand.old hand.new) }
-    ensures item { IfOk result (λ found. IfSome found (λ item. IsItemRef (view hand.new) item × (item_key item ≡ key))) }
-    ensures in_range { IfOk result (λ found. IfSome found (λ item. has_chunk (setup_of arena.now).table (item_chunk item) ≡ true)) }
+    ensures item { IfOk result (λ found. IfSome found (λ item. IsItemRef (view hand.new) item
+        × (item_key item ≡ key))) }
+    ensures in_range { IfOk result (λ found. IfSome found (λ item.
+        has_chunk (setup_of arena.now).table (item_chunk item) ≡ true)) }
     ensures stores_words { IfOk result (λ found. IfSome found (HasStoredWords (view hand.new))) }
-    ensures calls { IfOk result (λ found. RecordsOn (setup_of arena.now) key (λ number. call.Get number key (option_map item_stamp found)) hand.old hand.new) }
+    ensures calls { IfOk result (λ found. RecordsOn (setup_of arena.now) key (λ number.
+        call.Get number key (option_map item_stamp found)) hand.old hand.new) }
     ensures refused { OnErr result (RecordsNoCall (view hand.old) (view hand.new)) }
-    ensures at_limit { (result ≡ Err TryGetError.TooManyRefs) ↔ (most_refs ≤ length (view hand.old).row.holdings) }
+    ensures at_limit { (result ≡ Err TryGetError.TooManyRefs)
+        ↔ (most_refs ≤ length (view hand.old).row.holdings) }
     ensures same { result ≡ Err TryGetError.TooManyRefs → view hand.new ≡ view hand.old }
-    ensures held { result ≡ Err TryGetError.Held → FindsStripeHeld (setup_of arena.now) key hand.old hand.new }
-    ensures no_memory { result ≡ Err (TryGetError.NoMemory tt) → FindsNoRoomFor (setup_of arena.now) key hand.old hand.new }
+    ensures held { result ≡ Err TryGetError.Held →
+        FindsStripeHeld (setup_of arena.now) key hand.old hand.new }
+    ensures no_memory { result ≡ Err (TryGetError.NoMemory tt) →
+        FindsNoRoomFor (setup_of arena.now) key hand.old hand.new }
     ensures holdings { IfOk result (λ found. HoldsToo found (view hand.old) (view hand.new)) }
     ensures no_more { OnErr result (HoldsTheSame (view hand.old) (view hand.new)) }
     ensures keeps { KeepsRefs (view hand.old) (view hand.new) }
@@ -143,8 +154,10 @@ fn look_up(
     ensures arena { IsHandOf arena.now hand.new }
     ensures locks { locks_of hand.new ≡ without_stripe (locks_of hand.old) }
     ensures done { IfOk result (λ found. GetsAt held key found hand.old hand.new) }
-    ensures item { IfOk result (λ found. IfSome found (λ item. IsItemRef (view hand.new) item × (item_key item ≡ key))) }
-    ensures calls { IfOk result (λ found. RecordsAt held (λ number. call.Get number key (option_map item_stamp found)) hand.old hand.new) }
+    ensures item { IfOk result (λ found. IfSome found (λ item. IsItemRef (view hand.new) item
+        × (item_key item ≡ key))) }
+    ensures calls { IfOk result (λ found. RecordsAt held (λ number.
+        call.Get number key (option_map item_stamp found)) hand.old hand.new) }
     ensures given { OnErr result (GivesBack hand.old held hand.new) }
     ensures full { OnErr result (IsFull (stripe_lent held)) }
 {
@@ -169,8 +182,10 @@ pub(crate) fn refer_at(
     requires within_limit { length (view hand.old).row.holdings < most_holdings }
     ensures arena { IsHandOf arena.now hand.new }
     ensures locks { locks_of hand.new ≡ without_stripe (locks_of hand.old) }
-    ensures done { IfOk result (λ found. DoesOn (λ number stripe. LooksUp number stripe key found) hand.old held hand.new) }
-    ensures stamp { IfOk result (λ found. stripes.stamp_of_key (stripe_lent held).state key ≡ option_map (stamp_there (view hand.new)) found) }
+    ensures done { IfOk result (λ found. DoesOn (λ number stripe.
+        LooksUp number stripe key found) hand.old held hand.new) }
+    ensures stamp { IfOk result (λ found. stripes.stamp_of_key (stripe_lent held).state key
+        ≡ option_map (stamp_there (view hand.new)) found) }
     ensures reference { IfOk result (λ found. IfSome found (IsRefToKey (view hand.new) key)) }
     ensures given { OnErr result (GivesBack hand.old held hand.new) }
     ensures full { OnErr result (IsFull (stripe_lent held)) }

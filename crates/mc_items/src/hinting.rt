@@ -36,15 +36,20 @@ pub fn again(arena: &Arena, hand: &mut Hand, hint: Hint) -> Result<Ref, Again>
     ensures ready { IsReady (view hand.new) }
     ensures locks { locks_of hand.new ≡ locks_of hand.old }
     ensures number { hand_number hand.new ≡ hand_number hand.old }
-    ensures hinted { IfOk result (λ item. (item_chunk item ≡ hint_chunk hint) × (item_issue item ≡ hint_issue hint)) }
+    ensures hinted { IfOk result (λ item. (item_chunk item ≡ hint_chunk hint)
+        × (item_issue item ≡ hint_issue hint)) }
     ensures gets { IfOk result (λ item. GetsByHint hint item (view hand.old) (view hand.new)) }
     ensures current { IfOk result (λ item. GetsCurrent hint item (view hand.old) (view hand.new)) }
     ensures item { IfOk result (λ item. IsItemRef (view hand.new) item) }
     ensures stores_words { IfOk result (HasStoredWords (view hand.new)) }
-    ensures known { IfOk result (λ item. IsAsKnown (view hand.old) hint (held_item (view hand.new) (item_chunk item))) }
-    ensures gone { result ≡ Err Again.Gone → FindsGone (view hand.old) (hint_chunk hint) (hint_issue hint) (view hand.new) }
-    ensures contended { result ≡ Err Again.Contended → FindsContended (view hand.old) (hint_chunk hint) (hint_issue hint) (view hand.new) }
-    ensures at_limit { (result ≡ Err Again.TooManyRefs) ↔ (most_refs ≤ length (view hand.old).row.holdings) }
+    ensures known { IfOk result (λ item. IsAsKnown (view hand.old) hint
+        (held_item (view hand.new) (item_chunk item))) }
+    ensures gone { result ≡ Err Again.Gone →
+        FindsGone (view hand.old) (hint_chunk hint) (hint_issue hint) (view hand.new) }
+    ensures contended { result ≡ Err Again.Contended →
+        FindsContended (view hand.old) (hint_chunk hint) (hint_issue hint) (view hand.new) }
+    ensures at_limit { (result ≡ Err Again.TooManyRefs)
+        ↔ (most_refs ≤ length (view hand.old).row.holdings) }
     ensures refused { result ≡ Err Again.TooManyRefs → view hand.new ≡ view hand.old }
     ensures holdings { IfOk result (λ item. HoldsToo (Some item) (view hand.old) (view hand.new)) }
     ensures no_more { OnErr result (HoldsTheSame (view hand.old) (view hand.new)) }

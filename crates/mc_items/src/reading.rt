@@ -27,10 +27,13 @@ pub fn read(alloc: Global, arena: &Arena, hand: &mut Hand, item: &Ref) -> Result
     ensures locks { locks_of hand.new ≡ locks_of hand.old }
     ensures number { hand_number hand.new ≡ hand_number hand.old }
     ensures item { IsItemRef (view hand.new) item.now }
-    ensures view { IfOk result (λ words. view hand.new ≡ words_seen (item_chunk item.now) 3 (item_len item.now) (view hand.old)) }
+    ensures view { IfOk result (λ words. view hand.new
+        ≡ words_seen (item_chunk item.now) 3 (item_len item.now) (view hand.old)) }
     ensures same { OnErr result (view hand.new ≡ view hand.old) }
     ensures words { IfOk result (λ words. words.items ≡ item_words (view hand.old) item.now) }
-    ensures stores_words { IfOk result (λ words. WordsWereStored (view hand.new) (item_stamp item.now) (item_with (item_key item.now) (item_stamp item.now) words.items)) }
+    ensures stores_words { IfOk result (λ words.
+        WordsWereStored (view hand.new) (item_stamp item.now)
+        (item_with (item_key item.now) (item_stamp item.now) words.items)) }
     ensures holdings { HoldsTheSame (view hand.old) (view hand.new) }
     ensures keeps { KeepsRefs (view hand.old) (view hand.new) }
     ensures stores_nothing { StoresNothing (view hand.old) (view hand.new) }
@@ -55,11 +58,14 @@ pub fn word(arena: &Arena, hand: &mut Hand, item: &Ref, place: u64) -> u64
     ensures locks { locks_of hand.new ≡ locks_of hand.old }
     ensures number { hand_number hand.new ≡ hand_number hand.old }
     ensures item { IsItemRef (view hand.new) item.now }
-    ensures happens { Happens (view hand.old) [] (step.Word (item_chunk item.now) (3 + place)) (view hand.new) }
+    ensures happens { Happens (view hand.old) [] (step.Word (item_chunk item.now) (3 + place))
+        (view hand.new) }
     ensures view { view hand.new ≡ word_seen (item_chunk item.now) (3 + place) (view hand.old) }
     ensures word { result ≡ slice_index (item_words (view hand.old) item.now) place }
     ensures words { item_words (view hand.new) item.now ≡ item_words (view hand.old) item.now }
-    ensures stores_words { WordsWereStored (view hand.new) (item_stamp item.now) (item_with (item_key item.now) (item_stamp item.now) (item_words (view hand.old) item.now)) }
+    ensures stores_words { WordsWereStored (view hand.new) (item_stamp item.now)
+        (item_with (item_key item.now) (item_stamp item.now)
+        (item_words (view hand.old) item.now)) }
     ensures holdings { HoldsTheSame (view hand.old) (view hand.new) }
     ensures keeps { KeepsRefs (view hand.old) (view hand.new) }
     ensures stores_nothing { StoresNothing (view hand.old) (view hand.new) }

@@ -60,11 +60,16 @@ pub fn set<R: Wait>(
     ensures ready { IsReady (view hand.new) }
     ensures locks { locks_of hand.new ≡ locks_of hand.old }
     ensures number { hand_number hand.new ≡ hand_number hand.old }
-    ensures sets { IfOk result (λ stamp. SetsItem (hand_number hand.old) key stamp words.now (view hand.old) (view hand.new)) }
-    ensures calls { IfOk result (λ stamp. RecordsSet (hand_number hand.old) key stamp (view hand.old) (view hand.new)) }
-    ensures stores_words { IfOk result (λ stamp. StoresWithStamp (item_with key stamp words.now) stamp (view hand.old) (view hand.new)) }
-    ensures refused { IfErr result (λ error. RefusesSet (hand_number hand.old) key words.now error (view hand.old) (view hand.new)) }
-    ensures evicts { OnErr result (RecordsEviction (hand_number hand.old) (view hand.old) (view hand.new)) }
+    ensures sets { IfOk result (λ stamp. SetsItem (hand_number hand.old) key stamp words.now
+        (view hand.old) (view hand.new)) }
+    ensures calls { IfOk result (λ stamp. RecordsSet (hand_number hand.old) key stamp
+        (view hand.old) (view hand.new)) }
+    ensures stores_words { IfOk result (λ stamp.
+        StoresWithStamp (item_with key stamp words.now) stamp (view hand.old) (view hand.new)) }
+    ensures refused { IfErr result (λ error. RefusesSet (hand_number hand.old) key words.now error
+        (view hand.old) (view hand.new)) }
+    ensures evicts { OnErr result (RecordsEviction (hand_number hand.old) (view hand.old)
+        (view hand.new)) }
     ensures stores_nothing { OnErr result (StoresNothing (view hand.old) (view hand.new)) }
     ensures stamps { OnErr result ((view hand.new).row.ids ≡ (view hand.old).row.ids) }
     ensures holdings { HoldsTheSame (view hand.old) (view hand.new) }
@@ -100,10 +105,12 @@ fn chunk_of<R: Wait>(
     requires within_limit { length (view hand.old).row.holdings ≤ most_refs }
     ensures arena { IsHandOf arena.now hand.new }
     ensures locks { locks_of hand.new ≡ locks_of hand.old }
-    ensures supplies { IfOk result (λ fresh. ActsOnce (SuppliesChunk (hand_number hand.old) class (fresh_chunk fresh)) hand.old hand.new) }
+    ensures supplies { IfOk result (λ fresh. ActsOnce
+        (SuppliesChunk (hand_number hand.old) class (fresh_chunk fresh)) hand.old hand.new) }
     ensures fresh { IfOk result (IsFreshFor (setup_of arena.now) class (view hand.new)) }
     ensures own { IfOk result (λ fresh. IsOwnItem (view hand.new) (fresh_chunk fresh)) }
-    ensures none { IfErr result (λ error. ActsOnce (SuppliesNone (hand_number hand.old) class error) hand.old hand.new) }
+    ensures none { IfErr result (λ error. ActsOnce
+        (SuppliesNone (hand_number hand.old) class error) hand.old hand.new) }
 {
     let mut slabs = arena.lock_slabs(rt, hand);
     let supplied = supply_chunk(arena, hand, &mut slabs, class);

@@ -42,10 +42,15 @@ pub(crate) fn store_words<R: Wait>(
     requires stamp { next_stamp (view hand.old).row.ids ≡ Some stamp }
     ensures arena { IsHandOf arena.now hand.new }
     ensures locks { locks_of hand.new ≡ locks_of hand.old }
-    ensures stores { OnOk result (StoresFresh (setup_of arena.now) key stamp fresh (hand_number hand.old) (filled_with fresh key stamp words.now (view hand.old)) (view hand.new)) }
-    ensures calls { OnOk result (RecordsOn (setup_of arena.now) key (λ number. call.Set number key stamp) hand.old hand.new) }
-    ensures stores_words { OnOk result (StoresWithStamp (item_with key stamp words.now) stamp (view hand.old) (view hand.new)) }
-    ensures no_memory { OnErr result (LosesFresh (setup_of arena.now) key fresh (filled_with fresh key stamp words.now (view hand.old)) (view hand.new)) }
+    ensures stores { OnOk result (StoresFresh (setup_of arena.now) key stamp fresh
+        (hand_number hand.old) (filled_with fresh key stamp words.now (view hand.old))
+        (view hand.new)) }
+    ensures calls { OnOk result (RecordsOn (setup_of arena.now) key (λ number.
+        call.Set number key stamp) hand.old hand.new) }
+    ensures stores_words { OnOk result (StoresWithStamp (item_with key stamp words.now) stamp
+        (view hand.old) (view hand.new)) }
+    ensures no_memory { OnErr result (LosesFresh (setup_of arena.now) key fresh
+        (filled_with fresh key stamp words.now (view hand.old)) (view hand.new)) }
     ensures refused { OnErr result (RecordsNoCall (view hand.old) (view hand.new)) }
 {
     let mut fresh = fresh;
@@ -71,10 +76,15 @@ fn store<R: Wait>(
     requires stamp { next_stamp (view hand.old).row.ids ≡ Some (fresh_stamp fresh) }
     ensures arena { IsHandOf arena.now hand.new }
     ensures locks { locks_of hand.new ≡ locks_of hand.old }
-    ensures stores { OnOk result (StoresFresh (setup_of arena.now) key (fresh_stamp fresh) fresh (hand_number hand.old) (view hand.old) (view hand.new)) }
-    ensures calls { OnOk result (RecordsOn (setup_of arena.now) key (λ number. call.Set number key (fresh_stamp fresh)) hand.old hand.new) }
-    ensures stores_words { OnOk result (StoresWithStamp (numbers_of_known (words_of_item (known_words_in (view hand.old) (fresh_chunk fresh)))) (fresh_stamp fresh) (view hand.old) (view hand.new)) }
-    ensures no_memory { OnErr result (LosesFresh (setup_of arena.now) key fresh (view hand.old) (view hand.new)) }
+    ensures stores { OnOk result (StoresFresh (setup_of arena.now) key (fresh_stamp fresh) fresh
+        (hand_number hand.old) (view hand.old) (view hand.new)) }
+    ensures calls { OnOk result (RecordsOn (setup_of arena.now) key (λ number.
+        call.Set number key (fresh_stamp fresh)) hand.old hand.new) }
+    ensures stores_words { OnOk result (StoresWithStamp
+        (numbers_of_known (words_of_item (known_words_in (view hand.old) (fresh_chunk fresh))))
+        (fresh_stamp fresh) (view hand.old) (view hand.new)) }
+    ensures no_memory { OnErr result (LosesFresh (setup_of arena.now) key fresh (view hand.old)
+        (view hand.new)) }
     ensures refused { OnErr result (RecordsNoCall (view hand.old) (view hand.new)) }
 {
     let stripe = key % arena.config().stripes;
@@ -106,7 +116,9 @@ pub(crate) fn store_at(
     requires stamp { next_stamp (view hand.old).row.ids ≡ Some (fresh_stamp fresh) }
     ensures arena { IsHandOf arena.now hand.new }
     ensures locks { locks_of hand.new ≡ without_stripe (locks_of hand.old) }
-    ensures done { OnOk result (StoresOn (λ number stripe. Stores number stripe key (fresh_stamp fresh) (fresh_chunk fresh) (fresh_room fresh)) hand.old held hand.new) }
+    ensures done { OnOk result (StoresOn (λ number stripe.
+        Stores number stripe key (fresh_stamp fresh) (fresh_chunk fresh) (fresh_room fresh))
+        hand.old held hand.new) }
     ensures same { IfOk result (IsRefInto (view hand.old) fresh) }
     ensures reference { IfOk result (λ r. IsRefOf (view hand.new) (ref_chunk r) (ref_room r)) }
     ensures given { OnErr result (GivesBackBoth hand.old held fresh hand.new) }
@@ -137,7 +149,8 @@ fn put_aside(arena: &Arena, hand: &mut Hand, held: &mut StripeHeld, key: u64)
     ensures number { stripe_number held.new ≡ stripe_number held.old }
     ensures held { HasStripe hand.new held.new }
     ensures lifted { stripe_lent held.new ≡ stripe_lifted (stripe_lent held.old) key }
-    ensures view { view hand.new ≡ key_put_aside (stripe_number held.old) (stripe_lent held.old) key (view hand.old) }
+    ensures view { view hand.new ≡ key_put_aside (stripe_number held.old) (stripe_lent held.old) key
+        (view hand.old) }
 {
     if held.stripe().find(key).is_some() {
         arena.unlink(hand, held, key);

@@ -39,12 +39,18 @@ pub(crate) fn pop_or_sweep(
     ensures arena { IsHandOf arena.now hand.new }
     ensures locks { locks_of hand.new ≡ locks_of hand.old }
     ensures held { HasSlabs hand.new held.new }
-    ensures supplied { IfOk result (λ popped. IfSome popped (λ fresh. Acts (SuppliesFree class (fresh_chunk fresh)) hand.old held.old hand.new held.new)) }
-    ensures fresh { IfOk result (λ popped. IfSome popped (IsFreshFor (setup_of arena.now) class (view hand.new))) }
-    ensures gains { IfOk result (λ popped. IfSome popped (λ fresh. GainsFresh (view hand.old) (fresh_chunk fresh) (fresh_room fresh) (view hand.new))) }
-    ensures none { result ≡ Ok None → Acts (FindsNoFree class) hand.old held.old hand.new held.new × SeesMore hand.old hand.new }
-    ensures worn { OnErr result (Acts (FindsWorn class) hand.old held.old hand.new held.new × SeesMore hand.old hand.new) }
-    ensures own { IfOk result (λ popped. IfSome popped (λ fresh. IsOwnItem (view hand.new) (fresh_chunk fresh))) }
+    ensures supplied { IfOk result (λ popped. IfSome popped (λ fresh.
+        Acts (SuppliesFree class (fresh_chunk fresh)) hand.old held.old hand.new held.new)) }
+    ensures fresh { IfOk result (λ popped. IfSome popped
+        (IsFreshFor (setup_of arena.now) class (view hand.new))) }
+    ensures gains { IfOk result (λ popped. IfSome popped (λ fresh.
+        GainsFresh (view hand.old) (fresh_chunk fresh) (fresh_room fresh) (view hand.new))) }
+    ensures none { result ≡ Ok None → Acts (FindsNoFree class) hand.old held.old hand.new held.new
+        × SeesMore hand.old hand.new }
+    ensures worn { OnErr result (Acts (FindsWorn class) hand.old held.old hand.new held.new
+        × SeesMore hand.old hand.new) }
+    ensures own { IfOk result (λ popped. IfSome popped (λ fresh.
+        IsOwnItem (view hand.new) (fresh_chunk fresh))) }
     ensures uncut { (slabs_lent held.new).uncut ≡ (slabs_lent held.old).uncut }
 {
     match arena.pop(hand, held, class) {
@@ -76,11 +82,14 @@ pub(crate) fn grow_for(
     ensures arena { IsHandOf arena.now hand.new }
     ensures locks { locks_of hand.new ≡ locks_of hand.old }
     ensures held { HasSlabs hand.new held.new }
-    ensures grows { result ≡ Ok true → Acts (Grows (hand_number hand.old) class) hand.old held.old hand.new held.new }
-    ensures free { result ≡ Ok true → is_some (first_free (class_at (slabs_lent held.new) class)) ≡ true }
+    ensures grows { result ≡ Ok true →
+        Acts (Grows (hand_number hand.old) class) hand.old held.old hand.new held.new }
+    ensures free { result ≡ Ok true → is_some (first_free (class_at (slabs_lent held.new) class))
+        ≡ true }
     ensures whole { (slabs_lent held.new).uncut ≡ None }
     ensures seen { SeesMore hand.old hand.new }
-    ensures none { result ≡ Ok false → (next_page (slabs_lent held.old) class ≡ None) × AreUnchanged held.old held.new × (view hand.new ≡ view hand.old) }
+    ensures none { result ≡ Ok false → (next_page (slabs_lent held.old) class ≡ None)
+        × AreUnchanged held.old held.new × (view hand.new ≡ view hand.old) }
     ensures full { result ≡ Ok false → HasNoPageFor (slabs_lent held.old) class }
     ensures same { OnErr result (AreUnchanged held.old held.new × (view hand.new ≡ view hand.old)) }
     ensures page { OnErr result (is_some (next_page (slabs_lent held.old) class) ≡ true) }
@@ -109,16 +118,21 @@ fn make_free(
     requires one { has_no_stripes (view hand.old) ≡ true }
     requires fresh { has_fresh (view hand.old).row.holdings ≡ false }
     requires empty { first_free (class_at (slabs_lent held.old) class) ≡ None }
-    requires alive { list_all (is_found_alive (view hand.old).row.looks) (class_at (slabs_lent held.old) class).order ≡ true }
+    requires alive { list_all (is_found_alive (view hand.old).row.looks)
+        (class_at (slabs_lent held.old) class).order ≡ true }
     requires whole { (slabs_lent held.old).uncut ≡ None }
     ensures arena { IsHandOf arena.now hand.new }
     ensures locks { locks_of hand.new ≡ locks_of hand.old }
     ensures held { HasSlabs hand.new held.new }
-    ensures makes { IfOk result (λ made. IfSome made (λ supply. Acts (MakesFree (hand_number hand.old) class supply) hand.old held.old hand.new held.new)) }
-    ensures free { IfOk result (λ made. IfSome made (λ supply. is_some (first_free (class_at (slabs_lent held.new) class)) ≡ true)) }
-    ensures none { result ≡ Ok None → Acts (MakesNone (hand_number hand.old) class) hand.old held.old hand.new held.new }
+    ensures makes { IfOk result (λ made. IfSome made (λ supply.
+        Acts (MakesFree (hand_number hand.old) class supply) hand.old held.old hand.new held.new)) }
+    ensures free { IfOk result (λ made. IfSome made (λ supply.
+        is_some (first_free (class_at (slabs_lent held.new) class)) ≡ true)) }
+    ensures none { result ≡ Ok None →
+        Acts (MakesNone (hand_number hand.old) class) hand.old held.old hand.new held.new }
     ensures whole { (slabs_lent held.new).uncut ≡ None }
-    ensures no_memory { OnErr result (Acts (LacksMore (hand_number hand.old) class) hand.old held.old hand.new held.new) }
+    ensures no_memory { OnErr result (Acts (LacksMore (hand_number hand.old) class) hand.old
+        held.old hand.new held.new) }
 {
     match grow_for(arena, hand, held, class) {
         Ok(true) => Ok(Some(Supply::Page)),
@@ -135,7 +149,8 @@ fn ask_move(arena: &Arena, hand: &mut Hand, held: &mut SlabsHeld, class: ClassId
     ensures arena { IsHandOf arena.now hand.new }
     ensures locks { locks_of hand.new ≡ locks_of hand.old }
     ensures held { HasSlabs hand.new held.new }
-    ensures asks { Acts (AsksMove (hand_number hand.old) class supply) hand.old held.old hand.new held.new }
+    ensures asks { Acts (AsksMove (hand_number hand.old) class supply) hand.old held.old hand.new
+        held.new }
     ensures holdings { (view hand.new).row.holdings ≡ (view hand.old).row.holdings }
     ensures uncut { (slabs_lent held.new).uncut ≡ (slabs_lent held.old).uncut }
 {
@@ -164,10 +179,14 @@ pub(crate) fn supply_chunk(
     ensures arena { IsHandOf arena.now hand.new }
     ensures locks { locks_of hand.new ≡ locks_of hand.old }
     ensures held { HasSlabs hand.new held.new }
-    ensures supplies { IfOk result (λ fresh. Acts (SuppliesChunk (hand_number hand.old) class (fresh_chunk fresh)) hand.old held.old hand.new held.new) }
+    ensures supplies { IfOk result (λ fresh. Acts
+        (SuppliesChunk (hand_number hand.old) class (fresh_chunk fresh)) hand.old held.old hand.new
+        held.new) }
     ensures fresh { IfOk result (IsFreshFor (setup_of arena.now) class (view hand.new)) }
     ensures own { IfOk result (λ fresh. IsOwnItem (view hand.new) (fresh_chunk fresh)) }
-    ensures none { IfErr result (λ error. Acts (SuppliesNone (hand_number hand.old) class error) hand.old held.old hand.new held.new) }
+    ensures none { IfErr result (λ error.
+        Acts (SuppliesNone (hand_number hand.old) class error) hand.old held.old hand.new
+        held.new) }
     ensures whole { (slabs_lent held.new).uncut ≡ None }
 {
     match pop_or_sweep(arena, hand, held, class) {

@@ -24,9 +24,13 @@ pub fn touch<R: Wait>(rt: &R, arena: &Arena, hand: &mut Hand, key: u64) -> Resul
     ensures ready { IsReady (view hand.new) }
     ensures locks { locks_of hand.new ≡ locks_of hand.old }
     ensures number { hand_number hand.new ≡ hand_number hand.old }
-    ensures touches { result ≡ Ok true → Touches (hand_number hand.old) (stripe_of_key (setup_of arena.now) key) key (view hand.old) (view hand.new) }
-    ensures none { result ≡ Ok false → ActsOn (setup_of arena.now) key (λ number stripe. FindsNone number stripe key) hand.old hand.new }
-    ensures calls { IfOk result (λ there. RecordsGet (setup_of arena.now) key there hand.old hand.new) }
+    ensures touches { result ≡ Ok true →
+        Touches (hand_number hand.old) (stripe_of_key (setup_of arena.now) key) key (view hand.old)
+        (view hand.new) }
+    ensures none { result ≡ Ok false → ActsOn (setup_of arena.now) key (λ number stripe.
+        FindsNone number stripe key) hand.old hand.new }
+    ensures calls { IfOk result (λ there. RecordsGet
+        (setup_of arena.now) key there hand.old hand.new) }
     ensures refused { OnErr result (RecordsNoCall (view hand.old) (view hand.new)) }
     ensures no_memory { OnErr result (FindsNoRoomFor (setup_of arena.now) key hand.old hand.new) }
     ensures holdings { HoldsAsOften (view hand.old) (view hand.new) }

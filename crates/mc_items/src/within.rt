@@ -60,11 +60,16 @@ pub fn set_within(
     ensures ready { IsReady (view hand.new) }
     ensures locks { locks_of hand.new ≡ locks_of hand.old }
     ensures number { hand_number hand.new ≡ hand_number hand.old }
-    ensures sets { IfOk result (λ stamp. SetsItem (hand_number hand.old) key stamp words.now (view hand.old) (view hand.new)) }
-    ensures calls { IfOk result (λ stamp. RecordsSet (hand_number hand.old) key stamp (view hand.old) (view hand.new)) }
-    ensures stores_words { IfOk result (λ stamp. StoresWithStamp (item_with key stamp words.now) stamp (view hand.old) (view hand.new)) }
-    ensures refused { IfErr result (λ error. RefusesWithin (hand_number hand.old) tries key words.now error (view hand.old) (view hand.new)) }
-    ensures evicts { OnErr result (RecordsEviction (hand_number hand.old) (view hand.old) (view hand.new)) }
+    ensures sets { IfOk result (λ stamp. SetsItem (hand_number hand.old) key stamp words.now
+        (view hand.old) (view hand.new)) }
+    ensures calls { IfOk result (λ stamp. RecordsSet (hand_number hand.old) key stamp
+        (view hand.old) (view hand.new)) }
+    ensures stores_words { IfOk result (λ stamp.
+        StoresWithStamp (item_with key stamp words.now) stamp (view hand.old) (view hand.new)) }
+    ensures refused { IfErr result (λ error. RefusesWithin
+        (hand_number hand.old) tries key words.now error (view hand.old) (view hand.new)) }
+    ensures evicts { OnErr result (RecordsEviction (hand_number hand.old) (view hand.old)
+        (view hand.new)) }
     ensures stores_nothing { OnErr result (StoresNothing (view hand.old) (view hand.new)) }
     ensures stamps { OnErr result ((view hand.new).row.ids ≡ (view hand.old).row.ids) }
     ensures holdings { HoldsTheSame (view hand.old) (view hand.new) }
@@ -102,10 +107,16 @@ fn chunk_within(
     requires within_limit { length (view hand.old).row.holdings ≤ most_refs }
     ensures arena { IsHandOf arena.now hand.new }
     ensures locks { locks_of hand.new ≡ locks_of hand.old }
-    ensures supplies { IfOk result (λ supplied. IfOk supplied (λ fresh. ActsOnce (SuppliesChunk (hand_number hand.old) class (fresh_chunk fresh)) hand.old hand.new)) }
-    ensures fresh { IfOk result (λ supplied. IfOk supplied (IsFreshFor (setup_of arena.now) class (view hand.new))) }
-    ensures own { IfOk result (λ supplied. IfOk supplied (λ fresh. IsOwnItem (view hand.new) (fresh_chunk fresh))) }
-    ensures none { IfOk result (λ supplied. IfErr supplied (λ error. ActsOnce (SuppliesNone (hand_number hand.old) class error) hand.old hand.new)) }
+    ensures supplies { IfOk result (λ supplied.
+        IfOk supplied (λ fresh.
+        ActsOnce (SuppliesChunk (hand_number hand.old) class (fresh_chunk fresh)) hand.old
+        hand.new)) }
+    ensures fresh { IfOk result (λ supplied. IfOk supplied
+        (IsFreshFor (setup_of arena.now) class (view hand.new))) }
+    ensures own { IfOk result (λ supplied. IfOk supplied (λ fresh.
+        IsOwnItem (view hand.new) (fresh_chunk fresh))) }
+    ensures none { IfOk result (λ supplied. IfErr supplied (λ error.
+        ActsOnce (SuppliesNone (hand_number hand.old) class error) hand.old hand.new)) }
     ensures missed { OnErr result (MissesSlabsEachTime tries (view hand.old) (view hand.new)) }
 {
     let Ok(held) = arena.slabs_within(hand, tries) else {
@@ -136,12 +147,22 @@ fn store_words_within(
     requires stamp { next_stamp (view hand.old).row.ids ≡ Some stamp }
     ensures arena { IsHandOf arena.now hand.new }
     ensures locks { locks_of hand.new ≡ locks_of hand.old }
-    ensures stores { IfOk result (λ stored. OnOk stored (StoresFresh (setup_of arena.now) key stamp fresh (hand_number hand.old) (filled_with fresh key stamp words.now (view hand.old)) (view hand.new))) }
-    ensures calls { IfOk result (λ stored. OnOk stored (RecordsOn (setup_of arena.now) key (λ number. call.Set number key stamp) hand.old hand.new)) }
-    ensures stores_words { IfOk result (λ stored. OnOk stored (StoresWithStamp (item_with key stamp words.now) stamp (view hand.old) (view hand.new))) }
-    ensures no_memory { IfOk result (λ stored. OnErr stored (LosesFresh (setup_of arena.now) key fresh (filled_with fresh key stamp words.now (view hand.old)) (view hand.new))) }
-    ensures refused { IfOk result (λ stored. OnErr stored (RecordsNoCall (view hand.old) (view hand.new))) }
-    ensures missed { OnErr result (MissesFor (setup_of arena.now) tries key fresh (filled_with fresh key stamp words.now (view hand.old)) (view hand.new)) }
+    ensures stores { IfOk result (λ stored. OnOk stored
+        (StoresFresh (setup_of arena.now) key stamp fresh (hand_number hand.old)
+        (filled_with fresh key stamp words.now (view hand.old)) (view hand.new))) }
+    ensures calls { IfOk result (λ stored. OnOk stored
+        (RecordsOn (setup_of arena.now) key (λ number.
+        call.Set number key stamp) hand.old hand.new)) }
+    ensures stores_words { IfOk result (λ stored.
+        OnOk stored (StoresWithStamp (item_with key stamp words.now) stamp (view hand.old)
+        (view hand.new))) }
+    ensures no_memory { IfOk result (λ stored. OnErr stored
+        (LosesFresh (setup_of arena.now) key fresh
+        (filled_with fresh key stamp words.now (view hand.old)) (view hand.new))) }
+    ensures refused { IfOk result (λ stored. OnErr stored
+        (RecordsNoCall (view hand.old) (view hand.new))) }
+    ensures missed { OnErr result (MissesFor (setup_of arena.now) tries key fresh
+        (filled_with fresh key stamp words.now (view hand.old)) (view hand.new)) }
 {
     let mut fresh = fresh;
     fill_item(arena, hand, &mut fresh, key, stamp, words);
@@ -164,12 +185,22 @@ fn store_within(
     requires stamp { next_stamp (view hand.old).row.ids ≡ Some (fresh_stamp fresh) }
     ensures arena { IsHandOf arena.now hand.new }
     ensures locks { locks_of hand.new ≡ locks_of hand.old }
-    ensures stores { IfOk result (λ stored. OnOk stored (StoresFresh (setup_of arena.now) key (fresh_stamp fresh) fresh (hand_number hand.old) (view hand.old) (view hand.new))) }
-    ensures calls { IfOk result (λ stored. OnOk stored (RecordsOn (setup_of arena.now) key (λ number. call.Set number key (fresh_stamp fresh)) hand.old hand.new)) }
-    ensures stores_words { IfOk result (λ stored. OnOk stored (StoresWithStamp (numbers_of_known (words_of_item (known_words_in (view hand.old) (fresh_chunk fresh)))) (fresh_stamp fresh) (view hand.old) (view hand.new))) }
-    ensures no_memory { IfOk result (λ stored. OnErr stored (LosesFresh (setup_of arena.now) key fresh (view hand.old) (view hand.new))) }
-    ensures refused { IfOk result (λ stored. OnErr stored (RecordsNoCall (view hand.old) (view hand.new))) }
-    ensures missed { OnErr result (MissesFor (setup_of arena.now) tries key fresh (view hand.old) (view hand.new)) }
+    ensures stores { IfOk result (λ stored. OnOk stored
+        (StoresFresh (setup_of arena.now) key (fresh_stamp fresh) fresh (hand_number hand.old)
+        (view hand.old) (view hand.new))) }
+    ensures calls { IfOk result (λ stored. OnOk stored
+        (RecordsOn (setup_of arena.now) key (λ number.
+        call.Set number key (fresh_stamp fresh)) hand.old hand.new)) }
+    ensures stores_words { IfOk result (λ stored.
+        OnOk stored (StoresWithStamp (numbers_of_known
+        (words_of_item (known_words_in (view hand.old) (fresh_chunk fresh)))) (fresh_stamp fresh)
+        (view hand.old) (view hand.new))) }
+    ensures no_memory { IfOk result (λ stored. OnErr stored
+        (LosesFresh (setup_of arena.now) key fresh (view hand.old) (view hand.new))) }
+    ensures refused { IfOk result (λ stored. OnErr stored
+        (RecordsNoCall (view hand.old) (view hand.new))) }
+    ensures missed { OnErr result (MissesFor (setup_of arena.now) tries key fresh (view hand.old)
+        (view hand.new)) }
 {
     let stripe = key % arena.config().stripes;
     let Ok(held) = arena.stripe_within(hand, stripe, tries) else {

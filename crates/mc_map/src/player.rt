@@ -47,10 +47,12 @@ impl Player {
     /// Nothing was done yet.
     pub fn new(alloc: Global, run: &Run) -> Result<Player, ConfigError>
         requires { run.now.automove ≤ 2 }
-        ensures fresh { IfOk result (λ player. player.keeper ≡ fresh_machine player.keeper.table run.now.config.bulk run.now.automove) }
+        ensures fresh { IfOk result (λ player. player.keeper
+            ≡ fresh_machine player.keeper.table run.now.config.bulk run.now.automove) }
         ensures table { IfOk result (λ player. IsTableOf run.now.config player.keeper.table) }
         ensures books { IfOk result (λ player. player.books ≡ fresh_books player.keeper.table) }
-        ensures refused { IfErr result (λ error. error ≡ unwrap_or (config_refusal run.now.config) (ConfigError.NoMemory tt)) }
+        ensures refused { IfErr result (λ error. error
+            ≡ unwrap_or (config_refusal run.now.config) (ConfigError.NoMemory tt)) }
     {
         let table = ClassTable::build(alloc, &run.config)?;
         let books = Books::new(alloc, &table)?;
@@ -88,8 +90,10 @@ impl Player {
     /// Does a command. Where it stops, some of it may be done, and the books may be behind.
     pub fn play(&mut self, command: Command) -> Result<(), Stop>
         requires { IsValid command }
-        ensures machine { OnOk result (option_map (λ served. served.machine) (serve self.old.keeper command) ≡ Some self.new.keeper) }
-        ensures books { OnOk result (self.new.books ≡ books_after self.old.books self.old.keeper command self.new.keeper) }
+        ensures machine { OnOk result (option_map (λ served.
+            served.machine) (serve self.old.keeper command) ≡ Some self.new.keeper) }
+        ensures books { OnOk result (self.new.books
+            ≡ books_after self.old.books self.old.keeper command self.new.keeper) }
         ensures stopped { result ≡ Err Stop.Turns → serve self.old.keeper command ≡ None }
     {
         match command {
@@ -119,8 +123,12 @@ impl Player {
     /// Stores n words that count up from `base`, and notes the page that its class got or asked for.
     fn set(&mut self, key: u64, words: u64, base: u64) -> Result<(), Stop>
         requires { words ≤ 4096 }
-        ensures machine { OnOk result (self.new.keeper ≡ (set_outcome_of self.old.keeper (class_of self.old.keeper.table (item_bytes words)) key (counting_words base words)).machine) }
-        ensures books { OnOk result (self.new.books ≡ book_after self.old.books (given_class self.old.keeper.table words) (glance_of self.old.keeper.slabs) (glance_of self.new.keeper.slabs)) }
+        ensures machine { OnOk result (self.new.keeper
+            ≡ (set_outcome_of self.old.keeper (class_of self.old.keeper.table (item_bytes words))
+            key (counting_words base words)).machine) }
+        ensures books { OnOk result (self.new.books
+            ≡ book_after self.old.books (given_class self.old.keeper.table words)
+            (glance_of self.old.keeper.slabs) (glance_of self.new.keeper.slabs)) }
         ensures memory { result ≡ Err Stop.Turns → ⊥ }
     {
         let class = given_class(self.keeper.table(), words);
@@ -132,7 +140,9 @@ impl Player {
 
     /// Deletes the key's item.
     fn delete(&mut self, worker: u64, key: u64)
-        ensures machine { self.new.keeper ≡ (delete_outcome self.old.keeper key (linked_chunk self.old.keeper.items key)).machine }
+        ensures machine { self.new.keeper
+            ≡ (delete_outcome self.old.keeper key (linked_chunk self.old.keeper.items
+            key)).machine }
         ensures books { self.new.books ≡ self.old.books }
     {
         let _had = self.keeper.delete(worker, key);
@@ -141,7 +151,8 @@ impl Player {
     /// The worker holds the key's item.
     fn hold(&mut self, worker: u64, key: u64) -> Result<(), Stop>
         requires { worker < 64 }
-        ensures machine { OnOk result (self.new.keeper ≡ (hold_outcome self.old.keeper worker key).machine) }
+        ensures machine { OnOk result (self.new.keeper
+            ≡ (hold_outcome self.old.keeper worker key).machine) }
         ensures books { OnOk result (self.new.books ≡ self.old.books) }
         ensures memory { result ≡ Err Stop.Turns → ⊥ }
     {
@@ -156,7 +167,9 @@ impl Player {
     /// The worker gives back its last hold of the key.
     fn drop(&mut self, worker: u64, key: u64)
         requires { worker < 64 }
-        ensures machine { self.new.keeper ≡ (release_outcome self.old.keeper worker key (last_hold self.old.keeper worker key)).machine }
+        ensures machine { self.new.keeper
+            ≡ (release_outcome self.old.keeper worker key
+            (last_hold self.old.keeper worker key)).machine }
         ensures books { self.new.books ≡ self.old.books }
     {
         if self.keeper.drop(worker, key).is_some() {
@@ -166,7 +179,8 @@ impl Player {
 
     /// The key's item becomes the youngest of its class.
     fn touch(&mut self, worker: u64, key: u64)
-        ensures machine { self.new.keeper ≡ (touch_outcome self.old.keeper key (linked_chunk self.old.keeper.items key)).machine }
+        ensures machine { self.new.keeper
+            ≡ (touch_outcome self.old.keeper key (linked_chunk self.old.keeper.items key)).machine }
         ensures books { self.new.books ≡ self.old.books }
     {
         let _had = self.keeper.touch(worker, key);
@@ -174,8 +188,12 @@ impl Player {
 
     /// A page is to go to another class, or to the pool.
     fn reassign(&mut self, src: Option<u64>, dst: u64) -> Result<(), Stop>
-        ensures machine { OnOk result (self.new.keeper ≡ machine_after_begin self.old.keeper src dst (answer_of self.old.keeper.slabs src dst)) }
-        ensures books { OnOk result (self.new.books ≡ book_after self.old.books 0 (glance_of self.old.keeper.slabs) (glance_of self.new.keeper.slabs)) }
+        ensures machine { OnOk result (self.new.keeper
+            ≡ machine_after_begin self.old.keeper src dst
+            (answer_of self.old.keeper.slabs src dst)) }
+        ensures books { OnOk result (self.new.books
+            ≡ book_after self.old.books 0 (glance_of self.old.keeper.slabs)
+            (glance_of self.new.keeper.slabs)) }
         ensures memory { result ≡ Err Stop.Turns → ⊥ }
     {
         let before = Glance::of(&self.keeper);
@@ -188,7 +206,8 @@ impl Player {
     /// The automover works in this mode from here on.
     fn automove(&mut self, mode: u64)
         requires { mode ≤ 2 }
-        ensures machine { self.new.keeper ≡ record self.old.keeper { slabs = with_mode self.old.keeper.slabs mode } }
+        ensures machine { self.new.keeper ≡ record self.old.keeper
+            { slabs = with_mode self.old.keeper.slabs mode } }
         ensures books { self.new.books ≡ self.old.books }
     {
         self.keeper.set_automove(mode);
@@ -196,8 +215,12 @@ impl Player {
 
     /// A window of the automover ends.
     fn window(&mut self) -> Result<(), Stop>
-        ensures machine { OnOk result (self.new.keeper ≡ (decision_outcome (with_window (all_swept self.old.keeper)) (decision (with_window (all_swept self.old.keeper)))).machine) }
-        ensures books { OnOk result (self.new.books ≡ book_after self.old.books 0 (glance_of self.old.keeper.slabs) (glance_of self.new.keeper.slabs)) }
+        ensures machine { OnOk result (self.new.keeper
+            ≡ (decision_outcome (with_window (all_swept self.old.keeper))
+            (decision (with_window (all_swept self.old.keeper)))).machine) }
+        ensures books { OnOk result (self.new.books
+            ≡ book_after self.old.books 0 (glance_of self.old.keeper.slabs)
+            (glance_of self.new.keeper.slabs)) }
         ensures memory { result ≡ Err Stop.Turns → ⊥ }
     {
         let before = Glance::of(&self.keeper);
@@ -208,8 +231,11 @@ impl Player {
     /// Does n turns of the mover.
     fn turn(&mut self, turns: u64) -> Result<(), Stop>
         requires { turns ≤ 1000000 }
-        ensures machine { OnOk result (option_map (λ turned. turned.machine) (after_turns self.old.keeper turns) ≡ Some self.new.keeper) }
-        ensures books { OnOk result (self.new.books ≡ book_after self.old.books 0 (glance_of self.old.keeper.slabs) (glance_of self.new.keeper.slabs)) }
+        ensures machine { OnOk result (option_map (λ turned.
+            turned.machine) (after_turns self.old.keeper turns) ≡ Some self.new.keeper) }
+        ensures books { OnOk result (self.new.books
+            ≡ book_after self.old.books 0 (glance_of self.old.keeper.slabs)
+            (glance_of self.new.keeper.slabs)) }
         ensures stopped { result ≡ Err Stop.Turns → after_turns self.old.keeper turns ≡ None }
     {
         let before = Glance::of(&self.keeper);
@@ -229,7 +255,8 @@ impl Player {
     /// Notes which page changed hands since the glance, if one did. A page that was given went to this class.
     fn note(&mut self, class: u64, before: Glance) -> Result<(), Stop>
         ensures machine { OnOk result (self.new.keeper ≡ self.old.keeper) }
-        ensures books { OnOk result (self.new.books ≡ book_after self.old.books class before (glance_of self.old.keeper.slabs)) }
+        ensures books { OnOk result (self.new.books
+            ≡ book_after self.old.books class before (glance_of self.old.keeper.slabs)) }
         ensures memory { result ≡ Err Stop.Turns → ⊥ }
     {
         let after = Glance::of(&self.keeper);
@@ -258,7 +285,9 @@ fn store_words(
     base: u64,
 ) -> Result<bool, Refused>
     requires { words ≤ 4096 }
-    ensures { OnOk result (keeper.new ≡ (set_outcome_of keeper.old (class_of keeper.old.table (item_bytes words)) key (counting_words base words)).machine) }
+    ensures { OnOk result (keeper.new
+        ≡ (set_outcome_of keeper.old (class_of keeper.old.table (item_bytes words)) key
+        (counting_words base words)).machine) }
 {
     let counted = counted_words(alloc, base, words)?;
     let stored = keeper.set(0, key, &counted)?;
@@ -316,8 +345,10 @@ impl Player {
 
     /// What each class has that has pages, or of which an item was ever evicted.
     fn classes(&self) -> Result<Vec<ClassLine>, MapError>
-        ensures lines { IfOk result (λ lines. All (IsLine self.now.keeper self.now.items.keys.items) lines.items) }
-        ensures records { IfOk result (λ lines. map (λ line. line.class) lines.items ≡ shown_classes self.now.keeper.slabs (length self.now.keeper.table.sizes)) }
+        ensures lines { IfOk result (λ lines. All
+            (IsLine self.now.keeper self.now.items.keys.items) lines.items) }
+        ensures records { IfOk result (λ lines. map (λ line. line.class) lines.items
+            ≡ shown_classes self.now.keeper.slabs (length self.now.keeper.table.sizes)) }
     {
         if self.items.keys().len() > MOST_KEYS {
             return Err(MapError::Books);

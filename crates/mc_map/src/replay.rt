@@ -18,7 +18,8 @@ pub enum Misfit {
 
 /// The owners of n untouched pages after these entries, page 0 first. An entry that finds its page otherwise is refused.
 pub fn owners_after(alloc: Global, pages: usize, entries: &[Entry]) -> Result<Vec<Owner>, Misfit>
-    ensures owners { IfOk result (λ owners. replay (all_untouched pages) entries.now ≡ Some owners.items) }
+    ensures owners { IfOk result (λ owners. replay (all_untouched pages) entries.now
+        ≡ Some owners.items) }
     ensures misfit { result ≡ Err Misfit.Entry → replay (all_untouched pages) entries.now ≡ None }
 {
     let mut owners = filled(alloc, Owner::Untouched, pages).map_err(Misfit::NoMemory)?;
@@ -31,7 +32,8 @@ pub fn owners_after(alloc: Global, pages: usize, entries: &[Entry]) -> Result<Ve
 /// The owners before the first entry, after the first one, and so on: column k has what the first k entries make.
 pub fn columns(alloc: Global, pages: usize, entries: &[Entry]) -> Result<Vec<Vec<Owner>>, Misfit>
     requires { length entries.now < 2 ^ 60 }
-    ensures columns { IfOk result (λ columns. map (λ column. Some column.items) columns.items ≡ replayed_owners pages entries.now (length entries.now + 1)) }
+    ensures columns { IfOk result (λ columns. map (λ column. Some column.items) columns.items
+        ≡ replayed_owners pages entries.now (length entries.now + 1)) }
 {
     let mut columns = Vec::new(alloc);
     for count in 0..entries.len() + 1 {
@@ -43,7 +45,8 @@ pub fn columns(alloc: Global, pages: usize, entries: &[Entry]) -> Result<Vec<Vec
 
 /// The entry changes the owner of its page, which it has to fit.
 fn apply(owners: &mut [Owner], entry: Entry) -> Result<(), Misfit>
-    ensures applied { OnOk result (owners.new ≡ slice_set owners.old (page_of entry) (owner_after entry)) }
+    ensures applied { OnOk result (owners.new ≡ slice_set owners.old (page_of entry)
+        (owner_after entry)) }
     ensures fitting { OnOk result (is_fitting owners.old entry ≡ true) }
     ensures misfit { result ≡ Err Misfit.Entry → is_fitting owners.old entry ≡ false }
     ensures memory { result ≡ Err (Misfit.NoMemory tt) → ⊥ }

@@ -33,7 +33,8 @@ pub struct Script {
 pub fn read_script(alloc: Global, bytes: &[u8]) -> Result<Script, ScriptError>
     ensures commands { IfOk result (λ script. script_of bytes.now ≡ Ok script.commands.items) }
     ensures valid { IfOk result (λ script. All IsValid script.commands.items) }
-    ensures marks { IfOk result (λ script. script.marks.items ≡ script_marks 0 0 (lines bytes.now)) }
+    ensures marks { IfOk result (λ script. script.marks.items
+        ≡ script_marks 0 0 (lines bytes.now)) }
     ensures refused { (n : ℕ) → result ≡ Err (ScriptError.Line n) → script_of bytes.now ≡ Err n }
 {
     let commands = match mc_script::read(alloc, bytes) {

@@ -17,7 +17,9 @@ pub fn table<S: Drop, V, K, P: TableRule<S, V, K>>(
     about: &K,
 ) -> Result<Made<S, V, K, P>, Refused>
     requires { P.holds about.now (opening words.now slots.items (P.first about.now)) }
-    ensures ok { IfOk result (λ t. (t.0.shared.table_id.words ≡ length words.now) × (t.0.shared.table_id.slots ≡ length slots.items) × (t.1.table_id ≡ t.0.shared.table_id) × (t.1.id ≡ 0) × (t.1.me ≡ (P.first about.now, [])) × (t.0.shared.key ≡ about.now)) }
+    ensures ok { IfOk result (λ t. (t.0.shared.table_id.words ≡ length words.now)
+        × (t.0.shared.table_id.slots ≡ length slots.items) × (t.1.table_id ≡ t.0.shared.table_id)
+        × (t.1.id ≡ 0) × (t.1.me ≡ (P.first about.now, [])) × (t.0.shared.key ≡ about.now)) }
 {
     Table::new(alloc, words, slots, about).map_err(|_| Refused::now())
 }

@@ -28,8 +28,10 @@ pub fn reserve<T: Drop>(list: &mut Vec<T>, additional: usize) -> Result<(), Refu
 
 /// The value behind the last element. Where there is no room, the elements stay and the value is dropped.
 pub fn push<T: Drop>(list: &mut Vec<T>, value: T) -> Result<(), Refused>
-    ensures items { list.new.items ≡ (if is_ok result then list.old.items ++ value ∷ [] else list.old.items) }
-    ensures len { vec_len list.new ≡ (if is_ok result then vec_len list.old + 1 else vec_len list.old) }
+    ensures items { list.new.items ≡ (if is_ok result then list.old.items
+        ++ value ∷ [] else list.old.items) }
+    ensures len { vec_len list.new
+        ≡ (if is_ok result then vec_len list.old + 1 else vec_len list.old) }
     ensures capacity { vec_capacity list.old ≤ vec_capacity list.new }
     ensures succeeds { vec_len list.old < vec_capacity list.old → IsOk result }
     ensures full { OnErr result (vec_capacity list.old ≤ vec_len list.old) }
@@ -40,8 +42,10 @@ pub fn push<T: Drop>(list: &mut Vec<T>, value: T) -> Result<(), Refused>
 /// The value at this place, and those behind it one place further. Where there is no room, the elements stay and the value is dropped.
 pub fn insert<T: Drop>(list: &mut Vec<T>, index: usize, value: T) -> Result<(), Refused>
     requires { index ≤ vec_len list.old }
-    ensures items { list.new.items ≡ (if is_ok result then insert list.old.items index value else list.old.items) }
-    ensures len { vec_len list.new ≡ (if is_ok result then vec_len list.old + 1 else vec_len list.old) }
+    ensures items { list.new.items
+        ≡ (if is_ok result then insert list.old.items index value else list.old.items) }
+    ensures len { vec_len list.new
+        ≡ (if is_ok result then vec_len list.old + 1 else vec_len list.old) }
     ensures capacity { vec_capacity list.old ≤ vec_capacity list.new }
     ensures succeeds { vec_len list.old < vec_capacity list.old → IsOk result }
     ensures full { OnErr result (vec_capacity list.old ≤ vec_len list.old) }
@@ -51,7 +55,8 @@ pub fn insert<T: Drop>(list: &mut Vec<T>, index: usize, value: T) -> Result<(), 
 
 /// A vector with `count` elements: its own first ones, and behind them the value. Where there is no room, the elements stay.
 pub fn resize<T: Copy>(list: &mut Vec<T>, count: usize, value: T) -> Result<(), Refused>
-    ensures items { list.new.items ≡ (if is_ok result then take count list.old.items ++ replicate (count - vec_len list.old) value else list.old.items) }
+    ensures items { list.new.items ≡ (if is_ok result then take count list.old.items
+        ++ replicate (count - vec_len list.old) value else list.old.items) }
     ensures len { vec_len list.new ≡ (if is_ok result then count else vec_len list.old) }
     ensures capacity { vec_capacity list.old ≤ vec_capacity list.new }
     ensures succeeds { count ≤ vec_capacity list.old → IsOk result }
@@ -62,8 +67,10 @@ pub fn resize<T: Copy>(list: &mut Vec<T>, count: usize, value: T) -> Result<(), 
 
 /// The values behind the last element. Where there is no room, the elements stay.
 pub fn extend_from_slice<T: Copy>(list: &mut Vec<T>, values: &[T]) -> Result<(), Refused>
-    ensures items { list.new.items ≡ (if is_ok result then list.old.items ++ values.now else list.old.items) }
-    ensures len { vec_len list.new ≡ (if is_ok result then vec_len list.old + length values.now else vec_len list.old) }
+    ensures items { list.new.items ≡ (if is_ok result then list.old.items
+        ++ values.now else list.old.items) }
+    ensures len { vec_len list.new
+        ≡ (if is_ok result then vec_len list.old + length values.now else vec_len list.old) }
     ensures capacity { vec_capacity list.old ≤ vec_capacity list.new }
     ensures succeeds { vec_len list.old + length values.now ≤ vec_capacity list.old → IsOk result }
     ensures full { OnErr result (vec_capacity list.old < vec_len list.old + length values.now) }

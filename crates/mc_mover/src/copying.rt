@@ -28,14 +28,19 @@ pub(crate) fn copy_item(
     requires held { HasSlabs hand.old held.now }
     requires linked { was_linked (view hand.old).row.looks chunk ≡ true }
     requires fresh { IsFreshOf (view hand.old) (fresh_chunk fresh.old) (fresh_room fresh.old) }
-    requires room { fresh_room fresh.old ≡ room_in (setup_of arena.now).table (class_of_page (slabs_lent held.now) chunk.page) }
+    requires room { fresh_room fresh.old ≡ room_in (setup_of arena.now).table
+        (class_of_page (slabs_lent held.now) chunk.page) }
     ensures arena { IsHandOf arena.now hand.new }
     ensures locks { locks_of hand.new ≡ locks_of hand.old }
     ensures held { HasSlabs hand.new held.now }
-    ensures same { (fresh_chunk fresh.new ≡ fresh_chunk fresh.old) × (fresh_room fresh.new ≡ fresh_room fresh.old) }
-    ensures copied { Copies chunk (fresh_chunk fresh.old) (fresh_key fresh.new) (fresh_stamp fresh.new) (view hand.old) (view hand.new) }
-    ensures key { IfSome (key_read (view hand.old) chunk) (λ before. (fresh_key fresh.new) ≡ before) }
-    ensures fits { IfSome (word_read (view hand.new) chunk 2) (λ count. 3 + count ≤ fresh_room fresh.old) }
+    ensures same { (fresh_chunk fresh.new ≡ fresh_chunk fresh.old)
+        × (fresh_room fresh.new ≡ fresh_room fresh.old) }
+    ensures copied { Copies chunk (fresh_chunk fresh.old) (fresh_key fresh.new)
+        (fresh_stamp fresh.new) (view hand.old) (view hand.new) }
+    ensures key { IfSome (key_read (view hand.old) chunk) (λ before.
+        (fresh_key fresh.new) ≡ before) }
+    ensures fits { IfSome (word_read (view hand.new) chunk 2) (λ count. 3 + count
+        ≤ fresh_room fresh.old) }
     ensures fresh { IsFreshOf (view hand.new) (fresh_chunk fresh.new) (fresh_room fresh.new) }
 {
     copy_word(arena, hand, held, fresh, chunk, 0);
@@ -60,18 +65,22 @@ fn copy_word(
     requires held { HasSlabs hand.old held.now }
     requires linked { was_linked (view hand.old).row.looks chunk ≡ true }
     requires fresh { IsFreshOf (view hand.old) (fresh_chunk fresh.old) (fresh_room fresh.old) }
-    requires room { fresh_room fresh.old ≡ room_in (setup_of arena.now).table (class_of_page (slabs_lent held.now) chunk.page) }
+    requires room { fresh_room fresh.old ≡ room_in (setup_of arena.now).table
+        (class_of_page (slabs_lent held.now) chunk.page) }
     requires inside { place < fresh_room fresh.old }
     ensures arena { IsHandOf arena.now hand.new }
     ensures locks { locks_of hand.new ≡ locks_of hand.old }
     ensures held { HasSlabs hand.new held.now }
     ensures linked { was_linked (view hand.new).row.looks chunk ≡ true }
-    ensures same { (fresh_chunk fresh.new ≡ fresh_chunk fresh.old) × (fresh_room fresh.new ≡ fresh_room fresh.old) }
+    ensures same { (fresh_chunk fresh.new ≡ fresh_chunk fresh.old)
+        × (fresh_room fresh.new ≡ fresh_room fresh.old) }
     ensures key { fresh_key fresh.new ≡ (if place == 0 then result else (fresh_key fresh.old)) }
-    ensures stamp { fresh_stamp fresh.new ≡ (if place == 1 then result else (fresh_stamp fresh.old)) }
+    ensures stamp { fresh_stamp fresh.new
+        ≡ (if place == 1 then result else (fresh_stamp fresh.old)) }
     ensures fits { place ≡ 2 → 3 + result ≤ fresh_room fresh.old }
     ensures again { IfSome (word_read (view hand.old) chunk place) (λ before. result ≡ before) }
-    ensures copied { view hand.new ≡ word_filled (fresh_chunk fresh.old) place result (held_word_seen chunk place result (view hand.old)) }
+    ensures copied { view hand.new ≡ word_filled (fresh_chunk fresh.old) place result
+        (held_word_seen chunk place result (view hand.old)) }
     ensures fresh { IsFreshOf (view hand.new) (fresh_chunk fresh.new) (fresh_room fresh.new) }
 {
     let word = arena.word_held(hand, held, chunk, place);

@@ -18,7 +18,8 @@ pub(crate) fn end_turn(arena: &Arena, hand: &mut Hand, held: &mut SlabsHeld, cou
     ensures arena { IsHandOf arena.now hand.new }
     ensures locks { locks_of hand.new ≡ locks_of hand.old }
     ensures held { HasSlabs hand.new held.new }
-    ensures ends { ActsByNumber (λ number. EndsTurn number counts result) hand.old held.old hand.new held.new }
+    ensures ends { ActsByNumber (λ number. EndsTurn number counts result) hand.old held.old hand.new
+        held.new }
     ensures whole { (slabs_lent held.new).uncut ≡ None }
     ensures holdings { (view hand.new).row.holdings ≡ (view hand.old).row.holdings }
     ensures ids { (view hand.new).row.ids ≡ (view hand.old).row.ids }

@@ -55,12 +55,17 @@ pub(crate) fn visit_linked(
     ensures arena { IsHandOf arena.now hand.new }
     ensures locks { locks_of hand.new ≡ locks_of hand.old }
     ensures held { HasSlabs hand.new held.new }
-    ensures visits { IfOk result (λ found. ActsByNumber (λ n. VisitsLinked n class chunk sweep.old unheld found sweep.new) hand.old held.old hand.new held.new) }
-    ensures clears { IfOk result (λ found. is_held_up found ≡ false → is_cleared (slabs_lent held.new) class chunk ≡ true) }
-    ensures lacks { OnErr result (ActsByNumber (λ number. LacksCallOnKey chunk unheld) hand.old held.old hand.new held.new) }
+    ensures visits { IfOk result (λ found. ActsByNumber (λ n.
+        VisitsLinked n class chunk sweep.old unheld found sweep.new) hand.old held.old hand.new
+        held.new) }
+    ensures clears { IfOk result (λ found. is_held_up found ≡ false →
+        is_cleared (slabs_lent held.new) class chunk ≡ true) }
+    ensures lacks { OnErr result (ActsByNumber (λ number.
+        LacksCallOnKey chunk unheld) hand.old held.old hand.new held.new) }
     ensures moving { (slabs_lent held.new).moving ≡ (slabs_lent held.old).moving }
     ensures uncut { (slabs_lent held.new).uncut ≡ (slabs_lent held.old).uncut }
-    ensures per_page { (class_at (slabs_lent held.new) class).per_page ≡ (class_at (slabs_lent held.old) class).per_page }
+    ensures per_page { (class_at (slabs_lent held.new) class).per_page
+        ≡ (class_at (slabs_lent held.old) class).per_page }
     ensures holdings { (view hand.new).row.holdings ≡ (view hand.old).row.holdings }
     ensures ids { (view hand.new).row.ids ≡ (view hand.old).row.ids }
 {
@@ -82,8 +87,10 @@ pub(crate) fn visit_linked(
 
 // Whether the key leads to the chunk.
 fn leads_to(held: &StripeHeld, key: Key, chunk: ChunkId) -> bool
-    ensures leads { result ≡ true → (stamp : ℕ) × (chunk_and_stamp (stripe_lent held.now).state key ≡ Some (chunk, stamp)) }
-    ensures other { result ≡ false → option_map (λ place. place.0) (chunk_and_stamp (stripe_lent held.now).state key) ≢ Some chunk }
+    ensures leads { result ≡ true → (stamp : ℕ)
+        × (chunk_and_stamp (stripe_lent held.now).state key ≡ Some (chunk, stamp)) }
+    ensures other { result ≡ false → option_map (λ place.
+        place.0) (chunk_and_stamp (stripe_lent held.now).state key) ≢ Some chunk }
 {
     match held.stripe().find(key) {
         Some((found, _)) => found == chunk,
@@ -110,7 +117,8 @@ fn save(
     requires lent { IsLentStripe (view hand.old) (stripe_number stripe) (stripe_lent stripe) }
     requires inside { stripe_number stripe < (setup_of arena.now).config.stripes }
     requires key { stripe_read (view hand.old) chunk ≡ Some (stripe_number stripe) }
-    requires leads { (key : ℕ) × (stamp : ℕ) × (chunk_and_stamp (stripe_lent stripe).state key ≡ Some (chunk, stamp)) }
+    requires leads { (key : ℕ) × (stamp : ℕ) × (chunk_and_stamp (stripe_lent stripe).state key
+        ≡ Some (chunk, stamp)) }
     requires own { class_of_page (slabs_lent slabs.old) chunk.page ≡ class }
     requires moving { is_on_the_move (slabs_lent slabs.old) chunk.page ≡ true }
     requires linked { was_linked (view hand.old).row.looks chunk ≡ true }
@@ -119,15 +127,18 @@ fn save(
     ensures arena { IsHandOf arena.now hand.new }
     ensures locks { locks_of hand.new ≡ without_stripe (locks_of hand.old) }
     ensures slabs { HasSlabs hand.new slabs.new }
-    ensures saves { IfOk result (λ found. ActsOnStripe (λ number. SavesAs number class chunk sweep.old found) hand.old stripe slabs.old hand.new slabs.new) }
+    ensures saves { IfOk result (λ found. ActsOnStripe (λ number.
+        SavesAs number class chunk sweep.old found) hand.old stripe slabs.old hand.new slabs.new) }
     ensures done { IfOk result (λ found. sweep.new ≡ Done) }
     ensures dead { IfOk result (λ found. is_held_up found ≡ false → SeesDead hand.new chunk) }
-    ensures lacks { OnErr result (ActsOnStripe (λ number. OnlyGives) hand.old stripe slabs.old hand.new slabs.new) }
+    ensures lacks { OnErr result (ActsOnStripe (λ number.
+        OnlyGives) hand.old stripe slabs.old hand.new slabs.new) }
     ensures unready { OnErr result (can_store (stripe_lent stripe) ≡ false) }
     ensures moving { (slabs_lent slabs.new).moving ≡ (slabs_lent slabs.old).moving }
     ensures owners { (slabs_lent slabs.new).owners ≡ (slabs_lent slabs.old).owners }
     ensures uncut { (slabs_lent slabs.new).uncut ≡ (slabs_lent slabs.old).uncut }
-    ensures per_page { (class_at (slabs_lent slabs.new) class).per_page ≡ (class_at (slabs_lent slabs.old) class).per_page }
+    ensures per_page { (class_at (slabs_lent slabs.new) class).per_page
+        ≡ (class_at (slabs_lent slabs.old) class).per_page }
     ensures holdings { (view hand.new).row.holdings ≡ (view hand.old).row.holdings }
     ensures ids { (view hand.new).row.ids ≡ (view hand.old).row.ids }
 {
@@ -177,7 +188,8 @@ fn sweep_and_save(
     ensures arena { IsHandOf arena.now hand.new }
     ensures locks { locks_of hand.new ≡ without_stripe (locks_of hand.old) }
     ensures slabs { HasSlabs hand.new slabs.new }
-    ensures saves { ActsOnStripe (λ number. SweepsAndSaves number class chunk result) hand.old stripe slabs.old hand.new slabs.new }
+    ensures saves { ActsOnStripe (λ number. SweepsAndSaves number class chunk result) hand.old
+        stripe slabs.old hand.new slabs.new }
     ensures dead { is_held_up result ≡ false → SeesDead hand.new chunk }
     ensures holdings { (view hand.new).row.holdings ≡ (view hand.old).row.holdings }
     ensures ids { (view hand.new).row.ids ≡ (view hand.old).row.ids }
@@ -215,11 +227,14 @@ fn rescue_to_target(
     ensures arena { IsHandOf arena.now hand.new }
     ensures slabs { HasSlabs hand.new slabs.new }
     ensures locks { IfOk result (λ found. locks_of hand.new ≡ without_stripe (locks_of hand.old)) }
-    ensures rescues { IfOk result (λ found. ActsOnStripe (λ number. RescuesToTarget number chunk found) hand.old stripe slabs.old hand.new slabs.new) }
+    ensures rescues { IfOk result (λ found. ActsOnStripe (λ number.
+        RescuesToTarget number chunk found) hand.old stripe slabs.old hand.new slabs.new) }
     ensures dead { IfOk result (λ found. is_held_up found ≡ false → SeesDead hand.new chunk) }
     ensures back { IfErr result (λ back. back ≡ stripe) }
-    ensures lacks { OnErr result (FindsNoTarget chunk (slabs_lent slabs.old) (view hand.old) (view hand.new)) }
-    ensures no_target { OnErr result (sees_no_target (slabs_lent slabs.old) (view hand.new).row.looks chunk.page ≡ true) }
+    ensures lacks { OnErr result (FindsNoTarget chunk (slabs_lent slabs.old) (view hand.old)
+        (view hand.new)) }
+    ensures no_target { OnErr result (sees_no_target (slabs_lent slabs.old)
+        (view hand.new).row.looks chunk.page ≡ true) }
     ensures same_slabs { OnErr result (slabs_lent slabs.new ≡ slabs_lent slabs.old) }
     ensures same_locks { OnErr result (locks_of hand.new ≡ locks_of hand.old) }
     ensures holdings { (view hand.new).row.holdings ≡ (view hand.old).row.holdings }

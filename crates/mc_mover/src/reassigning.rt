@@ -34,7 +34,8 @@ pub fn reassign<R: Wait>(
     ensures ready { IsReady (view hand.new) }
     ensures locks { locks_of hand.new ≡ locks_of hand.old }
     ensures number { hand_number hand.new ≡ hand_number hand.old }
-    ensures reassigns { ActsOnceByNumber (λ number. Reassigns number src dst result) hand.old hand.new }
+    ensures reassigns { ActsOnceByNumber (λ number.
+        Reassigns number src dst result) hand.old hand.new }
     ensures holdings { (view hand.new).row.holdings ≡ (view hand.old).row.holdings }
     ensures keeps { KeepsRefs (view hand.old) (view hand.new) }
     ensures stores_nothing { (view hand.new).row.knows.stored ≡ (view hand.old).row.knows.stored }

@@ -26,11 +26,15 @@ pub fn trim<R: Wait>(rt: &R, arena: &Arena, hand: &mut Hand) -> Result<(), Trim>
     ensures ready { IsReady (view hand.new) }
     ensures locks { locks_of hand.new ≡ locks_of hand.old }
     ensures number { hand_number hand.new ≡ hand_number hand.old }
-    ensures trims { OnOk result (TrimsAll (hand_number hand.old) (setup_of arena.now).config.stripes (view hand.old) (view hand.new)) }
-    ensures stops { OnErr result (StopsTrimming (hand_number hand.old) Leaves (view hand.old) (view hand.new)) }
-    ensures given { OnOk result ((stripe : ℕ) → stripe < (setup_of arena.now).config.stripes → GivesBackChanged Trimmed (view hand.new) stripe) }
+    ensures trims { OnOk result (TrimsAll (hand_number hand.old) (setup_of arena.now).config.stripes
+        (view hand.old) (view hand.new)) }
+    ensures stops { OnErr result (StopsTrimming (hand_number hand.old) Leaves (view hand.old)
+        (view hand.new)) }
+    ensures given { OnOk result ((stripe : ℕ) → stripe < (setup_of arena.now).config.stripes →
+        GivesBackChanged Trimmed (view hand.new) stripe) }
     ensures same { OnErr result (GivesBackUpToOne (view hand.new)) }
-    ensures full { result ≡ Err Trim.Full → StopsTrimming (hand_number hand.old) FindsStripeFull (view hand.old) (view hand.new) }
+    ensures full { result ≡ Err Trim.Full →
+        StopsTrimming (hand_number hand.old) FindsStripeFull (view hand.old) (view hand.new) }
     ensures first { result ≡ Err (Trim.NoMemory tt)
         → StopsTrimming (hand_number hand.old) FindsNotFull (view hand.old) (view hand.new) }
     ensures holdings { (view hand.new).row.holdings ≡ (view hand.old).row.holdings }
@@ -73,8 +77,10 @@ pub fn forget<R: Wait>(rt: &R, arena: &Arena, hand: &mut Hand)
     ensures ready { IsReady (view hand.new) }
     ensures locks { locks_of hand.new ≡ locks_of hand.old }
     ensures number { hand_number hand.new ≡ hand_number hand.old }
-    ensures forgets { ChangesEach Forget (hand_number hand.old) (range_with_len 0 (setup_of arena.now).config.stripes) (view hand.old) (view hand.new) }
-    ensures given { (stripe : ℕ) → stripe < (setup_of arena.now).config.stripes → GivesBackChanged Forget (view hand.new) stripe }
+    ensures forgets { ChangesEach Forget (hand_number hand.old)
+        (range_with_len 0 (setup_of arena.now).config.stripes) (view hand.old) (view hand.new) }
+    ensures given { (stripe : ℕ) → stripe < (setup_of arena.now).config.stripes →
+        GivesBackChanged Forget (view hand.new) stripe }
     ensures holdings { (view hand.new).row.holdings ≡ (view hand.old).row.holdings }
     ensures keeps { KeepsRefs (view hand.old) (view hand.new) }
     ensures stores_nothing { (view hand.new).row.knows.stored ≡ (view hand.old).row.knows.stored }
@@ -93,11 +99,14 @@ fn trim_stripes<R: Wait>(rt: &R, arena: &Arena, hand: &mut Hand) -> Result<(), T
     ensures ready { IsReady (view hand.new) }
     ensures locks { locks_of hand.new ≡ locks_of hand.old }
     ensures number { hand_number hand.new ≡ hand_number hand.old }
-    ensures trims { OnOk result (ChangesEach Trimmed (hand_number hand.old) (range_with_len 0 (setup_of arena.now).config.stripes) (view hand.old) (view hand.new)) }
+    ensures trims { OnOk result (ChangesEach Trimmed (hand_number hand.old)
+        (range_with_len 0 (setup_of arena.now).config.stripes) (view hand.old) (view hand.new)) }
     ensures unfull { OnOk result ((stripe : ℕ) → stripe < (setup_of arena.now).config.stripes
         → TakesNotFull (view hand.new) stripe) }
-    ensures stops { OnErr result (StopsTrimming (hand_number hand.old) Leaves (view hand.old) (view hand.new)) }
-    ensures full { result ≡ Err Trim.Full → StopsTrimming (hand_number hand.old) FindsStripeFull (view hand.old) (view hand.new) }
+    ensures stops { OnErr result (StopsTrimming (hand_number hand.old) Leaves (view hand.old)
+        (view hand.new)) }
+    ensures full { result ≡ Err Trim.Full →
+        StopsTrimming (hand_number hand.old) FindsStripeFull (view hand.old) (view hand.new) }
     ensures first { result ≡ Err (Trim.NoMemory tt)
         → StopsTrimming (hand_number hand.old) FindsNotFull (view hand.old) (view hand.new) }
     ensures holdings { (view hand.new).row.holdings ≡ (view hand.old).row.holdings }
@@ -120,10 +129,12 @@ fn trim_stripe<R: Wait>(rt: &R, arena: &Arena, hand: &mut Hand, stripe: u64) -> 
     ensures ready { IsReady (view hand.new) }
     ensures locks { locks_of hand.new ≡ locks_of hand.old }
     ensures number { hand_number hand.new ≡ hand_number hand.old }
-    ensures trims { OnOk result (HoldsStripe stripe (Changes Trimmed (hand_number hand.old) stripe) (view hand.old) (view hand.new)) }
+    ensures trims { OnOk result (HoldsStripe stripe (Changes Trimmed (hand_number hand.old) stripe)
+        (view hand.old) (view hand.new)) }
     ensures leaves { OnErr result (HoldsStripe stripe Leaves (view hand.old) (view hand.new)) }
     ensures unfull { OnOk result (TakesNotFull (view hand.new) stripe) }
-    ensures full { result ≡ Err Trim.Full → HoldsStripe stripe FindsStripeFull (view hand.old) (view hand.new) }
+    ensures full { result ≡ Err Trim.Full →
+        HoldsStripe stripe FindsStripeFull (view hand.old) (view hand.new) }
     ensures first { result ≡ Err (Trim.NoMemory tt)
         → HoldsStripe stripe FindsNotFull (view hand.old) (view hand.new) }
 {
@@ -145,7 +156,8 @@ fn forget_stripe<R: Wait>(rt: &R, arena: &Arena, hand: &mut Hand, stripe: u64)
     ensures ready { IsReady (view hand.new) }
     ensures locks { locks_of hand.new ≡ locks_of hand.old }
     ensures number { hand_number hand.new ≡ hand_number hand.old }
-    ensures forgets { HoldsStripe stripe (Changes Forget (hand_number hand.old) stripe) (view hand.old) (view hand.new) }
+    ensures forgets { HoldsStripe stripe (Changes Forget (hand_number hand.old) stripe)
+        (view hand.old) (view hand.new) }
 {
     let mut held = arena.lock_stripe(rt, hand, stripe);
     arena.forget(hand, &mut held);

@@ -42,7 +42,8 @@ pub(crate) fn evict(
     ensures locks { locks_of hand.new ≡ without_stripe (locks_of hand.old) }
     ensures slabs { HasSlabs hand.new slabs.new }
     ensures same_slabs { slabs.new ≡ slabs.old }
-    ensures evicts { ActsOnStripe (EvictsAs chunk result) hand.old stripe slabs.old hand.new slabs.new }
+    ensures evicts { ActsOnStripe (EvictsAs chunk result) hand.old stripe slabs.old hand.new
+        slabs.new }
     ensures dead { is_held_up result ≡ false → SeesDead hand.new chunk }
     ensures holdings { (view hand.new).row.holdings ≡ (view hand.old).row.holdings }
     ensures ids { (view hand.new).row.ids ≡ (view hand.old).row.ids }
@@ -80,15 +81,20 @@ pub(crate) fn rescue(
     requires linked { was_linked (view hand.old).row.looks chunk ≡ true }
     requires fresh { IsFreshOf (view hand.old) (fresh_chunk fresh) (fresh_room fresh) }
     requires copy { HasBlankCopy hand.old chunk fresh }
-    requires alone { holding_of (fresh_chunk fresh) (without_first (is_of_chunk (fresh_chunk fresh)) (view hand.old).row.holdings) ≡ None }
-    requires only { has_copy (without_first (is_of_chunk (fresh_chunk fresh)) (view hand.old).row.holdings) chunk ≡ false }
-    requires room { fresh_room fresh ≡ room_in (setup_of arena.now).table (class_of_page (slabs_lent slabs.old) chunk.page) }
+    requires alone { holding_of (fresh_chunk fresh)
+        (without_first (is_of_chunk (fresh_chunk fresh)) (view hand.old).row.holdings) ≡ None }
+    requires only { has_copy (without_first (is_of_chunk (fresh_chunk fresh))
+        (view hand.old).row.holdings) chunk ≡ false }
+    requires room { fresh_room fresh ≡ room_in (setup_of arena.now).table
+        (class_of_page (slabs_lent slabs.old) chunk.page) }
     ensures arena { IsHandOf arena.now hand.new }
     ensures locks { locks_of hand.new ≡ without_stripe (locks_of hand.old) }
     ensures slabs { HasSlabs hand.new slabs.new }
-    ensures rescues { ActsOnStripe (RescuesAs chunk fresh result) hand.old stripe slabs.old hand.new slabs.new }
+    ensures rescues { ActsOnStripe (RescuesAs chunk fresh result) hand.old stripe slabs.old hand.new
+        slabs.new }
     ensures dead { is_held_up result ≡ false → SeesDead hand.new chunk }
-    ensures holdings { (view hand.new).row.holdings ≡ without_first (is_of_chunk (fresh_chunk fresh)) (view hand.old).row.holdings }
+    ensures holdings { (view hand.new).row.holdings
+        ≡ without_first (is_of_chunk (fresh_chunk fresh)) (view hand.old).row.holdings }
     ensures ids { (view hand.new).row.ids ≡ (view hand.old).row.ids }
 {
     let copy = fresh.chunk();
@@ -127,9 +133,12 @@ pub(crate) fn move_item(
     requires linked { was_linked (view hand.old).row.looks chunk ≡ true }
     requires fresh { IsFreshOf (view hand.old) (fresh_chunk fresh) (fresh_room fresh) }
     requires copy { HasBlankCopy hand.old chunk fresh }
-    requires alone { holding_of (fresh_chunk fresh) (without_first (is_of_chunk (fresh_chunk fresh)) (view hand.old).row.holdings) ≡ None }
-    requires only { has_copy (without_first (is_of_chunk (fresh_chunk fresh)) (view hand.old).row.holdings) chunk ≡ false }
-    requires room { fresh_room fresh ≡ room_in (setup_of arena.now).table (class_of_page (slabs_lent slabs.old) chunk.page) }
+    requires alone { holding_of (fresh_chunk fresh)
+        (without_first (is_of_chunk (fresh_chunk fresh)) (view hand.old).row.holdings) ≡ None }
+    requires only { has_copy (without_first (is_of_chunk (fresh_chunk fresh))
+        (view hand.old).row.holdings) chunk ≡ false }
+    requires room { fresh_room fresh ≡ room_in (setup_of arena.now).table
+        (class_of_page (slabs_lent slabs.old) chunk.page) }
     ensures arena { IsHandOf arena.now hand.new }
     ensures locks { locks_of hand.new ≡ locks_of hand.old }
     ensures slabs { HasSlabs hand.new slabs.new }
@@ -139,8 +148,10 @@ pub(crate) fn move_item(
     ensures empty { (stripe_lent stripe.new).state.aside ≡ None }
     ensures moves { OnOk result (MovesInto chunk fresh hand.old stripe.old hand.new stripe.new) }
     ensures dead { OnOk result (SeesDead hand.new chunk) }
-    ensures fails { OnErr result (FailsToMove chunk (fresh_chunk fresh) (view hand.old) (view hand.new) × (stripe.new ≡ stripe.old)) }
-    ensures holdings { (view hand.new).row.holdings ≡ without_first (is_of_chunk (fresh_chunk fresh)) (view hand.old).row.holdings }
+    ensures fails { OnErr result (FailsToMove chunk (fresh_chunk fresh) (view hand.old)
+        (view hand.new) × (stripe.new ≡ stripe.old)) }
+    ensures holdings { (view hand.new).row.holdings
+        ≡ without_first (is_of_chunk (fresh_chunk fresh)) (view hand.old).row.holdings }
     ensures ids { (view hand.new).row.ids ≡ (view hand.old).row.ids }
 {
     let mut fresh = fresh;

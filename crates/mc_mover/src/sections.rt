@@ -38,9 +38,12 @@ fn section(
     ensures arena { IsHandOf arena.now hand.new }
     ensures locks { locks_of hand.new ≡ locks_of hand.old }
     ensures held { HasSlabs hand.new held.new }
-    ensures section { IfOk result (λ found. ActsByNumber (λ number. Section number sweep.old found sweep.new) hand.old held.old hand.new held.new) }
-    ensures lacks { OnErr result (ActsByNumber (λ number. LacksCallToSave (chunk_at_position moving)) hand.old held.old hand.new held.new) }
-    ensures moves { IfOk result (λ found. (slabs_lent held.new).moving ≡ Some (moved_on moving found)) }
+    ensures section { IfOk result (λ found. ActsByNumber (λ number.
+        Section number sweep.old found sweep.new) hand.old held.old hand.new held.new) }
+    ensures lacks { OnErr result (ActsByNumber (λ number.
+        LacksCallToSave (chunk_at_position moving)) hand.old held.old hand.new held.new) }
+    ensures moves { IfOk result (λ found. (slabs_lent held.new).moving
+        ≡ Some (moved_on moving found)) }
     ensures uncut { (slabs_lent held.new).uncut ≡ (slabs_lent held.old).uncut }
     ensures holdings { (view hand.new).row.holdings ≡ (view hand.old).row.holdings }
     ensures ids { (view hand.new).row.ids ≡ (view hand.old).row.ids }
@@ -71,10 +74,13 @@ pub(crate) fn sections(
     ensures arena { IsHandOf arena.now hand.new }
     ensures locks { locks_of hand.new ≡ locks_of hand.old }
     ensures held { HasSlabs hand.new held.new }
-    ensures looks { IfOk result (λ counts. ActsByNumber (λ number. LooksFrom number counts) hand.old held.old hand.new held.new) }
+    ensures looks { IfOk result (λ counts. ActsByNumber (λ number.
+        LooksFrom number counts) hand.old held.old hand.new held.new) }
     ensures runs { IfOk result (λ counts. is_some (slabs_lent held.new).moving ≡ true) }
-    ensures same_move { IfOk result (λ counts. RunsStill (slabs_lent held.old).moving (slabs_lent held.new).moving) }
-    ensures lacks { OnErr result (ActsByNumber TurnLacksMemory hand.old held.old hand.new held.new) }
+    ensures same_move { IfOk result (λ counts. RunsStill (slabs_lent held.old).moving
+        (slabs_lent held.new).moving) }
+    ensures lacks { OnErr result (ActsByNumber TurnLacksMemory hand.old held.old hand.new
+        held.new) }
     ensures uncut { (slabs_lent held.new).uncut ≡ (slabs_lent held.old).uncut }
     ensures holdings { (view hand.new).row.holdings ≡ (view hand.old).row.holdings }
     ensures ids { (view hand.new).row.ids ≡ (view hand.old).row.ids }

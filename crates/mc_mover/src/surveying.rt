@@ -33,7 +33,8 @@ pub fn survey<R: Wait>(
     ensures ready { IsReady (view hand.new) }
     ensures locks { locks_of hand.new ≡ locks_of hand.old }
     ensures number { hand_number hand.new ≡ hand_number hand.old }
-    ensures surveys { IfOk result (λ survey. ActsOnceByNumber (λ number. Surveys sweep survey) hand.old hand.new) }
+    ensures surveys { IfOk result (λ survey. ActsOnceByNumber (λ number.
+        Surveys sweep survey) hand.old hand.new) }
     ensures no_memory { OnErr result (view hand.new ≡ view hand.old) }
     ensures holdings { (view hand.new).row.holdings ≡ (view hand.old).row.holdings }
     ensures keeps { KeepsRefs (view hand.old) (view hand.new) }
@@ -56,7 +57,8 @@ fn sweep_classes(arena: &Arena, hand: &mut Hand, held: &mut SlabsHeld, sweep: bo
     ensures arena { IsHandOf arena.now hand.new }
     ensures locks { locks_of hand.new ≡ locks_of hand.old }
     ensures held { HasSlabs hand.new held.new }
-    ensures swept { ActsByNumber (λ number. SweepsClasses (classes_swept sweep (slabs_lent held.old))) hand.old held.old hand.new held.new }
+    ensures swept { ActsByNumber (λ number. SweepsClasses
+        (classes_swept sweep (slabs_lent held.old))) hand.old held.old hand.new held.new }
     ensures view { view hand.new ≡ with_seen (view hand.old) (view hand.new) }
     ensures whole { (slabs_lent held.new).uncut ≡ (slabs_lent held.old).uncut }
 {

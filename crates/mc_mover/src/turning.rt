@@ -42,7 +42,8 @@ pub fn turn<R: Wait>(rt: &R, arena: &Arena, hand: &mut Hand) -> Result<Turn, NoM
     ensures ready { IsReady (view hand.new) }
     ensures locks { locks_of hand.new ≡ locks_of hand.old }
     ensures number { hand_number hand.new ≡ hand_number hand.old }
-    ensures turns { IfOk result (λ turn. ActsOnceByNumber (λ number. Turns number turn) hand.old hand.new) }
+    ensures turns { IfOk result (λ turn. ActsOnceByNumber (λ number.
+        Turns number turn) hand.old hand.new) }
     ensures lacks { OnErr result (ActsOnceByNumber TurnLacksMemory hand.old hand.new) }
     ensures answers { IfOk result (AnswersMove (view hand.new)) }
     ensures records { IfOk result (RecordsTurn hand.old hand.new) }
@@ -66,12 +67,15 @@ pub fn try_turn(arena: &Arena, hand: &mut Hand) -> Result<Turn, TryTurn>
     ensures ready { IsReady (view hand.new) }
     ensures locks { locks_of hand.new ≡ locks_of hand.old }
     ensures number { hand_number hand.new ≡ hand_number hand.old }
-    ensures turns { IfOk result (λ turn. ActsOnceByNumber (λ number. Turns number turn) hand.old hand.new) }
+    ensures turns { IfOk result (λ turn. ActsOnceByNumber (λ number.
+        Turns number turn) hand.old hand.new) }
     ensures held { result ≡ Err TryTurn.Held → FindsSlabsHeld hand.old hand.new }
-    ensures lacks { result ≡ Err (TryTurn.NoMemory tt) → ActsOnceByNumber TurnLacksMemory hand.old hand.new }
+    ensures lacks { result ≡ Err (TryTurn.NoMemory tt) →
+        ActsOnceByNumber TurnLacksMemory hand.old hand.new }
     ensures answers { IfOk result (AnswersMove (view hand.new)) }
     ensures records { IfOk result (RecordsTurn hand.old hand.new) }
-    ensures told_before { result ≡ Err (TryTurn.NoMemory tt) → RecordsUntilStopped hand.old hand.new }
+    ensures told_before { result ≡ Err (TryTurn.NoMemory tt) →
+        RecordsUntilStopped hand.old hand.new }
     ensures holdings { (view hand.new).row.holdings ≡ (view hand.old).row.holdings }
     ensures keeps { KeepsRefs (view hand.old) (view hand.new) }
     ensures stores_nothing { (view hand.new).row.knows.stored ≡ (view hand.old).row.knows.stored }
@@ -99,9 +103,12 @@ fn turn_held(arena: &Arena, hand: &mut Hand, held: &mut SlabsHeld) -> Result<Tur
     ensures locks { locks_of hand.new ≡ locks_of hand.old }
     ensures held { HasSlabs hand.new held.new }
     ensures whole { (slabs_lent held.new).uncut ≡ None }
-    ensures turns { IfOk result (λ turn. ActsByNumber (λ number. Turns number turn) hand.old held.old hand.new held.new) }
-    ensures answers { IfOk result (λ turn. IsAnswerOf turn (slabs_lent held.old).moving (slabs_lent held.new).moving) }
-    ensures lacks { OnErr result (ActsByNumber TurnLacksMemory hand.old held.old hand.new held.new) }
+    ensures turns { IfOk result (λ turn. ActsByNumber (λ number.
+        Turns number turn) hand.old held.old hand.new held.new) }
+    ensures answers { IfOk result (λ turn. IsAnswerOf turn (slabs_lent held.old).moving
+        (slabs_lent held.new).moving) }
+    ensures lacks { OnErr result (ActsByNumber TurnLacksMemory hand.old held.old hand.new
+        held.new) }
     ensures holdings { (view hand.new).row.holdings ≡ (view hand.old).row.holdings }
 {
     if held.moving().is_none() {

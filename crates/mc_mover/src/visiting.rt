@@ -44,12 +44,16 @@ pub(crate) fn visit(
     ensures arena { IsHandOf arena.now hand.new }
     ensures locks { locks_of hand.new ≡ locks_of hand.old }
     ensures held { HasSlabs hand.new held.new }
-    ensures visits { IfOk result (λ found. ActsByNumber (λ number. Visits number class chunk sweep.old found sweep.new) hand.old held.old hand.new held.new) }
-    ensures clears { IfOk result (λ found. is_held_up found ≡ false → is_cleared (slabs_lent held.new) class chunk ≡ true) }
-    ensures lacks { OnErr result (ActsByNumber (λ number. LacksCallToSave chunk) hand.old held.old hand.new held.new) }
+    ensures visits { IfOk result (λ found. ActsByNumber (λ number.
+        Visits number class chunk sweep.old found sweep.new) hand.old held.old hand.new held.new) }
+    ensures clears { IfOk result (λ found. is_held_up found ≡ false →
+        is_cleared (slabs_lent held.new) class chunk ≡ true) }
+    ensures lacks { OnErr result (ActsByNumber (λ number.
+        LacksCallToSave chunk) hand.old held.old hand.new held.new) }
     ensures moving { (slabs_lent held.new).moving ≡ (slabs_lent held.old).moving }
     ensures uncut { (slabs_lent held.new).uncut ≡ (slabs_lent held.old).uncut }
-    ensures per_page { (class_at (slabs_lent held.new) class).per_page ≡ (class_at (slabs_lent held.old) class).per_page }
+    ensures per_page { (class_at (slabs_lent held.new) class).per_page
+        ≡ (class_at (slabs_lent held.old) class).per_page }
     ensures holdings { (view hand.new).row.holdings ≡ (view hand.old).row.holdings }
     ensures ids { (view hand.new).row.ids ≡ (view hand.old).row.ids }
 {

@@ -158,7 +158,8 @@ fn factor_or_default(matches: &ArgMatches<'_>) -> (u64, u64)
 pub fn options<S: AsStr>(alloc: Global, words: &[S]) -> Result<Options, Error>
     ensures taken { IfOk result (λ options. options ≡ options_of (drop 1 (map S.text words.now))) }
     ensures mode { IfOk result (λ options. options.run.automove ≤ 2) }
-    ensures refused { IfErr result (λ error. IsCommandLine (drop 1 (map S.text words.now)) → kind_of error ≡ ErrorKind.OutOfMemory) }
+    ensures refused { IfErr result (λ error. IsCommandLine (drop 1 (map S.text words.now)) →
+        kind_of error ≡ ErrorKind.OutOfMemory) }
 {
     let matches = command(alloc)?.try_get_matches_from(words)?;
     let (num, den) = factor_or_default(&matches);

@@ -35,7 +35,8 @@ pub fn unpack(words: &[u64], key: &[u8], into: &mut Vec<u8>) -> Result<(), Refus
 fn push_value(words: &[u64], begin: usize, into: &mut Vec<u8>) -> Result<(), Refused>
     requires lengths { 2 ≤ begin }
     requires begin { begin ≤ length words.now }
-    ensures value { OnOk result (into.new.items ≡ into.old.items ++ bytes_of_words (slice_index words.now 1) (drop begin words.now)) }
+    ensures value { OnOk result (into.new.items ≡ into.old.items
+        ++ bytes_of_words (slice_index words.now 1) (drop begin words.now)) }
     ensures refused { OnErr result (into.new.items ≡ into.old.items) }
 {
     let len = words[1] as usize;

@@ -122,7 +122,8 @@ pub fn write_word(into: &mut [u8], place: usize, word: u64)
 pub fn write_part(into: &mut [u8], place: usize, word: u64)
     requires in_range { place ≤ length into.old }
     requires within_limit { length into.old ≤ place + 8 }
-    ensures { into.new ≡ take place into.old ++ take (length into.old - place) (bytes_of_word word) }
+    ensures { into.new ≡ take place into.old ++ take (length into.old - place)
+        (bytes_of_word word) }
 {
     let part = into.len() - place;
     into[place..].copy_from_slice(&eight_bytes(word)[..part]);
@@ -147,7 +148,8 @@ pub(crate) fn push_word(into: &mut Vec<u8>, word: u64, count: usize)
 /// Puts the first n bytes of the words behind those that are there, or all bytes of the words where they have fewer. Where there
 /// is no room, the bytes stay.
 pub(crate) fn push_bytes(into: &mut Vec<u8>, words: &[u64], count: usize) -> Result<(), Refused>
-    ensures bytes { OnOk result (into.new.items ≡ into.old.items ++ bytes_of_words count words.now) }
+    ensures bytes { OnOk result (into.new.items ≡ into.old.items
+        ++ bytes_of_words count words.now) }
     ensures refused { OnErr result (into.new.items ≡ into.old.items) }
 {
     reserve(into, count)?;

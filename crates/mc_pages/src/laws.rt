@@ -17,9 +17,12 @@ ghost use Rattle.mc_pages.specs.Unaccounted.{nothing_granted, page_of_no_class, 
 /// Each page is in one place: with a class, in the pool, on the move, or among those that were never granted. The one on the move
 /// is in one page list, its source's. What isn't a page is nowhere.
 pub fn no_page_is_lost()
-    ensures once { (slabs : SlabState) (page : ℕ) → IsAccounted slabs → page < page_count slabs → page_places slabs page ≡ 1 }
-    ensures moving { (slabs : SlabState) (move : Moving) → IsAccounted slabs → slabs.moving ≡ Some move → times_listed slabs move.page ≡ 1 }
-    ensures nowhere { (slabs : SlabState) (page : ℕ) → IsAccounted slabs → page_count slabs ≤ page → page_places slabs page ≡ 0 }
+    ensures once { (slabs : SlabState) (page : ℕ) → IsAccounted slabs → page < page_count slabs →
+        page_places slabs page ≡ 1 }
+    ensures moving { (slabs : SlabState) (move : Moving) → IsAccounted slabs →
+        slabs.moving ≡ Some move → times_listed slabs move.page ≡ 1 }
+    ensures nowhere { (slabs : SlabState) (page : ℕ) → IsAccounted slabs → page_count slabs ≤ page →
+        page_places slabs page ≡ 0 }
 {}
 
 /// A memory in which nothing was granted is accounted for. Seven others aren't, each for one reason: a page is owned by a class
@@ -39,20 +42,32 @@ pub fn unaccounted_memories()
 /// The recorded entries go on from what the others left: they lead from the base's owners to those of now. Base and recorded
 /// entries have, together, each page that was granted within the limit, and each that a class got beyond it.
 pub fn ledger_goes_on()
-    ensures replayed { (slabs : SlabState) → IsAccounted slabs → replay (owners_in (base_pages slabs)) (ledger_tail slabs) ≡ Some slabs.owners }
-    ensures within_limit { (slabs : SlabState) → IsAccounted slabs → count_by is_within_limit (base_pages slabs) + ordinary_count (ledger_tail slabs) ≡ ordinary_count slabs.ledger }
-    ensures beyond_limit { (slabs : SlabState) (class : ℕ) → IsAccounted slabs → count_by (is_grace_of class) (base_pages slabs) + grace_count (ledger_tail slabs) class ≡ grace_count slabs.ledger class }
+    ensures replayed { (slabs : SlabState) → IsAccounted slabs →
+        replay (owners_in (base_pages slabs)) (ledger_tail slabs) ≡ Some slabs.owners }
+    ensures within_limit { (slabs : SlabState) → IsAccounted slabs →
+        count_by is_within_limit (base_pages slabs) + ordinary_count (ledger_tail slabs)
+        ≡ ordinary_count slabs.ledger }
+    ensures beyond_limit { (slabs : SlabState) (class : ℕ) → IsAccounted slabs →
+        count_by (is_grace_of class) (base_pages slabs) + grace_count (ledger_tail slabs) class
+        ≡ grace_count slabs.ledger class }
 {}
 
 /// What some entries leave of two pages: of one that was granted within the limit, moved and was taken again; of one that was
 /// granted beyond it, which the base records for good; and of one on the move.
 pub fn worked_bases()
     ensures never_granted { pages_after_entries two_pages [] ≡ two_pages }
-    ensures granted { pages_after_entries two_pages (Granted 0 3 false ∷ []) ≡ record { owner = Class 3; grace = None } ∷ never_granted ∷ [] }
-    ensures taken_again { pages_after_entries two_pages (Granted 0 3 false ∷ Began 0 3 0 ∷ Ended 0 0 ∷ Taken 0 2 ∷ []) ≡ record { owner = Class 2; grace = None } ∷ never_granted ∷ [] }
-    ensures beyond { pages_after_entries two_pages (Granted 1 3 true ∷ Began 1 3 2 ∷ Ended 1 2 ∷ []) ≡ never_granted ∷ record { owner = Class 2; grace = Some 3 } ∷ [] }
-    ensures on_the_move { pages_after_entries two_pages (Granted 0 3 false ∷ Began 0 3 0 ∷ []) ≡ record { owner = MovingTo 3 0; grace = None } ∷ never_granted ∷ [] }
-    ensures pooled { pages_after_entries two_pages (Granted 0 3 false ∷ Began 0 3 0 ∷ Ended 0 0 ∷ []) ≡ record { owner = Pool; grace = None } ∷ never_granted ∷ [] }
+    ensures granted { pages_after_entries two_pages (Granted 0 3 false ∷ [])
+        ≡ record { owner = Class 3; grace = None } ∷ never_granted ∷ [] }
+    ensures taken_again { pages_after_entries two_pages
+        (Granted 0 3 false ∷ Began 0 3 0 ∷ Ended 0 0 ∷ Taken 0 2 ∷ [])
+        ≡ record { owner = Class 2; grace = None } ∷ never_granted ∷ [] }
+    ensures beyond { pages_after_entries two_pages (Granted 1 3 true ∷ Began 1 3 2 ∷ Ended 1 2 ∷ [])
+        ≡ never_granted ∷ record { owner = Class 2; grace = Some 3 } ∷ [] }
+    ensures on_the_move { pages_after_entries two_pages (Granted 0 3 false ∷ Began 0 3 0 ∷ [])
+        ≡ record { owner = MovingTo 3 0; grace = None } ∷ never_granted ∷ [] }
+    ensures pooled { pages_after_entries two_pages
+        (Granted 0 3 false ∷ Began 0 3 0 ∷ Ended 0 0 ∷ [])
+        ≡ record { owner = Pool; grace = None } ∷ never_granted ∷ [] }
 {}
 
 /// Which of two chunks comes first in a list. In 2, 0, 1 the first is before the last, which isn't before it, and none is before
@@ -64,7 +79,10 @@ pub fn one_before_another()
     ensures not_itself { comes_before (nth 0) (nth 0) three ≡ false }
     ensures not_absent { comes_before (nth 2) (nth 3) three ≡ false }
     ensures absent_not { comes_before (nth 3) (nth 1) three ≡ false }
-    ensures one_way { (a b : ChunkId) (l : List ChunkId) → HasEachOnce l → comes_before a b l ≡ true → comes_before b a l ≡ false }
-    ensures through { (a b c : ChunkId) (l : List ChunkId) → HasEachOnce l → comes_before a b l ≡ true → comes_before b c l ≡ true → comes_before a c l ≡ true }
-    ensures without { (a b c : ChunkId) (l : List ChunkId) → c ≢ a → c ≢ b → comes_before a b l ≡ true → comes_before a b (without c l) ≡ true }
+    ensures one_way { (a b : ChunkId) (l : List ChunkId) → HasEachOnce l →
+        comes_before a b l ≡ true → comes_before b a l ≡ false }
+    ensures through { (a b c : ChunkId) (l : List ChunkId) → HasEachOnce l →
+        comes_before a b l ≡ true → comes_before b c l ≡ true → comes_before a c l ≡ true }
+    ensures without { (a b c : ChunkId) (l : List ChunkId) → c ≢ a → c ≢ b →
+        comes_before a b l ≡ true → comes_before a b (without c l) ≡ true }
 {}

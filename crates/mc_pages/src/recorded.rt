@@ -36,7 +36,8 @@ impl Model for Recorded {
 impl Recorded {
     /// No entry yet, of n pages.
     pub(crate) fn new(alloc: Global, pages: usize) -> Result<Recorded, Refused>
-        ensures none { IfOk result (λ entries. entries ≡ record { all = []; trimmed = 0; pages = pages; room = entries.room }) }
+        ensures none { IfOk result (λ entries. entries
+            ≡ record { all = []; trimmed = 0; pages = pages; room = entries.room }) }
     {
         Ok(Recorded {
             past: Past::new(),
@@ -58,7 +59,11 @@ impl Recorded {
     /// The entry comes behind the others.
     pub(crate) fn tell(&mut self, entry: Entry)
         requires { 1 ≤ self.old.room }
-        ensures records { self.new ≡ record self.old { all = self.old.all ++ entry ∷ []; room = self.new.room } }
+        ensures records { self.new ≡ record self.old {
+          all = self.old.all
+              ++ entry ∷ [];
+          room = self.new.room;
+        } }
         ensures room { self.old.room ≤ self.new.room + 1 }
     {
         self.tail.push(entry).unwrap();
@@ -66,7 +71,8 @@ impl Recorded {
 
     /// The entries so far aren't recorded any more. The room for more stays.
     pub(crate) fn trim(&mut self)
-        ensures trimmed { self.new ≡ record self.old { trimmed = length self.old.all; room = self.new.room } }
+        ensures trimmed { self.new ≡ record self.old
+            { trimmed = length self.old.all; room = self.new.room } }
         ensures kept { self.old.room ≤ self.new.room }
     {
         apply(&mut self.base, self.tail.as_slice());
@@ -85,7 +91,8 @@ impl Recorded {
 
     /// What the entries that aren't recorded left of each page, page 0 first.
     pub(crate) fn base(&self) -> &[BasePage]
-        ensures { result.now ≡ pages_after_entries (replicate self.now.pages never_granted) (take self.now.trimmed self.now.all) }
+        ensures { result.now ≡ pages_after_entries (replicate self.now.pages never_granted)
+            (take self.now.trimmed self.now.all) }
     {
         self.base.as_slice()
     }

@@ -42,7 +42,8 @@ impl SharedSlabs {
 
     /// The slabs, to be changed: the state is what the last call through this leaves.
     pub fn slabs_mut(&mut self) -> &mut Slabs
-        ensures* changed { sem 𝓛 (Lends shared_row slabs_row self.entry result (λ slabs. slabs.state)) }
+        ensures* changed { sem 𝓛 (Lends shared_row slabs_row self.entry result (λ slabs.
+            slabs.state)) }
         ensures slabs { result.now.state ≡ self.old }
     {
         &mut self.slabs

@@ -192,8 +192,10 @@ impl Slabs {
     /// The rows that have the free lists and the hand-out orders of all classes. `writes` counts what was written there.
     pub fn rows(&self) -> &Rows
         ensures linked { AreLinked result.now }
-        ensures free { (class : ℕ) → HasClass self.now.state class → list_chunks result.now (Free (class - 1)) ≡ (class_at self.now.state class).free }
-        ensures order { (class : ℕ) → HasClass self.now.state class → list_chunks result.now (HandedOut (class - 1)) ≡ (class_at self.now.state class).order }
+        ensures free { (class : ℕ) → HasClass self.now.state class →
+            list_chunks result.now (Free (class - 1)) ≡ (class_at self.now.state class).free }
+        ensures order { (class : ℕ) → HasClass self.now.state class →
+            list_chunks result.now (HandedOut (class - 1)) ≡ (class_at self.now.state class).order }
         ensures writes { result.now.writes ≡ self.now.writes }
         ensures accounted { IsAccounted self.now.state }
     {
@@ -231,7 +233,8 @@ impl Slabs {
 
 /// The classes of the table, without pages.
 fn classes_of(alloc: Global, table: &ClassTable) -> Result<Vec<SlabClass>, Refused>
-    ensures { IfOk result (λ classes. classes.items ≡ classes_without_room (fresh_slabs table.now).classes) }
+    ensures { IfOk result (λ classes. classes.items
+        ≡ classes_without_room (fresh_slabs table.now).classes) }
 {
     let mut classes = with_capacity(alloc, table.count() as usize)?;
     for place in 0..table.count() {
@@ -247,7 +250,8 @@ fn classes_of(alloc: Global, table: &ClassTable) -> Result<Vec<SlabClass>, Refus
 /// Rows for all chunks of the table's pages, and empty lists for its classes. No class has more chunks a page than
 /// the first.
 fn rows_of(alloc: Global, table: &ClassTable) -> Result<Rows, Refused>
-    ensures { IfOk result (λ rows. rows ≡ fresh_rows (per_page_of table.now 1) (arena_pages_of table.now * per_page_of table.now 1) (length table.now.sizes)) }
+    ensures { IfOk result (λ rows. rows ≡ fresh_rows (per_page_of table.now 1)
+        (arena_pages_of table.now * per_page_of table.now 1) (length table.now.sizes)) }
 {
     let classes = table.count() as usize;
     let pages = table.arena_pages() as usize;
@@ -256,7 +260,8 @@ fn rows_of(alloc: Global, table: &ClassTable) -> Result<Rows, Refused>
 
 /// An age for each of these rows.
 fn ages_of(alloc: Global, table: &ClassTable) -> Result<Ages, Refused>
-    ensures { IfOk result (λ ages. ages ≡ fresh_ages (arena_pages_of table.now * per_page_of table.now 1)) }
+    ensures { IfOk result (λ ages. ages ≡ fresh_ages
+        (arena_pages_of table.now * per_page_of table.now 1)) }
 {
     let chunks = table.arena_pages() * table.per_page(1);
     Ages::new(alloc, chunks as usize)

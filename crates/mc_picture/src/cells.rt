@@ -55,7 +55,8 @@ pub(crate) fn write_box(x: usize, y: usize, fill: &str, text: &mut String) -> Re
 
 /// Adds the cell of a page in a column.
 fn write_cell(x: usize, y: usize, owner: Owner, text: &mut String) -> Result<(), AllocError>
-    ensures cell { OnOk result (string_bytes text.new ≡ string_bytes text.old ++ cell_text x y owner) }
+    ensures cell { OnOk result (string_bytes text.new ≡ string_bytes text.old
+        ++ cell_text x y owner) }
 {
     match owner {
         Owner::Untouched => write_box(x, y, "none\" stroke=\"#ddd", text),
@@ -71,7 +72,8 @@ fn write_cell(x: usize, y: usize, owner: Owner, text: &mut String) -> Result<(),
 /// Adds the cells of a column.
 fn write_column(place: usize, owners: &[Owner], text: &mut String) -> Result<(), AllocError>
     requires { place < 2 ^ 59 }
-    ensures column { OnOk result (string_bytes text.new ≡ string_bytes text.old ++ column_text place owners.now (length owners.now)) }
+    ensures column { OnOk result (string_bytes text.new ≡ string_bytes text.old
+        ++ column_text place owners.now (length owners.now)) }
 {
     for page in 0..owners.len() {
         write_cell(column_at(place), row_at(page), owners[page], text)?;
@@ -81,7 +83,8 @@ fn write_column(place: usize, owners: &[Owner], text: &mut String) -> Result<(),
 
 /// Adds the cells of all columns.
 pub(crate) fn write_cells(columns: &[Vec<Owner>], text: &mut String) -> Result<(), AllocError>
-    ensures cells { OnOk result (string_bytes text.new ≡ string_bytes text.old ++ cells_text (map (λ column. column.items) columns.now) (length columns.now)) }
+    ensures cells { OnOk result (string_bytes text.new ≡ string_bytes text.old
+        ++ cells_text (map (λ column. column.items) columns.now) (length columns.now)) }
 {
     for place in 0..columns.len() {
         write_column(place, columns[place].as_slice(), text)?;

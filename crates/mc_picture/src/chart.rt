@@ -67,7 +67,8 @@ pub fn write_chart(
     text: &mut String,
 ) -> Result<(), ChartError>
     requires { length classes.now ≤ 63 }
-    ensures chart { OnOk result (IsChart pages ledger.now (string_bytes text.old) (string_bytes text.new)) }
+    ensures chart { OnOk result (IsChart pages ledger.now (string_bytes text.old)
+        (string_bytes text.new)) }
     ensures large { result ≡ Err ChartError.Large → (4095 < length ledger.now) ⊎ (4096 < pages) }
 {
     if ledger.len() > MOST_ENTRIES {
@@ -89,7 +90,8 @@ pub fn write_chart(
 
 /// Adds the chart of these columns, each with the owners of all pages. Column k comes behind entry k of the ledger.
 fn draw(columns: &[Vec<Owner>], sheet: &Sheet, text: &mut String) -> Result<(), AllocError>
-    ensures drawn { OnOk result (IsDrawn (map (λ column. column.items) columns.now) (string_bytes text.old) (string_bytes text.new)) }
+    ensures drawn { OnOk result (IsDrawn (map (λ column. column.items) columns.now)
+        (string_bytes text.old) (string_bytes text.new)) }
 {
     write_front(sheet, text)?;
     write_cells(columns, text)?;

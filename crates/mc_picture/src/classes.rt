@@ -41,7 +41,8 @@ fn class_row(table: &ClassTable, class: ClassId) -> ClassRow
 
 /// What is known of all classes, class 1 first.
 pub fn class_rows(alloc: Global, table: &ClassTable) -> Result<Vec<ClassRow>, Refused>
-    ensures rows { IfOk result (λ rows. rows.items ≡ class_table_rows table.now (length table.now.sizes)) }
+    ensures rows { IfOk result (λ rows. rows.items
+        ≡ class_table_rows table.now (length table.now.sizes)) }
     ensures within_limit { IfOk result (λ rows. length rows.items ≤ 63) }
 {
     let mut rows = Vec::new(alloc);
@@ -58,7 +59,8 @@ pub fn write_classes(
     rows: &[ClassRow],
     text: &mut String,
 ) -> Result<(), AllocError>
-    ensures table { OnOk result (string_bytes text.new ≡ string_bytes text.old ++ class_table_text (page_limit table.now) table.now.page rows.now) }
+    ensures table { OnOk result (string_bytes text.new ≡ string_bytes text.old
+        ++ class_table_text (page_limit table.now) table.now.page rows.now) }
 {
     write_memory(table.pages(), table.page(), text)?;
     write_columns(text)?;
@@ -68,7 +70,8 @@ pub fn write_classes(
 /// Adds how many pages there are, and of how many bytes.
 #[tactic(auto, unfolding(crate::specs::Tables::memory_text))]
 fn write_memory(pages: u64, page: u64, text: &mut String) -> Result<(), AllocError>
-    ensures memory { OnOk result (string_bytes text.new ≡ string_bytes text.old ++ memory_text pages page) }
+    ensures memory { OnOk result (string_bytes text.new ≡ string_bytes text.old
+        ++ memory_text pages page) }
 {
     write!(text, "{pages} pages of {page}")?;
     write_note(text)
@@ -94,7 +97,8 @@ fn write_columns(text: &mut String) -> Result<(), AllocError>
 
 /// Adds a line for each of these rows.
 fn write_rows(rows: &[ClassRow], text: &mut String) -> Result<(), AllocError>
-    ensures rows { OnOk result (string_bytes text.new ≡ string_bytes text.old ++ flat_map row_text rows.now) }
+    ensures rows { OnOk result (string_bytes text.new ≡ string_bytes text.old
+        ++ flat_map row_text rows.now) }
 {
     for row in rows {
         write_row(*row, text)?;
@@ -115,7 +119,8 @@ fn write_row(row: ClassRow, text: &mut String) -> Result<(), AllocError>
 /// Adds the bytes of the items that go to chunks of this size, and the most that one of them leaves unused.
 #[tactic(auto, unfolding(crate::specs::Tables::waste_text))]
 fn write_waste(size: u64, waste: Option<u64>, text: &mut String) -> Result<(), AllocError>
-    ensures waste { OnOk result (string_bytes text.new ≡ string_bytes text.old ++ waste_text size waste) }
+    ensures waste { OnOk result (string_bytes text.new ≡ string_bytes text.old
+        ++ waste_text size waste) }
 {
     match waste {
         Some(waste) => write!(

@@ -14,7 +14,8 @@ pub(crate) fn write_move(
     hang: &Hang,
     text: &mut String,
 ) -> Result<(), AllocError>
-    ensures hangs { OnOk result (string_bytes text.new ≡ string_bytes text.old ++ move_text moving chunks hang.now) }
+    ensures hangs { OnOk result (string_bytes text.new ≡ string_bytes text.old
+        ++ move_text moving chunks hang.now) }
 {
     let Some(moving) = moving else {
         return text.push_str("\nmove\n  no page moves\n");
@@ -28,7 +29,8 @@ pub(crate) fn write_move(
 
 /// Adds which page moves, and from where.
 fn write_page(moving: Moving, text: &mut String) -> Result<(), AllocError>
-    ensures page { OnOk result (string_bytes text.new ≡ string_bytes text.old ++ moving_page_text moving) }
+    ensures page { OnOk result (string_bytes text.new ≡ string_bytes text.old
+        ++ moving_page_text moving) }
 {
     let Moving { page, src, .. } = moving;
     write!(text, "  page {page} moves from class {src}")
@@ -36,7 +38,8 @@ fn write_page(moving: Moving, text: &mut String) -> Result<(), AllocError>
 
 /// Adds the mover's place among the page's chunks.
 fn write_position(moving: Moving, chunks: u64, text: &mut String) -> Result<(), AllocError>
-    ensures position { OnOk result (string_bytes text.new ≡ string_bytes text.old ++ position_text moving chunks) }
+    ensures position { OnOk result (string_bytes text.new ≡ string_bytes text.old
+        ++ position_text moving chunks) }
 {
     let Moving { at, busy, .. } = moving;
     writeln!(
@@ -47,7 +50,8 @@ fn write_position(moving: Moving, chunks: u64, text: &mut String) -> Result<(), 
 
 /// Adds what holds a move up.
 fn write_hang(hang: &Hang, text: &mut String) -> Result<(), AllocError>
-    ensures hang { OnOk result (string_bytes text.new ≡ string_bytes text.old ++ hang_text hang.now) }
+    ensures hang { OnOk result (string_bytes text.new ≡ string_bytes text.old
+        ++ hang_text hang.now) }
 {
     match hang {
         Hang::Idle => Ok(()),
@@ -58,7 +62,8 @@ fn write_hang(hang: &Hang, text: &mut String) -> Result<(), AllocError>
 
 /// Adds the chunks that hold a move up.
 fn write_blockers(blockers: &[Blocker], text: &mut String) -> Result<(), AllocError>
-    ensures blockers { OnOk result (string_bytes text.new ≡ string_bytes text.old ++ blockers_text blockers.now) }
+    ensures blockers { OnOk result (string_bytes text.new ≡ string_bytes text.old
+        ++ blockers_text blockers.now) }
 {
     if blockers.is_empty() {
         return text.push_str("  nothing holds it up\n");
@@ -72,7 +77,8 @@ fn write_blockers(blockers: &[Blocker], text: &mut String) -> Result<(), AllocEr
 /// Adds the line of a chunk that holds a move up.
 #[tactic(auto, unfolding(crate::specs::Moves::blocker_line))]
 fn write_blocker(blocker: &Blocker, text: &mut String) -> Result<(), AllocError>
-    ensures line { OnOk result (string_bytes text.new ≡ string_bytes text.old ++ blocker_line blocker.now) }
+    ensures line { OnOk result (string_bytes text.new ≡ string_bytes text.old
+        ++ blocker_line blocker.now) }
 {
     write_chunk(blocker.chunk, blocker.key, text)?;
     write_held(blocker.linked, text)?;
@@ -82,7 +88,8 @@ fn write_blocker(blocker: &Blocker, text: &mut String) -> Result<(), AllocError>
 
 /// Adds the chunk, and the key of its item.
 fn write_chunk(chunk: u64, key: u64, text: &mut String) -> Result<(), AllocError>
-    ensures chunk { OnOk result (string_bytes text.new ≡ string_bytes text.old ++ chunk_and_key_text chunk key) }
+    ensures chunk { OnOk result (string_bytes text.new ≡ string_bytes text.old
+        ++ chunk_and_key_text chunk key) }
 {
     write!(text, "  chunk {chunk} hangs: key {key}")
 }
@@ -100,7 +107,8 @@ fn write_held(linked: bool, text: &mut String) -> Result<(), AllocError>
 
 /// Adds who holds an item, once for each hold.
 fn write_workers(workers: &[u64], text: &mut String) -> Result<(), AllocError>
-    ensures workers { OnOk result (string_bytes text.new ≡ string_bytes text.old ++ workers_text workers.now) }
+    ensures workers { OnOk result (string_bytes text.new ≡ string_bytes text.old
+        ++ workers_text workers.now) }
 {
     for worker in workers {
         write!(text, " {worker}")?;

@@ -9,7 +9,8 @@ use std::fmt::Write;
 
 /// Adds the ledger: how pages changed hands.
 pub(crate) fn write_ledger(ledger: &[Entry], text: &mut String) -> Result<(), AllocError>
-    ensures ledger { OnOk result (string_bytes text.new ≡ string_bytes text.old ++ ledger_text ledger.now) }
+    ensures ledger { OnOk result (string_bytes text.new ≡ string_bytes text.old
+        ++ ledger_text ledger.now) }
 {
     if ledger.is_empty() {
         return text.push_str("\nledger\n  no page changed hands\n");
@@ -20,7 +21,8 @@ pub(crate) fn write_ledger(ledger: &[Entry], text: &mut String) -> Result<(), Al
 
 /// Adds a line for each entry.
 fn write_entries(ledger: &[Entry], text: &mut String) -> Result<(), AllocError>
-    ensures entries { OnOk result (string_bytes text.new ≡ string_bytes text.old ++ entry_lines ledger.now (length ledger.now)) }
+    ensures entries { OnOk result (string_bytes text.new ≡ string_bytes text.old
+        ++ entry_lines ledger.now (length ledger.now)) }
 {
     for place in 0..ledger.len() {
         write_entry(place + 1, ledger[place], text)?;
@@ -30,7 +32,8 @@ fn write_entries(ledger: &[Entry], text: &mut String) -> Result<(), AllocError>
 
 /// Adds the line of an entry.
 fn write_entry(number: usize, entry: Entry, text: &mut String) -> Result<(), AllocError>
-    ensures line { OnOk result (string_bytes text.new ≡ string_bytes text.old ++ entry_line number entry) }
+    ensures line { OnOk result (string_bytes text.new ≡ string_bytes text.old
+        ++ entry_line number entry) }
 {
     write!(text, "  {number}: ")?;
     write_change(entry, text)?;
@@ -39,7 +42,8 @@ fn write_entry(number: usize, entry: Entry, text: &mut String) -> Result<(), All
 
 /// Adds that a page was granted beyond the limit, where it was.
 fn write_grace(grace: bool, text: &mut String) -> Result<(), AllocError>
-    ensures grace { OnOk result (string_bytes text.new ≡ string_bytes text.old ++ grace_text grace) }
+    ensures grace { OnOk result (string_bytes text.new ≡ string_bytes text.old
+        ++ grace_text grace) }
 {
     if grace {
         return text.push_str(", its first, beyond the limit");
@@ -49,7 +53,8 @@ fn write_grace(grace: bool, text: &mut String) -> Result<(), AllocError>
 
 /// Adds how a page changed hands.
 fn write_change(entry: Entry, text: &mut String) -> Result<(), AllocError>
-    ensures entry { OnOk result (string_bytes text.new ≡ string_bytes text.old ++ entry_text entry) }
+    ensures entry { OnOk result (string_bytes text.new ≡ string_bytes text.old
+        ++ entry_text entry) }
 {
     match entry {
         Entry::Granted(page, class, grace) => {
@@ -73,7 +78,8 @@ fn write_change(entry: Entry, text: &mut String) -> Result<(), AllocError>
 
 /// Adds that a page began to move.
 fn write_began(page: PageId, src: ClassId, text: &mut String) -> Result<(), AllocError>
-    ensures began { OnOk result (string_bytes text.new ≡ string_bytes text.old ++ began_text page src) }
+    ensures began { OnOk result (string_bytes text.new ≡ string_bytes text.old
+        ++ began_text page src) }
 {
     write!(text, "page {page} began to move from class {src}")
 }

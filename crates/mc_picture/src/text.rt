@@ -14,7 +14,8 @@ const PAGES_A_LINE: usize = 8;
 /// Adds the text of a map under this heading: who owns each page, what each class has, the ledger, and where the move hangs.
 #[tactic(auto, unfolding(crate::specs::Maps::map_text))]
 pub fn write_map(map: &Map, heading: &str, text: &mut String) -> Result<(), AllocError>
-    ensures map { OnOk result (string_bytes text.new ≡ string_bytes text.old ++ map_text heading.now map.now) }
+    ensures map { OnOk result (string_bytes text.new ≡ string_bytes text.old
+        ++ map_text heading.now map.now) }
 {
     write_front(map, heading, text)?;
     write_ledger(&map.ledger, text)?;
@@ -25,7 +26,8 @@ pub fn write_map(map: &Map, heading: &str, text: &mut String) -> Result<(), Allo
 /// Adds the heading, who owns each page, and what each class has.
 #[tactic(auto, unfolding(crate::specs::Maps::front_text))]
 fn write_front(map: &Map, heading: &str, text: &mut String) -> Result<(), AllocError>
-    ensures front { OnOk result (string_bytes text.new ≡ string_bytes text.old ++ front_text heading.now map.now) }
+    ensures front { OnOk result (string_bytes text.new ≡ string_bytes text.old
+        ++ front_text heading.now map.now) }
 {
     write_heading(heading, map.done, text)?;
     write_totals(map.page, map.owners.len(), map.totals, text)?;
@@ -36,7 +38,8 @@ fn write_front(map: &Map, heading: &str, text: &mut String) -> Result<(), AllocE
 /// Adds where in the script, and how many commands are done.
 #[tactic(auto, unfolding(crate::specs::Maps::heading_text))]
 fn write_heading(heading: &str, done: u64, text: &mut String) -> Result<(), AllocError>
-    ensures heading { OnOk result (string_bytes text.new ≡ string_bytes text.old ++ heading_text heading.now done) }
+    ensures heading { OnOk result (string_bytes text.new ≡ string_bytes text.old
+        ++ heading_text heading.now done) }
 {
     writeln!(text, "map {heading}, {done} commands done\n")
 }
@@ -49,7 +52,8 @@ fn write_totals(
     totals: Totals,
     text: &mut String,
 ) -> Result<(), AllocError>
-    ensures totals { OnOk result (string_bytes text.new ≡ string_bytes text.old ++ page_totals_text page pages totals) }
+    ensures totals { OnOk result (string_bytes text.new ≡ string_bytes text.old
+        ++ page_totals_text page pages totals) }
 {
     let Totals {
         granted,
@@ -67,7 +71,8 @@ fn write_totals(
 /// Adds the page map: who owns each page.
 #[tactic(auto, unfolding(crate::specs::Maps::page_map_text))]
 fn write_owners(owners: &[Owner], text: &mut String) -> Result<(), AllocError>
-    ensures owners { OnOk result (string_bytes text.new ≡ string_bytes text.old ++ page_map_text owners.now) }
+    ensures owners { OnOk result (string_bytes text.new ≡ string_bytes text.old
+        ++ page_map_text owners.now) }
 {
     write_page_columns(text)?;
     write_pages(owners, text)?;
@@ -94,7 +99,8 @@ fn write_page_legend(text: &mut String) -> Result<(), AllocError>
 
 /// Adds each page, eight in a line.
 fn write_pages(owners: &[Owner], text: &mut String) -> Result<(), AllocError>
-    ensures pages { OnOk result (string_bytes text.new ≡ string_bytes text.old ++ pages_text owners.now (length owners.now)) }
+    ensures pages { OnOk result (string_bytes text.new ≡ string_bytes text.old
+        ++ pages_text owners.now (length owners.now)) }
 {
     for page in 0..owners.len() {
         write_page(owners, page, text)?;
@@ -106,7 +112,8 @@ fn write_pages(owners: &[Owner], text: &mut String) -> Result<(), AllocError>
 #[tactic(auto, unfolding(crate::specs::Maps::map_page_text))]
 fn write_page(owners: &[Owner], page: usize, text: &mut String) -> Result<(), AllocError>
     requires { page < length owners.now }
-    ensures page { OnOk result (string_bytes text.new ≡ string_bytes text.old ++ map_page_text owners.now page) }
+    ensures page { OnOk result (string_bytes text.new ≡ string_bytes text.old
+        ++ map_page_text owners.now page) }
 {
     write_line_start(page, text)?;
     write_owner(owners[page], text)?;
@@ -127,7 +134,8 @@ fn write_line_start(page: usize, text: &mut String) -> Result<(), AllocError>
 /// Ends a line of the page map behind eight pages, and behind the last.
 #[tactic(auto, unfolding(crate::specs::Maps::end_text))]
 fn write_line_end(page: usize, pages: usize, text: &mut String) -> Result<(), AllocError>
-    ensures end { OnOk result (string_bytes text.new ≡ string_bytes text.old ++ end_text page pages) }
+    ensures end { OnOk result (string_bytes text.new ≡ string_bytes text.old
+        ++ end_text page pages) }
 {
     let last = pages.saturating_sub(1);
     if page % PAGES_A_LINE == PAGES_A_LINE - 1 || page == last {
@@ -139,7 +147,8 @@ fn write_line_end(page: usize, pages: usize, text: &mut String) -> Result<(), Al
 /// Adds an owner in seven places.
 #[tactic(auto, unfolding(crate::specs::Maps::owner_text))]
 fn write_owner(owner: Owner, text: &mut String) -> Result<(), AllocError>
-    ensures owner { OnOk result (string_bytes text.new ≡ string_bytes text.old ++ owner_text owner) }
+    ensures owner { OnOk result (string_bytes text.new ≡ string_bytes text.old
+        ++ owner_text owner) }
 {
     match owner {
         Owner::Untouched => text.push_str("      ."),
@@ -153,7 +162,8 @@ fn write_owner(owner: Owner, text: &mut String) -> Result<(), AllocError>
 /// Adds the lines of the classes.
 #[tactic(auto, unfolding(crate::specs::Maps::lines_text))]
 fn write_lines(lines: &[ClassLine], text: &mut String) -> Result<(), AllocError>
-    ensures lines { OnOk result (string_bytes text.new ≡ string_bytes text.old ++ lines_text lines.now) }
+    ensures lines { OnOk result (string_bytes text.new ≡ string_bytes text.old
+        ++ lines_text lines.now) }
 {
     if lines.is_empty() {
         return text.push_str("\nno class has a page\n");
@@ -174,7 +184,8 @@ fn write_line_columns(text: &mut String) -> Result<(), AllocError>
 
 /// Adds the line of each of these classes.
 fn write_each_line(lines: &[ClassLine], text: &mut String) -> Result<(), AllocError>
-    ensures lines { OnOk result (string_bytes text.new ≡ string_bytes text.old ++ flat_map line_text lines.now) }
+    ensures lines { OnOk result (string_bytes text.new ≡ string_bytes text.old
+        ++ flat_map line_text lines.now) }
 {
     for line in lines {
         write_line(line, text)?;
@@ -185,7 +196,8 @@ fn write_each_line(lines: &[ClassLine], text: &mut String) -> Result<(), AllocEr
 /// Adds the line of a class.
 #[tactic(auto, unfolding(crate::specs::Maps::line_text))]
 fn write_line(line: &ClassLine, text: &mut String) -> Result<(), AllocError>
-    ensures line { OnOk result (string_bytes text.new ≡ string_bytes text.old ++ line_text line.now) }
+    ensures line { OnOk result (string_bytes text.new ≡ string_bytes text.old
+        ++ line_text line.now) }
 {
     write_sizes(line, text)?;
     write_chunks(line, text)?;
@@ -195,7 +207,8 @@ fn write_line(line: &ClassLine, text: &mut String) -> Result<(), AllocError>
 /// Adds a class, the bytes of its chunks, and how many pages it has.
 #[tactic(auto, unfolding(crate::specs::Maps::sizes_text))]
 fn write_sizes(line: &ClassLine, text: &mut String) -> Result<(), AllocError>
-    ensures sizes { OnOk result (string_bytes text.new ≡ string_bytes text.old ++ sizes_text line.now) }
+    ensures sizes { OnOk result (string_bytes text.new ≡ string_bytes text.old
+        ++ sizes_text line.now) }
 {
     write!(text, "{:>5}{:>7}{:>7}", line.class, line.size, line.pages)
 }
@@ -203,7 +216,8 @@ fn write_sizes(line: &ClassLine, text: &mut String) -> Result<(), AllocError>
 /// Adds how many of a class's chunks are an item's, held, dead, free and cleared.
 #[tactic(auto, unfolding(crate::specs::Maps::chunk_counts_text))]
 fn write_chunks(line: &ClassLine, text: &mut String) -> Result<(), AllocError>
-    ensures chunks { OnOk result (string_bytes text.new ≡ string_bytes text.old ++ chunk_counts_text line.now) }
+    ensures chunks { OnOk result (string_bytes text.new ≡ string_bytes text.old
+        ++ chunk_counts_text line.now) }
 {
     write!(text, "{:>8}{:>6}{:>6}", line.linked, line.held, line.dead)?;
     write!(text, "{:>6}{:>9}", line.free, line.cleared)
@@ -212,7 +226,8 @@ fn write_chunks(line: &ClassLine, text: &mut String) -> Result<(), AllocError>
 /// Adds the bytes that a class's items ask for, those of their chunks and what is wasted of these, and how many were evicted.
 #[tactic(auto, unfolding(crate::specs::Maps::bytes_text))]
 fn write_bytes(line: &ClassLine, text: &mut String) -> Result<(), AllocError>
-    ensures bytes { OnOk result (string_bytes text.new ≡ string_bytes text.old ++ bytes_text line.now) }
+    ensures bytes { OnOk result (string_bytes text.new ≡ string_bytes text.old
+        ++ bytes_text line.now) }
 {
     write!(text, "{:>9}{:>9}", line.asked, line.bytes)?;
     writeln!(text, "{:>9}{:>9}", line.waste(), line.evictions)

@@ -60,7 +60,8 @@ fn after_line<'a, W: Sink>(
 
 /// Plays a list and writes its first line and what it answers.
 fn play_list<W: Sink>(alloc: Global, list: &List, writer: &mut W) -> Result<(), RunFault>
-    ensures { OnOk result (WritesList list.now.name.now list.now.config list.now.hands list.now.events.items (W.contents writer.old) (W.contents writer.new)) }
+    ensures { OnOk result (WritesList list.now.name.now list.now.config list.now.hands
+        list.now.events.items (W.contents writer.old) (W.contents writer.new)) }
 {
     let bytes = played(alloc, list)?;
     write(writer, &bytes)
@@ -68,7 +69,9 @@ fn play_list<W: Sink>(alloc: Global, list: &List, writer: &mut W) -> Result<(), 
 
 /// The first line of a list and what it answers.
 fn played(alloc: Global, list: &List) -> Result<Vec<u8>, NoMemory>
-    ensures { IfOk result (λ bytes. IsWritten list.now.name.now list.now.config list.now.hands list.now.events.items bytes.items) }
+    ensures { IfOk result (λ bytes.
+        IsWritten list.now.name.now list.now.config list.now.hands list.now.events.items
+        bytes.items) }
 {
     let text = answer(alloc, list)?;
     Ok(in_lines(alloc, list.name, text.as_bytes())?)
@@ -86,7 +89,8 @@ fn in_lines(alloc: Global, first: &[u8], others: &[u8]) -> Result<Vec<u8>, Refus
 
 /// Writes these bytes.
 fn write<W: Sink>(writer: &mut W, bytes: &[u8]) -> Result<(), RunFault>
-    ensures bytes { OnOk result (Appends (W.contents writer.old) (W.contents writer.new) bytes.now) }
+    ensures bytes { OnOk result (Appends (W.contents writer.old)
+        (W.contents writer.new) bytes.now) }
     ensures fault { IfErr result (λ fault. fault ≡ RunFault.Write) }
 {
     match writer.write_all(bytes) {

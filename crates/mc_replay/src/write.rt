@@ -32,7 +32,8 @@ use std::alloc::Global;
 
 /// The answer of the list, the state after it, and the line `end`.
 pub fn answer(alloc: Global, list: &List) -> Result<String, NoMemory>
-    ensures { IfOk result (λ text. IsAnswer list.now.config list.now.hands list.now.events.items (string_bytes text)) }
+    ensures { IfOk result (λ text. IsAnswer list.now.config list.now.hands list.now.events.items
+        (string_bytes text)) }
 {
     match replay(alloc, &list.config, list.hands, list.events.as_slice()) {
         Ok(state) => played(alloc, &state, list.config.stripes),
@@ -43,7 +44,8 @@ pub fn answer(alloc: Global, list: &List) -> Result<String, NoMemory>
 
 /// The answer where all events were played.
 fn played(alloc: Global, state: &State, stripes: u64) -> Result<String, NoMemory>
-    ensures { IfOk result (λ text. string_bytes text ≡ (codes "answer Ok\n" ++ standing_text stripes state.now) ++ codes "end\n") }
+    ensures { IfOk result (λ text. string_bytes text
+        ≡ (codes "answer Ok\n" ++ standing_text stripes state.now) ++ codes "end\n") }
 {
     let mut text = String::new(alloc);
     push_str(&mut text, "answer Ok\n")?;
@@ -54,7 +56,8 @@ fn played(alloc: Global, state: &State, stripes: u64) -> Result<String, NoMemory
 
 /// The answer where the event at this place isn't allowed.
 fn stop_answer(alloc: Global, place: u64) -> Result<String, NoMemory>
-    ensures { IfOk result (λ text. string_bytes text ≡ codes "answer NotAllowed " ++ decimal place ++ codes "\nend\n") }
+    ensures { IfOk result (λ text. string_bytes text ≡ codes "answer NotAllowed " ++ decimal place
+        ++ codes "\nend\n") }
 {
     Ok(format!(in alloc; "answer NotAllowed {place}\nend\n")?)
 }
@@ -62,7 +65,8 @@ fn stop_answer(alloc: Global, place: u64) -> Result<String, NoMemory>
 /// The text of a state with n stripes.
 #[tactic(auto, using(crate::proofs::Ranges::appends_three))]
 fn standing(alloc: Global, text: &mut String, state: &State, stripes: u64) -> Result<(), NoMemory>
-    ensures { OnOk result (string_bytes text.new ≡ string_bytes text.old ++ standing_text stripes state.now) }
+    ensures { OnOk result (string_bytes text.new ≡ string_bytes text.old
+        ++ standing_text stripes state.now) }
 {
     heads::heads(text, state)?;
     free_slabs(alloc, text, state)?;
@@ -71,7 +75,8 @@ fn standing(alloc: Global, text: &mut String, state: &State, stripes: u64) -> Re
 
 /// The text of what is behind the slabs lock, if nobody has it.
 fn free_slabs(alloc: Global, text: &mut String, state: &State) -> Result<(), NoMemory>
-    ensures { OnOk result (string_bytes text.new ≡ string_bytes text.old ++ free_slabs_text state.now) }
+    ensures { OnOk result (string_bytes text.new ≡ string_bytes text.old
+        ++ free_slabs_text state.now) }
 {
     match state.slabs() {
         Some(value) => slabs::slabs(alloc, text, state.table(), value),
@@ -86,7 +91,8 @@ fn free_stripes(
     state: &State,
     stripes: u64,
 ) -> Result<(), NoMemory>
-    ensures { OnOk result (string_bytes text.new ≡ string_bytes text.old ++ stripes_text stripes state.now) }
+    ensures { OnOk result (string_bytes text.new ≡ string_bytes text.old
+        ++ stripes_text stripes state.now) }
 {
     for number in 0..stripes {
         free_stripe(alloc, text, state, number)?;
@@ -96,7 +102,8 @@ fn free_stripes(
 
 /// The text of what is behind the lock of a stripe, if nobody has it.
 fn free_stripe(alloc: Global, text: &mut String, state: &State, number: u64) -> Result<(), NoMemory>
-    ensures { OnOk result (string_bytes text.new ≡ string_bytes text.old ++ free_stripe_text state.now number) }
+    ensures { OnOk result (string_bytes text.new ≡ string_bytes text.old
+        ++ free_stripe_text state.now number) }
 {
     match state.stripe(number) {
         Some(value) => Ok(stripes::stripe(alloc, text, number, value)?),

@@ -60,7 +60,8 @@ pub fn push_words_line(
     key: u64,
     words: &[u64],
 ) -> Result<(), Refused>
-    ensures line { OnOk result (text.new.items ≡ text.old.items ++ words_line answer.now key words.now) }
+    ensures line { OnOk result (text.new.items ≡ text.old.items
+        ++ words_line answer.now key words.now) }
     ensures kept { StartsWith text.new.items text.old.items }
 {
     extend_from_slice(text, answer)?;
@@ -110,7 +111,8 @@ pub fn push_window_line(
     dst: u64,
     answer: &[u8],
 ) -> Result<(), Refused>
-    ensures line { OnOk result (text.new.items ≡ text.old.items ++ line (codes "WINDOW" ++ spaced_words (src ∷ dst ∷ []) ++ codes " " ++ answer.now)) }
+    ensures line { OnOk result (text.new.items ≡ text.old.items
+        ++ line (codes "WINDOW" ++ spaced_words (src ∷ dst ∷ []) ++ codes " " ++ answer.now)) }
     ensures kept { StartsWith text.new.items text.old.items }
 {
     extend_from_slice(text, b"WINDOW")?;
@@ -123,7 +125,8 @@ pub fn push_window_line(
 pub fn push_key_line(text: &mut Vec<u8>, answer: &[u8], key: u64) -> Result<(), Refused>
     ensures line { OnOk result (text.new.items ≡ text.old.items ++ key_line answer.now key) }
     ensures kept { StartsWith text.new.items text.old.items }
-    ensures succeeds { vec_len text.old + length answer.now + 43 ≤ vec_capacity text.old → IsOk result }
+    ensures succeeds { vec_len text.old + length answer.now + 43 ≤ vec_capacity text.old →
+        IsOk result }
 {
     extend_from_slice(text, answer)?;
     extend_from_slice(text, b" ")?;

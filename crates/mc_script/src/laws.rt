@@ -8,5 +8,6 @@ ghost use Rattle.mc_script.specs.declared.command.Command.{Command};
 
 /// What is written is read: valid commands, a line each, are a script of just those commands.
 pub fn written_is_read()
-    ensures { (commands : List Command) → All IsValid commands → script_of (flat_map text_of commands) ≡ Ok commands }
+    ensures { (commands : List Command) → All IsValid commands →
+        script_of (flat_map text_of commands) ≡ Ok commands }
 {}

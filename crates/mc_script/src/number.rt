@@ -22,7 +22,8 @@ pub fn number(word: &[u8]) -> Option<u64>
 
 /// The number that one digit more makes, if the byte is a digit and the number is below 2^64.
 fn with_digit(value: u64, byte: u8) -> Option<u64>
-    ensures { result ≡ (if is_ascii_digit byte && nat_lt (value * 10 + (byte - 48)) (2 ^ 64) then Some (value * 10 + (byte - 48)) else None) }
+    ensures { result ≡ (if is_ascii_digit byte && nat_lt (value * 10 + (byte - 48))
+        (2 ^ 64) then Some (value * 10 + (byte - 48)) else None) }
 {
     if !byte.is_ascii_digit() {
         return None;

@@ -52,54 +52,63 @@ pub fn worked_examples()
 /// So it is after any valid commands, for every table, however many chunks a turn looks
 /// at, and in each mode of the automover.
 pub fn values_were_stored()
-    ensures { (table : Classes) (bulk mode : ℕ) (commands : List Command) → IsSound table → All IsValid commands → PrintsLastWords table bulk mode commands }
+    ensures { (table : Classes) (bulk mode : ℕ) (commands : List Command) → IsSound table →
+        All IsValid commands → PrintsLastWords table bulk mode commands }
 {}
 
 /// The words of each DROPPED line are the ones that were there at its hold: what the worker last held of the key and has not
 /// dropped since. A drop of a key of which the worker holds nothing is answered NOT_HELD. This holds after any valid commands.
 pub fn dropped_were_held()
-    ensures { (table : Classes) (bulk mode : ℕ) (commands : List Command) → IsSound table → All IsValid commands → PrintsHeldWords table bulk mode commands }
+    ensures { (table : Classes) (bulk mode : ℕ) (commands : List Command) → IsSound table →
+        All IsValid commands → PrintsHeldWords table bulk mode commands }
 {}
 
 /// Each key has no item, or the words of its last stored set; and get, hold, touch and delete agree which, whoever asks.
 /// A worker with the most holds is answered TOO_MANY_REFS by get and hold, and no other is. So it is after any valid commands.
 pub fn keys_have_one_answer()
-    ensures { (table : Classes) (bulk mode : ℕ) (commands : List Command) → IsSound table → All IsValid commands → ShowsOneItem table bulk mode commands }
+    ensures { (table : Classes) (bulk mode : ℕ) (commands : List Command) → IsSound table →
+        All IsValid commands → ShowsOneItem table bulk mode commands }
 {}
 
 /// After an answer that shows a key's item, which is STORED, VALUE, HELD or TOUCHED, a get of the key is answered by its
 /// words, as long as no set was stored, the key wasn't deleted and the mover had no turn. So nothing else takes an item
 /// away: no window, no reassign, no statistics, no drop, and no set that is refused. A worker with the most holds is refused.
 pub fn seen_items_stay()
-    ensures { (table : Classes) (bulk mode : ℕ) (commands : List Command) → IsSound table → All IsValid commands → KeepsSeen table bulk mode commands }
+    ensures { (table : Classes) (bulk mode : ℕ) (commands : List Command) → IsSound table →
+        All IsValid commands → KeepsSeen table bulk mode commands }
 {}
 
 /// While a worker holds a key's item, a get of the key is answered by its words: no set evicts it, and no turn. Its hold is of
 /// that item as long as it isn't dropped, the key isn't deleted, and no set of the key is stored.
 pub fn held_items_stay()
-    ensures { (table : Classes) (bulk mode : ℕ) (commands : List Command) → IsSound table → All IsValid commands → KeepsHeldWords table bulk mode commands }
+    ensures { (table : Classes) (bulk mode : ℕ) (commands : List Command) → IsSound table →
+        All IsValid commands → KeepsHeldWords table bulk mode commands }
 {}
 
 /// Every page and every chunk is accounted for, after any valid commands. This holds for every table, however many chunks a turn
 /// looks at, and in each mode.
 pub fn machines_are_accounted()
-    ensures { (table : Classes) (bulk mode : ℕ) (commands : List Command) → IsSound table → mode ≤ 2 → All IsValid commands → IsAccountedAfter table bulk mode commands }
+    ensures { (table : Classes) (bulk mode : ℕ) (commands : List Command) → IsSound table →
+        mode ≤ 2 → All IsValid commands → IsAccountedAfter table bulk mode commands }
 {}
 
 /// The numbers of `stats slabs`, and of `stats` directly behind it, add up. Used and free chunks of each class are all that its
 /// pages have. The pages of the classes and of the pool are all that was granted. These are within the limit, but for one page of
 /// each class that has one. This holds after any valid commands.
 pub fn statistics_add_up()
-    ensures { (table : Classes) (bulk mode : ℕ) (commands : List Command) → IsSound table → All IsValid commands → StatisticsAddUp table bulk mode commands }
+    ensures { (table : Classes) (bulk mode : ℕ) (commands : List Command) → IsSound table →
+        All IsValid commands → StatisticsAddUp table bulk mode commands }
 {}
 
 /// `stats slabs` never prints fewer bytes than before: granted bytes stay granted.
 pub fn granted_bytes_stay()
-    ensures { (table : Classes) (bulk mode : ℕ) (commands more : List Command) → IsSound table → All IsValid commands → All IsValid more → GrantedStays table bulk mode commands more }
+    ensures { (table : Classes) (bulk mode : ℕ) (commands more : List Command) → IsSound table →
+        All IsValid commands → All IsValid more → GrantedStays table bulk mode commands more }
 {}
 
 /// Each reply is one or more lines with an end, and the last has something before it: so no reply is empty, whatever the
 /// machine has.
 pub fn replies_are_whole()
-    ensures { (m : Machine) (command : Command) (served : Outcome) → serve m command ≡ Some served → IsWhole served.reply }
+    ensures { (m : Machine) (command : Command) (served : Outcome) → serve m command ≡ Some served →
+        IsWhole served.reply }
 {}

@@ -49,7 +49,8 @@ impl DeadCounts {
         requires first { 1 ≤ class }
         requires last { class ≤ length self.old }
         requires within_limit { slice_index_or self.old (class - 1) 0 < 65536 }
-        ensures incremented { self.new ≡ slice_set self.old (class - 1) (slice_index_or self.old (class - 1) 0 + 1) }
+        ensures incremented { self.new ≡ slice_set self.old (class - 1)
+            (slice_index_or self.old (class - 1) 0 + 1) }
     {
         self.by_class[class as usize - 1] += 1;
     }
@@ -59,7 +60,8 @@ impl DeadCounts {
         requires first { 1 ≤ class }
         requires last { class ≤ length self.old }
         requires some { 1 ≤ slice_index_or self.old (class - 1) 0 }
-        ensures decremented { self.new ≡ slice_set self.old (class - 1) (slice_index_or self.old (class - 1) 0 - 1) }
+        ensures decremented { self.new ≡ slice_set self.old (class - 1)
+            (slice_index_or self.old (class - 1) 0 - 1) }
     {
         self.by_class[class as usize - 1] -= 1;
     }
@@ -113,8 +115,12 @@ impl LastDead {
 pub fn count_unheld(dead: &mut DeadCounts, holds: &Holds, slabs: &Slabs, chunk: ChunkId)
     requires class { HasClass slabs.now.state (class_of_page slabs.now.state chunk.page) }
     requires of_each { length dead.old ≡ length slabs.now.state.classes }
-    requires within_limit { slice_index_or dead.old (class_of_page slabs.now.state chunk.page - 1) 0 < 65536 }
-    ensures counts { dead.new ≡ (if is_held holds.now chunk then dead.old else slice_set dead.old (class_of_page slabs.now.state chunk.page - 1) (slice_index_or dead.old (class_of_page slabs.now.state chunk.page - 1) 0 + 1)) }
+    requires within_limit { slice_index_or dead.old (class_of_page slabs.now.state chunk.page - 1) 0
+        < 65536 }
+    ensures counts { dead.new
+        ≡ (if is_held holds.now chunk then dead.old else slice_set dead.old
+        (class_of_page slabs.now.state chunk.page - 1)
+        (slice_index_or dead.old (class_of_page slabs.now.state chunk.page - 1) 0 + 1)) }
 {
     if !holds.is_held(chunk) {
         let class = class_of(slabs, chunk);

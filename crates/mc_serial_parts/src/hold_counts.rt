@@ -65,7 +65,8 @@ impl HoldCounts {
     pub(crate) fn increment(&mut self, chunk: ChunkId)
         requires there { IsReached self.old chunk }
         requires within_limit { count_at self.old chunk < 65535 }
-        ensures incremented { (other : ChunkId) → count_at self.new other ≡ count_at self.old other + truth (is_chunk chunk other) }
+        ensures incremented { (other : ChunkId) →
+            count_at self.new other ≡ count_at self.old other + truth (is_chunk chunk other) }
     {
         self.pages[chunk.page as usize][chunk.index as usize] += 1;
     }
@@ -73,7 +74,8 @@ impl HoldCounts {
     /// Counts one hold of the chunk less.
     pub(crate) fn decrement(&mut self, chunk: ChunkId)
         requires { 1 ≤ count_at self.old chunk }
-        ensures decremented { (other : ChunkId) → count_at self.new other + truth (is_chunk chunk other) ≡ count_at self.old other }
+        ensures decremented { (other : ChunkId) →
+            count_at self.new other + truth (is_chunk chunk other) ≡ count_at self.old other }
     {
         self.pages[chunk.page as usize][chunk.index as usize] -= 1;
     }
@@ -93,7 +95,8 @@ fn reach_page(alloc: Global, pages: &mut Vec<Vec<u16>>, page: u64) -> Result<(),
 /// Makes a count of the page at the index, if it has none.
 fn reach_index(counts: &mut Vec<u16>, index: u64) -> Result<(), Refused>
     ensures there { OnOk result (index < length counts.new.items) }
-    ensures same { (at : ℕ) → slice_index_or counts.new.items at 0 ≡ slice_index_or counts.old.items at 0 }
+    ensures same { (at : ℕ) → slice_index_or counts.new.items at 0
+        ≡ slice_index_or counts.old.items at 0 }
 {
     while counts.len() as u64 <= index {
         push(counts, 0)?;

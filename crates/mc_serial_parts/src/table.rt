@@ -54,7 +54,8 @@ impl ItemTable {
     /// A new item comes into the chunk, in the place of what was there: a key with these words. They are written where the
     /// chunk's last item had its words, so that no memory is taken where there is room for them.
     pub fn store(&mut self, chunk: ChunkId, key: u64, words: NewWords) -> Result<(), Refused>
-        ensures entries { OnOk result (self.new ≡ with_item self.old chunk (new_item key (words_of_new words.entry))) }
+        ensures entries { OnOk result (self.new ≡ with_item self.old chunk
+            (new_item key (words_of_new words.entry))) }
         ensures unchanged { OnErr result (self.new ≡ self.old) }
     {
         reach(self.alloc, &mut self.pages, chunk)?;
@@ -76,7 +77,8 @@ impl ItemTable {
     /// The item of a chunk comes into another, in the place of what was there. Gives its key. Nothing happens where there is
     /// no item.
     pub fn relocate(&mut self, old: ChunkId, new: ChunkId) -> Result<Option<u64>, Refused>
-        ensures key { IfOk result (λ key. key ≡ option_map (λ item. item.key) (item_in_chunk self.old old)) }
+        ensures key { IfOk result (λ key. key ≡ option_map (λ item.
+            item.key) (item_in_chunk self.old old)) }
         ensures moved { OnOk result (self.new ≡ with_moved_item self.old old new) }
         ensures unchanged { OnErr result (self.new ≡ self.old) }
     {
@@ -98,7 +100,9 @@ impl ItemTable {
 /// Whether the table has a place for the chunk.
 fn has_place(pages: &[Vec<Place>], chunk: ChunkId) -> bool
     ensures yes { result ≡ true → HasPlace (table_places pages.now) chunk }
-    ensures no { result ≡ false → slice_index_or (slice_index_or (table_places pages.now) chunk.page []) chunk.index None ≡ None }
+    ensures no { result ≡ false →
+        slice_index_or (slice_index_or (table_places pages.now) chunk.page []) chunk.index None
+        ≡ None }
 {
     match pages.get(chunk.page as usize) {
         Some(places) => chunk.index < places.len() as u64,
@@ -109,8 +113,10 @@ fn has_place(pages: &[Vec<Place>], chunk: ChunkId) -> bool
 /// The item of a chunk comes into another, which has a place.
 fn relocate(alloc: Global, pages: &mut Vec<Vec<Place>>, old: ChunkId, new: ChunkId) -> Option<u64>
     requires { HasPlace (table_places pages.old.items) new }
-    ensures key { result ≡ option_map (λ item. item.key) (item_in_chunk (items_from 0 (table_places pages.old.items)) old) }
-    ensures moved { items_from 0 (table_places pages.new.items) ≡ with_moved_item (items_from 0 (table_places pages.old.items)) old new }
+    ensures key { result ≡ option_map (λ item. item.key)
+        (item_in_chunk (items_from 0 (table_places pages.old.items)) old) }
+    ensures moved { items_from 0 (table_places pages.new.items)
+        ≡ with_moved_item (items_from 0 (table_places pages.old.items)) old new }
 {
     if !has_place(pages, old) {
         return None;
@@ -128,7 +134,8 @@ fn relocate(alloc: Global, pages: &mut Vec<Vec<Place>>, old: ChunkId, new: Chunk
 /// Makes a place for the chunk, if the table has none.
 fn reach(alloc: Global, pages: &mut Vec<Vec<Place>>, chunk: ChunkId) -> Result<(), Refused>
     ensures there { OnOk result (HasPlace (table_places pages.new.items) chunk) }
-    ensures same { items_from 0 (table_places pages.new.items) ≡ items_from 0 (table_places pages.old.items) }
+    ensures same { items_from 0 (table_places pages.new.items)
+        ≡ items_from 0 (table_places pages.old.items) }
 {
     reach_page(alloc, pages, chunk.page)?;
     reach_index(alloc, &mut pages[chunk.page as usize], chunk.index)?;
@@ -138,7 +145,8 @@ fn reach(alloc: Global, pages: &mut Vec<Vec<Place>>, chunk: ChunkId) -> Result<(
 /// Makes places for the page, if the table has none.
 fn reach_page(alloc: Global, pages: &mut Vec<Vec<Place>>, page: u64) -> Result<(), Refused>
     ensures there { OnOk result (page < length pages.new.items) }
-    ensures same { items_from 0 (table_places pages.new.items) ≡ items_from 0 (table_places pages.old.items) }
+    ensures same { items_from 0 (table_places pages.new.items)
+        ≡ items_from 0 (table_places pages.old.items) }
 {
     while pages.len() as u64 <= page {
         push(pages, Vec::new(alloc))?;

@@ -42,17 +42,21 @@ impl<R: Read> RecordedReader<R> {
     /// Reads once, and notes the answer.
     pub(crate) fn read(&mut self, buf: &mut [u8]) -> io::Result<usize>
         ensures bound { ReadsAtMost result buf.new }
-        ensures bytes { ReadConsumes (R.remaining self.old.inner) (R.remaining self.new.inner) result buf.new }
-        ensures gave { IfOk result (λ n. self.new.given.bytes ≡ self.old.given.bytes ++ take n buf.new) }
+        ensures bytes { ReadConsumes (R.remaining self.old.inner)
+            (R.remaining self.new.inner) result buf.new }
+        ensures gave { IfOk result (λ n. self.new.given.bytes ≡ self.old.given.bytes
+            ++ take n buf.new) }
         ensures none { OnErr result (self.new.given.bytes ≡ self.old.given.bytes) }
         ensures end { result ≡ Ok 0 → 0 < length buf.new → 0 < self.new.ends.total }
         ensures more { IfOk result (λ n. 0 < n → self.new.ends.total ≡ 0) }
         ensures good { OnOk result (self.new.errors.total ≡ self.old.errors.total) }
         ensures calm { OnOk result (self.new.interruptions.total ≡ self.old.interruptions.total) }
         ensures interrupted { IfErr result (λ error. error_kind error ≡ ErrorKind.Interrupted →
-            (self.new.interruptions.total ≡ self.old.interruptions.total + 1) × (self.new.errors.total ≡ self.old.errors.total)) }
+            (self.new.interruptions.total ≡ self.old.interruptions.total + 1)
+            × (self.new.errors.total ≡ self.old.errors.total)) }
         ensures failed { IfErr result (λ error. error_kind error ≢ ErrorKind.Interrupted →
-            (self.new.interruptions.total ≡ self.old.interruptions.total) × (self.new.errors.total ≡ self.old.errors.total + 1)) }
+            (self.new.interruptions.total ≡ self.old.interruptions.total)
+            × (self.new.errors.total ≡ self.old.errors.total + 1)) }
     {
         match self.inner.read(buf) {
             Ok(count) => {
@@ -103,8 +107,10 @@ impl<W: Write> Write for RecordedWriter<W> {
 
     fn write(&mut self, bytes: &[u8]) -> io::Result<usize>
         ensures bound { WritesAtMost result bytes.now }
-        ensures bytes { WriteAppends (Some self.old.taken.bytes) (Some self.new.taken.bytes) result bytes.now }
-        ensures inner { WriteAppends (W.contents self.old.inner) (W.contents self.new.inner) result bytes.now }
+        ensures bytes { WriteAppends (Some self.old.taken.bytes)
+            (Some self.new.taken.bytes) result bytes.now }
+        ensures inner { WriteAppends (W.contents self.old.inner)
+            (W.contents self.new.inner) result bytes.now }
     {
         let count = self.inner.write(bytes)?;
         self.taken = self.taken.and(&bytes[..count]);

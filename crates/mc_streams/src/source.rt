@@ -25,7 +25,8 @@ pub trait Source {
         ensures within { IfOk result (λ n. n ≤ length buf.new) }
         ensures gave { IfOk result (λ n. given self.new ≡ given self.old ++ take n buf.new) }
         ensures ended { result ≡ Ok 0 → 0 < length buf.new → HasEnded self.new }
-        ensures bytes { IfOk result (λ n. Consumes (remaining self.old) (remaining self.new) (take n buf.new)) }
+        ensures bytes { IfOk result (λ n. Consumes (remaining self.old) (remaining self.new)
+            (take n buf.new)) }
         ensures end { result ≡ Ok 0 → 0 < length buf.new → IsAtEnd (remaining self.new) }
         ensures ok { OnOk result (failures self.new ≡ failures self.old) }
         ensures err { OnErr result (failures self.old < failures self.new) }

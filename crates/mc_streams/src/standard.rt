@@ -47,22 +47,29 @@ impl<R: Read, L: Ledger> Source for Input<R, L> {
 
     fn read(&mut self, buf: &mut [u8]) -> Result<usize, Fault>
         ensures within { IfOk result (λ n. n ≤ length buf.new) }
-        ensures gave { IfOk result (λ n. self.new.reader.given.bytes ≡ self.old.reader.given.bytes ++ take n buf.new) }
+        ensures gave { IfOk result (λ n. self.new.reader.given.bytes ≡ self.old.reader.given.bytes
+            ++ take n buf.new) }
         ensures ended { result ≡ Ok 0 → 0 < length buf.new → 0 < self.new.reader.ends.total }
-        ensures bytes { IfOk result (λ n. Consumes (R.remaining self.old.reader.inner) (R.remaining self.new.reader.inner) (take n buf.new)) }
-        ensures end { result ≡ Ok 0 → 0 < length buf.new → IsAtEnd (R.remaining self.new.reader.inner) }
+        ensures bytes { IfOk result (λ n. Consumes (R.remaining self.old.reader.inner)
+            (R.remaining self.new.reader.inner) (take n buf.new)) }
+        ensures end { result ≡ Ok 0 → 0 < length buf.new →
+            IsAtEnd (R.remaining self.new.reader.inner) }
         ensures ok { OnOk result (self.new.failed_reads ≡ self.old.failed_reads) }
         ensures err { OnErr result (self.new.failed_reads ≡ self.old.failed_reads + 1) }
         ensures none { OnErr result (self.new.reader.given.bytes ≡ self.old.reader.given.bytes) }
-        ensures kept { OnErr result (Keeps (R.remaining self.old.reader.inner) (R.remaining self.new.reader.inner)) }
+        ensures kept { OnErr result (Keeps (R.remaining self.old.reader.inner)
+            (R.remaining self.new.reader.inner)) }
 
         // What came before the answer were interruptions alone.
-        ensures retried { OnOk result (self.new.reader.errors.total ≡ self.old.reader.errors.total) }
+        ensures retried { OnOk result (self.new.reader.errors.total
+            ≡ self.old.reader.errors.total) }
 
         // A failure reports an error, the only one, or that all of 2^64 - 1 reads were interrupted.
-        ensures failed { OnErr result ((self.new.reader.errors.total ≡ self.old.reader.errors.total + 1)
+        ensures failed { OnErr result ((self.new.reader.errors.total
+            ≡ self.old.reader.errors.total + 1)
             ⊎ ((self.new.reader.errors.total ≡ self.old.reader.errors.total)
-            × (self.new.reader.interruptions.total ≡ self.old.reader.interruptions.total + (2 ^ 64 - 1)))) }
+            × (self.new.reader.interruptions.total ≡ self.old.reader.interruptions.total
+            + (2 ^ 64 - 1)))) }
     {
         for _tries in 0..u64::MAX {
             match self.reader.read(buf) {
@@ -116,7 +123,8 @@ impl<W: Write, L: Ledger> Output<W, L> {
     pub fn finish(mut self) -> Result<W, Fault>
     where
         W: Drop,
-        ensures bytes { IfOk result (λ writer. Keeps (append_known (W.contents self.writer) self.held.items) (W.contents writer)) }
+        ensures bytes { IfOk result (λ writer. Keeps
+            (append_known (W.contents self.writer) self.held.items) (W.contents writer)) }
         ensures failed { self.has_failed ≡ true → IsErr result }
     {
         if self.has_failed {
@@ -137,7 +145,8 @@ impl<W: Write, L: Ledger> Output<W, L> {
 
     /// Writes what is held back. What can't be written stays.
     fn write_held(&mut self) -> Result<(), Fault>
-        ensures bytes { Keeps (append_known (W.contents self.old.writer) self.old.held.items) (append_known (W.contents self.new.writer) self.new.held.items) }
+        ensures bytes { Keeps (append_known (W.contents self.old.writer) self.old.held.items)
+            (append_known (W.contents self.new.writer) self.new.held.items) }
         ensures held { OnOk result (self.new.held.items ≡ []) }
         ensures capacity { vec_capacity self.new.held ≡ vec_capacity self.old.held }
         ensures has_failed { self.new.has_failed ≡ self.old.has_failed }
@@ -154,8 +163,12 @@ impl<W: Write, L: Ledger> Output<W, L> {
 
     /// Takes all of `bytes`, or a part of them where a write fails.
     fn put(&mut self, bytes: &[u8]) -> Result<(), Fault>
-        ensures bytes { OnOk result (Appends (append_known (W.contents self.old.writer) self.old.held.items) (append_known (W.contents self.new.writer) self.new.held.items) bytes.now) }
-        ensures kept { OnErr result (Extends (append_known (W.contents self.old.writer) self.old.held.items) (append_known (W.contents self.new.writer) self.new.held.items)) }
+        ensures bytes { OnOk result
+            (Appends (append_known (W.contents self.old.writer) self.old.held.items)
+            (append_known (W.contents self.new.writer) self.new.held.items) bytes.now) }
+        ensures kept { OnErr result
+            (Extends (append_known (W.contents self.old.writer) self.old.held.items)
+            (append_known (W.contents self.new.writer) self.new.held.items)) }
         ensures failures { self.new.failed_writes ≡ self.old.failed_writes }
     {
         if bytes.len() > self.held.capacity() - self.held.len() {
@@ -179,12 +192,18 @@ impl<W: Write, L: Ledger> Sink for Output<W, L> {
     ghost failures = { λ s. s.failed_writes };
 
     fn write_all(&mut self, bytes: &[u8]) -> Result<(), Fault>
-        ensures bytes { OnOk result (Appends (append_known (W.contents self.old.writer) self.old.held.items) (append_known (W.contents self.new.writer) self.new.held.items) bytes.now) }
+        ensures bytes { OnOk result
+            (Appends (append_known (W.contents self.old.writer) self.old.held.items)
+            (append_known (W.contents self.new.writer) self.new.held.items) bytes.now) }
         ensures ok { OnOk result (self.new.failed_writes ≡ self.old.failed_writes) }
         ensures err { OnErr result (self.new.failed_writes ≡ self.old.failed_writes + 1) }
-        ensures kept { OnErr result (Extends (append_known (W.contents self.old.writer) self.old.held.items) (append_known (W.contents self.new.writer) self.new.held.items)) }
+        ensures kept { OnErr result
+            (Extends (append_known (W.contents self.old.writer) self.old.held.items)
+            (append_known (W.contents self.new.writer) self.new.held.items)) }
         ensures fails { OnErr result (self.new.has_failed ≡ true) }
-        ensures stays { self.old.has_failed ≡ true → IsErr result × (self.new.writer ≡ self.old.writer) × (self.new.held.items ≡ self.old.held.items) }
+        ensures stays { self.old.has_failed ≡ true →
+            IsErr result × (self.new.writer ≡ self.old.writer)
+            × (self.new.held.items ≡ self.old.held.items) }
     {
         if self.has_failed || self.put(bytes).is_err() {
             self.has_failed = true;
@@ -198,7 +217,8 @@ impl<W: Write, L: Ledger> Sink for Output<W, L> {
 /// Writes until all of `bytes` is written or a write fails, and returns how many bytes were written.
 fn write_out<W: Write>(writer: &mut W, bytes: &[u8]) -> usize
     ensures bound { result ≤ length bytes.now }
-    ensures bytes { Appends (W.contents writer.old) (W.contents writer.new) (take result bytes.now) }
+    ensures bytes { Appends (W.contents writer.old) (W.contents writer.new)
+        (take result bytes.now) }
 {
     let mut written = 0;
     for _ in 0..u64::MAX {

@@ -57,7 +57,8 @@ pub(crate) fn take(index: &mut Index, key: Key) -> Option<(ChunkId, Stamp)>
 
 /// Takes the key's entry out of the table, if it is there.
 pub(crate) fn take_entry(index: &mut Index, key: Key) -> Option<(Key, (ChunkId, Stamp))>
-    ensures entry { result ≡ option_map (λ place. (key, place)) (entry_at (by_key index.old.entries) key) }
+    ensures entry { result ≡ option_map (λ place.
+        (key, place)) (entry_at (by_key index.old.entries) key) }
     ensures entries { by_key index.new.entries ≡ without_entry (by_key index.old.entries) key }
     ensures kept { spare index.old ≤ spare index.new }
 {

@@ -89,13 +89,18 @@ impl Recorded {
 
     /// The calls so far aren't recorded any more: they leave what index and entry aside have. Where none is recorded, nothing changes.
     pub(crate) fn trim(&mut self, index: &Index, aside: Option<(Key, Place)>) -> Result<(), Trim>
-        requires replayed { stamps_after_calls [] self.old.all ≡ Some (index_stamps (with_aside (by_key index.now.entries) aside)) }
-        requires apart { IfSome aside (λ entry. entry_at (by_key index.now.entries) entry.0 ≡ None) }
+        requires replayed { stamps_after_calls [] self.old.all
+            ≡ Some (index_stamps (with_aside (by_key index.now.entries) aside)) }
+        requires apart { IfSome aside (λ entry. entry_at (by_key index.now.entries) entry.0
+            ≡ None) }
         ensures all { self.new.all ≡ self.old.all }
-        ensures from { OnOk result (self.new.recorded_from ≡ recorded_behind self.old.recorded_from (length self.old.all)) }
+        ensures from { OnOk result (self.new.recorded_from
+            ≡ recorded_behind self.old.recorded_from (length self.old.all)) }
         ensures refused { OnErr result (self.new.recorded_from ≡ self.old.recorded_from) }
-        ensures full { result ≡ Err Trim.Full → (is_some self.old.recorded_from ≡ true) × (2 ^ 64 ≤ length self.old.all) }
-        ensures first { is_some self.old.recorded_from ≡ true → 2 ^ 64 ≤ length self.old.all → result ≡ Err Trim.Full }
+        ensures full { result ≡ Err Trim.Full → (is_some self.old.recorded_from ≡ true)
+            × (2 ^ 64 ≤ length self.old.all) }
+        ensures first { is_some self.old.recorded_from ≡ true → 2 ^ 64 ≤ length self.old.all →
+            result ≡ Err Trim.Full }
         ensures idle { self.old.recorded_from ≡ None → IsOk result }
         ensures kept { CanRecord self.old → CanRecord self.new }
     {
@@ -129,7 +134,8 @@ impl Recorded {
 
     /// How many calls aren't recorded, or the greatest number if they are more, which can be only where no call is recorded.
     pub(crate) fn trimmed(&self) -> u64
-        ensures trimmed { result ≡ min (count_trimmed self.now.all self.now.recorded_from) (2 ^ 64 - 1) }
+        ensures trimmed { result ≡ min (count_trimmed self.now.all self.now.recorded_from)
+            (2 ^ 64 - 1) }
         ensures exact { IfSome self.now.recorded_from (λ from. result ≡ from) }
     {
         self.trimmed
@@ -137,7 +143,8 @@ impl Recorded {
 
     /// What the calls that aren't recorded left, where others are.
     pub(crate) fn base(&self) -> Option<&[(Key, Stamp)]>
-        ensures base { IfSome result (λ base. by_key base.now ≡ left_by_trimmed self.now.all self.now.recorded_from) }
+        ensures base { IfSome result (λ base. by_key base.now
+            ≡ left_by_trimmed self.now.all self.now.recorded_from) }
         ensures each_once { IfSome result (λ base. HasEachKeyOnce base.now) }
         ensures some { is_some result ≡ is_some self.now.recorded_from }
     {
@@ -162,7 +169,8 @@ fn copy_stamps(
     aside: Option<(Key, Place)>,
 ) -> Result<(), Refused>
     requires apart { IfSome aside (λ entry. entry_at (by_key index.now.entries) entry.0 ≡ None) }
-    ensures copied { OnOk result (by_key base.new.items ≡ index_stamps (with_aside (by_key index.now.entries) aside)) }
+    ensures copied { OnOk result (by_key base.new.items
+        ≡ index_stamps (with_aside (by_key index.now.entries) aside)) }
     ensures each_once { OnOk result (HasEachKeyOnce base.new.items) }
     ensures refused { OnErr result (base.new.items ≡ base.old.items) }
 {

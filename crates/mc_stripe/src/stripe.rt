@@ -115,10 +115,13 @@ impl Stripe {
     /// `Full` where the next call's place would pass the greatest number of 64 bits, which is tested first, and `NoMemory` where the room for the
     /// copy was refused: all is as before.
     pub fn trim(&mut self) -> Result<(), Trim>
-        ensures trimmed { OnOk result (self.new ≡ record self.old { state = stripe_after_trim self.old.state }) }
+        ensures trimmed { OnOk result (self.new ≡ record self.old
+            { state = stripe_after_trim self.old.state }) }
         ensures refused { OnErr result (self.new ≡ self.old) }
-        ensures full { result ≡ Err Trim.Full → (is_some self.old.state.recorded_from ≡ true) × (2 ^ 64 ≤ length self.old.state.history) }
-        ensures first { is_some self.old.state.recorded_from ≡ true → 2 ^ 64 ≤ length self.old.state.history → result ≡ Err Trim.Full }
+        ensures full { result ≡ Err Trim.Full → (is_some self.old.state.recorded_from ≡ true)
+            × (2 ^ 64 ≤ length self.old.state.history) }
+        ensures first { is_some self.old.state.recorded_from ≡ true →
+            2 ^ 64 ≤ length self.old.state.history → result ≡ Err Trim.Full }
         ensures idle { self.old.state.recorded_from ≡ None → IsOk result }
         ensures legal { IsLegal self.new.state }
     {

@@ -12,7 +12,8 @@ pub fn worst_waste(table: &ClassTable, class: ClassId) -> Option<u64>
     requires { IsClass table.now class }
     ensures waste { result ≡ waste_of table.now class }
     ensures worst { IfSome result (λ waste. IsWorst table.now class waste) }
-    ensures none { IfNone result ((words : ℕ) → class_of table.now (item_bytes words) ≡ Some class → ⊥) }
+    ensures none { IfNone result ((words : ℕ) → class_of table.now (item_bytes words) ≡ Some class →
+        ⊥) }
 {
     let size = table.size(class);
     let least = least_item(table, class);

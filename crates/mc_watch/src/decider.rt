@@ -71,9 +71,12 @@ impl Decider {
         pages: &[u64],
         free: &[u64],
     ) -> Result<Option<Decision>, Feed>
-        ensures refused { IfErr result (λ refusal. feed_refusal self.old evictions.now pages.now free.now ≡ Some refusal) }
-        ensures accepted { OnOk result (feed_refusal self.old evictions.now pages.now free.now ≡ None) }
-        ensures noted { OnOk result (self.new ≡ after_window self.old evictions.now pages.now free.now) }
+        ensures refused { IfErr result (λ refusal.
+            feed_refusal self.old evictions.now pages.now free.now ≡ Some refusal) }
+        ensures accepted { OnOk result (feed_refusal self.old evictions.now pages.now free.now
+            ≡ None) }
+        ensures noted { OnOk result (self.new ≡ after_window self.old evictions.now pages.now
+            free.now) }
         ensures decided { IfOk result (λ decision. decision ≡ decision_of self.new) }
         ensures kept { OnErr result (self.new ≡ self.old) }
     {
@@ -117,7 +120,8 @@ impl Decider {
 
 /// The classes of the table, before any window.
 fn classes_of(alloc: Global, table: &ClassTable) -> Result<Vec<Watched>, Refused>
-    ensures { IfOk result (λ classes. classes.items ≡ map (λ size. fresh_class (table.now.page / size)) table.now.sizes) }
+    ensures { IfOk result (λ classes. classes.items
+        ≡ map (λ size. fresh_class (table.now.page / size)) table.now.sizes) }
 {
     let mut classes = with_capacity(alloc, table.count() as usize)?;
     for place in 0..table.count() {

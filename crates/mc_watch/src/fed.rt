@@ -28,7 +28,9 @@ impl Fed {
 
     /// These windows and one more, with these numbers.
     pub(crate) fn then(&self, evictions: &[u64], pages: &[u64], free: &[u64]) -> Fed
-        ensures { result.windows ≡ record { evictions = evictions.now; pages = pages.now; free = free.now } ∷ self.now.windows }
+        ensures { result.windows
+            ≡ record { evictions = evictions.now; pages = pages.now; free = free.now } ∷
+            self.now.windows }
     {
         Fed {}
     }

@@ -21,7 +21,8 @@ pub fn stats_slabs<W: Sink>(
     writer: &mut W,
 ) -> Result<(), Fault>
     requires { AreCounts table.now pages.now free.now }
-    ensures bytes { OnOk result (Appends (W.contents writer.old) (W.contents writer.new) (slabs_text table.now pages.now free.now malloced)) }
+    ensures bytes { OnOk result (Appends (W.contents writer.old) (W.contents writer.new)
+        (slabs_text table.now pages.now free.now malloced)) }
     ensures ok { OnOk result (W.failures writer.new ≡ W.failures writer.old) }
     ensures err { OnErr result (W.failures writer.old < W.failures writer.new) }
     ensures kept { OnErr result (Extends (W.contents writer.old) (W.contents writer.new)) }
@@ -66,7 +67,8 @@ fn write_classes<W: Sink>(
     writer: &mut W,
 ) -> Result<(), Fault>
     requires { AreCounts table.now pages.now free.now }
-    ensures bytes { OnOk result (Appends (W.contents writer.old) (W.contents writer.new) (classes_lines table.now 1 pages.now free.now)) }
+    ensures bytes { OnOk result (Appends (W.contents writer.old) (W.contents writer.new)
+        (classes_lines table.now 1 pages.now free.now)) }
     ensures ok { OnOk result (W.failures writer.new ≡ W.failures writer.old) }
     ensures err { OnErr result (W.failures writer.old < W.failures writer.new) }
     ensures kept { OnErr result (Extends (W.contents writer.old) (W.contents writer.new)) }
@@ -98,7 +100,8 @@ fn write_class<W: Sink>(
 ) -> Result<(), Fault>
     requires chunks { free ≤ pages * per_page }
     requires small { pages * per_page < 2 ^ 64 }
-    ensures bytes { OnOk result (Appends (W.contents writer.old) (W.contents writer.new) (class_lines class size per_page pages free)) }
+    ensures bytes { OnOk result (Appends (W.contents writer.old) (W.contents writer.new)
+        (class_lines class size per_page pages free)) }
     ensures ok { OnOk result (W.failures writer.new ≡ W.failures writer.old) }
     ensures err { OnErr result (W.failures writer.old < W.failures writer.new) }
     ensures kept { OnErr result (Extends (W.contents writer.old) (W.contents writer.new)) }
@@ -117,7 +120,8 @@ fn write_class<W: Sink>(
 
 /// Writes the lines below those of the classes.
 fn write_totals<W: Sink>(active: u64, malloced: u64, writer: &mut W) -> Result<(), Fault>
-    ensures bytes { OnOk result (Appends (W.contents writer.old) (W.contents writer.new) (totals_lines active malloced)) }
+    ensures bytes { OnOk result (Appends (W.contents writer.old) (W.contents writer.new)
+        (totals_lines active malloced)) }
     ensures ok { OnOk result (W.failures writer.new ≡ W.failures writer.old) }
     ensures err { OnErr result (W.failures writer.old < W.failures writer.new) }
     ensures kept { OnErr result (Extends (W.contents writer.old) (W.contents writer.new)) }
@@ -140,7 +144,8 @@ fn write_class_stats<W: Sink>(
     stats: &[(&str, u64)],
     writer: &mut W,
 ) -> Result<(), Fault>
-    ensures bytes { OnOk result (Appends (W.contents writer.old) (W.contents writer.new) (flat_map (λ stat. class_line class stat.0.now stat.1) stats.now)) }
+    ensures bytes { OnOk result (Appends (W.contents writer.old) (W.contents writer.new)
+        (flat_map (λ stat. class_line class stat.0.now stat.1) stats.now)) }
     ensures ok { OnOk result (W.failures writer.new ≡ W.failures writer.old) }
     ensures err { OnErr result (W.failures writer.old < W.failures writer.new) }
     ensures kept { OnErr result (Extends (W.contents writer.old) (W.contents writer.new)) }
@@ -166,7 +171,8 @@ fn write_class_stats<W: Sink>(
 
 /// Writes the lines of some numbers.
 fn write_stats<W: Sink>(stats: &[(&str, u64)], writer: &mut W) -> Result<(), Fault>
-    ensures bytes { OnOk result (Appends (W.contents writer.old) (W.contents writer.new) (flat_map (λ stat. stat_line stat.0.now stat.1) stats.now)) }
+    ensures bytes { OnOk result (Appends (W.contents writer.old) (W.contents writer.new)
+        (flat_map (λ stat. stat_line stat.0.now stat.1) stats.now)) }
     ensures ok { OnOk result (W.failures writer.new ≡ W.failures writer.old) }
     ensures err { OnErr result (W.failures writer.old < W.failures writer.new) }
     ensures kept { OnErr result (Extends (W.contents writer.old) (W.contents writer.new)) }
@@ -189,7 +195,8 @@ fn write_stats<W: Sink>(stats: &[(&str, u64)], writer: &mut W) -> Result<(), Fau
 
 /// Writes some pieces, one after another.
 fn write_pieces<W: Sink>(pieces: &[&[u8]], writer: &mut W) -> Result<(), Fault>
-    ensures bytes { OnOk result (Appends (W.contents writer.old) (W.contents writer.new) (flat_map (λ piece. piece.now) pieces.now)) }
+    ensures bytes { OnOk result (Appends (W.contents writer.old) (W.contents writer.new)
+        (flat_map (λ piece. piece.now) pieces.now)) }
     ensures ok { OnOk result (W.failures writer.new ≡ W.failures writer.old) }
     ensures err { OnErr result (W.failures writer.old < W.failures writer.new) }
     ensures kept { OnErr result (Extends (W.contents writer.old) (W.contents writer.new)) }

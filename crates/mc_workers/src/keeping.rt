@@ -24,7 +24,8 @@ pub(crate) fn hold<R: Wait>(
 ) -> Result<Reply, Refused>
     requires keeping { IsKeeping arena.now hand.old kept.old.items }
     ensures stays { StaysKeeping arena.now hand.old hand.new kept.new.items }
-    ensures answers { IfOk result (λ reply. AnswersHoldBy arena.now key reply hand.old kept.old.items hand.new kept.new.items) }
+    ensures answers { IfOk result (λ reply.
+        AnswersHoldBy arena.now key reply hand.old kept.old.items hand.new kept.new.items) }
     ensures left { OnErr result (kept.new.items ≡ kept.old.items) }
 {
     reserve(kept, 1)?;
@@ -49,7 +50,8 @@ pub(crate) fn drop_last(
 ) -> Result<Reply, Refused>
     requires keeping { IsKeeping arena.now hand.old kept.old.items }
     ensures stays { StaysKeeping arena.now hand.old hand.new kept.new.items }
-    ensures answers { IfOk result (λ reply. AnswersDropBy key reply hand.old kept.old.items hand.new kept.new.items) }
+    ensures answers { IfOk result (λ reply.
+        AnswersDropBy key reply hand.old kept.old.items hand.new kept.new.items) }
     ensures left { OnErr result (kept.new.items ≡ kept.old.items) }
 {
     let Some(place) = place_of_last(kept, key) else {

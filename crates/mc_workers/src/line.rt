@@ -36,7 +36,8 @@ pub fn serve_line<R: Wait>(
     requires valid { IsValid command }
     requires worker { is_workers command ≡ true }
     ensures stays { StaysKeeping arena.now hand.old hand.new kept.new.items }
-    ensures serves { IfOk result (λ reply. ServesBy arena.now command reply hand.old kept.old.items hand.new kept.new.items) }
+    ensures serves { IfOk result (λ reply.
+        ServesBy arena.now command reply hand.old kept.old.items hand.new kept.new.items) }
     ensures left { OnErr result (kept.new.items ≡ kept.old.items) }
 {
     match command {
@@ -65,7 +66,8 @@ fn get_words<R: Wait>(
 ) -> Result<Reply, Refused>
     requires ready { IsReadyHandOf arena.now hand.old }
     ensures stays { StaysReady arena.now hand.old hand.new }
-    ensures answers { IfOk result (λ reply. AnswersGet (setup_of arena.now) key reply hand.old hand.new) }
+    ensures answers { IfOk result (λ reply. AnswersGet
+        (setup_of arena.now) key reply hand.old hand.new) }
     ensures holdings { HoldsAsOften (view hand.old) (view hand.new) }
     ensures keeps { KeepsRefs (view hand.old) (view hand.new) }
 {
@@ -87,7 +89,8 @@ fn get_words<R: Wait>(
 fn delete_key<R: Wait>(rt: &R, arena: &Arena, hand: &mut Hand, key: u64) -> Result<Reply, Refused>
     requires ready { IsReadyHandOf arena.now hand.old }
     ensures stays { StaysHolding arena.now hand.old hand.new }
-    ensures answers { IfOk result (λ reply. AnswersDelete (setup_of arena.now) key reply hand.old hand.new) }
+    ensures answers { IfOk result (λ reply. AnswersDelete
+        (setup_of arena.now) key reply hand.old hand.new) }
     ensures keeps { KeepsRefs (view hand.old) (view hand.new) }
 {
     match delete(rt, arena, hand, key) {
@@ -101,7 +104,8 @@ fn delete_key<R: Wait>(rt: &R, arena: &Arena, hand: &mut Hand, key: u64) -> Resu
 fn touch_key<R: Wait>(rt: &R, arena: &Arena, hand: &mut Hand, key: u64) -> Result<Reply, Refused>
     requires ready { IsReadyHandOf arena.now hand.old }
     ensures stays { StaysReady arena.now hand.old hand.new }
-    ensures answers { IfOk result (λ reply. AnswersTouch (setup_of arena.now) key reply hand.old hand.new) }
+    ensures answers { IfOk result (λ reply. AnswersTouch
+        (setup_of arena.now) key reply hand.old hand.new) }
     ensures holdings { HoldsAsOften (view hand.old) (view hand.new) }
     ensures keeps { KeepsRefs (view hand.old) (view hand.new) }
 {

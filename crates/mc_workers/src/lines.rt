@@ -39,7 +39,8 @@ pub fn serve_lines<R: Wait, G: Gate>(
     ensures arena { IsHandOf shared.now.arena.now hand.new }
     ensures number { hand_number hand.new ≡ hand_number hand.old }
     ensures idle { OnOk result (is_idle (view hand.new) ≡ true) }
-    ensures does { OnOk result (DoesLines (setup_of shared.now.arena.now) worker shared.now.commands.now hand.old text.new.items hand.new) }
+    ensures does { OnOk result (DoesLines (setup_of shared.now.arena.now) worker
+        shared.now.commands.now hand.old text.new.items hand.new) }
     ensures passed { OnOk result
         (PassesLines (G.LetsOn shared.now.gate.now) shared.now.commands.now worker) }
     ensures stopped { result ≡ Err Ended.Turns → StopsLines (G.LetsOn shared.now.gate.now)
@@ -63,7 +64,8 @@ fn serve_each<R: Wait, G: Gate>(
     requires valid { All IsValid shared.now.commands.now }
     ensures stays { StaysKeeping shared.now.arena.now hand.old hand.new kept.new.items }
     ensures serves { OnOk result
-        (ServesLinesBy shared.now.arena.now worker shared.now.commands.now hand.old kept.old.items text.old.items hand.new kept.new.items text.new.items) }
+        (ServesLinesBy shared.now.arena.now worker shared.now.commands.now hand.old kept.old.items
+        text.old.items hand.new kept.new.items text.new.items) }
     ensures passed { OnOk result
         (PassesLines (G.LetsOn shared.now.gate.now) shared.now.commands.now worker) }
     ensures stopped { result ≡ Err Ended.Turns → StopsLines (G.LetsOn shared.now.gate.now)
@@ -93,7 +95,8 @@ fn serve_gated<R: Wait, G: Gate>(
     requires valid { IsValid command }
     requires worker { is_asked_by worker command ≡ true }
     ensures stays { StaysKeeping shared.now.arena.now hand.old hand.new kept.new.items }
-    ensures adds { OnOk result (AddsReplyBy shared.now.arena.now command hand.old kept.old.items text.old.items hand.new kept.new.items text.new.items) }
+    ensures adds { OnOk result (AddsReplyBy shared.now.arena.now command hand.old kept.old.items
+        text.old.items hand.new kept.new.items text.new.items) }
     ensures passed { OnOk result (IsLetOn (G.LetsOn shared.now.gate.now) worker nth) }
     ensures stopped { result ≡ Err Ended.Turns
         → StoppedAt (G.LetsOn shared.now.gate.now) (G.Stops shared.now.gate.now) worker nth }

@@ -34,8 +34,10 @@ impl Mover {
         alloc: Global,
         survey: &Survey,
     ) -> Result<Option<Decision>, Refused>
-        ensures fed { OnOk result (decider_of self.new ≡ decider_after (decider_of self.old) survey.now) }
-        ensures decided { IfOk result (λ decided. decided ≡ decision_acted_on (decider_of self.old) survey.now) }
+        ensures fed { OnOk result (decider_of self.new
+            ≡ decider_after (decider_of self.old) survey.now) }
+        ensures decided { IfOk result (λ decided.
+            decided ≡ decision_acted_on (decider_of self.old) survey.now) }
         ensures kept { OnErr result (decider_of self.new ≡ decider_of self.old) }
         ensures turns { turns_of self.new ≡ turns_of self.old }
     {

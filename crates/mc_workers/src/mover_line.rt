@@ -37,9 +37,11 @@ pub fn serve_mover_line<R: Wait>(
     requires valid { IsValid command }
     requires mover { is_workers command ≡ false }
     ensures stays { StaysHolding arena.now hand.old hand.new }
-    ensures moves { IfOk result (λ reply. ServesMover command reply mover.old hand.old mover.new hand.new) }
+    ensures moves { IfOk result (λ reply.
+        ServesMover command reply mover.old hand.old mover.new hand.new) }
     ensures tellable { IfOk result (CanPrint (setup_of arena.now).table) }
-    ensures stopped { result ≡ Err Ended.Turns → StopsMover command mover.old hand.old mover.new hand.new }
+    ensures stopped { result ≡ Err Ended.Turns →
+        StopsMover command mover.old hand.old mover.new hand.new }
     ensures begun { OnOk result (turns_of mover.new ≤ turns_of mover.old + turns_asked command) }
     ensures refused { OnErr result (RefusesMover command hand.old hand.new) }
 {

@@ -33,8 +33,10 @@ pub fn move_lines<R: Wait, G: Gate>(
     requires valid { All IsValid shared.now.commands.now }
     requires empty { text.old.items ≡ [] }
     ensures stays { StaysHolding shared.now.arena.now hand.old hand.new }
-    ensures moves { OnOk result (MovesLines (setup_of shared.now.arena.now).table shared.now.commands.now hand.old text.new.items hand.new) }
-    ensures passed { OnOk result (PassesMoves (G.LetsOn shared.now.gate.now) shared.now.commands.now) }
+    ensures moves { OnOk result (MovesLines (setup_of shared.now.arena.now).table
+        shared.now.commands.now hand.old text.new.items hand.new) }
+    ensures passed { OnOk result (PassesMoves (G.LetsOn shared.now.gate.now)
+        shared.now.commands.now) }
     ensures stopped { result ≡ Err Ended.Turns → StopsMoves (G.LetsOn shared.now.gate.now)
         (G.Stops shared.now.gate.now) 0 shared.now.commands.now }
 {
@@ -52,8 +54,10 @@ fn move_each<R: Wait, G: Gate>(
     requires ready { IsReadyHandOf shared.now.arena.now hand.old }
     requires valid { All IsValid shared.now.commands.now }
     ensures stays { StaysHolding shared.now.arena.now hand.old hand.new }
-    ensures moves { OnOk result (AddsMovesBy shared.now.arena.now shared.now.commands.now hand.old mover.old text.old.items hand.new mover.new text.new.items) }
-    ensures passed { OnOk result (PassesMoves (G.LetsOn shared.now.gate.now) shared.now.commands.now) }
+    ensures moves { OnOk result (AddsMovesBy shared.now.arena.now shared.now.commands.now hand.old
+        mover.old text.old.items hand.new mover.new text.new.items) }
+    ensures passed { OnOk result (PassesMoves (G.LetsOn shared.now.gate.now)
+        shared.now.commands.now) }
     ensures stopped { result ≡ Err Ended.Turns → StopsMoves (G.LetsOn shared.now.gate.now)
         (G.Stops shared.now.gate.now) (turns_of mover.old) shared.now.commands.now }
 {
@@ -80,7 +84,8 @@ fn move_gated<R: Wait, G: Gate>(
     requires valid { IsValid command }
     requires mover { is_workers command ≡ false }
     ensures stays { StaysHolding shared.now.arena.now hand.old hand.new }
-    ensures adds { OnOk result (AddsMoveBy shared.now.arena.now command hand.old mover.old text.old.items hand.new mover.new text.new.items) }
+    ensures adds { OnOk result (AddsMoveBy shared.now.arena.now command hand.old mover.old
+        text.old.items hand.new mover.new text.new.items) }
     ensures begun { OnOk result (turns_of mover.new ≤ turns_of mover.old + turns_asked command) }
     ensures passed { OnOk result (IsLetOn (G.LetsOn shared.now.gate.now) 0 nth) }
     ensures stopped { result ≡ Err Ended.Turns → StopsMove (G.LetsOn shared.now.gate.now)

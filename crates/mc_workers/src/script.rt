@@ -85,7 +85,8 @@ fn open_arena<R: Wait>(
     requires mode { mode ≤ 2 }
     requires some { 1 ≤ hands }
     requires within_limit { hands ≤ 64 }
-    ensures opened { IfOk result (λ opened. IsOpened config.now mode hands opened.0 opened.1 opened.2.items) }
+    ensures opened { IfOk result (λ opened.
+        IsOpened config.now mode hands opened.0 opened.1 opened.2.items) }
     ensures mover { IfOk result (λ opened. IsReadyHandOf opened.0 opened.1) }
     ensures none { IfOk result (λ opened. (view opened.1).row.holdings ≡ []) }
 {

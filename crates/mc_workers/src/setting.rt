@@ -27,7 +27,8 @@ pub(crate) fn set_words<R: Wait>(
     requires ready { IsReadyHandOf arena.now hand.old }
     requires count { count ≤ 4096 }
     ensures stays { StaysHolding arena.now hand.old hand.new }
-    ensures answers { IfOk result (λ reply. AnswersSet key (counting_words base count) reply hand.old hand.new) }
+    ensures answers { IfOk result (λ reply. AnswersSet key
+        (counting_words base count) reply hand.old hand.new) }
     ensures keeps { KeepsRefs (view hand.old) (view hand.new) }
 {
     let words = count_up(alloc, base, count)?;

@@ -19,7 +19,8 @@ pub(crate) fn push_statistics(
     survey: &Survey,
 ) -> Result<(), Refused>
     requires tellable { ArePrintable table.now survey.now }
-    ensures text { OnOk result (text.new.items ≡ text.old.items ++ statistics_text table.now survey.now) }
+    ensures text { OnOk result (text.new.items ≡ text.old.items
+        ++ statistics_text table.now survey.now) }
     ensures kept { StartsWith text.new.items text.old.items }
 {
     push_classes::<Brand>(Blank::new(1), text, table, survey)?;
@@ -65,7 +66,8 @@ pub(crate) fn push_classes<L: Ledger>(
     requires parts { refusals.parts ≡ L.parts }
     requires some { 0 < refusals.parts }
     requires tellable { ArePrintable table.now survey.now }
-    ensures text { OnOk result (text.new.items ≡ text.old.items ++ class_statistics_text table.now survey.now) }
+    ensures text { OnOk result (text.new.items ≡ text.old.items
+        ++ class_statistics_text table.now survey.now) }
     ensures kept { StartsWith text.new.items text.old.items }
 {
     let pages = survey.pages(*text.allocator())?;

@@ -91,8 +91,10 @@ pub fn run_workers<R: Threads + Wait + Sync, G: Gate + Sync>(
         rt,
         |scope| -> Result<Joined, Ended>
             requires { IsSync R.row × IsSync G.row
-                × IsNewHand arena.now worker hand × AreHandsFrom arena.now (1 + worker) hands.items × (worker + vec_len hands ≤ 63)
-                × IsReadyHandOf arena.now mover × ((view mover).row.holdings ≡ []) × All IsValid commands.now }
+                × IsNewHand arena.now worker hand × AreHandsFrom arena.now (1 + worker) hands.items
+                × (worker + vec_len hands ≤ 63)
+                × IsReadyHandOf arena.now mover × ((view mover).row.holdings ≡ [])
+                × All IsValid commands.now }
             ensures { EndsJoined (G.LetsOn gate.entry.now) (G.Stops gate.entry.now) arena.entry.now
                 worker commands.entry.now (hand ∷ hands.items) mover result }
         {
@@ -107,7 +109,8 @@ pub fn run_workers<R: Threads + Wait + Sync, G: Gate + Sync>(
                 scope,
                 promise,
                 move || -> Result<Served, Ended>
-                    requires { IsSync R.row × IsSync G.row × IsNewHand arena.now worker hand × All IsValid commands.now }
+                    requires { IsSync R.row × IsSync G.row × IsNewHand arena.now worker hand
+                        × All IsValid commands.now }
                     ensures { EndsServed (G.LetsOn gate.entry.now) (G.Stops gate.entry.now)
                         arena.entry.now worker commands.entry.now hand result }
                 { serve_worker(rt, alloc, arena, gate, commands, worker, hand) },
@@ -200,7 +203,8 @@ fn move_alone<R: Wait, G: Gate>(
 pub fn first_hand(arena: &Arena, worker: u64, hands: &mut Vec<Hand>) -> Option<Hand>
     requires hands { AreHandsFrom arena.now worker hands.old.items }
     ensures first { IfSome result (IsNewHand arena.now worker) }
-    ensures ready { IfSome result (λ hand. IsReadyHandOf arena.now hand × ((view hand).row.holdings ≡ [])) }
+    ensures ready { IfSome result (λ hand. IsReadyHandOf arena.now hand
+        × ((view hand).row.holdings ≡ [])) }
     ensures others { IfSome result (λ hand. AreHandsFrom arena.now (1 + worker) hands.new.items) }
     ensures all { IfSome result (λ hand. hands.old.items ≡ hand ∷ hands.new.items) }
     ensures fewer { IfSome result (λ hand. vec_len hands.new + 1 ≡ vec_len hands.old) }

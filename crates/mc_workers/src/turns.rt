@@ -29,8 +29,10 @@ pub(crate) fn do_turns<R: Wait>(
     requires ready { IsReadyHandOf arena.now hand.old }
     requires asked { (1 ≤ asked) × (asked ≤ 1000000) }
     ensures stays { StaysHolding arena.now hand.old hand.new }
-    ensures does { IfOk result (λ done. DoesTurnsInRun asked done.0 done.1 mover.old hand.old mover.new hand.new) }
-    ensures stopped { result ≡ Err Ended.Turns → RunsOutOfTurns asked mover.old hand.old mover.new hand.new }
+    ensures does { IfOk result (λ done.
+        DoesTurnsInRun asked done.0 done.1 mover.old hand.old mover.new hand.new) }
+    ensures stopped { result ≡ Err Ended.Turns →
+        RunsOutOfTurns asked mover.old hand.old mover.new hand.new }
 {
     let mut ending = Ending::Idle;
     let mut counts = Counts::new();

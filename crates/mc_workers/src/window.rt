@@ -27,7 +27,8 @@ pub(crate) fn end_window<R: Wait>(
 ) -> Result<(Option<Acted>, Result<(), Trim>), Refused>
     requires ready { IsReadyHandOf arena.now hand.old }
     ensures stays { StaysHolding arena.now hand.old hand.new }
-    ensures ends { IfOk result (λ told. EndsWindowInRun told.0 told.1 mover.old hand.old mover.new hand.new) }
+    ensures ends { IfOk result (λ told.
+        EndsWindowInRun told.0 told.1 mover.old hand.old mover.new hand.new) }
     ensures refused { OnErr result (RefusesWindow hand.old hand.new) }
 {
     let survey = survey(rt, alloc, arena, hand, true)?;

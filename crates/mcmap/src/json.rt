@@ -28,7 +28,8 @@ use std::alloc::{AllocError, Global};
 
 /// Adds a map as a line of JSON. `line` is that of its mark, or 0 at the end.
 pub fn write_json(alloc: Global, map: &Map, line: u64, text: &mut String) -> Result<(), Fault>
-    ensures json { OnOk result (string_bytes text.new ≡ string_bytes text.old ++ (compact_text (map_json line map.now) ++ codes "\n")) }
+    ensures json { OnOk result (string_bytes text.new ≡ string_bytes text.old
+        ++ (compact_text (map_json line map.now) ++ codes "\n")) }
 {
     let value = map_value(alloc, map, line)?;
     let written = value.to_string(alloc);
@@ -57,7 +58,8 @@ fn put_map(
     line: u64,
     object: &mut Object<String, Value>,
 ) -> Result<(), AllocError>
-    ensures { OnOk result (members_view object.new.entries ≡ with_members (members_view object.old.entries) (map_members line map.now)) }
+    ensures { OnOk result (members_view object.new.entries
+        ≡ with_members (members_view object.old.entries) (map_members line map.now)) }
 {
     put_front(alloc, map, line, object)?;
     put_pages(alloc, map, object)?;
@@ -71,7 +73,8 @@ fn put_front(
     line: u64,
     object: &mut Object<String, Value>,
 ) -> Result<(), AllocError>
-    ensures { OnOk result (members_view object.new.entries ≡ with_members (members_view object.old.entries) (front_members line map.now)) }
+    ensures { OnOk result (members_view object.new.entries
+        ≡ with_members (members_view object.old.entries) (front_members line map.now)) }
 {
     put(object, alloc, "line", Value::from(line))?;
     put(object, alloc, "done", Value::from(map.done))?;
@@ -81,7 +84,8 @@ fn put_front(
 
 /// Puts who owns the pages, the classes, and the numbers of the whole.
 fn put_pages(alloc: Global, map: &Map, object: &mut Object<String, Value>) -> Result<(), AllocError>
-    ensures { OnOk result (members_view object.new.entries ≡ with_members (members_view object.old.entries) (page_members map.now)) }
+    ensures { OnOk result (members_view object.new.entries
+        ≡ with_members (members_view object.old.entries) (page_members map.now)) }
 {
     put(object, alloc, "owners", owners_value(alloc, &map.owners)?)?;
     put(object, alloc, "pool", numbers_value(alloc, &map.pool)?)?;
@@ -96,7 +100,8 @@ fn put_pages(alloc: Global, map: &Map, object: &mut Object<String, Value>) -> Re
 
 /// Puts how pages changed hands, which one moves, and what holds it up.
 fn put_moves(alloc: Global, map: &Map, object: &mut Object<String, Value>) -> Result<(), AllocError>
-    ensures { OnOk result (members_view object.new.entries ≡ with_members (members_view object.old.entries) (move_members map.now)) }
+    ensures { OnOk result (members_view object.new.entries
+        ≡ with_members (members_view object.old.entries) (move_members map.now)) }
 {
     put(object, alloc, "ledger", ledger_value(alloc, &map.ledger)?)?;
     put(object, alloc, "moving", moving_value(alloc, map.moving)?)?;
@@ -105,7 +110,8 @@ fn put_moves(alloc: Global, map: &Map, object: &mut Object<String, Value>) -> Re
 
 /// A JSON object of these numbers, by their names.
 fn pairs_value(alloc: Global, pairs: &[(&str, u64)]) -> Result<Value, AllocError>
-    ensures { IfOk result (λ value. view value ≡ pairs_json (map (λ pair. (pair.0.now, pair.1)) pairs.now)) }
+    ensures { IfOk result (λ value. view value ≡ pairs_json
+        (map (λ pair. (pair.0.now, pair.1)) pairs.now)) }
 {
     let mut object = Object::new(alloc);
     for (name, number) in pairs {

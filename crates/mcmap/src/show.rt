@@ -14,7 +14,8 @@ use std::alloc::Global;
 
 /// Shows the class table, before anything runs.
 pub fn show_classes(alloc: Global, run: &Run, text: &mut String) -> Result<(), Fault>
-    ensures classes { OnOk result (IsClassesOf run.now.config (string_bytes text.old) (string_bytes text.new)) }
+    ensures classes { OnOk result (IsClassesOf run.now.config (string_bytes text.old)
+        (string_bytes text.new)) }
 {
     let table = ClassTable::build(alloc, &run.config)?;
     let rows = class_rows(alloc, &table)?;
@@ -39,7 +40,8 @@ pub fn show_maps(
 ) -> Result<(), Fault>
     requires mode { run.now.automove ≤ 2 }
     requires valid { All IsValid script.now.commands.items }
-    ensures maps { OnOk result (AreMapsOf form run.now script.now.commands.items script.now.marks.items (string_bytes text.old) (string_bytes text.new)) }
+    ensures maps { OnOk result (AreMapsOf form run.now script.now.commands.items
+        script.now.marks.items (string_bytes text.old) (string_bytes text.new)) }
 {
     let mut player = Player::new(alloc, run)?;
     let done = play_maps(alloc, form, &mut player, run, script, text);
@@ -58,7 +60,8 @@ fn play_maps(
 ) -> Result<(), Fault>
     requires mode { run.now.automove ≤ 2 }
     requires valid { All IsValid script.now.commands.items }
-    ensures maps { OnOk result (ShowsMaps form script.now.commands.items 0 script.now.marks.items player.old.keeper player.old.books (string_bytes text.old) (string_bytes text.new)) }
+    ensures maps { OnOk result (ShowsMaps form script.now.commands.items 0 script.now.marks.items
+        player.old.keeper player.old.books (string_bytes text.old) (string_bytes text.new)) }
 {
     let commands = script.commands.as_slice();
     let mut done = 0;
@@ -91,7 +94,8 @@ fn show_map(
 ) -> Result<(), Fault>
     requires mode { run.now.automove ≤ 2 }
     requires valid { All IsValid commands.now }
-    ensures shown { OnOk result (IsMapShown form line player.now.keeper player.now.books (string_bytes text.old) (string_bytes text.new)) }
+    ensures shown { OnOk result (IsMapShown form line player.now.keeper player.now.books
+        (string_bytes text.old) (string_bytes text.new)) }
 {
     let map = player.map(run, commands)?;
     let written = write_form(alloc, form, &map, line, text);
@@ -107,7 +111,8 @@ fn write_form(
     line: u64,
     text: &mut String,
 ) -> Result<(), Fault>
-    ensures map { OnOk result (IsMapIn form line map.now (string_bytes text.old) (string_bytes text.new)) }
+    ensures map { OnOk result (IsMapIn form line map.now (string_bytes text.old)
+        (string_bytes text.new)) }
 {
     match form {
         Form::Text => write_text(alloc, map, line, text),
@@ -118,7 +123,8 @@ fn write_form(
 /// Adds a map as text, under a heading with its place in the script.
 #[tactic(auto, unfolding(crate::specs::Played::place_text))]
 fn write_text(alloc: Global, map: &Map, line: u64, text: &mut String) -> Result<(), Fault>
-    ensures map { OnOk result (string_bytes text.new ≡ string_bytes text.old ++ map_text (place_text line) map.now) }
+    ensures map { OnOk result (string_bytes text.new ≡ string_bytes text.old
+        ++ map_text (place_text line) map.now) }
 {
     if line == 0 {
         write_map(map, "at the end", text)?;
@@ -132,7 +138,8 @@ fn write_text(alloc: Global, map: &Map, line: u64, text: &mut String) -> Result<
 /// Does these commands.
 fn play_all(player: &mut Player, commands: &[Command]) -> Result<(), Fault>
     requires { All IsValid commands.now }
-    ensures played { OnOk result (LeadTo commands.now player.old.keeper player.old.books player.new.keeper player.new.books) }
+    ensures played { OnOk result (LeadTo commands.now player.old.keeper player.old.books
+        player.new.keeper player.new.books) }
 {
     for command in commands {
         player.play(*command)?;
@@ -144,7 +151,8 @@ fn play_all(player: &mut Player, commands: &[Command]) -> Result<(), Fault>
 pub fn show_chart(alloc: Global, run: &Run, script: &Script, text: &mut String) -> Result<(), Fault>
     requires mode { run.now.automove ≤ 2 }
     requires valid { All IsValid script.now.commands.items }
-    ensures chart { OnOk result (IsChartOf run.now script.now.commands.items (string_bytes text.old) (string_bytes text.new)) }
+    ensures chart { OnOk result (IsChartOf run.now script.now.commands.items (string_bytes text.old)
+        (string_bytes text.new)) }
 {
     let mut player = Player::new(alloc, run)?;
     let done = play_chart(alloc, &mut player, script, text);
@@ -160,8 +168,10 @@ fn play_chart(
     text: &mut String,
 ) -> Result<(), Fault>
     requires { All IsValid script.now.commands.items }
-    ensures played { OnOk result (LeadTo script.now.commands.items player.old.keeper player.old.books player.new.keeper player.new.books) }
-    ensures chart { OnOk result (IsChart (length player.new.books.owners) player.new.books.ledger (string_bytes text.old) (string_bytes text.new)) }
+    ensures played { OnOk result (LeadTo script.now.commands.items player.old.keeper
+        player.old.books player.new.keeper player.new.books) }
+    ensures chart { OnOk result (IsChart (length player.new.books.owners) player.new.books.ledger
+        (string_bytes text.old) (string_bytes text.new)) }
 {
     play_all(player, &script.commands)?;
     let table = player.keeper().table();

@@ -27,7 +27,8 @@ fn try_item(arena: &Arena, hand: &mut Hand, key: Key) -> Option<Ref>
     requires arena { IsReadyHandOf arena.now hand.old }
     ensures arena { IsReadyHandOf arena.now hand.new }
     ensures item { IfSome result (λ item. IsItemRef (view hand.new) item) }
-    ensures in_range { IfSome result (λ item. has_chunk (setup_of arena.now).table (item_chunk item) ≡ true) }
+    ensures in_range { IfSome result (λ item. has_chunk (setup_of arena.now).table (item_chunk item)
+        ≡ true) }
     ensures holdings { HoldsToo result (view hand.old) (view hand.new) }
 {
     match try_get(arena, hand, key) {
@@ -47,7 +48,8 @@ pub fn get_by<R: Wait>(
     requires arena { IsReadyHandOf arena.now hand.old }
     ensures arena { IsReadyHandOf arena.now hand.new }
     ensures item { IfSome result (λ item. IsItemRef (view hand.new) item) }
-    ensures in_range { IfSome result (λ item. has_chunk (setup_of arena.now).table (item_chunk item) ≡ true) }
+    ensures in_range { IfSome result (λ item. has_chunk (setup_of arena.now).table (item_chunk item)
+        ≡ true) }
     ensures holdings { HoldsToo result (view hand.old) (view hand.new) }
 {
     match getter {

@@ -33,7 +33,8 @@ pub fn next_hand(arena: &Arena, hands: &mut Vec<Hand>) -> Result<Hand, Fail>
 fn two_of(arena: &Arena, hands: &mut Vec<Hand>) -> Result<(Hand, Hand), Fail>
     requires hands { AreEmptyHandsOf arena.now hands.old.items }
     ensures hands { AreEmptyHandsOf arena.now hands.new.items }
-    ensures two { IfOk result (λ two. IsEmptyHandOf arena.now two.0 × IsEmptyHandOf arena.now two.1) }
+    ensures two { IfOk result (λ two. IsEmptyHandOf arena.now two.0
+        × IsEmptyHandOf arena.now two.1) }
 {
     let first = next_hand(arena, hands)?;
     let second = next_hand(arena, hands)?;
@@ -44,7 +45,8 @@ fn two_of(arena: &Arena, hands: &mut Vec<Hand>) -> Result<(Hand, Hand), Fail>
 pub fn three_of(arena: &Arena, hands: &mut Vec<Hand>) -> Result<(Hand, Hand, Hand), Fail>
     requires hands { AreEmptyHandsOf arena.now hands.old.items }
     ensures hands { AreEmptyHandsOf arena.now hands.new.items }
-    ensures three { IfOk result (λ three. IsEmptyHandOf arena.now three.0 × IsEmptyHandOf arena.now three.1 × IsEmptyHandOf arena.now three.2) }
+    ensures three { IfOk result (λ three. IsEmptyHandOf arena.now three.0
+        × IsEmptyHandOf arena.now three.1 × IsEmptyHandOf arena.now three.2) }
 {
     let first = next_hand(arena, hands)?;
     let second = next_hand(arena, hands)?;

@@ -15,7 +15,8 @@ use std::sync::Wait;
 pub fn hint_of<R: Wait>(rt: &R, arena: &Arena, hand: &mut Hand, key: Key) -> Option<Hint>
     requires arena { IsReadyHandOf arena.now hand.old }
     ensures arena { IsReadyHandOf arena.now hand.new }
-    ensures in_range { IfSome result (λ hint. has_chunk (setup_of arena.now).table (hint_chunk hint) ≡ true) }
+    ensures in_range { IfSome result (λ hint. has_chunk (setup_of arena.now).table (hint_chunk hint)
+        ≡ true) }
 {
     let item = get_key(rt, arena, hand, key)?;
     let hint = hint(&item);

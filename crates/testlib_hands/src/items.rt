@@ -42,7 +42,8 @@ pub fn get_key<R: Wait>(rt: &R, arena: &Arena, hand: &mut Hand, key: Key) -> Opt
     requires arena { IsReadyHandOf arena.now hand.old }
     ensures arena { IsReadyHandOf arena.now hand.new }
     ensures item { IfSome result (λ item. IsItemRef (view hand.new) item) }
-    ensures in_range { IfSome result (λ item. has_chunk (setup_of arena.now).table (item_chunk item) ≡ true) }
+    ensures in_range { IfSome result (λ item. has_chunk (setup_of arena.now).table (item_chunk item)
+        ≡ true) }
     ensures holdings { HoldsToo result (view hand.old) (view hand.new) }
 {
     match get(rt, arena, hand, key) {

@@ -82,7 +82,8 @@ pub fn work_three<R: Threads + Wait + Sync, A: Job, B: Job, C: Job>(
         rt,
         move || job.work(rt, alloc, arena),
         move ||
-            requires { IsSync R.row × IsSend B.row × IsSend C.row × B.is_ready arena.now others.0 × C.is_ready arena.now others.1 }
+            requires { IsSync R.row × IsSend B.row × IsSend C.row × B.is_ready arena.now others.0
+                × C.is_ready arena.now others.1 }
         { work_two(rt, alloc, arena, others) },
     );
     both(arena, first, others)
@@ -103,10 +104,12 @@ pub fn work_four<R: Threads + Wait + Sync, A: Job, B: Job, C: Job, D: Job>(
     let (low, high) = join(
         rt,
         move ||
-            requires { IsSync R.row × IsSend A.row × IsSend B.row × A.is_ready arena.now low.0 × B.is_ready arena.now low.1 }
+            requires { IsSync R.row × IsSend A.row × IsSend B.row × A.is_ready arena.now low.0
+                × B.is_ready arena.now low.1 }
         { work_two(rt, alloc, arena, low) },
         move ||
-            requires { IsSync R.row × IsSend C.row × IsSend D.row × C.is_ready arena.now high.0 × D.is_ready arena.now high.1 }
+            requires { IsSync R.row × IsSend C.row × IsSend D.row × C.is_ready arena.now high.0
+                × D.is_ready arena.now high.1 }
         { work_two(rt, alloc, arena, high) },
     );
     both(arena, low, high)

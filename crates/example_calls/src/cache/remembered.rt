@@ -26,7 +26,8 @@ pub fn remember<R: Wait>(
 ) -> Result<Answer, CallError>
     requires { BelongsTo cache.now worker.old }
     ensures belongs { BelongsTo cache.now worker.new }
-    ensures found { result ≡ Ok answer.Found → GivesValueOf cache.now key.now into.old.items into.new.items worker.old worker.new }
+    ensures found { result ≡ Ok answer.Found →
+        GivesValueOf cache.now key.now into.old.items into.new.items worker.old worker.new }
     ensures made { result ≡ Ok answer.Made → into.new.items ≡ into.old.items ++ value.now }
 {
     match worker.get(rt, cache, key, into) {

@@ -26,9 +26,12 @@ pub fn delete<R: Wait>(
     requires { IsIdleHandOf arena.now hand.old }
     ensures idle { IsIdleHandOf arena.now hand.new }
     ensures number { hand_number hand.new ≡ hand_number hand.old }
-    ensures deletes { result ≡ Ok true → DeletesKey (setup_of arena.now) at.entry.hash at.entry.key.now true hand.old hand.new }
-    ensures none { result ≡ Ok false → DeletesNone (setup_of arena.now) at.entry.hash at.entry.key.now hand.old hand.new }
-    ensures full { OnErr result ((between : Hand) × FindsFull (setup_of arena.now) at.entry.hash between hand.new) }
+    ensures deletes { result ≡ Ok true →
+        DeletesKey (setup_of arena.now) at.entry.hash at.entry.key.now true hand.old hand.new }
+    ensures none { result ≡ Ok false →
+        DeletesNone (setup_of arena.now) at.entry.hash at.entry.key.now hand.old hand.new }
+    ensures full { OnErr result ((between : Hand)
+        × FindsFull (setup_of arena.now) at.entry.hash between hand.new) }
     ensures stores_nothing { StoresNothing (view hand.old) (view hand.new) }
 {
     match contains(rt, arena, hints, hand, at) {

@@ -37,10 +37,14 @@ pub fn get<R: Wait>(
     requires { IsIdleHandOf arena.now hand.old }
     ensures idle { IsIdleHandOf arena.now hand.new }
     ensures number { hand_number hand.new ≡ hand_number hand.old }
-    ensures value { result ≡ Ok true → GivesTouchedIf touches (setup_of arena.now) at.entry.hash at.entry.key.now hand.old hand.new into.old.items into.new.items }
-    ensures other { result ≡ Ok false → FindsOtherKey (setup_of arena.now) at.entry.hash at.entry.key.now hand.old }
+    ensures value { result ≡ Ok true →
+        GivesTouchedIf touches (setup_of arena.now) at.entry.hash at.entry.key.now hand.old hand.new
+        into.old.items into.new.items }
+    ensures other { result ≡ Ok false →
+        FindsOtherKey (setup_of arena.now) at.entry.hash at.entry.key.now hand.old }
     ensures kept { (result ≡ Ok true → ⊥) → into.new.items ≡ into.old.items }
-    ensures full { OnErr result (FindsFull (setup_of arena.now) at.entry.hash hand.old hand.new ⊎ FindsSome (setup_of arena.now) at.entry.hash hand.old) }
+    ensures full { OnErr result (FindsFull (setup_of arena.now) at.entry.hash hand.old hand.new
+        ⊎ FindsSome (setup_of arena.now) at.entry.hash hand.old) }
     ensures stores_nothing { StoresNothing (view hand.old) (view hand.new) }
     ensures unasked { touches ≡ false → LeavesSlabs (view hand.old) (view hand.new) }
 {
@@ -62,8 +66,10 @@ pub fn touch<R: Wait>(
     requires { IsIdleHandOf arena.now hand.old }
     ensures idle { IsIdleHandOf arena.now hand.new }
     ensures number { hand_number hand.new ≡ hand_number hand.old }
-    ensures touches { result ≡ Ok true → TouchesKey (setup_of arena.now) at.entry.hash at.entry.key.now hand.old hand.new }
-    ensures none { result ≡ Ok false → FindsOtherKey (setup_of arena.now) at.entry.hash at.entry.key.now hand.old }
+    ensures touches { result ≡ Ok true →
+        TouchesKey (setup_of arena.now) at.entry.hash at.entry.key.now hand.old hand.new }
+    ensures none { result ≡ Ok false →
+        FindsOtherKey (setup_of arena.now) at.entry.hash at.entry.key.now hand.old }
     ensures full { OnErr result (FindsFull (setup_of arena.now) at.entry.hash hand.old hand.new) }
     ensures stores_nothing { StoresNothing (view hand.old) (view hand.new) }
 {
@@ -88,8 +94,10 @@ fn give_and_touch<R: Wait>(
     requires alone { (view hand.old).row.holdings ≡ holding_by (view hand.old) item ∷ [] }
     ensures idle { IsIdleHandOf arena.now hand.new }
     ensures number { hand_number hand.new ≡ hand_number hand.old }
-    ensures value { result ≡ Ok true → PutsValue key.now (item_words (view hand.old) item) into.old.items into.new.items }
-    ensures bumps { result ≡ Ok true → touches ≡ true → BumpsItem (hand_number hand.old) item hand.new }
+    ensures value { result ≡ Ok true →
+        PutsValue key.now (item_words (view hand.old) item) into.old.items into.new.items }
+    ensures bumps { result ≡ Ok true → touches ≡ true →
+        BumpsItem (hand_number hand.old) item hand.new }
     ensures other { result ≡ Ok false → ¬ IsPackingOf key.now (item_words (view hand.old) item) }
     ensures kept { (result ≡ Ok true → ⊥) → into.new.items ≡ into.old.items }
     ensures stores_nothing { StoresNothing (view hand.old) (view hand.new) }

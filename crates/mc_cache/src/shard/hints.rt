@@ -56,7 +56,8 @@ impl HintTable {
     /// The hint at the hash's place, if its word has the hash's part and a chunk of the arena.
     #[inline(always)]
     pub(crate) fn load(&self, arena: &Arena, hash: u64) -> Option<Hint>
-        ensures in_range { IfSome result (λ hint. has_chunk (setup_of arena.now).table (hint_chunk hint) ≡ true) }
+        ensures in_range { IfSome result (λ hint.
+            has_chunk (setup_of arena.now).table (hint_chunk hint) ≡ true) }
     {
         let word = self.words.get((hash & self.mask) as usize)?.load(SeqCst);
         if word >> 16 & 0xffff != part_of(hash) {

@@ -25,8 +25,10 @@ pub(crate) fn get_item<R: Wait>(
     hash: u64,
 ) -> Result<Option<Ref>, Refused>
     requires { IsIdleHandOf arena.now hand.old }
-    ensures item { IfOk result (λ found. IfSome found (λ item. FindsItem arena.now hash item hand.old hand.new)) }
-    ensures none { result ≡ Ok None → FindsWords (setup_of arena.now) hash hand.old None × IsIdleHandOf arena.now hand.new }
+    ensures item { IfOk result (λ found. IfSome found (λ item.
+        FindsItem arena.now hash item hand.old hand.new)) }
+    ensures none { result ≡ Ok None → FindsWords (setup_of arena.now) hash hand.old None
+        × IsIdleHandOf arena.now hand.new }
     ensures refused { OnErr result (IsIdleHandOf arena.now hand.new) }
     ensures full { OnErr result (FindsFull (setup_of arena.now) hash hand.old hand.new) }
     ensures number { hand_number hand.new ≡ hand_number hand.old }

@@ -40,8 +40,10 @@ pub(crate) fn push_value(
 ) -> Result<bool, Refused>
     requires { RefersTo arena.now item.now hand.old }
     ensures reads { OnlyReads arena.now item.now hand.old hand.new }
-    ensures value { result ≡ Ok true → PutsValue key.now (item_words (view hand.old) item.now) into.old.items into.new.items }
-    ensures other { result ≡ Ok false → ¬ IsPackingOf key.now (item_words (view hand.old) item.now) }
+    ensures value { result ≡ Ok true →
+        PutsValue key.now (item_words (view hand.old) item.now) into.old.items into.new.items }
+    ensures other { result ≡ Ok false →
+        ¬ IsPackingOf key.now (item_words (view hand.old) item.now) }
     ensures kept { (result ≡ Ok true → ⊥) → into.new.items ≡ into.old.items }
 {
     let Some(count) = value_len(arena, hand, item, key) else {
@@ -70,7 +72,8 @@ pub(crate) fn push_value(
 fn value_len(arena: &Arena, hand: &mut Hand, item: &Ref, key: &[u8]) -> Option<u64>
     requires { RefersTo arena.now item.now hand.old }
     ensures reads { OnlyReads arena.now item.now hand.old hand.new }
-    ensures looks { IfSome result (λ count. LooksPacked key.now count (item_words (view hand.old) item.now)) }
+    ensures looks { IfSome result (λ count. LooksPacked key.now count
+        (item_words (view hand.old) item.now)) }
     ensures other { result ≡ None → ¬ IsPackingOf key.now (item_words (view hand.old) item.now) }
 {
     let begin = value_place(key);
@@ -116,8 +119,10 @@ fn has_key(arena: &Arena, hand: &mut Hand, item: &Ref, key: &[u8]) -> bool
     requires item { RefersTo arena.now item.now hand.old }
     requires in_range { 2 + word_count_for (length key.now) ≤ item_len item.now }
     ensures reads { OnlyReads arena.now item.now hand.old hand.new }
-    ensures same { result ≡ true → key_words key.now (item_words (view hand.old) item.now) ≡ packed_words key.now }
-    ensures other { result ≡ false → key_words key.now (item_words (view hand.old) item.now) ≢ packed_words key.now }
+    ensures same { result ≡ true → key_words key.now (item_words (view hand.old) item.now)
+        ≡ packed_words key.now }
+    ensures other { result ≡ false → key_words key.now (item_words (view hand.old) item.now)
+        ≢ packed_words key.now }
 {
     let mut rest = key;
     for place in 0..words_for_bytes(key.len() as u64) {
@@ -135,7 +140,8 @@ fn write_value(arena: &Arena, hand: &mut Hand, item: &Ref, begin: u64, room: &mu
     requires item { RefersTo arena.now item.now hand.old }
     requires len { item_len item.now ≡ begin + word_count_for (length room.old) }
     ensures reads { OnlyReads arena.now item.now hand.old hand.new }
-    ensures bytes { room.new ≡ bytes_of_words (length room.old) (drop begin (item_words (view hand.old) item.now)) }
+    ensures bytes { room.new ≡ bytes_of_words (length room.old)
+        (drop begin (item_words (view hand.old) item.now)) }
     ensures words { AreWords (drop begin (item_words (view hand.old) item.now)) }
 {
     let full = room.len() / 8;

@@ -31,9 +31,13 @@ pub fn set<R: Wait>(
     requires { IsIdleHandOf arena.now hand.old }
     ensures idle { IsIdleHandOf arena.now hand.new }
     ensures number { hand_number hand.new ≡ hand_number hand.old }
-    ensures sets { IfOk result (λ stamp. SetsItem (hand_number hand.old) at.entry.hash stamp (packed_item at.entry.key.now value.now) (view hand.old) (view hand.new)) }
-    ensures stores_words { IfOk result (λ stamp. StoresWithStamp (item_with at.entry.hash stamp (packed_item at.entry.key.now value.now)) stamp (view hand.old) (view hand.new)) }
-    ensures refused { IfErr result (λ error. RefusesBytes (hand_number hand.old) at.entry.hash (packed_item at.entry.key.now value.now) error (view hand.old) (view hand.new)) }
+    ensures sets { IfOk result (λ stamp. SetsItem (hand_number hand.old) at.entry.hash stamp
+        (packed_item at.entry.key.now value.now) (view hand.old) (view hand.new)) }
+    ensures stores_words { IfOk result (λ stamp.
+        StoresWithStamp (item_with at.entry.hash stamp (packed_item at.entry.key.now value.now))
+        stamp (view hand.old) (view hand.new)) }
+    ensures refused { IfErr result (λ error. RefusesBytes (hand_number hand.old) at.entry.hash
+        (packed_item at.entry.key.now value.now) error (view hand.old) (view hand.new)) }
     ensures stores_nothing { OnErr result (StoresNothing (view hand.old) (view hand.new)) }
 {
     match pack(words, at.key, value) {

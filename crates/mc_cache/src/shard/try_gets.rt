@@ -42,11 +42,17 @@ pub fn try_get(
     requires { IsIdleHandOf arena.now hand.old }
     ensures idle { IsIdleHandOf arena.now hand.new }
     ensures number { hand_number hand.new ≡ hand_number hand.old }
-    ensures value { result ≡ Ok true → ReturnsValue (setup_of arena.now) at.entry.hash at.entry.key.now hand.old into.old.items into.new.items }
-    ensures other { result ≡ Ok false → FindsOtherKey (setup_of arena.now) at.entry.hash at.entry.key.now hand.old }
+    ensures value { result ≡ Ok true →
+        ReturnsValue (setup_of arena.now) at.entry.hash at.entry.key.now hand.old into.old.items
+        into.new.items }
+    ensures other { result ≡ Ok false →
+        FindsOtherKey (setup_of arena.now) at.entry.hash at.entry.key.now hand.old }
     ensures kept { (result ≡ Ok true → ⊥) → into.new.items ≡ into.old.items }
-    ensures held { result ≡ Err try_error.Held → FindsStripeHeld (setup_of arena.now) at.entry.hash hand.old hand.new }
-    ensures full { result ≡ Err (try_error.NoMemory tt) → FindsFull (setup_of arena.now) at.entry.hash hand.old hand.new ⊎ FindsSome (setup_of arena.now) at.entry.hash hand.old }
+    ensures held { result ≡ Err try_error.Held →
+        FindsStripeHeld (setup_of arena.now) at.entry.hash hand.old hand.new }
+    ensures full { result ≡ Err (try_error.NoMemory tt) →
+        FindsFull (setup_of arena.now) at.entry.hash hand.old hand.new
+        ⊎ FindsSome (setup_of arena.now) at.entry.hash hand.old }
     ensures stores_nothing { StoresNothing (view hand.old) (view hand.new) }
     ensures slabs { LeavesSlabs (view hand.old) (view hand.new) }
 {
@@ -73,8 +79,10 @@ pub fn contains<R: Wait>(
     requires { IsIdleHandOf arena.now hand.old }
     ensures idle { IsIdleHandOf arena.now hand.new }
     ensures number { hand_number hand.new ≡ hand_number hand.old }
-    ensures key { result ≡ Ok true → FindsKey (setup_of arena.now) at.entry.hash at.entry.key.now hand.old }
-    ensures other { result ≡ Ok false → FindsOtherKey (setup_of arena.now) at.entry.hash at.entry.key.now hand.old }
+    ensures key { result ≡ Ok true →
+        FindsKey (setup_of arena.now) at.entry.hash at.entry.key.now hand.old }
+    ensures other { result ≡ Ok false →
+        FindsOtherKey (setup_of arena.now) at.entry.hash at.entry.key.now hand.old }
     ensures full { OnErr result (FindsFull (setup_of arena.now) at.entry.hash hand.old hand.new) }
     ensures stores_nothing { StoresNothing (view hand.old) (view hand.new) }
     ensures slabs { LeavesSlabs (view hand.old) (view hand.new) }
@@ -98,7 +106,8 @@ pub(crate) fn give_value(
     requires alone { (view hand.old).row.holdings ≡ holding_by (view hand.old) item ∷ [] }
     ensures idle { IsIdleHandOf arena.now hand.new }
     ensures number { hand_number hand.new ≡ hand_number hand.old }
-    ensures value { result ≡ Ok true → PutsValue key.now (item_words (view hand.old) item) into.old.items into.new.items }
+    ensures value { result ≡ Ok true →
+        PutsValue key.now (item_words (view hand.old) item) into.old.items into.new.items }
     ensures other { result ≡ Ok false → ¬ IsPackingOf key.now (item_words (view hand.old) item) }
     ensures kept { (result ≡ Ok true → ⊥) → into.new.items ≡ into.old.items }
     ensures stores_nothing { StoresNothing (view hand.old) (view hand.new) }

@@ -166,7 +166,8 @@ impl State {
 
     /// The first free chunk that an item of the page can be taken to.
     pub(super) fn target(&self, page: PageId) -> Result<Option<ChunkId>, Refused>
-        ensures { IfOk result (λ target. target ≡ target_of self.now.table self.now.heads self.now.slabs page) }
+        ensures { IfOk result (λ target.
+            target ≡ target_of self.now.table self.now.heads self.now.slabs page) }
     {
         let free = self.free(self.class_of_page(page))?;
         Ok(

@@ -165,7 +165,8 @@ impl State {
     /// The first holding of the chunk.
     pub(super) fn holding(&self, hand: u64, chunk: ChunkId) -> Option<&Holding>
         requires { hand < length self.now.ids }
-        ensures { option_map (λ holding. holding.now) result ≡ holding_of chunk (holdings_at self.now hand) }
+        ensures { option_map (λ holding. holding.now) result
+            ≡ holding_of chunk (holdings_at self.now hand) }
     {
         self.holdings(hand)
             .iter()

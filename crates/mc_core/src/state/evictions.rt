@@ -48,7 +48,8 @@ impl State {
     /// Whether no handed-out chunk of the chunk's class is dead, as far as the hand saw.
     fn none_dead(&self, hand: u64, chunk: ChunkId) -> Result<bool, Refused>
         requires { hand < length self.now.ids }
-        ensures { IfOk result (λ none. none ≡ none_dead self.now.slabs (looks_at self.now hand) chunk) }
+        ensures { IfOk result (λ none. none ≡ none_dead self.now.slabs
+            (looks_at self.now hand) chunk) }
     {
         let order = self.order(self.class_of_page(chunk.page))?;
         let looks = self.looks(hand);
@@ -62,7 +63,9 @@ impl State {
     /// Whether the page moves, and there is no other chunk for the item.
     fn must_leave(&self, hand: u64, chunk: ChunkId) -> Result<bool, Refused>
         requires { hand < length self.now.ids }
-        ensures { IfOk result (λ must. must ≡ must_leave self.now.table self.now.heads self.now.slabs (looks_at self.now hand) chunk) }
+        ensures { IfOk result (λ must.
+            must ≡ must_leave self.now.table self.now.heads self.now.slabs
+            (looks_at self.now hand) chunk) }
     {
         if !self.is_on_the_move(chunk.page) || !self.none_dead(hand, chunk)? {
             return Ok(false);
@@ -81,7 +84,8 @@ impl State {
     /// Whether the class has neither a free chunk nor a dead one, and no page is to be had.
     fn lacks_room(&self, hand: u64, chunk: ChunkId) -> Result<bool, Refused>
         requires { hand < length self.now.ids }
-        ensures { IfOk result (λ lacks. lacks ≡ lacks_room self.now.slabs (looks_at self.now hand) chunk) }
+        ensures { IfOk result (λ lacks. lacks ≡ lacks_room self.now.slabs
+            (looks_at self.now hand) chunk) }
     {
         let has_free = self.next_free(self.class_of_page(chunk.page)).is_some();
         if has_free || !self.none_dead(hand, chunk)? {
@@ -93,7 +97,8 @@ impl State {
     /// Whether an item may be taken away for a reason.
     fn has_reason(&self, hand: u64, chunk: ChunkId) -> Result<bool, Refused>
         requires { hand < length self.now.ids }
-        ensures { IfOk result (λ has. has ≡ has_reason self.now.table self.now.heads self.now.slabs (looks_at self.now hand) (holdings_at self.now hand) chunk) }
+        ensures { IfOk result (λ has. has ≡ has_reason self.now.table self.now.heads self.now.slabs
+            (looks_at self.now hand) (holdings_at self.now hand) chunk) }
     {
         if self.is_on_the_move(chunk.page) && self.has_copy(hand, chunk) {
             return Ok(true);
@@ -106,7 +111,8 @@ impl State {
 
     /// Whether the stripe has room for a call, the key is there, and its entry can be put aside where it must.
     fn can_lose_entry(&self, key: u64, rescues: bool) -> bool
-        ensures { result ≡ can_lose_entry (stripe_at self.now (stripe_of self.now key)) key rescues }
+        ensures { result ≡ can_lose_entry (stripe_at self.now (stripe_of self.now key)) key
+            rescues }
     {
         let stripe = &self.stripes[self.stripe_of(key) as usize];
         stripe.is_ready() && stripe.find(key).is_some() && (!rescues || stripe.aside().is_none())
@@ -156,7 +162,9 @@ impl State {
     /// The stripe of the key comes to know: its entry is put aside, or evicted.
     fn tell_condemn(&mut self, hand: u64, key: u64, rescues: bool)
         requires { can_lose_entry (stripe_at self.old (stripe_of self.old key)) key rescues ≡ true }
-        ensures { self.new ≡ with_stripe self.old (stripe_of self.old key) (stripe_condemned (stripe_at self.old (stripe_of self.old key)) rescues (writer_of self.old hand) key) }
+        ensures { self.new ≡ with_stripe self.old (stripe_of self.old key)
+            (stripe_condemned (stripe_at self.old (stripe_of self.old key)) rescues
+            (writer_of self.old hand) key) }
     {
         let writer = self.writer(hand);
         let place = self.stripe_of(key);

@@ -86,7 +86,8 @@ impl State {
     fn suits(&self, hand: u64, holding: &Holding) -> bool
         requires here { hand < length self.now.ids }
         requires complete { is_complete (holding_words holding.now) ≡ true }
-        ensures { result ≡ is_allowed_for self.now hand (holding_words holding.now) holding.now.kind }
+        ensures { result ≡ is_allowed_for self.now hand
+            (holding_words holding.now) holding.now.kind }
     {
         let key = holding.word(0);
         let stamp = holding.word(1);
@@ -154,7 +155,9 @@ impl State {
     /// The stripe of the key comes to know of a rescue.
     fn tell_rescue(&mut self, hand: u64, holding: &Holding)
         requires key { can_link_key self.old hand (known_key (holding_words holding.now)) ≡ true }
-        requires aside { key_aside (stripe_at self.old (stripe_of self.old (known_key (holding_words holding.now)))).state ≡ Some (known_key (holding_words holding.now)) }
+        requires aside { key_aside (stripe_at self.old
+            (stripe_of self.old (known_key (holding_words holding.now)))).state
+            ≡ Some (known_key (holding_words holding.now)) }
         ensures { self.new ≡ with_rescued self.old hand holding.now }
     {
         let key = holding.word(0);
@@ -168,7 +171,9 @@ impl State {
     fn tell_set(&mut self, hand: u64, holding: &Holding)
         requires here { hand < length self.old.ids }
         requires key { can_link_key self.old hand (known_key (holding_words holding.now)) ≡ true }
-        requires aside { is_none_else_aside (stripe_at self.old (stripe_of self.old (known_key (holding_words holding.now)))).state (known_key (holding_words holding.now)) ≡ true }
+        requires aside { is_none_else_aside (stripe_at self.old
+            (stripe_of self.old (known_key (holding_words holding.now)))).state
+            (known_key (holding_words holding.now)) ≡ true }
         requires stamps { (ids_at self.old hand).stamps < most_stamps }
         ensures { self.new ≡ with_set self.old hand holding.now }
     {

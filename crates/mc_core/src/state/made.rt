@@ -62,9 +62,11 @@ fn new_chunks(
     start: u64,
     count: u64,
 ) -> Result<(Vec<Head>, Vec<u64>, Slabs), Refused>
-    ensures heads { IfOk result (λ new. new.0.items ≡ replicate (arena_pages_of table.now * most_of table.now) (uncut_from start)) }
+    ensures heads { IfOk result (λ new. new.0.items
+        ≡ replicate (arena_pages_of table.now * most_of table.now) (uncut_from start)) }
     ensures words { IfOk result (λ new. new.1.items ≡ replicate count 0) }
-    ensures slabs { IfOk result (λ new. (new.2.state ≡ fresh_slabs table.now) × IsAccounted new.2.state) }
+    ensures slabs { IfOk result (λ new. (new.2.state ≡ fresh_slabs table.now)
+        × IsAccounted new.2.state) }
 {
     let heads = heads_of(alloc, table, start)?;
     let words = zeros(alloc, count)?;
@@ -88,7 +90,8 @@ fn new_hands(
     count: u64,
 ) -> Result<(Vec<Ids>, Vec<Series<Holding>>, Vec<Series<Look>>), Refused>
     requires { count ≤ 64 }
-    ensures ids { IfOk result (λ new. new.0.items ≡ map (λ number. record { number = Some number; stamps = 0 }) (range_with_len 0 count)) }
+    ensures ids { IfOk result (λ new. new.0.items
+        ≡ map (λ number. record { number = Some number; stamps = 0 }) (range_with_len 0 count)) }
     ensures holdings { IfOk result (λ new. new.1.items ≡ replicate count []) }
     ensures looks { IfOk result (λ new. new.2.items ≡ replicate count []) }
 {
@@ -107,7 +110,8 @@ fn zeros(alloc: Global, count: u64) -> Result<Vec<u64>, Refused>
 
 /// A header for each index of each page, with this issue number.
 fn heads_of(alloc: Global, table: &ClassTable, start: u64) -> Result<Vec<Head>, Refused>
-    ensures { IfOk result (λ heads. heads.items ≡ replicate (arena_pages_of table.now * most_of table.now) (uncut_from start)) }
+    ensures { IfOk result (λ heads. heads.items
+        ≡ replicate (arena_pages_of table.now * most_of table.now) (uncut_from start)) }
 {
     let count = table.arena_pages() * table.per_page(1);
     let head = Head {
@@ -119,7 +123,8 @@ fn heads_of(alloc: Global, table: &ClassTable, start: u64) -> Result<Vec<Head>, 
 
 /// All pages untouched.
 fn slabs_of(alloc: Global, table: &ClassTable) -> Result<Slabs, Refused>
-    ensures { IfOk result (λ slabs. (slabs.state ≡ fresh_slabs table.now) × IsAccounted slabs.state) }
+    ensures { IfOk result (λ slabs. (slabs.state ≡ fresh_slabs table.now)
+        × IsAccounted slabs.state) }
 {
     Slabs::new(alloc, table)
 }
@@ -140,7 +145,8 @@ fn stripes_of(alloc: Global, count: u64) -> Result<Vec<Stripe>, Refused>
 #[tactic(auto, using(crate::proofs::Steps::Lists::map_range_more))]
 fn ids_of(alloc: Global, count: u64) -> Result<Vec<Ids>, Refused>
     requires { count ≤ 64 }
-    ensures { IfOk result (λ ids. ids.items ≡ map (λ number. record { number = Some number; stamps = 0 }) (range_with_len 0 count)) }
+    ensures { IfOk result (λ ids. ids.items ≡ map (λ number.
+        record { number = Some number; stamps = 0 }) (range_with_len 0 count)) }
 {
     let mut ids = Vec::new(alloc);
     for number in 0..count {

@@ -50,7 +50,8 @@ impl State {
     /// A chunk of the moving page leaves the list that it is in.
     pub(super) fn list_clear(&mut self, chunk: ChunkId)
         requires moving { is_on_the_move self.old.slabs chunk.page ≡ true }
-        requires listed { is_listed self.old.slabs (class_of_page self.old.slabs chunk.page) chunk ≡ true }
+        requires listed { is_listed self.old.slabs (class_of_page self.old.slabs chunk.page) chunk
+            ≡ true }
         ensures { self.new ≡ with_slabs self.old (after_clear self.old.slabs chunk) }
     {
         self.slabs.clear(chunk);
@@ -67,14 +68,16 @@ impl State {
     /// The move ends.
     pub(super) fn list_finish(&mut self)
         requires { can_finish self.old.slabs self.old.slabs.moving ≡ true }
-        ensures { self.new ≡ with_slabs self.old (after_finish self.old.slabs self.old.slabs.moving) }
+        ensures { self.new ≡ with_slabs self.old (after_finish self.old.slabs
+            self.old.slabs.moving) }
     {
         self.slabs.finish_move();
     }
 
     /// The mover goes on behind the chunk at its position.
     pub(super) fn list_pass(&mut self, found: Found)
-        requires { can_pass self.old.slabs found (run_of self.old.table self.old.slabs.moving) ≡ true }
+        requires { can_pass self.old.slabs found (run_of self.old.table self.old.slabs.moving)
+            ≡ true }
         ensures { self.new ≡ with_slabs self.old (after_passed self.old.slabs found) }
     {
         self.slabs.passed(found);

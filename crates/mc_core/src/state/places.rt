@@ -10,7 +10,8 @@ use mc_pages::{ChunkId, Owner};
 
 /// The place of an entry in a table of rows, if it is a number of 64 bits.
 fn place_of(row: u64, width: u64, entry: u64) -> Option<u64>
-    ensures { MatchOption result (2 ^ 64 ≤ row * width + entry) (λ place. place ≡ row * width + entry) }
+    ensures { MatchOption result (2 ^ 64 ≤ row * width + entry) (λ place.
+        place ≡ row * width + entry) }
 {
     row.checked_mul(width)?.checked_add(entry)
 }
@@ -40,7 +41,9 @@ impl State {
 
     /// The place of a chunk's header, if it has one.
     pub(super) fn head_place(&self, chunk: ChunkId) -> Option<usize>
-        ensures { MatchOption result (length self.now.heads ≤ head_place self.now.table chunk) (λ place. (place ≡ head_place self.now.table chunk) × (place < length self.now.heads)) }
+        ensures { MatchOption result (length self.now.heads
+            ≤ head_place self.now.table chunk) (λ place. (place ≡ head_place self.now.table chunk)
+            × (place < length self.now.heads)) }
     {
         match place_of(chunk.page, self.most(), chunk.index) {
             Some(place) if place < self.heads.len() as u64 => Some(place as usize),
@@ -84,7 +87,9 @@ impl State {
 
     /// The place of a chunk's word, if there is one.
     pub(super) fn word_place(&self, chunk: ChunkId, place: u64) -> Option<usize>
-        ensures { MatchOption result (length self.now.words ≤ word_place self.now chunk place) (λ found. (found ≡ word_place self.now chunk place) × (found < length self.now.words)) }
+        ensures { MatchOption result (length self.now.words
+            ≤ word_place self.now chunk place) (λ found. (found ≡ word_place self.now chunk place)
+            × (found < length self.now.words)) }
     {
         let count = self.words.len() as u64;
         let Some(inside) = place_of(chunk.index, self.room(chunk), place) else {

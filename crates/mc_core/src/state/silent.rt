@@ -51,7 +51,9 @@ impl State {
 
     /// The class gets a page, if there is one and none is half cut.
     fn grow(&mut self, class: ClassId) -> Result<bool, Refused>
-        ensures { IfOk result (IsResultOf (can_change_slabs self.old.table self.old.slabs (Change.Grow class)) (with_slabs self.old (slabs_after self.old.slabs (Change.Grow class))) self.new) }
+        ensures { IfOk result
+            (IsResultOf (can_change_slabs self.old.table self.old.slabs (Change.Grow class))
+            (with_slabs self.old (slabs_after self.old.slabs (Change.Grow class))) self.new) }
     {
         if !self.is_class(class) || !self.none_half_cut() {
             return Ok(false);
@@ -65,7 +67,9 @@ impl State {
 
     /// A page begins to move, if the answer is OK.
     fn begin_move(&mut self, src: Option<u64>, dst: u64) -> Result<bool, Refused>
-        ensures { IfOk result (IsResultOf (can_change_slabs self.old.table self.old.slabs (BeginMove src dst)) (with_slabs self.old (slabs_after self.old.slabs (BeginMove src dst))) self.new) }
+        ensures { IfOk result
+            (IsResultOf (can_change_slabs self.old.table self.old.slabs (BeginMove src dst))
+            (with_slabs self.old (slabs_after self.old.slabs (BeginMove src dst))) self.new) }
     {
         match self.slabs.begin_move(src, dst) {
             Ok(()) => Ok(true),
@@ -86,7 +90,9 @@ impl State {
 
     /// The move ends, if all chunks of its page are cleared.
     fn finish_move(&mut self) -> Result<bool, Refused>
-        ensures { IfOk result (IsResultOf (can_change_slabs self.old.table self.old.slabs FinishMove) (with_slabs self.old (slabs_after self.old.slabs FinishMove)) self.new) }
+        ensures { IfOk result
+            (IsResultOf (can_change_slabs self.old.table self.old.slabs FinishMove)
+            (with_slabs self.old (slabs_after self.old.slabs FinishMove)) self.new) }
     {
         if !self.can_finish()? {
             return Ok(false);
@@ -97,7 +103,9 @@ impl State {
 
     /// The chunk goes to the back of its hand-out order, if it is handed out.
     fn touch(&mut self, chunk: ChunkId) -> Result<bool, Refused>
-        ensures { IfOk result (IsResultOf (can_change_slabs self.old.table self.old.slabs (Touch chunk)) (with_slabs self.old (slabs_after self.old.slabs (Touch chunk))) self.new) }
+        ensures { IfOk result
+            (IsResultOf (can_change_slabs self.old.table self.old.slabs (Touch chunk))
+            (with_slabs self.old (slabs_after self.old.slabs (Touch chunk))) self.new) }
     {
         if !self.is_handed_out(chunk)? {
             return Ok(false);
@@ -108,7 +116,8 @@ impl State {
 
     /// The automover's mode is set, if there is such a mode.
     fn set_automove(&mut self, mode: u64) -> bool
-        ensures { IsResultOf (can_change_slabs self.old.table self.old.slabs (SetAutomove mode)) (with_slabs self.old (slabs_after self.old.slabs (SetAutomove mode))) self.new result }
+        ensures { IsResultOf (can_change_slabs self.old.table self.old.slabs (SetAutomove mode))
+            (with_slabs self.old (slabs_after self.old.slabs (SetAutomove mode))) self.new result }
     {
         if mode > 2 {
             return false;
@@ -119,7 +128,8 @@ impl State {
 
     /// The entries of the ledger so far aren't recorded any more.
     fn trim_ledger(&mut self) -> bool
-        ensures { IsResultOf (can_change_slabs self.old.table self.old.slabs TrimLedger) (with_slabs self.old (slabs_after self.old.slabs TrimLedger)) self.new result }
+        ensures { IsResultOf (can_change_slabs self.old.table self.old.slabs TrimLedger)
+            (with_slabs self.old (slabs_after self.old.slabs TrimLedger)) self.new result }
     {
         self.slabs.trim();
         true
@@ -137,7 +147,8 @@ impl State {
 
     /// Whether the chunk at the mover's position is cleared, or holds up the move.
     fn can_pass(&self, found: Found) -> Result<bool, Refused>
-        ensures { IfOk result (λ can. can ≡ can_pass self.now.slabs found (run_of self.now.table self.now.slabs.moving)) }
+        ensures { IfOk result (λ can. can ≡ can_pass self.now.slabs found
+            (run_of self.now.table self.now.slabs.moving)) }
     {
         let Some((moving, per_page)) = self.run() else {
             return Ok(false);
@@ -177,7 +188,9 @@ impl State {
 
     /// The mover goes on behind the chunk at its position, if it is cleared or holds up the move.
     fn pass(&mut self, found: Found) -> Result<bool, Refused>
-        ensures { IfOk result (IsResultOf (can_change_slabs self.old.table self.old.slabs (Passed found)) (with_slabs self.old (slabs_after self.old.slabs (Passed found))) self.new) }
+        ensures { IfOk result
+            (IsResultOf (can_change_slabs self.old.table self.old.slabs (Passed found))
+            (with_slabs self.old (slabs_after self.old.slabs (Passed found))) self.new) }
     {
         if !self.can_pass(found)? {
             return Ok(false);
@@ -198,7 +211,8 @@ impl State {
 
     /// The mover begins its pass anew, if it is at the page's end and something held it up.
     fn wrap(&mut self) -> bool
-        ensures { IsResultOf (can_change_slabs self.old.table self.old.slabs Wrap) (with_slabs self.old (slabs_after self.old.slabs Wrap)) self.new result }
+        ensures { IsResultOf (can_change_slabs self.old.table self.old.slabs Wrap)
+            (with_slabs self.old (slabs_after self.old.slabs Wrap)) self.new result }
     {
         if !self.can_wrap() {
             return false;
@@ -209,7 +223,8 @@ impl State {
 
     /// An eviction of the class is counted, if there is such a class.
     fn count_eviction(&mut self, class: ClassId) -> bool
-        ensures { IsResultOf (can_change_slabs self.old.table self.old.slabs (Evicted class)) (with_slabs self.old (slabs_after self.old.slabs (Evicted class))) self.new result }
+        ensures { IsResultOf (can_change_slabs self.old.table self.old.slabs (Evicted class))
+            (with_slabs self.old (slabs_after self.old.slabs (Evicted class))) self.new result }
     {
         if !self.is_class(class) {
             return false;
@@ -220,7 +235,8 @@ impl State {
 
     /// Pages and lists are changed, if that is allowed.
     fn change_slabs(&mut self, change: Change) -> Result<bool, Refused>
-        ensures { IfOk result (IsResultOf (can_change_slabs self.old.table self.old.slabs change) (with_slabs self.old (slabs_after self.old.slabs change)) self.new) }
+        ensures { IfOk result (IsResultOf (can_change_slabs self.old.table self.old.slabs change)
+            (with_slabs self.old (slabs_after self.old.slabs change)) self.new) }
     {
         match change {
             Change::Grow(class) => self.grow(class),
@@ -246,7 +262,8 @@ impl State {
 
     /// The stripe changes, if it may.
     fn change_stripe(&mut self, stripe: u64, how: StripeChange) -> Result<bool, Refused>
-        ensures { IfOk result (IsResultOf (can_change_stripe how (stripe_at self.old stripe).state) (with_stripe self.old stripe (stripe_after how (stripe_at self.old stripe))) self.new) }
+        ensures { IfOk result (IsResultOf (can_change_stripe how (stripe_at self.old stripe).state)
+            (with_stripe self.old stripe (stripe_after how (stripe_at self.old stripe))) self.new) }
     {
         if stripe >= self.stripes.len() as u64 {
             return Ok(true);
@@ -272,7 +289,9 @@ impl State {
     /// Records a call on a key that isn't there: it was looked up, or was to be deleted.
     fn tell_none(&mut self, hand: u64, key: u64, deletes: bool)
         requires { can_record_miss (stripe_at self.old (stripe_of self.old key)) key ≡ true }
-        ensures { self.new ≡ with_stripe self.old (stripe_of self.old key) (used_up (stripe_after_miss deletes (stripe_at self.old (stripe_of self.old key)).state (writer_of self.old hand) key)) }
+        ensures { self.new ≡ with_stripe self.old (stripe_of self.old key)
+            (used_up (stripe_after_miss deletes (stripe_at self.old (stripe_of self.old key)).state
+            (writer_of self.old hand) key)) }
     {
         let writer = self.writer(hand);
         let stripe = self.stripe_of(key);
@@ -287,7 +306,8 @@ impl State {
     /// The hand makes the change, if it is allowed.
     fn change(&mut self, hand: u64, change: Change) -> Result<bool, Refused>
         requires { hand < length self.old.ids }
-        ensures { IfOk result (IsResultOf (allows_change self.old hand change) (after_change self.old hand change) self.new) }
+        ensures { IfOk result (IsResultOf (allows_change self.old hand change)
+            (after_change self.old hand change) self.new) }
     {
         match change {
             Change::OfStripe(stripe, how) => self.change_held(hand, stripe, how),
@@ -300,7 +320,8 @@ impl State {
     /// The hand changes a stripe that it has, if that is allowed.
     fn change_held(&mut self, hand: u64, stripe: u64, how: StripeChange) -> Result<bool, Refused>
         requires { hand < length self.old.ids }
-        ensures { IfOk result (IsResultOf (allows_change self.old hand (OfStripe stripe how)) (after_change self.old hand (OfStripe stripe how)) self.new) }
+        ensures { IfOk result (IsResultOf (allows_change self.old hand (OfStripe stripe how))
+            (after_change self.old hand (OfStripe stripe how)) self.new) }
     {
         if !self.has_stripe(hand, stripe) {
             return Ok(false);
@@ -310,7 +331,8 @@ impl State {
 
     /// The hand records a call on a key that isn't there, in a stripe that it has.
     fn change_history(&mut self, hand: u64, key: u64, deletes: bool) -> bool
-        ensures { IsResultOf (allows_change self.old hand (call_of deletes key)) (after_change self.old hand (call_of deletes key)) self.new result }
+        ensures { IsResultOf (allows_change self.old hand (call_of deletes key))
+            (after_change self.old hand (call_of deletes key)) self.new result }
     {
         if !self.has_stripe(hand, self.stripe_of(key)) || !self.can_tell_none(key) {
             return false;
@@ -322,7 +344,10 @@ impl State {
     /// The hand changes pages and lists, if it has their lock.
     fn change_pages(&mut self, hand: u64, change: Change) -> Result<bool, Refused>
         requires { hand < length self.old.ids }
-        ensures { IfOk result (IsResultOf (has_slabs self.old hand && can_change_slabs self.old.table self.old.slabs change) (with_look (with_slabs self.old (slabs_after self.old.slabs change)) hand (Changed change)) self.new) }
+        ensures { IfOk result
+            (IsResultOf (has_slabs self.old hand && can_change_slabs self.old.table self.old.slabs
+            change) (with_look (with_slabs self.old (slabs_after self.old.slabs change)) hand
+            (Changed change)) self.new) }
     {
         if !self.has_slabs(hand) || !self.change_slabs(change)? {
             return Ok(false);
@@ -334,7 +359,8 @@ impl State {
     /// The hand makes all these changes, one after another, if each is allowed.
     pub(super) fn change_all(&mut self, hand: u64, changes: &[Change]) -> Result<bool, Refused>
         requires { hand < length self.old.ids }
-        ensures { IfOk result (IsResultOf (allows_changes self.old hand changes.now) (after_changes self.old hand changes.now) self.new) }
+        ensures { IfOk result (IsResultOf (allows_changes self.old hand changes.now)
+            (after_changes self.old hand changes.now) self.new) }
     {
         for change in changes {
             if !self.change(hand, *change)? {

@@ -75,7 +75,8 @@ impl State {
 
     /// Does the event, if it is allowed.
     pub(crate) fn play(&mut self, event: &Event) -> Result<bool, Refused>
-        ensures { IfOk result (IsResultOf (is_allowed self.old event.now) (state_after_event self.old event.now) self.new) }
+        ensures { IfOk result (IsResultOf (is_allowed self.old event.now)
+            (state_after_event self.old event.now) self.new) }
     {
         let is_hand = self.is_hand(event.hand);
         if !is_hand {

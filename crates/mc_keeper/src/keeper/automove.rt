@@ -30,7 +30,8 @@ impl Keeper {
     /// Where it is refused, all is as before; memory can run out only where the answer would be `Ok`.
     pub fn reassign(&mut self, src: Option<u64>, dst: u64) -> Result<(), Reassign>
         ensures answer { MayAnswer (answer_of self.old.slabs src dst) result }
-        ensures after { OnOk result (self.new ≡ machine_after_begin self.old src dst (answer_of self.old.slabs src dst)) }
+        ensures after { OnOk result (self.new ≡ machine_after_begin self.old src dst
+            (answer_of self.old.slabs src dst)) }
         ensures refused { OnErr result (self.new ≡ self.old) }
     {
         self.slabs.begin_move(src, dst)
@@ -60,8 +61,12 @@ impl Keeper {
     ///
     /// Where memory runs out, what was done before stays: the dead that were put back, and then the window.
     pub fn window(&mut self) -> Result<Option<Acted>, Refused>
-        ensures answer { IfOk result (λ answer. answer ≡ acted_answer (with_window (all_swept self.old)) (decision (with_window (all_swept self.old)))) }
-        ensures after { OnOk result (self.new ≡ (decision_outcome (with_window (all_swept self.old)) (decision (with_window (all_swept self.old)))).machine) }
+        ensures answer { IfOk result (λ answer. answer
+            ≡ acted_answer (with_window (all_swept self.old))
+            (decision (with_window (all_swept self.old)))) }
+        ensures after { OnOk result (self.new
+            ≡ (decision_outcome (with_window (all_swept self.old))
+            (decision (with_window (all_swept self.old)))).machine) }
         ensures refused { OnErr result (Contains (window_stages self.old) self.new) }
     {
         self.sweep();
@@ -92,7 +97,8 @@ impl Keeper {
     /// Begins to move a page as it was decided, and returns what became of that.
     fn act(&mut self, decision: Decision) -> Result<Option<Acted>, Refused>
         ensures answer { IfOk result (λ answer. answer ≡ acted_answer self.old (Some decision)) }
-        ensures after { OnOk result (self.new ≡ (decision_outcome self.old (Some decision)).machine) }
+        ensures after { OnOk result (self.new
+            ≡ (decision_outcome self.old (Some decision)).machine) }
         ensures refused { OnErr result (self.new ≡ self.old) }
     {
         let Decision { src, dst } = decision;
@@ -106,8 +112,10 @@ impl Keeper {
         src: Option<u64>,
         dst: u64,
     ) -> Result<Result<(), Reassign>, Refused>
-        ensures answer { IfOk result (λ answer. answer ≡ reassign_answer (answer_of self.old.slabs src dst)) }
-        ensures after { OnOk result (self.new ≡ machine_after_begin self.old src dst (answer_of self.old.slabs src dst)) }
+        ensures answer { IfOk result (λ answer. answer
+            ≡ reassign_answer (answer_of self.old.slabs src dst)) }
+        ensures after { OnOk result (self.new ≡ machine_after_begin self.old src dst
+            (answer_of self.old.slabs src dst)) }
         ensures refused { OnErr result (self.new ≡ self.old) }
     {
         match self.reassign(src, dst) {

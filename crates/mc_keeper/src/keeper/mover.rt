@@ -30,10 +30,13 @@ impl Keeper {
     /// A keeper does 1,000,000 turns and no more: then it answers `Turns`, and all is as before (own). Where memory runs out, the turn is
     /// begun, and each chunk up to one was looked at, the dead of whose class were put back.
     pub fn turn(&mut self) -> Result<(Ending, Counts), Stop>
-        ensures done { IfOk result (λ done. turns_after_one self.old zero_counts ≡ record { machine = self.new; counts = done.1; ending = done.0 }) }
+        ensures done { IfOk result (λ done. turns_after_one self.old zero_counts
+            ≡ record { machine = self.new; counts = done.1; ending = done.0 }) }
         ensures some { OnOk result (self.old.turns < 1000000) }
-        ensures stopped { result ≡ Err Stop.Turns → (1000000 ≤ self.old.turns) × (self.new ≡ self.old) }
-        ensures refused { result ≡ Err (Stop.NoMemory tt) → Contains (turn_stages self.old zero_counts) self.new }
+        ensures stopped { result ≡ Err Stop.Turns →
+            (1000000 ≤ self.old.turns) × (self.new ≡ self.old) }
+        ensures refused { result ≡ Err (Stop.NoMemory tt) →
+            Contains (turn_stages self.old zero_counts) self.new }
     {
         if self.turns >= MAX_TURNS {
             return Err(Stop::Turns);
@@ -49,7 +52,8 @@ impl Keeper {
     /// of 0 turns, which end idle. Where the keeper has no turns left for one of them, those before stay done.
     pub fn turns(&mut self, count: u64) -> Result<(Ending, Counts), Stop>
         requires { count ≤ 1000000 }
-        ensures done { IfOk result (λ done. after_turns self.old count ≡ Some (record { machine = self.new; counts = done.1; ending = done.0 })) }
+        ensures done { IfOk result (λ done. after_turns self.old count
+            ≡ Some (record { machine = self.new; counts = done.1; ending = done.0 })) }
         ensures stopped { result ≡ Err Stop.Turns → after_turns self.old count ≡ None }
         ensures refused { OnErr result (Contains (turns_stages self.old count) self.new) }
     {
@@ -72,7 +76,8 @@ impl Keeper {
         requires turns { self.old.turns < 1000000 }
         requires counts { AreAtMost (256 * 999999) counts.old }
         ensures refused { OnErr result (Contains (turn_stages self.old counts.old) self.new) }
-        ensures done { IfOk result (λ ending. turns_after_one self.old counts.old ≡ record { machine = self.new; counts = counts.new; ending = ending }) }
+        ensures done { IfOk result (λ ending. turns_after_one self.old counts.old
+            ≡ record { machine = self.new; counts = counts.new; ending = ending }) }
     {
         self.turns += 1;
         self.steps(counts)?;
@@ -82,8 +87,12 @@ impl Keeper {
     /// Looks at as many chunks as a turn may, or fewer where no page moves or all of it was looked at.
     fn steps(&mut self, counts: &mut Counts) -> Result<(), Refused>
         requires { AreAtMost (256 * 999999) counts.old }
-        ensures refused { OnErr result (Contains (look_stages self.old.bulk (record { machine = self.old; counts = counts.old })) self.new) }
-        ensures done { OnOk result (with_chunks self.old.bulk (record { machine = self.old; counts = counts.old }) ≡ record { machine = self.new; counts = counts.new }) }
+        ensures refused { OnErr result
+            (Contains (look_stages self.old.bulk
+            (record { machine = self.old; counts = counts.old })) self.new) }
+        ensures done { OnOk result (with_chunks self.old.bulk
+            (record { machine = self.old; counts = counts.old })
+            ≡ record { machine = self.new; counts = counts.new }) }
     {
         for _ in 0..self.bulk {
             if !self.step(counts)? {
@@ -97,8 +106,11 @@ impl Keeper {
     /// page moves or all of it was looked at.
     fn step(&mut self, counts: &mut Counts) -> Result<bool, Refused>
         requires { AreAtMost 256000000 counts.old }
-        ensures looked { OnOk result (with_chunk (record { machine = self.old; counts = counts.old }) self.old.slabs.moving ≡ record { machine = self.new; counts = counts.new }) }
-        ensures refused { OnErr result (self.new ≡ with_source_swept self.old self.old.slabs.moving) }
+        ensures looked { OnOk result
+            (with_chunk (record { machine = self.old; counts = counts.old }) self.old.slabs.moving
+            ≡ record { machine = self.new; counts = counts.new }) }
+        ensures refused { OnErr result (self.new ≡ with_source_swept self.old
+            self.old.slabs.moving) }
         ensures nothing { result ≡ Ok false → (self.new ≡ self.old) × (counts.new ≡ counts.old) }
     {
         let Some(moving) = self.slabs.moving() else {
@@ -127,7 +139,9 @@ impl Keeper {
 
     /// At the page's end the pass begins anew, or the move ends where nothing held it up.
     fn end_turn(&mut self) -> Ending
-        ensures ended { (counts : Counts) → with_end (record { machine = self.old; counts = counts }) self.old.slabs.moving ≡ record { machine = self.new; counts = counts; ending = result } }
+        ensures ended { (counts : Counts) →
+            with_end (record { machine = self.old; counts = counts }) self.old.slabs.moving
+            ≡ record { machine = self.new; counts = counts; ending = result } }
     {
         let Some(moving) = self.slabs.moving() else {
             return Ending::Idle;
@@ -164,8 +178,10 @@ impl Keeper {
         requires moving { option_map (λ move. move.page) self.old.slabs.moving ≡ Some chunk.page }
         requires cut { is_cut self.old.slabs class chunk ≡ true }
         ensures refused { OnErr result (self.new ≡ machine_after_sweep self.old class) }
-        ensures looked { IfOk result (λ found. looked_at self.old class chunk ≡ record { machine = self.new; found = found }) }
-        ensures clears { IfOk result (λ found. is_held_up found ≡ false → is_cleared self.new.slabs class chunk ≡ true) }
+        ensures looked { IfOk result (λ found. looked_at self.old class chunk
+            ≡ record { machine = self.new; found = found }) }
+        ensures clears { IfOk result (λ found. is_held_up found ≡ false →
+            is_cleared self.new.slabs class chunk ≡ true) }
     {
         let Some(item) = self.items.get(chunk) else {
             return Ok(self.clear_free(class, chunk));
@@ -187,7 +203,8 @@ impl Keeper {
         requires moving { option_map (λ move. move.page) self.old.slabs.moving ≡ Some chunk.page }
         requires cut { is_cut self.old.slabs class chunk ≡ true }
         requires empty { item_in_chunk self.old.items chunk ≡ None }
-        ensures looked { looked_at self.old class chunk ≡ record { machine = self.new; found = result } }
+        ensures looked { looked_at self.old class chunk
+            ≡ record { machine = self.new; found = result } }
         ensures clears { is_cleared self.new.slabs class chunk ≡ true }
     {
         if self.slabs.is_free(chunk) {
@@ -203,7 +220,8 @@ impl Keeper {
         requires moving { option_map (λ move. move.page) self.old.slabs.moving ≡ Some chunk.page }
         requires dead { is_dead_in self.old chunk ≡ true }
         ensures cleared { self.new ≡ with_cleared self.old chunk }
-        ensures clears { is_cleared self.new.slabs (class_of_page self.old.slabs chunk.page) chunk ≡ true }
+        ensures clears { is_cleared self.new.slabs (class_of_page self.old.slabs chunk.page) chunk
+            ≡ true }
     {
         let class = class_of(&self.slabs, chunk);
         self.slabs.clear(chunk);
@@ -219,8 +237,10 @@ impl Keeper {
         requires own { class_of_page self.old.slabs chunk.page ≡ class }
         requires unheld { has_unheld_linked_item self.old chunk ≡ true }
         ensures refused { OnErr result (self.new ≡ machine_after_sweep self.old class) }
-        ensures saved { IfOk result (λ found. machine_after_save self.old class chunk ≡ record { machine = self.new; found = found }) }
-        ensures clears { IfOk result (λ found. is_held_up found ≡ false → is_cleared self.new.slabs class chunk ≡ true) }
+        ensures saved { IfOk result (λ found. machine_after_save self.old class chunk
+            ≡ record { machine = self.new; found = found }) }
+        ensures clears { IfOk result (λ found. is_held_up found ≡ false →
+            is_cleared self.new.slabs class chunk ≡ true) }
     {
         self.sweep_class(class);
         match self.target(class, chunk.page) {
@@ -258,7 +278,8 @@ impl Keeper {
         requires off { new.page ≢ old.page }
         ensures rescued { OnOk result (self.new ≡ (with_saved self.old old (Some new)).machine) }
         ensures refused { OnErr result (self.new ≡ self.old) }
-        ensures clears { OnOk result (is_cleared self.new.slabs (class_of_page self.old.slabs old.page) old ≡ true) }
+        ensures clears { OnOk result (is_cleared self.new.slabs
+            (class_of_page self.old.slabs old.page) old ≡ true) }
     {
         let Some(key) = self.items.relocate(old, new)? else {
             return Ok(());
@@ -274,7 +295,8 @@ impl Keeper {
         requires moving { option_map (λ move. move.page) self.old.slabs.moving ≡ Some chunk.page }
         requires unheld { has_unheld_linked_item self.old chunk ≡ true }
         ensures evicted { self.new ≡ (with_saved self.old chunk None).machine }
-        ensures clears { is_cleared self.new.slabs (class_of_page self.old.slabs chunk.page) chunk ≡ true }
+        ensures clears { is_cleared self.new.slabs (class_of_page self.old.slabs chunk.page) chunk
+            ≡ true }
     {
         if let Some(key) = self.items.remove(chunk) {
             self.index.remove(key);

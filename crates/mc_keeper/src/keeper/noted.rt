@@ -130,7 +130,9 @@ impl DeadHints {
 /// Notes a chunk as its class's last, and among those to be swept, where nobody holds it. No key leads to it any more.
 pub(super) fn note_unheld(hints: &mut DeadHints, holds: &Holds, slabs: &Slabs, chunk: ChunkId)
     requires { HasClass slabs.now.state (class_of_page slabs.now.state chunk.page) }
-    ensures last { hints.new.last ≡ (if is_held holds.now chunk then hints.old.last else slice_set hints.old.last (class_of_page slabs.now.state chunk.page - 1) (Some chunk)) }
+    ensures last { hints.new.last
+        ≡ (if is_held holds.now chunk then hints.old.last else slice_set hints.old.last
+        (class_of_page slabs.now.state chunk.page - 1) (Some chunk)) }
 {
     if !holds.is_held(chunk) {
         let class = class_of(slabs, chunk);

@@ -39,7 +39,8 @@ impl Keeper {
     /// Gives the class the next page, if there is one, and cuts its chunks.
     fn grow(&mut self, class: ClassId) -> Result<(), Refused>
         requires { HasClass self.old.slabs class }
-        ensures after { OnOk result (self.new ≡ with_new_page self.old class (next_page self.old.slabs class)) }
+        ensures after { OnOk result (self.new ≡ with_new_page self.old class
+            (next_page self.old.slabs class)) }
         ensures refused { OnErr result (self.new ≡ self.old) }
     {
         let per_page = self.table.per_page(class);
@@ -57,7 +58,8 @@ impl Keeper {
 /// Cuts all chunks of a page that was just given to a class.
 pub(super) fn cut_page(slabs: &mut Slabs, page: PageId, per_page: u64)
     requires first { slabs.old.state.uncut ≡ Some (record { page = page; index = 0 }) }
-    requires chunks { (class_of_chunk slabs.old.state (record { page = page; index = 0 })).per_page ≡ per_page }
+    requires chunks { (class_of_chunk slabs.old.state (record { page = page; index = 0 })).per_page
+        ≡ per_page }
     requires some { 1 ≤ per_page }
     requires accounted { IsAccounted slabs.old.state }
     ensures cut { slabs.new.state ≡ fold after_cut slabs.old.state (first_chunks page per_page) }

@@ -33,7 +33,8 @@ impl Keeper {
     /// (own, as a reader of the arena holds what it reads). It takes no memory. (items.c's `do_item_get`, without its count)
     pub fn get(&self, worker: u64, key: u64) -> Result<Option<&[u64]>, TooManyRefs>
         requires { worker < 64 }
-        ensures words { IfOk result (λ words. option_copied words ≡ item_words_of_key self.now key) }
+        ensures words { IfOk result (λ words. option_copied words
+            ≡ item_words_of_key self.now key) }
         ensures free { OnOk result (is_full self.now.holds worker ≡ false) }
         ensures full { OnErr result (is_full self.now.holds worker ≡ true) }
     {
@@ -86,7 +87,8 @@ impl Keeper {
     /// is own.)
     pub fn drop(&mut self, worker: u64, key: u64) -> Option<&[u64]>
         requires { worker < 64 }
-        ensures* after { sem 𝓛 (EndsAs self.entry (release_outcome self.old worker key (last_hold self.old worker key)).machine) }
+        ensures* after { sem 𝓛 (EndsAs self.entry
+            (release_outcome self.old worker key (last_hold self.old worker key)).machine) }
         ensures words { option_copied result ≡ words_of_last_hold self.old worker key }
     {
         let (chunk, place) = self.last_hold(worker, key)?;
@@ -99,7 +101,8 @@ impl Keeper {
     /// memory. (items.c's `do_item_update`, without its 60 seconds.) The worker takes no part.
     pub fn touch(&mut self, _worker: u64, key: u64) -> bool
         ensures had { result ≡ is_some (linked_chunk self.old.items key) }
-        ensures after { self.new ≡ (touch_outcome self.old key (linked_chunk self.old.items key)).machine }
+        ensures after { self.new
+            ≡ (touch_outcome self.old key (linked_chunk self.old.items key)).machine }
     {
         match self.index.get(key) {
             Some(chunk) => {
@@ -114,9 +117,12 @@ impl Keeper {
     /// the chunk's item.
     pub(super) fn give_back(&mut self, worker: u64, chunk: ChunkId, place: usize, is_linked: bool)
         requires worker { worker < 64 }
-        requires first { position (λ c. is_chunk c chunk) (held_by self.old.holds worker) ≡ Some place }
-        requires item { option_map (λ item. item.linked) (item_in_chunk self.old.items chunk) ≡ Some is_linked }
-        ensures given_back { self.new ≡ record self.old { holds = without_hold self.old.holds worker chunk } }
+        requires first { position (λ c. is_chunk c chunk) (held_by self.old.holds worker)
+            ≡ Some place }
+        requires item { option_map (λ item. item.linked) (item_in_chunk self.old.items chunk)
+            ≡ Some is_linked }
+        ensures given_back { self.new ≡ record self.old
+            { holds = without_hold self.old.holds worker chunk } }
     {
         self.holds.give_back(worker, chunk, place);
         if !is_linked {
@@ -127,7 +133,8 @@ impl Keeper {
 
     /// The words of the chunk's item.
     fn words_at(&self, chunk: ChunkId) -> Option<&[u64]>
-        ensures words { option_copied result ≡ option_map (λ item. item.words) (item_in_chunk self.now.items chunk) }
+        ensures words { option_copied result ≡ option_map (λ item.
+            item.words) (item_in_chunk self.now.items chunk) }
     {
         match self.items.get(chunk) {
             Some(item) => Some(item.words()),
@@ -139,7 +146,8 @@ impl Keeper {
     pub(super) fn last_hold(&self, worker: u64, key: u64) -> Option<(ChunkId, usize)>
         requires { worker < 64 }
         ensures hold { option_map (λ hold. hold.0) result ≡ last_hold self.now worker key }
-        ensures first { IfSome result (λ hold. position (λ c. is_chunk c hold.0) (held_by self.now.holds worker) ≡ Some hold.1) }
+        ensures first { IfSome result (λ hold. position (λ c.
+            is_chunk c hold.0) (held_by self.now.holds worker) ≡ Some hold.1) }
     {
         match self.place_held(worker, key) {
             Some(place) => Some((hold_at(self.holds.of(worker), place), place)),
@@ -151,7 +159,8 @@ impl Keeper {
     /// is at 0.
     fn place_held(&self, worker: u64, key: u64) -> Option<usize>
         requires { worker < 64 }
-        ensures place { result ≡ position (has_key self.now.items key) (held_by self.now.holds worker) }
+        ensures place { result ≡ position (has_key self.now.items key)
+            (held_by self.now.holds worker) }
     {
         self.holds
             .of(worker)

@@ -56,7 +56,8 @@ impl Keeper {
     /// before the step that was refused stays, and nothing of that step.
     pub fn serve(&mut self, command: Command, text: &mut Vec<u8>) -> Result<(), Stop>
         requires { IsValid command }
-        ensures served { OnOk result (IsServed self.old command text.old.items text.new.items self.new) }
+        ensures served { OnOk result (IsServed self.old command text.old.items text.new.items
+            self.new) }
         ensures stopped { result ≡ Err Stop.Turns → serve self.old command ≡ None }
         ensures left { OnErr result (Contains (stages self.old command) self.new) }
         ensures unchanged { OnErr result (text.new.items ≡ text.old.items) }
@@ -72,7 +73,8 @@ impl Keeper {
     /// Does a command, and adds the bytes of its reply to `text`, or some of them where memory runs out.
     fn answer(&mut self, command: Command, text: &mut Vec<u8>) -> Result<(), Stop>
         requires { IsValid command }
-        ensures served { OnOk result (IsServed self.old command text.old.items text.new.items self.new) }
+        ensures served { OnOk result (IsServed self.old command text.old.items text.new.items
+            self.new) }
         ensures stopped { result ≡ Err Stop.Turns → serve self.old command ≡ None }
         ensures left { OnErr result (Contains (stages self.old command) self.new) }
         ensures kept { StartsWith text.new.items text.old.items }
@@ -110,9 +112,15 @@ impl Keeper {
         text: &mut Vec<u8>,
     ) -> Result<(), Refused>
         requires { words ≤ 4096 }
-        ensures reply { OnOk result (text.new.items ≡ text.old.items ++ (set_outcome_of self.old (class_of self.old.table (item_bytes words)) key (counting_words base words)).reply) }
-        ensures after { OnOk result (self.new ≡ (set_outcome_of self.old (class_of self.old.table (item_bytes words)) key (counting_words base words)).machine) }
-        ensures refused { OnErr result (Contains (set_stages self.old (class_of self.old.table (item_bytes words)) key (counting_words base words)) self.new) }
+        ensures reply { OnOk result (text.new.items ≡ text.old.items
+            ++ (set_outcome_of self.old (class_of self.old.table (item_bytes words)) key
+            (counting_words base words)).reply) }
+        ensures after { OnOk result (self.new
+            ≡ (set_outcome_of self.old (class_of self.old.table (item_bytes words)) key
+            (counting_words base words)).machine) }
+        ensures refused { OnErr result
+            (Contains (set_stages self.old (class_of self.old.table (item_bytes words)) key
+            (counting_words base words)) self.new) }
         ensures kept { StartsWith text.new.items text.old.items }
     {
         let words = NewWords::Counted { base, count: words };
@@ -123,7 +131,8 @@ impl Keeper {
     /// Writes the words of the key's item.
     fn serve_get(&self, worker: u64, key: u64, text: &mut Vec<u8>) -> Result<(), Refused>
         requires { worker < 64 }
-        ensures reply { OnOk result (text.new.items ≡ text.old.items ++ (lookup_outcome self.now worker key).reply) }
+        ensures reply { OnOk result (text.new.items ≡ text.old.items
+            ++ (lookup_outcome self.now worker key).reply) }
         ensures kept { StartsWith text.new.items text.old.items }
     {
         match self.get(worker, key) {
@@ -136,7 +145,8 @@ impl Keeper {
     /// The worker holds the key's item, once there is room for the reply.
     fn serve_hold(&mut self, worker: u64, key: u64, text: &mut Vec<u8>) -> Result<(), Refused>
         requires { worker < 64 }
-        ensures reply { OnOk result (text.new.items ≡ text.old.items ++ (hold_outcome self.old worker key).reply) }
+        ensures reply { OnOk result (text.new.items ≡ text.old.items
+            ++ (hold_outcome self.old worker key).reply) }
         ensures after { OnOk result (self.new ≡ (hold_outcome self.old worker key).machine) }
         ensures refused { OnErr result (self.new ≡ self.old) }
         ensures kept { StartsWith text.new.items text.old.items }
@@ -155,8 +165,10 @@ impl Keeper {
     /// Writes the words of the item that the worker's last hold of the key is of, and the worker gives it back.
     fn serve_drop(&mut self, worker: u64, key: u64, text: &mut Vec<u8>) -> Result<(), Refused>
         requires { worker < 64 }
-        ensures reply { OnOk result (text.new.items ≡ text.old.items ++ (release_outcome self.old worker key (last_hold self.old worker key)).reply) }
-        ensures after { OnOk result (self.new ≡ (release_outcome self.old worker key (last_hold self.old worker key)).machine) }
+        ensures reply { OnOk result (text.new.items ≡ text.old.items
+            ++ (release_outcome self.old worker key (last_hold self.old worker key)).reply) }
+        ensures after { OnOk result (self.new
+            ≡ (release_outcome self.old worker key (last_hold self.old worker key)).machine) }
         ensures refused { OnErr result (self.new ≡ self.old) }
         ensures kept { StartsWith text.new.items text.old.items }
     {
@@ -176,8 +188,10 @@ impl Keeper {
 
     /// Unlinks the key's item, and answers whether it had one.
     fn serve_delete(&mut self, worker: u64, key: u64, text: &mut Vec<u8>) -> Result<(), Refused>
-        ensures reply { OnOk result (text.new.items ≡ text.old.items ++ (delete_outcome self.old key (linked_chunk self.old.items key)).reply) }
-        ensures after { self.new ≡ (delete_outcome self.old key (linked_chunk self.old.items key)).machine }
+        ensures reply { OnOk result (text.new.items ≡ text.old.items
+            ++ (delete_outcome self.old key (linked_chunk self.old.items key)).reply) }
+        ensures after { self.new
+            ≡ (delete_outcome self.old key (linked_chunk self.old.items key)).machine }
         ensures kept { StartsWith text.new.items text.old.items }
     {
         let had = self.delete(worker, key);
@@ -186,8 +200,10 @@ impl Keeper {
 
     /// The key's item becomes the youngest of its class, once there is room for the reply.
     fn serve_touch(&mut self, worker: u64, key: u64, text: &mut Vec<u8>) -> Result<(), Refused>
-        ensures reply { OnOk result (text.new.items ≡ text.old.items ++ (touch_outcome self.old key (linked_chunk self.old.items key)).reply) }
-        ensures after { OnOk result (self.new ≡ (touch_outcome self.old key (linked_chunk self.old.items key)).machine) }
+        ensures reply { OnOk result (text.new.items ≡ text.old.items
+            ++ (touch_outcome self.old key (linked_chunk self.old.items key)).reply) }
+        ensures after { OnOk result (self.new
+            ≡ (touch_outcome self.old key (linked_chunk self.old.items key)).machine) }
         ensures refused { OnErr result (self.new ≡ self.old) }
         ensures kept { StartsWith text.new.items text.old.items }
     {
@@ -204,8 +220,10 @@ impl Keeper {
         dst: u64,
         text: &mut Vec<u8>,
     ) -> Result<(), Refused>
-        ensures reply { OnOk result (text.new.items ≡ text.old.items ++ (reassign_outcome self.old src dst (answer_of self.old.slabs src dst)).reply) }
-        ensures after { OnOk result (self.new ≡ (reassign_outcome self.old src dst (answer_of self.old.slabs src dst)).machine) }
+        ensures reply { OnOk result (text.new.items ≡ text.old.items
+            ++ (reassign_outcome self.old src dst (answer_of self.old.slabs src dst)).reply) }
+        ensures after { OnOk result (self.new
+            ≡ (reassign_outcome self.old src dst (answer_of self.old.slabs src dst)).machine) }
         ensures refused { OnErr result (Contains (reassign_stages self.old src dst) self.new) }
         ensures kept { StartsWith text.new.items text.old.items }
     {
@@ -226,8 +244,12 @@ impl Keeper {
 
     /// Ends a window, and writes what became of the automover's decision.
     fn serve_window(&mut self, text: &mut Vec<u8>) -> Result<(), Refused>
-        ensures reply { OnOk result (text.new.items ≡ text.old.items ++ (decision_outcome (with_window (all_swept self.old)) (decision (with_window (all_swept self.old)))).reply) }
-        ensures after { OnOk result (self.new ≡ (decision_outcome (with_window (all_swept self.old)) (decision (with_window (all_swept self.old)))).machine) }
+        ensures reply { OnOk result (text.new.items ≡ text.old.items
+            ++ (decision_outcome (with_window (all_swept self.old))
+            (decision (with_window (all_swept self.old)))).reply) }
+        ensures after { OnOk result (self.new
+            ≡ (decision_outcome (with_window (all_swept self.old))
+            (decision (with_window (all_swept self.old)))).machine) }
         ensures refused { OnErr result (Contains (window_stages self.old) self.new) }
         ensures kept { StartsWith text.new.items text.old.items }
     {
@@ -249,7 +271,8 @@ impl Keeper {
         requires name { refusals.name ≡ L.name }
         requires parts { refusals.parts ≡ L.parts }
         requires some { 0 < refusals.parts }
-        ensures reply { OnOk result (text.new.items ≡ text.old.items ++ slabs_text_of (all_swept self.old)) }
+        ensures reply { OnOk result (text.new.items ≡ text.old.items
+            ++ slabs_text_of (all_swept self.old)) }
         ensures after { self.new ≡ all_swept self.old }
         ensures kept { StartsWith text.new.items text.old.items }
     {

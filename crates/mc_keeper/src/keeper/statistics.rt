@@ -64,8 +64,10 @@ impl Keeper {
 
     /// The numbers of all classes.
     pub(super) fn counts(&self) -> Result<ClassCounts, Refused>
-        ensures evictions { IfOk result (λ counts. counts.evictions.items ≡ eviction_counts self.now.slabs) }
-        ensures pages { IfOk result (λ counts. counts.pages.items ≡ class_page_counts self.now.slabs) }
+        ensures evictions { IfOk result (λ counts.
+            counts.evictions.items ≡ eviction_counts self.now.slabs) }
+        ensures pages { IfOk result (λ counts. counts.pages.items
+            ≡ class_page_counts self.now.slabs) }
         ensures free { IfOk result (λ counts. counts.free.items ≡ free_counts self.now.slabs) }
     {
         let mut evictions = Vec::new(self.alloc);

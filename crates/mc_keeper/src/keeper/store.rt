@@ -43,9 +43,14 @@ impl Keeper {
     /// too large. Where memory runs out, what was done before stays: dead chunks put back, an item evicted, or the new item
     /// stored and no page asked for.
     pub fn set(&mut self, _worker: u64, key: u64, words: &[u64]) -> Result<Stored, Refused>
-        ensures answer { IfOk result (λ answer. answer ≡ stored_answer self.old (class_of self.old.table (item_bytes (length words.now)))) }
-        ensures after { OnOk result (self.new ≡ (set_outcome_of self.old (class_of self.old.table (item_bytes (length words.now))) key words.now).machine) }
-        ensures refused { OnErr result (Contains (set_stages self.old (class_of self.old.table (item_bytes (length words.now))) key words.now) self.new) }
+        ensures answer { IfOk result (λ answer. answer
+            ≡ stored_answer self.old (class_of self.old.table (item_bytes (length words.now)))) }
+        ensures after { OnOk result (self.new
+            ≡ (set_outcome_of self.old (class_of self.old.table (item_bytes (length words.now))) key
+            words.now).machine) }
+        ensures refused { OnErr result
+            (Contains (set_stages self.old (class_of self.old.table (item_bytes (length words.now)))
+            key words.now) self.new) }
     {
         self.set_words(key, NewWords::Copied(words))
     }
@@ -53,9 +58,17 @@ impl Keeper {
     /// Stores an item of these words under the key, and returns whether it did.
     pub(super) fn set_words(&mut self, key: u64, words: NewWords) -> Result<Stored, Refused>
         requires { length (words_of_new words) ≤ 2 ^ 60 }
-        ensures answer { IfOk result (λ answer. answer ≡ stored_answer self.old (class_of self.old.table (item_bytes (length (words_of_new words.entry))))) }
-        ensures after { OnOk result (self.new ≡ (set_outcome_of self.old (class_of self.old.table (item_bytes (length (words_of_new words.entry)))) key (words_of_new words.entry)).machine) }
-        ensures refused { OnErr result (Contains (set_stages self.old (class_of self.old.table (item_bytes (length (words_of_new words.entry)))) key (words_of_new words.entry)) self.new) }
+        ensures answer { IfOk result (λ answer. answer
+            ≡ stored_answer self.old (class_of self.old.table
+            (item_bytes (length (words_of_new words.entry))))) }
+        ensures after { OnOk result (self.new
+            ≡ (set_outcome_of self.old (class_of self.old.table
+            (item_bytes (length (words_of_new words.entry)))) key
+            (words_of_new words.entry)).machine) }
+        ensures refused { OnErr result
+            (Contains (set_stages self.old (class_of self.old.table
+            (item_bytes (length (words_of_new words.entry)))) key (words_of_new words.entry))
+            self.new) }
     {
         match self.table.class_for(24 + 8 * words.count()) {
             Some(class) => {
@@ -73,8 +86,12 @@ impl Keeper {
     fn store(&mut self, class: ClassId, key: u64, words: NewWords) -> Result<bool, Refused>
         requires { HasClass self.old.slabs class }
         ensures stored { IfOk result (λ stored. stored ≡ is_some (supply self.old class)) }
-        ensures after { OnOk result (self.new ≡ (set_outcome (machine_after_supply self.old class) class key (words_of_new words.entry) (asks_for_page self.old class) (supply self.old class)).machine) }
-        ensures refused { OnErr result (Contains (store_stages self.old class key (words_of_new words.entry)) self.new) }
+        ensures after { OnOk result (self.new
+            ≡ (set_outcome (machine_after_supply self.old class) class key
+            (words_of_new words.entry) (asks_for_page self.old class)
+            (supply self.old class)).machine) }
+        ensures refused { OnErr result
+            (Contains (store_stages self.old class key (words_of_new words.entry)) self.new) }
     {
         let evicted = self.supply(class)?;
         match self.slabs.first_free(class) {
@@ -95,7 +112,8 @@ impl Keeper {
     /// worker takes no part.
     pub fn delete(&mut self, _worker: u64, key: u64) -> bool
         ensures was { result ≡ is_some (linked_chunk self.old.items key) }
-        ensures after { self.new ≡ (delete_outcome self.old key (linked_chunk self.old.items key)).machine }
+        ensures after { self.new
+            ≡ (delete_outcome self.old key (linked_chunk self.old.items key)).machine }
     {
         match self.index.remove(key) {
             Some(chunk) => {
@@ -121,7 +139,8 @@ impl Keeper {
         requires free { first_free (class_at self.old.slabs class) ≡ Some chunk }
         ensures put { OnOk result (self.new ≡ record self.old {
           slabs = after_pop self.old.slabs class;
-          items = with_item (unlinked_items self.old.items key) chunk (new_item key (words_of_new words.entry));
+          items = with_item (unlinked_items self.old.items key) chunk
+              (new_item key (words_of_new words.entry));
         }) }
         ensures refused { OnErr result (self.new ≡ self.old) }
     {

@@ -80,7 +80,8 @@ impl Keeper {
         ensures only { IfSome result (λ chunk. dead_chunks self.now class ≡ chunk ∷ []) }
         ensures dead { IfSome result (λ chunk. is_dead_in self.now chunk ≡ true) }
         ensures own { IfSome result (λ chunk. class_of_page self.now.slabs chunk.page ≡ class) }
-        ensures listed { IfSome result (λ chunk. Contains (class_at self.now.slabs class).order chunk) }
+        ensures listed { IfSome result (λ chunk. Contains
+            (class_at self.now.slabs class).order chunk) }
     {
         if self.dead.of(class) != 1 {
             return None;

@@ -50,7 +50,8 @@ impl Rows {
         requires class { IsPlace self.old class }
         requires handed_out { Contains (list_chunks self.old (HandedOut class)) chunk }
         requires below { list_length self.old (HandedOut class) < 65536 }
-        ensures touched { HasBecome self.old self.new class (λ state. class_after_touch state chunk) }
+        ensures touched { HasBecome self.old self.new class (λ state.
+            class_after_touch state chunk) }
         ensures writes { self.new.writes ≤ self.old.writes + 8 }
     {
         self.unlink(ListName::HandedOut(class), chunk);
@@ -65,7 +66,8 @@ impl Rows {
         requires free { Contains (list_chunks self.old (Free class)) new }
         requires handed_out { Contains (list_chunks self.old (HandedOut class)) old }
         requires below { list_length self.old (HandedOut class) < 65536 }
-        ensures replaced { HasBecome self.old self.new class (λ state. class_after_replacement state new old) }
+        ensures replaced { HasBecome self.old self.new class (λ state.
+            class_after_replacement state new old) }
         ensures writes { self.new.writes ≤ self.old.writes + 8 }
     {
         self.unlink(ListName::Free(class), new);
@@ -77,8 +79,10 @@ impl Rows {
     pub(crate) fn clear(&mut self, class: usize, chunk: ChunkId)
         requires linked { AreLinked self.old }
         requires class { IsPlace self.old class }
-        requires listed { 1 ≤ times_in chunk (list_chunks self.old (Free class)) + times_in chunk (list_chunks self.old (HandedOut class)) }
-        ensures cleared { HasBecome self.old self.new class (λ state. class_after_clear state chunk) }
+        requires listed { 1 ≤ times_in chunk (list_chunks self.old (Free class)) + times_in chunk
+            (list_chunks self.old (HandedOut class)) }
+        ensures cleared { HasBecome self.old self.new class (λ state.
+            class_after_clear state chunk) }
         ensures writes { self.new.writes ≤ self.old.writes + 8 }
     {
         match self.mark(chunk) {

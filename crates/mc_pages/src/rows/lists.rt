@@ -16,7 +16,9 @@ impl Rows {
         requires list { IsList self.old list }
         requires there { 1 ≤ times_in chunk (list_chunks self.old list) }
         ensures linked { AreLinkedBut self.new chunk }
-        ensures lists { (other : ListName) → list_chunks self.new other ≡ with_list (list_chunks self.old) list (without chunk (list_chunks self.old list)) other }
+        ensures lists { (other : ListName) → list_chunks self.new other
+            ≡ with_list (list_chunks self.old) list
+            (without chunk (list_chunks self.old list)) other }
         ensures sizes { sizes_of self.new ≡ sizes_of self.old }
         ensures writes { self.new.writes ≡ self.old.writes + 2 }
     {
@@ -32,7 +34,9 @@ impl Rows {
         requires list { IsList self.old list }
         requires there { 1 ≤ times_in chunk (list_chunks self.old list) }
         ensures linked { AreLinked self.new }
-        ensures lists { (other : ListName) → list_chunks self.new other ≡ with_list (list_chunks self.old) list (without chunk (list_chunks self.old list)) other }
+        ensures lists { (other : ListName) → list_chunks self.new other
+            ≡ with_list (list_chunks self.old) list
+            (without chunk (list_chunks self.old list)) other }
         ensures sizes { sizes_of self.new ≡ sizes_of self.old }
         ensures writes { self.new.writes ≡ self.old.writes + 3 }
     {
@@ -49,7 +53,8 @@ impl Rows {
         requires unlisted { IsUnlisted self.old chunk }
         requires below { list_length self.old list < 65536 }
         ensures linked { AreLinked self.new }
-        ensures lists { (other : ListName) → list_chunks self.new other ≡ with_list (list_chunks self.old) list (chunk ∷ list_chunks self.old list) other }
+        ensures lists { (other : ListName) → list_chunks self.new other
+            ≡ with_list (list_chunks self.old) list (chunk ∷ list_chunks self.old list) other }
         ensures sizes { sizes_of self.new ≡ sizes_of self.old }
         ensures writes { self.new.writes ≡ self.old.writes + 5 }
     {
@@ -66,7 +71,9 @@ impl Rows {
         requires unlisted { IsUnlisted self.old chunk }
         requires below { list_length self.old list < 65536 }
         ensures linked { AreLinked self.new }
-        ensures lists { (other : ListName) → list_chunks self.new other ≡ with_list (list_chunks self.old) list (list_chunks self.old list ++ chunk ∷ []) other }
+        ensures lists { (other : ListName) → list_chunks self.new other
+            ≡ with_list (list_chunks self.old) list (list_chunks self.old list
+            ++ chunk ∷ []) other }
         ensures sizes { sizes_of self.new ≡ sizes_of self.old }
         ensures writes { self.new.writes ≡ self.old.writes + 5 }
     {
@@ -84,7 +91,9 @@ impl Rows {
         requires there { 1 ≤ times_in old (list_chunks self.old list) }
         requires below { list_length self.old list < 65536 }
         ensures linked { AreLinked self.new }
-        ensures lists { (other : ListName) → list_chunks self.new other ≡ with_list (list_chunks self.old) list (with_before chunk old (list_chunks self.old list)) other }
+        ensures lists { (other : ListName) → list_chunks self.new other
+            ≡ with_list (list_chunks self.old) list
+            (with_before chunk old (list_chunks self.old list)) other }
         ensures sizes { sizes_of self.new ≡ sizes_of self.old }
         ensures writes { self.new.writes ≡ self.old.writes + 5 }
     {

@@ -74,7 +74,8 @@ impl Slabs {
     /// Clears a free or handed-out chunk of the moving page: it is in no list any more. (slabs.c's `slab_rebalance_move`)
     pub fn clear(&mut self, chunk: ChunkId)
         requires moving { option_map (λ move. move.page) self.old.state.moving ≡ Some chunk.page }
-        requires listed { 1 ≤ places_in self.old.state (class_of_page self.old.state chunk.page) chunk }
+        requires listed { 1 ≤ places_in self.old.state
+            (class_of_page self.old.state chunk.page) chunk }
         ensures cleared { self.new.state ≡ after_clear self.old.state chunk }
         ensures accounted { IsAccounted self.new.state }
         ensures writes { self.new.writes ≤ self.old.writes + 8 }
@@ -86,7 +87,8 @@ impl Slabs {
     /// Cuts the lowest uncut chunk of the page just given: it goes to the head of its class's free list.
     pub fn cut(&mut self, page: PageId, index: u64)
         requires { self.old.state.uncut ≡ Some (record { page = page; index = index }) }
-        ensures cut { self.new.state ≡ after_cut self.old.state (record { page = page; index = index }) }
+        ensures cut { self.new.state ≡ after_cut self.old.state
+            (record { page = page; index = index }) }
         ensures accounted { IsAccounted self.new.state }
         ensures writes { self.new.writes ≤ self.old.writes + 8 }
     {
@@ -127,8 +129,10 @@ impl Slabs {
     /// no list. (after the flag `ITEM_SLABBED` of memcached's items, by which `slab_rebalance_move` knows a free chunk)
     pub fn is_free(&self, chunk: ChunkId) -> bool
         requires class { HasClass self.now.state (class_of_page self.now.state chunk.page) }
-        requires cut { is_cut self.now.state (class_of_page self.now.state chunk.page) chunk ≡ true }
-        ensures free { result ≡ nat_lt 0 (times_in chunk (class_of_chunk self.now.state chunk).free) }
+        requires cut { is_cut self.now.state (class_of_page self.now.state chunk.page) chunk
+            ≡ true }
+        ensures free { result
+            ≡ nat_lt 0 (times_in chunk (class_of_chunk self.now.state chunk).free) }
         ensures accounted { IsAccounted self.now.state }
     {
         self.rows.mark(chunk) == Mark::Free
@@ -179,7 +183,8 @@ impl Slabs {
     pub fn is_older(&self, chunk: ChunkId, than: ChunkId) -> bool
         requires chunk { Contains (class_of_chunk self.now.state chunk).order chunk }
         requires than { Contains (class_of_chunk self.now.state chunk).order than }
-        ensures older { result ≡ true → comes_before chunk than (class_of_chunk self.now.state chunk).order ≡ true }
+        ensures older { result ≡ true →
+            comes_before chunk than (class_of_chunk self.now.state chunk).order ≡ true }
         ensures accounted { IsAccounted self.now.state }
     {
         let row = self.rows.place(chunk);

@@ -30,7 +30,8 @@ impl Slabs {
     /// what is refused changes nothing. (slabs.c's `do_slabs_reassign`; the order of the tests is own)
     pub fn begin_move(&mut self, src: Option<u64>, dst: u64) -> Result<(), Reassign>
         ensures answer { MayAnswer (answer_of self.old.state src dst) result }
-        ensures began { OnOk result (IfOk (answer_of self.old.state src dst) (λ source. self.new.state ≡ after_begin self.old.state src source dst)) }
+        ensures began { OnOk result (IfOk (answer_of self.old.state src dst) (λ source.
+            self.new.state ≡ after_begin self.old.state src source dst)) }
         ensures refused { OnErr result (self.new.state ≡ self.old.state) }
         ensures accounted { IsAccounted self.new.state }
         ensures writes { self.new.writes ≡ self.old.writes }

@@ -40,7 +40,8 @@ impl Slabs {
     pub fn grow(&mut self, class: ClassId) -> Result<PageId, Grow>
         requires class { HasClass self.old.state class }
         requires whole { self.old.state.uncut ≡ None }
-        ensures given { IfOk result (λ page. (next_page self.old.state class ≡ Some page) × (self.new.state ≡ after_grow self.old.state class page)) }
+        ensures given { IfOk result (λ page. (next_page self.old.state class ≡ Some page)
+            × (self.new.state ≡ after_grow self.old.state class page)) }
         ensures no_room { (result ≡ Err Grow.NoRoom) ↔ (next_page self.old.state class ≡ None) }
         ensures full { result ≡ Err Grow.NoRoom → HasNoPageFor self.old.state class }
         ensures refused { OnErr result (self.new.state ≡ self.old.state) }

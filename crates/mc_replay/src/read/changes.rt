@@ -25,8 +25,10 @@ pub(super) fn changes(alloc: Global, text: &[u8]) -> Result<Series<Change>, Refu
 
 /// The changes that these texts write, if each writes one.
 fn changes_in(alloc: Global, parts: &[&[u8]]) -> Result<Series<Change>, Refusal>
-    ensures ok { IfOk result (λ changes. changes_in (map (λ part. part.now) parts.now) ≡ Some changes) }
-    ensures refused { result ≡ Err Refusal.Form → changes_in (map (λ part. part.now) parts.now) ≡ None }
+    ensures ok { IfOk result (λ changes. changes_in (map (λ part. part.now) parts.now)
+        ≡ Some changes) }
+    ensures refused { result ≡ Err Refusal.Form →
+        changes_in (map (λ part. part.now) parts.now) ≡ None }
 {
     let mut changes = Series::new(alloc);
     for part in parts {
@@ -40,7 +42,8 @@ fn changes_in(alloc: Global, parts: &[&[u8]]) -> Result<Series<Change>, Refusal>
 
 /// The parts of a text between its commas.
 fn parts(alloc: Global, text: &[u8]) -> Result<Vec<&[u8]>, AllocError>
-    ensures { IfOk result (λ parts. map (λ part. part.now) parts.items ≡ slice_split (λ byte. byte == 44) text.now) }
+    ensures { IfOk result (λ parts. map (λ part. part.now) parts.items
+        ≡ slice_split (λ byte. byte == 44) text.now) }
 {
     text.split(|byte| *byte == b',').collect(alloc)
 }

@@ -37,8 +37,10 @@ fn colon_in(line: &[u8]) -> Option<usize>
 /// The event that a text writes, with the changes before it.
 #[tactic(auto, unfolding(crate::specs::Events::event_after))]
 fn event_after(alloc: Global, text: &[u8], before: Series<Change>) -> Result<Event, Refusal>
-    ensures ok { IfOk result (λ event. event_after before (deed_of (line_words text.now)) ≡ Some event) }
-    ensures refused { result ≡ Err Refusal.Form → event_after before (deed_of (line_words text.now)) ≡ None }
+    ensures ok { IfOk result (λ event. event_after before (deed_of (line_words text.now))
+        ≡ Some event) }
+    ensures refused { result ≡ Err Refusal.Form →
+        event_after before (deed_of (line_words text.now)) ≡ None }
 {
     let words = words(alloc, text)?;
     match deed(&words) {

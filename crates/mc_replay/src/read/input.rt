@@ -40,7 +40,8 @@ fn read_piece<R: Source>(
     bytes: &mut Vec<u8>,
 ) -> Result<usize, RunFault>
     requires { 0 < length piece.old }
-    ensures given { IfOk result (λ count. GivesMore (R.given reader.old) (R.given reader.new) bytes.old.items bytes.new.items) }
+    ensures given { IfOk result (λ count. GivesMore (R.given reader.old)
+        (R.given reader.new) bytes.old.items bytes.new.items) }
     ensures ended { result ≡ Ok 0 → R.HasEnded reader.new }
 {
     let count = match reader.read(piece) {

@@ -21,7 +21,8 @@ pub(super) fn heads(text: &mut String, state: &State) -> Result<(), AllocError>
 
 /// The headers of a page with n chunks.
 fn page_heads(text: &mut String, state: &State, page: u64, count: u64) -> Result<(), AllocError>
-    ensures { OnOk result (string_bytes text.new ≡ string_bytes text.old ++ page_headers_text state.now count page) }
+    ensures { OnOk result (string_bytes text.new ≡ string_bytes text.old
+        ++ page_headers_text state.now count page) }
 {
     for index in 0..count {
         let chunk = ChunkId { page, index };

@@ -21,7 +21,8 @@ pub(super) fn slabs(
     slabs: &Slabs,
 ) -> Result<(), NoMemory>
     requires { IsOfTable table.now slabs.now.state }
-    ensures { OnOk result (string_bytes text.new ≡ string_bytes text.old ++ slab_state_text table.now slabs.now.state) }
+    ensures { OnOk result (string_bytes text.new ≡ string_bytes text.old
+        ++ slab_state_text table.now slabs.now.state) }
 {
     pages(text, table, slabs)?;
     classes(alloc, text, table, slabs)?;
@@ -31,7 +32,9 @@ pub(super) fn slabs(
 /// Owners, and what the ledger records.
 fn pages(text: &mut String, table: &ClassTable, slabs: &Slabs) -> Result<(), NoMemory>
     requires { IsOfTable table.now slabs.now.state }
-    ensures { OnOk result (string_bytes text.new ≡ string_bytes text.old ++ (owners_text (arena_pages_of table.now) slabs.now.state ++ stored_ledger_text slabs.now.state)) }
+    ensures { OnOk result (string_bytes text.new ≡ string_bytes text.old
+        ++ (owners_text (arena_pages_of table.now) slabs.now.state
+        ++ stored_ledger_text slabs.now.state)) }
 {
     owners(text, table, slabs)?;
     ledger(text, slabs)
@@ -39,7 +42,9 @@ fn pages(text: &mut String, table: &ClassTable, slabs: &Slabs) -> Result<(), NoM
 
 /// The page that moves, and the numbers of the whole.
 fn moves(text: &mut String, slabs: &Slabs) -> Result<(), AllocError>
-    ensures { OnOk result (string_bytes text.new ≡ string_bytes text.old ++ (moving_text slabs.now.state.moving ++ totals_line (totals_of slabs.now.state) slabs.now.state.automove)) }
+    ensures { OnOk result (string_bytes text.new ≡ string_bytes text.old
+        ++ (moving_text slabs.now.state.moving ++ totals_line
+        (totals_of slabs.now.state) slabs.now.state.automove)) }
 {
     moving(text, slabs.moving())?;
     totals(text, slabs.totals(), slabs.automove())
@@ -48,7 +53,8 @@ fn moves(text: &mut String, slabs: &Slabs) -> Result<(), AllocError>
 /// Adds the owner of each page.
 fn owners(text: &mut String, table: &ClassTable, slabs: &Slabs) -> Result<(), AllocError>
     requires { IsOfTable table.now slabs.now.state }
-    ensures { OnOk result (string_bytes text.new ≡ string_bytes text.old ++ owners_text (arena_pages_of table.now) slabs.now.state) }
+    ensures { OnOk result (string_bytes text.new ≡ string_bytes text.old
+        ++ owners_text (arena_pages_of table.now) slabs.now.state) }
 {
     for page in 0..table.arena_pages() {
         owner(text, page, slabs.owner(page))?;
@@ -70,7 +76,8 @@ fn owner(text: &mut String, page: PageId, owner: Owner) -> Result<(), AllocError
 
 /// How many entries of the ledger were trimmed, and those behind them.
 fn ledger(text: &mut String, slabs: &Slabs) -> Result<(), NoMemory>
-    ensures { OnOk result (string_bytes text.new ≡ string_bytes text.old ++ stored_ledger_text slabs.now.state) }
+    ensures { OnOk result (string_bytes text.new ≡ string_bytes text.old
+        ++ stored_ledger_text slabs.now.state) }
 {
     trimmed_entries(text, slabs.trimmed())?;
     entries(text, slabs.ledger())
@@ -88,7 +95,8 @@ fn trimmed_entries(text: &mut String, count: u64) -> Result<(), AllocError>
 
 /// How pages changed hands.
 fn entries(text: &mut String, entries: &[Entry]) -> Result<(), NoMemory>
-    ensures { OnOk result (string_bytes text.new ≡ string_bytes text.old ++ flat_map ledger_entry_line entries.now) }
+    ensures { OnOk result (string_bytes text.new ≡ string_bytes text.old
+        ++ flat_map ledger_entry_line entries.now) }
 {
     for change in entries {
         push_str(text, "ledger ")?;
@@ -99,7 +107,8 @@ fn entries(text: &mut String, entries: &[Entry]) -> Result<(), NoMemory>
 
 /// How a page changed hands.
 fn entry(text: &mut String, entry: Entry) -> Result<(), AllocError>
-    ensures { OnOk result (string_bytes text.new ≡ string_bytes text.old ++ ledger_entry_text entry) }
+    ensures { OnOk result (string_bytes text.new ≡ string_bytes text.old
+        ++ ledger_entry_text entry) }
 {
     match entry {
         Entry::Granted(page, class, grace) => {
@@ -120,7 +129,8 @@ fn classes(
     slabs: &Slabs,
 ) -> Result<(), NoMemory>
     requires { IsOfTable table.now slabs.now.state }
-    ensures { OnOk result (string_bytes text.new ≡ string_bytes text.old ++ class_states_text (length table.now.sizes) slabs.now.state) }
+    ensures { OnOk result (string_bytes text.new ≡ string_bytes text.old
+        ++ class_states_text (length table.now.sizes) slabs.now.state) }
 {
     for place in 0..table.count() {
         class(alloc, text, slabs, place + 1)?;
@@ -131,7 +141,8 @@ fn classes(
 /// The lists of a class, and how often it evicted.
 fn class(alloc: Global, text: &mut String, slabs: &Slabs, class: ClassId) -> Result<(), NoMemory>
     requires { HasClass slabs.now.state class }
-    ensures { OnOk result (string_bytes text.new ≡ string_bytes text.old ++ class_state_line class (class_at slabs.now.state class)) }
+    ensures { OnOk result (string_bytes text.new ≡ string_bytes text.old
+        ++ class_state_line class (class_at slabs.now.state class)) }
 {
     lists(alloc, text, slabs, class)?;
     Ok(evictions(text, slabs.numbers(class).evictions)?)
@@ -140,7 +151,9 @@ fn class(alloc: Global, text: &mut String, slabs: &Slabs, class: ClassId) -> Res
 /// A class, its free list and its hand-out order.
 fn lists(alloc: Global, text: &mut String, slabs: &Slabs, class: ClassId) -> Result<(), NoMemory>
     requires { HasClass slabs.now.state class }
-    ensures { OnOk result (string_bytes text.new ≡ string_bytes text.old ++ (free_text class (class_at slabs.now.state class).free ++ order_text (class_at slabs.now.state class).order)) }
+    ensures { OnOk result (string_bytes text.new ≡ string_bytes text.old
+        ++ (free_text class (class_at slabs.now.state class).free
+        ++ order_text (class_at slabs.now.state class).order)) }
 {
     let free = free_of(alloc, slabs, class)?;
     let order = order_of(alloc, slabs, class)?;
@@ -151,7 +164,8 @@ fn lists(alloc: Global, text: &mut String, slabs: &Slabs, class: ClassId) -> Res
 
 /// A class and its free list.
 fn free_list(text: &mut String, class: ClassId, free: &[ChunkId]) -> Result<(), NoMemory>
-    ensures { OnOk result (string_bytes text.new ≡ string_bytes text.old ++ free_text class free.now) }
+    ensures { OnOk result (string_bytes text.new ≡ string_bytes text.old
+        ++ free_text class free.now) }
 {
     write!(text, "class {class} free [")?;
     chunks(text, free)
@@ -174,7 +188,8 @@ fn evictions(text: &mut String, count: u64) -> Result<(), AllocError>
 
 /// The chunks of a list.
 fn chunks(text: &mut String, chunks: &[ChunkId]) -> Result<(), NoMemory>
-    ensures { OnOk result (string_bytes text.new ≡ string_bytes text.old ++ chunks_text chunks.now) }
+    ensures { OnOk result (string_bytes text.new ≡ string_bytes text.old
+        ++ chunks_text chunks.now) }
 {
     let Some((first, others)) = chunks.split_first() else {
         return Ok(());
@@ -223,7 +238,8 @@ fn moving_page(text: &mut String, moving: Moving) -> Result<(), AllocError>
 /// The numbers of the whole, and the automover's mode.
 #[tactic(auto, using(crate::proofs::Ranges::appends_three))]
 fn totals(text: &mut String, totals: Totals, automove: u64) -> Result<(), AllocError>
-    ensures { OnOk result (string_bytes text.new ≡ string_bytes text.old ++ totals_line totals automove) }
+    ensures { OnOk result (string_bytes text.new ≡ string_bytes text.old
+        ++ totals_line totals automove) }
 {
     page_counts(text, totals)?;
     item_counts(text, totals)?;

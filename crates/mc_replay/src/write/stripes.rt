@@ -16,7 +16,8 @@ pub(super) fn stripe(
     number: u64,
     stripe: &Stripe,
 ) -> Result<(), AllocError>
-    ensures { OnOk result (string_bytes text.new ≡ string_bytes text.old ++ stripe_text number stripe.now.state) }
+    ensures { OnOk result (string_bytes text.new ≡ string_bytes text.old
+        ++ stripe_text number stripe.now.state) }
 {
     // Each key of the index was stored once, as the history is legal: by a call that is recorded, or by one of those that left the base.
     let keys = stored_keys(alloc, stripe)?;
@@ -27,7 +28,8 @@ pub(super) fn stripe(
 
 /// The keys that trimmed calls left and those under which something was stored since, by rising key.
 fn stored_keys(alloc: Global, stripe: &Stripe) -> Result<Vec<Key>, AllocError>
-    ensures { IfOk result (λ keys. keys.items ≡ keys_with_stored (left_keys stripe.now.state) (history_tail stripe.now.state)) }
+    ensures { IfOk result (λ keys. keys.items ≡ keys_with_stored (left_keys stripe.now.state)
+        (history_tail stripe.now.state)) }
 {
     let mut keys = BTreeSet::new(alloc);
     add_left(&mut keys, stripe.base().unwrap_or(&[]))?;
@@ -62,7 +64,8 @@ fn add_stored(keys: &mut BTreeSet<Key>, history: &[Call]) -> Result<(), AllocErr
 
 /// Where these keys lead.
 fn places(text: &mut String, number: u64, stripe: &Stripe, keys: &[Key]) -> Result<(), AllocError>
-    ensures { OnOk result (string_bytes text.new ≡ string_bytes text.old ++ keys_text number stripe.now.state keys.now) }
+    ensures { OnOk result (string_bytes text.new ≡ string_bytes text.old
+        ++ keys_text number stripe.now.state keys.now) }
 {
     for key in keys {
         place(text, number, *key, stripe.find(*key))?;
@@ -77,7 +80,8 @@ fn place(
     key: Key,
     place: Option<(ChunkId, Stamp)>,
 ) -> Result<(), AllocError>
-    ensures { OnOk result (string_bytes text.new ≡ string_bytes text.old ++ index_line number key place) }
+    ensures { OnOk result (string_bytes text.new ≡ string_bytes text.old
+        ++ index_line number key place) }
 {
     let Some((ChunkId { page, index }, stamp)) = place else {
         return Ok(());
@@ -88,7 +92,8 @@ fn place(
 
 /// How many calls of a stripe were trimmed, where some were.
 fn trimmed_line(text: &mut String, number: u64, count: u64) -> Result<(), AllocError>
-    ensures { OnOk result (string_bytes text.new ≡ string_bytes text.old ++ trimmed_line number count) }
+    ensures { OnOk result (string_bytes text.new ≡ string_bytes text.old
+        ++ trimmed_line number count) }
 {
     if count == 0 {
         return Ok(());
@@ -98,7 +103,8 @@ fn trimmed_line(text: &mut String, number: u64, count: u64) -> Result<(), AllocE
 
 /// The calls on the keys of a stripe.
 fn history(text: &mut String, number: u64, calls: &[Call]) -> Result<(), AllocError>
-    ensures { OnOk result (string_bytes text.new ≡ string_bytes text.old ++ flat_map (call_line number) calls.now) }
+    ensures { OnOk result (string_bytes text.new ≡ string_bytes text.old
+        ++ flat_map (call_line number) calls.now) }
 {
     for call in calls {
         write!(text, "history {number} ")?;

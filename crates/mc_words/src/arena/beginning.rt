@@ -58,7 +58,8 @@ fn words_of(alloc: Global, plan: &Plan, places: Places) -> Result<Vec<u64>, Refu
 
 // Puts the value behind a lock into the next slot, and nothing into those between it and the next value.
 fn push_apart(slots: &mut Vec<Slot>, value: Slot) -> Result<(), Refused>
-    ensures slots { OnOk result (slots.new.items ≡ slots.old.items ++ value ∷ replicate slots_between Empty) }
+    ensures slots { OnOk result (slots.new.items ≡ slots.old.items
+        ++ value ∷ replicate slots_between Empty) }
 {
     push(slots, value)?;
     for _between in 0..SLOTS_BETWEEN {
@@ -110,7 +111,8 @@ impl Plan {
 impl Arena {
     // An arena in which nothing was done, and its first hand.
     pub(crate) fn open(alloc: Global, plan: Plan) -> Result<(Arena, Hand), NoMemory>
-        ensures arena { IfOk result (λ opened. IsHandOf opened.0 opened.1 × (setup_of opened.0 ≡ plan)) }
+        ensures arena { IfOk result (λ opened. IsHandOf opened.0 opened.1
+            × (setup_of opened.0 ≡ plan)) }
         ensures view { IfOk result (λ opened. view opened.1 ≡ first_view plan) }
     {
         let places = plan.places();

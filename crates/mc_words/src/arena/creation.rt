@@ -41,7 +41,8 @@ impl Arena {
         ensures accepted { IfOk result (λ made. arena_refusal config.now hands 0 ≡ None) }
         ensures setup { IfOk result (λ made. IsMadeWith config.now hands 0 (setup_of made.0)) }
         ensures hands { IfOk result (λ made. AreNewHands made.0 made.1.items) }
-        ensures refused { IfErr result (λ error. error ≡ unwrap_or (arena_refusal config.now hands 0) (refused.NoMemory tt)) }
+        ensures refused { IfErr result (λ error. error
+            ≡ unwrap_or (arena_refusal config.now hands 0) (refused.NoMemory tt)) }
     {
         Arena::from_issue(alloc, config, hands, 0)
     }
@@ -56,7 +57,8 @@ impl Arena {
         ensures accepted { IfOk result (λ made. arena_refusal config.now hands start ≡ None) }
         ensures setup { IfOk result (λ made. IsMadeWith config.now hands start (setup_of made.0)) }
         ensures hands { IfOk result (λ made. AreNewHands made.0 made.1.items) }
-        ensures refused { IfErr result (λ error. error ≡ unwrap_or (arena_refusal config.now hands start) (refused.NoMemory tt)) }
+        ensures refused { IfErr result (λ error. error
+            ≡ unwrap_or (arena_refusal config.now hands start) (refused.NoMemory tt)) }
     {
         test(config, hands, start)?;
         let classes = match ClassTable::build(alloc, config) {
@@ -90,10 +92,12 @@ impl Arena {
     // A hand more, which the first one makes.
     fn make(&self, first: &mut Hand, number: u64) -> Hand
         requires arena { IsHandOf self.now first.old }
-        requires first { view first.old ≡ new_view (setup_of self.now) 0 ((setup_of self.now).hands - number) }
+        requires first { view first.old ≡ new_view (setup_of self.now) 0
+            ((setup_of self.now).hands - number) }
         requires number { (1 ≤ number) × (number < (setup_of self.now).hands) }
         ensures arena { IsHandOf self.now first.new × IsHandOf self.now result }
-        ensures first { view first.new ≡ new_view (setup_of self.now) 0 ((setup_of self.now).hands - (1 + number)) }
+        ensures first { view first.new ≡ new_view (setup_of self.now) 0
+            ((setup_of self.now).hands - (1 + number)) }
         ensures made { view result ≡ new_view (setup_of self.now) number 0 }
     {
         let seat = self.table.shared.split_seat::<MakeHand>(&mut first.seat);

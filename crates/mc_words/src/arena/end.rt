@@ -98,7 +98,8 @@ impl Final {
     /// Pages and lists, unless a hand has them.
     pub fn slabs(&self) -> Option<&Slabs>
         ensures slabs { option_map (λ slabs. slabs.now.state) result ≡ self.now.slabs }
-        ensures accounted { IfSome result (λ slabs. IsOfTable self.now.setup.table slabs.now.state) }
+        ensures accounted { IfSome result (λ slabs.
+            IsOfTable self.now.setup.table slabs.now.state) }
     {
         if self.closed.word(SLABS_WORD) != 0 {
             return None;
@@ -112,7 +113,8 @@ impl Final {
     /// Index and history of a stripe, unless a hand has them.
     pub fn stripe(&self, stripe: u64) -> Option<&Stripe>
         requires in_range { stripe < self.now.setup.config.stripes }
-        ensures stripe { option_map (λ value. value.now) result ≡ slice_index_or self.now.stripes stripe None }
+        ensures stripe { option_map (λ value. value.now) result
+            ≡ slice_index_or self.now.stripes stripe None }
     {
         let closed = &self.closed;
         let lock = Lock::StripeLock(stripe);

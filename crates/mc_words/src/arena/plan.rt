@@ -31,7 +31,8 @@ impl Plan {
         requires stripes { (1 ≤ config.stripes) × (config.stripes ≤ 64) }
         requires hands { (1 ≤ hands) × (hands ≤ 64) }
         requires start { start ≤ most_issue }
-        ensures plan { result ≡ record { config = config; table = classes; hands = hands; start = start } }
+        ensures plan { result
+            ≡ record { config = config; table = classes; hands = hands; start = start } }
     {
         Plan {
             config,

@@ -29,9 +29,12 @@ impl Arena {
         ensures arena { IsHandOf self.now hand.new }
         ensures locks { hand.new.locks ≡ hand.old.locks }
         ensures held { (view hand.new).slabs ≡ Some held.new.shared }
-        ensures cleared { OnOk result (Clears (view hand.old) held.old.shared chunk (view hand.new) × (held.new.shared ≡ after_clear held.old.shared chunk)) }
-        ensures moved { OnErr result (SeesOther (view hand.old) (Some chunk) (λ head. owner.is_unused head ≡ false) (view hand.new) × (held.new.shared ≡ held.old.shared)) }
-        ensures succeeds { option_map owner.is_unused (seen_head (view hand.old).row.looks chunk) ≡ Some true → IsOk result }
+        ensures cleared { OnOk result (Clears (view hand.old) held.old.shared chunk (view hand.new)
+            × (held.new.shared ≡ after_clear held.old.shared chunk)) }
+        ensures moved { OnErr result (SeesOther (view hand.old) (Some chunk) (λ head.
+            owner.is_unused head ≡ false) (view hand.new) × (held.new.shared ≡ held.old.shared)) }
+        ensures succeeds { option_map owner.is_unused (seen_head (view hand.old).row.looks chunk)
+            ≡ Some true → IsOk result }
     {
         let head = self.head(hand, chunk);
         if !is_unused(head) {

@@ -32,10 +32,18 @@ impl Arena {
         ensures arena { IsHandOf self.now hand.new }
         ensures locks { hand.new.locks ≡ hand.old.locks }
         ensures held { (view hand.new).slabs ≡ Some held.new.shared }
-        ensures none { result ≡ None → PassesAll old.page (class_at held.old.shared (class_of_page held.old.shared old.page)).free (view hand.old) (view hand.new) × (held.new.shared ≡ held.old.shared) }
-        ensures no_target { result ≡ None → sees_no_target held.old.shared (view hand.new).row.looks old.page ≡ true }
-        ensures popped { IfSome result (λ fresh. PopsOff (view hand.old) held.old.shared old fresh.chunk (view hand.new) × (held.new.shared ≡ after_replace held.old.shared fresh.chunk old)) }
-        ensures fresh { IfSome result (λ fresh. (fresh.room ≡ room_in (setup_of self.now).table (class_of_page held.old.shared old.page)) × IsFreshOf (view hand.new) fresh.chunk fresh.room) }
+        ensures none { result ≡ None →
+            PassesAll old.page (class_at held.old.shared
+            (class_of_page held.old.shared old.page)).free (view hand.old) (view hand.new)
+            × (held.new.shared ≡ held.old.shared) }
+        ensures no_target { result ≡ None →
+            sees_no_target held.old.shared (view hand.new).row.looks old.page ≡ true }
+        ensures popped { IfSome result (λ fresh. PopsOff
+            (view hand.old) held.old.shared old fresh.chunk (view hand.new)
+            × (held.new.shared ≡ after_replace held.old.shared fresh.chunk old)) }
+        ensures fresh { IfSome result (λ fresh. (fresh.room
+            ≡ room_in (setup_of self.now).table (class_of_page held.old.shared old.page))
+            × IsFreshOf (view hand.new) fresh.chunk fresh.room) }
     {
         let class = held.slabs().owner(old.page).class();
         let Some(chunk) = self.find_fit(hand, held, class, old.page) else {
@@ -69,8 +77,10 @@ impl Arena {
         ensures arena { IsHandOf self.now hand.new }
         ensures locks { hand.new.locks ≡ hand.old.locks }
         ensures held { (view hand.new).slabs ≡ Some held.now.shared }
-        ensures found { IfSome result (λ chunk. FindsFit held.now.shared class page chunk (view hand.old) (view hand.new)) }
-        ensures none { result ≡ None → PassesAll page (class_at held.now.shared class).free (view hand.old) (view hand.new) }
+        ensures found { IfSome result (λ chunk. FindsFit held.now.shared class page chunk
+            (view hand.old) (view hand.new)) }
+        ensures none { result ≡ None →
+            PassesAll page (class_at held.now.shared class).free (view hand.old) (view hand.new) }
     {
         let mut next = held.slabs().first_free(class);
         while let Some(chunk) = next {

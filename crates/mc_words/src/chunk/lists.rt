@@ -41,10 +41,17 @@ impl Arena {
         ensures arena { IsHandOf self.now hand.new }
         ensures locks { hand.new.locks ≡ hand.old.locks }
         ensures held { (view hand.new).slabs ≡ Some held.new.shared }
-        ensures none { result ≡ Ok None → (first_free (class_at held.old.shared class) ≡ None) × (held.new.shared ≡ held.old.shared) × (view hand.new ≡ view hand.old) }
-        ensures popped { IfOk result (λ popped. IfSome popped (λ fresh. PopsFirst (view hand.old) held.old.shared class fresh.chunk (view hand.new) × (held.new.shared ≡ after_pop held.old.shared class))) }
-        ensures fresh { IfOk result (λ popped. IfSome popped (λ fresh. (fresh.room ≡ room_in (setup_of self.now).table class) × IsFreshOf (view hand.new) fresh.chunk fresh.room)) }
-        ensures worn { OnErr result (SeesOther (view hand.old) (first_free (class_at held.old.shared class)) (λ head. most_issue ≤ head.issue) (view hand.new) × (held.new.shared ≡ held.old.shared)) }
+        ensures none { result ≡ Ok None → (first_free (class_at held.old.shared class) ≡ None)
+            × (held.new.shared ≡ held.old.shared) × (view hand.new ≡ view hand.old) }
+        ensures popped { IfOk result (λ popped. IfSome popped (λ fresh.
+            PopsFirst (view hand.old) held.old.shared class fresh.chunk (view hand.new)
+            × (held.new.shared ≡ after_pop held.old.shared class))) }
+        ensures fresh { IfOk result (λ popped. IfSome popped (λ fresh.
+            (fresh.room ≡ room_in (setup_of self.now).table class)
+            × IsFreshOf (view hand.new) fresh.chunk fresh.room)) }
+        ensures worn { OnErr result (SeesOther (view hand.old)
+            (first_free (class_at held.old.shared class)) (λ head. most_issue
+            ≤ head.issue) (view hand.new) × (held.new.shared ≡ held.old.shared)) }
     {
         let Some(chunk) = held.slabs().first_free(class) else {
             return Ok(None);
@@ -81,9 +88,12 @@ impl Arena {
         ensures arena { IsHandOf self.now hand.new }
         ensures locks { hand.new.locks ≡ hand.old.locks }
         ensures held { (view hand.new).slabs ≡ Some held.new.shared }
-        ensures back { OnOk result (PutsBack (view hand.old) held.old.shared chunk (view hand.new) × (held.new.shared ≡ after_back held.old.shared chunk)) }
-        ensures moved { OnErr result (SeesOther (view hand.old) (Some chunk) (λ head. is_dead head ≡ false) (view hand.new) × (held.new.shared ≡ held.old.shared)) }
-        ensures succeeds { option_map is_dead (seen_head (view hand.old).row.looks chunk) ≡ Some true → IsOk result }
+        ensures back { OnOk result (PutsBack (view hand.old) held.old.shared chunk (view hand.new)
+            × (held.new.shared ≡ after_back held.old.shared chunk)) }
+        ensures moved { OnErr result (SeesOther (view hand.old) (Some chunk) (λ head.
+            is_dead head ≡ false) (view hand.new) × (held.new.shared ≡ held.old.shared)) }
+        ensures succeeds { option_map is_dead (seen_head (view hand.old).row.looks chunk)
+            ≡ Some true → IsOk result }
     {
         let head = self.head(hand, chunk);
         if head % ISSUE_UNIT != DEAD {
@@ -103,8 +113,10 @@ impl Arena {
         ensures arena { IsHandOf self.now hand.new }
         ensures locks { hand.new.locks ≡ hand.old.locks }
         ensures held { (view hand.new).slabs ≡ Some held.new.shared }
-        ensures cut { Cuts (view hand.old) held.old.shared (record { page = page; index = index }) (view hand.new) }
-        ensures shared { held.new.shared ≡ after_cut held.old.shared (record { page = page; index = index }) }
+        ensures cut { Cuts (view hand.old) held.old.shared (record { page = page; index = index })
+            (view hand.new) }
+        ensures shared { held.new.shared ≡ after_cut held.old.shared
+            (record { page = page; index = index }) }
     {
         let word = self.head_word(ChunkId { page, index });
         self.add(&mut hand.seat, word, TAG_UNIT, Step::Cut(page, index));

@@ -28,7 +28,8 @@ impl Arena {
         ensures arena { IsHandOf self.now hand.new }
         ensures locks { hand.new.locks ≡ hand.old.locks }
         ensures held { (view hand.new).slabs ≡ Some held.new.shared }
-        ensures recovers { Recovers (class_at held.old.shared class).order (view hand.old) held.old.shared (view hand.new) held.new.shared }
+        ensures recovers { Recovers (class_at held.old.shared class).order
+            (view hand.old) held.old.shared (view hand.new) held.new.shared }
         ensures view { view hand.new ≡ with_seen (view hand.old) (view hand.new) }
     {
         if self.hints.pages() == 0 {
@@ -54,7 +55,8 @@ impl Arena {
         ensures arena { IsHandOf self.now hand.new }
         ensures locks { hand.new.locks ≡ hand.old.locks }
         ensures held { (view hand.new).slabs ≡ Some held.now.shared }
-        ensures sees { (looked : List ChunkId) × SeesHeaders looked (view hand.old) (view hand.new) × AreJudged looked (view hand.new).row.looks dead.new }
+        ensures sees { (looked : List ChunkId) × SeesHeaders looked (view hand.old) (view hand.new)
+            × AreJudged looked (view hand.new).row.looks dead.new }
         ensures out { AreHandedOut (setup_of self.now).table held.now.shared class dead.new }
     {
         let per_page = held.slabs().per_page(class);
@@ -86,13 +88,17 @@ impl Arena {
         requires page { page < arena_pages_of (setup_of self.now).table }
         requires most { per_page ≤ most_of (setup_of self.now).table }
         requires held { (view hand.old).slabs ≡ Some held.now.shared }
-        requires out { AreHandedOut (setup_of self.now).table held.now.shared (class_of_page held.now.shared page) dead.old }
+        requires out { AreHandedOut (setup_of self.now).table held.now.shared
+            (class_of_page held.now.shared page) dead.old }
         ensures arena { IsHandOf self.now hand.new }
         ensures locks { hand.new.locks ≡ hand.old.locks }
         ensures held { (view hand.new).slabs ≡ Some held.now.shared }
-        ensures sees { (looked : List ChunkId) × SeesHeaders looked (view hand.old) (view hand.new) × AreJudged looked (view hand.new).row.looks dead.new }
-        ensures kept { (other : ChunkId) → IsAliveOrNoted (view hand.old).row.looks dead.old other → IsAliveOrNoted (view hand.new).row.looks dead.new other }
-        ensures out { AreHandedOut (setup_of self.now).table held.now.shared (class_of_page held.now.shared page) dead.new }
+        ensures sees { (looked : List ChunkId) × SeesHeaders looked (view hand.old) (view hand.new)
+            × AreJudged looked (view hand.new).row.looks dead.new }
+        ensures kept { (other : ChunkId) → IsAliveOrNoted (view hand.old).row.looks dead.old other →
+            IsAliveOrNoted (view hand.new).row.looks dead.new other }
+        ensures out { AreHandedOut (setup_of self.now).table held.now.shared
+            (class_of_page held.now.shared page) dead.new }
     {
         for word in 0..WORDS_A_PAGE {
             let first = ChunkId {
@@ -119,13 +125,17 @@ impl Arena {
         requires within_limit { first.index ≤ most_page_chunks }
         requires most { per_page ≤ most_of (setup_of self.now).table }
         requires held { (view hand.old).slabs ≡ Some held.now.shared }
-        requires out { AreHandedOut (setup_of self.now).table held.now.shared (class_of_page held.now.shared first.page) dead.old }
+        requires out { AreHandedOut (setup_of self.now).table held.now.shared
+            (class_of_page held.now.shared first.page) dead.old }
         ensures arena { IsHandOf self.now hand.new }
         ensures locks { hand.new.locks ≡ hand.old.locks }
         ensures held { (view hand.new).slabs ≡ Some held.now.shared }
-        ensures sees { (looked : List ChunkId) × SeesHeaders looked (view hand.old) (view hand.new) × AreJudged looked (view hand.new).row.looks dead.new }
-        ensures kept { (other : ChunkId) → IsAliveOrNoted (view hand.old).row.looks dead.old other → IsAliveOrNoted (view hand.new).row.looks dead.new other }
-        ensures out { AreHandedOut (setup_of self.now).table held.now.shared (class_of_page held.now.shared first.page) dead.new }
+        ensures sees { (looked : List ChunkId) × SeesHeaders looked (view hand.old) (view hand.new)
+            × AreJudged looked (view hand.new).row.looks dead.new }
+        ensures kept { (other : ChunkId) → IsAliveOrNoted (view hand.old).row.looks dead.old other →
+            IsAliveOrNoted (view hand.new).row.looks dead.new other }
+        ensures out { AreHandedOut (setup_of self.now).table held.now.shared
+            (class_of_page held.now.shared first.page) dead.new }
     {
         let mut hinted = hinted;
         for _ in 0..BITS {

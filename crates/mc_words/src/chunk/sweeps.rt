@@ -28,9 +28,11 @@ impl Arena {
         ensures arena { IsHandOf self.now hand.new }
         ensures locks { hand.new.locks ≡ hand.old.locks }
         ensures held { (view hand.new).slabs ≡ Some held.new.shared }
-        ensures swept { Sweeps (class_at held.old.shared class).order (view hand.old) held.old.shared (view hand.new) held.new.shared }
+        ensures swept { Sweeps (class_at held.old.shared class).order
+            (view hand.old) held.old.shared (view hand.new) held.new.shared }
         ensures view { view hand.new ≡ with_seen (view hand.old) (view hand.new) }
-        ensures alive { list_all (is_found_alive (view hand.new).row.looks) (class_at held.new.shared class).order ≡ true }
+        ensures alive { list_all (is_found_alive (view hand.new).row.looks)
+            (class_at held.new.shared class).order ≡ true }
     {
         let mut dead = DeadChunks::new();
         self.look_over(hand, held, class, &mut dead);
@@ -52,8 +54,13 @@ impl Arena {
         ensures arena { IsHandOf self.now hand.new }
         ensures locks { hand.new.locks ≡ hand.old.locks }
         ensures held { (view hand.new).slabs ≡ Some held.new.shared }
-        ensures each { (again : List ChunkId) × (is_in_sequence (class_at held.old.shared class).order again ≡ true) × SweepsEach again (view hand.old) held.old.shared (view hand.new) held.new.shared }
-        ensures alive { (chunk : ChunkId) → (Contains (class_at held.old.shared class).order chunk → IsAliveOrNoted (view hand.old).row.looks dead.old chunk) → Contains (class_at held.new.shared class).order chunk → is_found_alive (view hand.new).row.looks chunk ≡ true }
+        ensures each { (again : List ChunkId)
+            × (is_in_sequence (class_at held.old.shared class).order again ≡ true)
+            × SweepsEach again (view hand.old) held.old.shared (view hand.new) held.new.shared }
+        ensures alive { (chunk : ChunkId) → (Contains (class_at held.old.shared class).order chunk →
+            IsAliveOrNoted (view hand.old).row.looks dead.old chunk) →
+            Contains (class_at held.new.shared class).order chunk →
+            is_found_alive (view hand.new).row.looks chunk ≡ true }
     {
         if dead.put_in_order(held.slabs()) {
             self.put_back_each(hand, held, dead.as_slice());
@@ -65,12 +72,14 @@ impl Arena {
     // Puts back these chunks, where they are dead.
     fn put_back_each(&self, hand: &mut Hand, held: &mut SlabsHeld, chunks: &[ChunkId])
         requires arena { IsHandOf self.now hand.old }
-        requires in_range { (chunk : ChunkId) → Contains chunks.now chunk → has_chunk (setup_of self.now).table chunk ≡ true }
+        requires in_range { (chunk : ChunkId) → Contains chunks.now chunk →
+            has_chunk (setup_of self.now).table chunk ≡ true }
         requires held { (view hand.old).slabs ≡ Some held.old.shared }
         ensures arena { IsHandOf self.now hand.new }
         ensures locks { hand.new.locks ≡ hand.old.locks }
         ensures held { (view hand.new).slabs ≡ Some held.new.shared }
-        ensures each { SweepsEach chunks.now (view hand.old) held.old.shared (view hand.new) held.new.shared }
+        ensures each { SweepsEach chunks.now (view hand.old) held.old.shared
+            (view hand.new) held.new.shared }
     {
         for chunk in chunks {
             let _ = self.put_back(hand, held, *chunk);
@@ -85,8 +94,10 @@ impl Arena {
         ensures arena { IsHandOf self.now hand.new }
         ensures locks { hand.new.locks ≡ hand.old.locks }
         ensures held { (view hand.new).slabs ≡ Some held.new.shared }
-        ensures each { SweepsEach (class_at held.old.shared class).order (view hand.old) held.old.shared (view hand.new) held.new.shared }
-        ensures alive { list_all (is_found_alive (view hand.new).row.looks) (class_at held.new.shared class).order ≡ true }
+        ensures each { SweepsEach (class_at held.old.shared class).order
+            (view hand.old) held.old.shared (view hand.new) held.new.shared }
+        ensures alive { list_all (is_found_alive (view hand.new).row.looks)
+            (class_at held.new.shared class).order ≡ true }
     {
         let mut next = held.slabs().first_out(class);
         while let Some(chunk) = next {

@@ -29,12 +29,19 @@ impl Arena {
         ensures arena { IsHandOf self.now hand.new }
         ensures locks { hand.new.locks ≡ hand.old.locks }
         ensures hinted { IfOk result (λ r. (r.chunk ≡ hint.chunk) × (r.issue ≡ hint.issue)) }
-        ensures gets { IfOk result (λ r. GetsAgain (view hand.old) hint.chunk hint.issue r.room (view hand.new)) }
-        ensures reference { IfOk result (λ r. IsRefOf (view hand.new) r.chunk r.room × IsIssueOf (view hand.new) r.chunk r.issue) }
-        ensures known { IfOk result (λ r. (k : KnownItem) → Contains (view hand.old).row.knows.known k → k.chunk ≡ hint.chunk → k.issue ≡ hint.issue → held_item (view hand.new) r.chunk ≡ k.words) }
-        ensures gone { result ≡ Err Again.Gone → FindsGone (view hand.old) hint.chunk hint.issue (view hand.new) }
-        ensures contended { result ≡ Err Again.Contended → FindsContended (view hand.old) hint.chunk hint.issue (view hand.new) }
-        ensures at_limit { (result ≡ Err Again.TooManyRefs) ↔ (most_refs ≤ length (view hand.old).row.holdings) }
+        ensures gets { IfOk result (λ r. GetsAgain (view hand.old) hint.chunk hint.issue r.room
+            (view hand.new)) }
+        ensures reference { IfOk result (λ r. IsRefOf (view hand.new) r.chunk r.room
+            × IsIssueOf (view hand.new) r.chunk r.issue) }
+        ensures known { IfOk result (λ r. (k : KnownItem) →
+            Contains (view hand.old).row.knows.known k → k.chunk ≡ hint.chunk →
+            k.issue ≡ hint.issue → held_item (view hand.new) r.chunk ≡ k.words) }
+        ensures gone { result ≡ Err Again.Gone →
+            FindsGone (view hand.old) hint.chunk hint.issue (view hand.new) }
+        ensures contended { result ≡ Err Again.Contended →
+            FindsContended (view hand.old) hint.chunk hint.issue (view hand.new) }
+        ensures at_limit { (result ≡ Err Again.TooManyRefs)
+            ↔ (most_refs ≤ length (view hand.old).row.holdings) }
         ensures refused { result ≡ Err Again.TooManyRefs → view hand.new ≡ view hand.old }
     {
         if hand.chunks >= MOST_REFS {
@@ -61,10 +68,16 @@ impl Arena {
         ensures arena { IsHandOf self.now hand.new }
         ensures locks { hand.new.locks ≡ hand.old.locks }
         ensures hinted { IfOk result (λ r. (r.chunk ≡ hint.chunk) × (r.issue ≡ hint.issue)) }
-        ensures refers { IfOk result (λ r. RefersAgain (view hand.old) hint.chunk hint.issue r.room (view hand.new)) }
-        ensures reference { IfOk result (λ r. IsRefOf (view hand.new) r.chunk r.room × IsIssueOf (view hand.new) r.chunk r.issue) }
-        ensures known { IfOk result (λ r. (k : KnownItem) → Contains (view hand.old).row.knows.known k → k.chunk ≡ hint.chunk → k.issue ≡ hint.issue → held_item (view hand.new) r.chunk ≡ k.words) }
-        ensures missed { IfErr result (λ found. (found ≢ head) × Happens (view hand.old) [] (step.Head hint.chunk) (view hand.new) × (view hand.new ≡ head_seen hint.chunk (decode found) (view hand.old))) }
+        ensures refers { IfOk result (λ r. RefersAgain (view hand.old) hint.chunk hint.issue r.room
+            (view hand.new)) }
+        ensures reference { IfOk result (λ r. IsRefOf (view hand.new) r.chunk r.room
+            × IsIssueOf (view hand.new) r.chunk r.issue) }
+        ensures known { IfOk result (λ r. (k : KnownItem) →
+            Contains (view hand.old).row.knows.known k → k.chunk ≡ hint.chunk →
+            k.issue ≡ hint.issue → held_item (view hand.new) r.chunk ≡ k.words) }
+        ensures missed { IfErr result (λ found. (found ≢ head)
+            × Happens (view hand.old) [] (step.Head hint.chunk) (view hand.new)
+            × (view hand.new ≡ head_seen hint.chunk (decode found) (view hand.old))) }
     {
         let word = self.head_word(hint.chunk);
         let step = Step::Again(hint.chunk, hint.issue);

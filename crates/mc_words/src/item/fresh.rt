@@ -23,7 +23,8 @@ impl Arena {
         ensures same { (fresh.new.chunk ≡ fresh.old.chunk) × (fresh.new.room ≡ fresh.old.room) }
         ensures key { fresh.new.key ≡ (if place == 0 then word else fresh.old.key) }
         ensures stamp { fresh.new.stamp ≡ (if place == 1 then word else fresh.old.stamp) }
-        ensures happens { Happens (view hand.old) [] (step.Fill fresh.old.chunk place word) (view hand.new) }
+        ensures happens { Happens (view hand.old) [] (step.Fill fresh.old.chunk place word)
+            (view hand.new) }
         ensures filled { view hand.new ≡ word_filled fresh.old.chunk place word (view hand.old) }
         ensures fresh { IsFreshOf (view hand.new) fresh.new.chunk fresh.new.room }
     {

@@ -24,9 +24,12 @@ impl Arena {
     /// with it, and the hand refers to the item. (items.c's `do_item_link`)
     pub fn link(&self, hand: &mut Hand, held: &mut StripeHeld, fresh: Fresh) -> Ref
         requires arena { IsHandOf self.now hand.old }
-        requires held { slice_index_or (view hand.old).stripes held.old.number None ≡ Some held.old.stripe }
+        requires held { slice_index_or (view hand.old).stripes held.old.number None
+            ≡ Some held.old.stripe }
         requires fresh { IsFreshOf (view hand.old) fresh.chunk fresh.room }
-        requires item { IsItemFilled (view hand.old) fresh.chunk (issue_in (view hand.old) fresh.chunk) (known_words_in (view hand.old) fresh.chunk) fresh.key fresh.stamp }
+        requires item { IsItemFilled (view hand.old) fresh.chunk
+            (issue_in (view hand.old) fresh.chunk) (known_words_in (view hand.old) fresh.chunk)
+            fresh.key fresh.stamp }
         requires stamp { next_stamp (view hand.old).row.ids ≡ Some fresh.stamp }
         requires stripe { fresh.key % (setup_of self.now).config.stripes ≡ held.old.number }
         requires room { can_store held.old.stripe ≡ true }
@@ -35,11 +38,16 @@ impl Arena {
         ensures arena { IsHandOf self.now hand.new }
         ensures locks { hand.new.locks ≡ hand.old.locks }
         ensures number { held.new.number ≡ held.old.number }
-        ensures held { slice_index_or (view hand.new).stripes held.new.number None ≡ Some held.new.stripe }
-        ensures stored { held.new.stripe ≡ used_up (after_link held.old.stripe.state hand.old.number fresh.key fresh.chunk fresh.stamp) }
+        ensures held { slice_index_or (view hand.new).stripes held.new.number None
+            ≡ Some held.new.stripe }
+        ensures stored { held.new.stripe ≡ used_up
+            (after_link held.old.stripe.state hand.old.number fresh.key fresh.chunk fresh.stamp) }
         ensures happens { Happens (view hand.old) [] (step.Link fresh.chunk) (view hand.new) }
-        ensures linked { view hand.new ≡ item_linked hand.old.number held.old.number held.old.stripe fresh.key fresh.stamp fresh.chunk (issue_in (view hand.old) fresh.chunk) (known_words_in (view hand.old) fresh.chunk) fresh.room (view hand.old) }
-        ensures same { (result.chunk ≡ fresh.chunk) × (result.issue ≡ issue_in (view hand.old) fresh.chunk) × (result.room ≡ fresh.room) }
+        ensures linked { view hand.new ≡ item_linked hand.old.number held.old.number held.old.stripe
+            fresh.key fresh.stamp fresh.chunk (issue_in (view hand.old) fresh.chunk)
+            (known_words_in (view hand.old) fresh.chunk) fresh.room (view hand.old) }
+        ensures same { (result.chunk ≡ fresh.chunk)
+            × (result.issue ≡ issue_in (view hand.old) fresh.chunk) × (result.room ≡ fresh.room) }
         ensures reference { IsRefOf (view hand.new) result.chunk result.room }
     {
         let Fresh {

@@ -30,21 +30,27 @@ impl Arena {
         requires arena { IsHandOf self.now hand.old }
         requires in_range { has_chunk (setup_of self.now).table chunk ≡ true }
         requires slabs { (view hand.old).slabs ≡ Some slabs.old.shared }
-        requires stripe { slice_index_or (view hand.old).stripes stripe.old.number None ≡ Some stripe.old.stripe }
+        requires stripe { slice_index_or (view hand.old).stripes stripe.old.number None
+            ≡ Some stripe.old.stripe }
         requires ready { stripe.old.stripe.ready ≡ true }
         requires empty { stripe.old.stripe.state.aside ≡ None }
         requires key { stripe_read (view hand.old) chunk ≡ Some stripe.old.number }
-        requires reason { knows_reason slabs.old.shared (view hand.old).row.looks (view hand.old).row.holdings chunk ≡ true }
+        requires reason { knows_reason slabs.old.shared (view hand.old).row.looks
+            (view hand.old).row.holdings chunk ≡ true }
         requires copy { has_copy (view hand.old).row.holdings chunk ≡ true }
         ensures arena { IsHandOf self.now hand.new }
         ensures locks { hand.new.locks ≡ hand.old.locks }
         ensures slabs { (view hand.new).slabs ≡ Some slabs.new.shared }
         ensures same_slabs { slabs.new ≡ slabs.old }
-        ensures stripe { slice_index_or (view hand.new).stripes stripe.new.number None ≡ Some stripe.new.stripe }
+        ensures stripe { slice_index_or (view hand.new).stripes stripe.new.number None
+            ≡ Some stripe.new.stripe }
         ensures number { stripe.new.number ≡ stripe.old.number }
-        ensures condemned { OnOk result (CondemnsOriginal stripe.old.number chunk stripe.old.stripe (view hand.old) stripe.new.stripe (view hand.new)) }
-        ensures dead { OnOk result (option_map is_dead (seen_head (view hand.new).row.looks chunk) ≡ Some true) }
-        ensures moved { OnErr result (FindsHeld (view hand.old) chunk (view hand.new) × (stripe.new ≡ stripe.old)) }
+        ensures condemned { OnOk result (CondemnsOriginal stripe.old.number chunk stripe.old.stripe
+            (view hand.old) stripe.new.stripe (view hand.new)) }
+        ensures dead { OnOk result (option_map is_dead (seen_head (view hand.new).row.looks chunk)
+            ≡ Some true) }
+        ensures moved { OnErr result (FindsHeld (view hand.old) chunk (view hand.new)
+            × (stripe.new ≡ stripe.old)) }
     {
         let key = self.word_held(hand, slabs, chunk, 0);
         let head = self.head(hand, chunk);

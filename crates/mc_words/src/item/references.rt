@@ -32,18 +32,28 @@ impl Arena {
     ) -> Result<Option<Ref>, TooManyRefs>
         requires arena { IsHandOf self.now hand.old }
         requires of_key { key % (setup_of self.now).config.stripes ≡ held.old.number }
-        requires held { slice_index_or (view hand.old).stripes held.old.number None ≡ Some held.old.stripe }
+        requires held { slice_index_or (view hand.old).stripes held.old.number None
+            ≡ Some held.old.stripe }
         requires ready { held.old.stripe.ready ≡ true }
         requires inside { is_aside held.old.stripe.state key ≡ false }
         ensures arena { IsHandOf self.now hand.new }
         ensures locks { hand.new.locks ≡ hand.old.locks }
         ensures number { held.new.number ≡ held.old.number }
-        ensures held { slice_index_or (view hand.new).stripes held.new.number None ≡ Some held.new.stripe }
-        ensures records { OnOk result (held.new.stripe ≡ used_up (after_got held.old.stripe.state hand.old.number key)) }
-        ensures gets { IfOk result (λ found. IfSome found (λ r. GetsItem (view hand.old) hand.old.number held.old.number held.old.stripe key r.chunk r.issue r.room (view hand.new))) }
-        ensures reference { IfOk result (λ found. IfSome found (λ r. IsRefOf (view hand.new) r.chunk r.room × IsIssueOf (view hand.new) r.chunk r.issue)) }
-        ensures none { result ≡ Ok None → (chunk_and_stamp held.old.stripe.state key ≡ None) × Happens (view hand.old) (change.GotNone key ∷ []) (step.MissStripe held.old.number) (view hand.new) }
-        ensures view { result ≡ Ok None → view hand.new ≡ key_missed hand.old.number held.old.number held.old.stripe key (view hand.old) }
+        ensures held { slice_index_or (view hand.new).stripes held.new.number None
+            ≡ Some held.new.stripe }
+        ensures records { OnOk result (held.new.stripe
+            ≡ used_up (after_got held.old.stripe.state hand.old.number key)) }
+        ensures gets { IfOk result (λ found. IfSome found (λ r.
+            GetsItem (view hand.old) hand.old.number held.old.number held.old.stripe key r.chunk
+            r.issue r.room (view hand.new))) }
+        ensures reference { IfOk result (λ found.
+            IfSome found (λ r. IsRefOf (view hand.new) r.chunk r.room
+            × IsIssueOf (view hand.new) r.chunk r.issue)) }
+        ensures none { result ≡ Ok None → (chunk_and_stamp held.old.stripe.state key ≡ None)
+            × Happens (view hand.old) (change.GotNone key ∷ []) (step.MissStripe held.old.number)
+            (view hand.new) }
+        ensures view { result ≡ Ok None → view hand.new
+            ≡ key_missed hand.old.number held.old.number held.old.stripe key (view hand.old) }
         ensures at_limit { IsErr result ↔ (most_holdings ≤ length (view hand.old).row.holdings) }
         ensures refused { OnErr result ((held.new ≡ held.old) × (view hand.new ≡ view hand.old)) }
     {
@@ -58,19 +68,28 @@ impl Arena {
     pub fn refer_within(&self, hand: &mut Hand, held: &mut StripeHeld, key: Key) -> Option<Ref>
         requires arena { IsHandOf self.now hand.old }
         requires of_key { key % (setup_of self.now).config.stripes ≡ held.old.number }
-        requires held { slice_index_or (view hand.old).stripes held.old.number None ≡ Some held.old.stripe }
+        requires held { slice_index_or (view hand.old).stripes held.old.number None
+            ≡ Some held.old.stripe }
         requires ready { held.old.stripe.ready ≡ true }
         requires inside { is_aside held.old.stripe.state key ≡ false }
         requires within_limit { length (view hand.old).row.holdings < most_holdings }
         ensures arena { IsHandOf self.now hand.new }
         ensures locks { hand.new.locks ≡ hand.old.locks }
         ensures number { held.new.number ≡ held.old.number }
-        ensures held { slice_index_or (view hand.new).stripes held.new.number None ≡ Some held.new.stripe }
-        ensures records { held.new.stripe ≡ used_up (after_got held.old.stripe.state hand.old.number key) }
-        ensures gets { IfSome result (λ r. GetsItem (view hand.old) hand.old.number held.old.number held.old.stripe key r.chunk r.issue r.room (view hand.new)) }
-        ensures reference { IfSome result (λ r. IsRefOf (view hand.new) r.chunk r.room × IsIssueOf (view hand.new) r.chunk r.issue) }
-        ensures none { result ≡ None → (chunk_and_stamp held.old.stripe.state key ≡ None) × Happens (view hand.old) (change.GotNone key ∷ []) (step.MissStripe held.old.number) (view hand.new) }
-        ensures view { result ≡ None → view hand.new ≡ key_missed hand.old.number held.old.number held.old.stripe key (view hand.old) }
+        ensures held { slice_index_or (view hand.new).stripes held.new.number None
+            ≡ Some held.new.stripe }
+        ensures records { held.new.stripe ≡ used_up
+            (after_got held.old.stripe.state hand.old.number key) }
+        ensures gets { IfSome result (λ r. GetsItem
+            (view hand.old) hand.old.number held.old.number held.old.stripe key r.chunk r.issue
+            r.room (view hand.new)) }
+        ensures reference { IfSome result (λ r. IsRefOf (view hand.new) r.chunk r.room
+            × IsIssueOf (view hand.new) r.chunk r.issue) }
+        ensures none { result ≡ None → (chunk_and_stamp held.old.stripe.state key ≡ None)
+            × Happens (view hand.old) (change.GotNone key ∷ []) (step.MissStripe held.old.number)
+            (view hand.new) }
+        ensures view { result ≡ None → view hand.new
+            ≡ key_missed hand.old.number held.old.number held.old.stripe key (view hand.old) }
     {
         let place = held.stripe().find(key);
         let Some((chunk, _)) = place else {
@@ -87,16 +106,20 @@ impl Arena {
     fn refer_to(&self, hand: &mut Hand, held: &StripeHeld, key: Key, chunk: ChunkId) -> Ref
         requires arena { IsHandOf self.now hand.old }
         requires of_key { key % (setup_of self.now).config.stripes ≡ held.now.number }
-        requires held { slice_index_or (view hand.old).stripes held.now.number None ≡ Some held.now.stripe }
+        requires held { slice_index_or (view hand.old).stripes held.now.number None
+            ≡ Some held.now.stripe }
         requires ready { held.now.stripe.ready ≡ true }
         requires inside { is_aside held.now.stripe.state key ≡ false }
-        requires leads { (stamp : ℕ) × (chunk_and_stamp held.now.stripe.state key ≡ Some (chunk, stamp)) }
+        requires leads { (stamp : ℕ) × (chunk_and_stamp held.now.stripe.state key
+            ≡ Some (chunk, stamp)) }
         requires within_limit { length (view hand.old).row.holdings < most_holdings }
         ensures arena { IsHandOf self.now hand.new }
         ensures locks { hand.new.locks ≡ hand.old.locks }
         ensures number { hand.new.number ≡ hand.old.number }
-        ensures gets { GetsItem (view hand.old) hand.old.number held.now.number held.now.stripe key result.chunk result.issue result.room (view hand.new) }
-        ensures reference { IsRefOf (view hand.new) result.chunk result.room × IsIssueOf (view hand.new) result.chunk result.issue }
+        ensures gets { GetsItem (view hand.old) hand.old.number held.now.number held.now.stripe key
+            result.chunk result.issue result.room (view hand.new) }
+        ensures reference { IsRefOf (view hand.new) result.chunk result.room
+            × IsIssueOf (view hand.new) result.chunk result.issue }
     {
         let word = self.head_word(chunk);
         let found = self.fetch_add(&mut hand.seat, word, 1, Step::Refer(key));

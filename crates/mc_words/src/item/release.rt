@@ -20,7 +20,8 @@ impl Arena {
         requires reference { IsRefOf (view hand.old) reference.chunk reference.room }
         ensures arena { IsHandOf self.now hand.new }
         ensures locks { hand.new.locks ≡ hand.old.locks }
-        ensures happens { Happens (view hand.old) [] (step.Release reference.chunk) (view hand.new) }
+        ensures happens { Happens (view hand.old) [] (step.Release reference.chunk)
+            (view hand.new) }
         ensures dropped { view hand.new ≡ chunk_released reference.chunk (view hand.old) }
     {
         let Ref {

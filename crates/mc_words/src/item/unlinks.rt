@@ -25,20 +25,29 @@ impl Arena {
     pub fn unlink(&self, hand: &mut Hand, held: &mut StripeHeld, key: Key) -> bool
         requires arena { IsHandOf self.now hand.old }
         requires of_key { key % (setup_of self.now).config.stripes ≡ held.old.number }
-        requires held { slice_index_or (view hand.old).stripes held.old.number None ≡ Some held.old.stripe }
+        requires held { slice_index_or (view hand.old).stripes held.old.number None
+            ≡ Some held.old.stripe }
         requires ready { held.old.stripe.ready ≡ true }
         requires inside { is_aside held.old.stripe.state key ≡ false }
-        requires free { has_fresh (view hand.old).row.holdings ≡ true → held.old.stripe.state.aside ≡ None }
+        requires free { has_fresh (view hand.old).row.holdings ≡ true →
+            held.old.stripe.state.aside ≡ None }
         ensures arena { IsHandOf self.now hand.new }
         ensures locks { hand.new.locks ≡ hand.old.locks }
         ensures number { held.new.number ≡ held.old.number }
-        ensures held { slice_index_or (view hand.new).stripes held.new.number None ≡ Some held.new.stripe }
+        ensures held { slice_index_or (view hand.new).stripes held.new.number None
+            ≡ Some held.new.stripe }
         ensures there { result ≡ is_some (chunk_and_stamp held.old.stripe.state key) }
-        ensures stripe { held.new.stripe ≡ stripe_unlinked held.old.stripe (result && has_fresh (view hand.old).row.holdings) hand.old.number key }
-        ensures happens { result ≡ true → Happens (view hand.old) [] (step.Unlink key) (view hand.new) }
-        ensures unlinked { result ≡ true → view hand.new ≡ key_unlinked hand.old.number held.old.number held.old.stripe key (view hand.old) }
-        ensures none { result ≡ false → Happens (view hand.old) (change.DeletedNone key ∷ []) (step.MissStripe held.old.number) (view hand.new) }
-        ensures view { result ≡ false → view hand.new ≡ key_not_deleted hand.old.number held.old.number held.old.stripe key (view hand.old) }
+        ensures stripe { held.new.stripe ≡ stripe_unlinked held.old.stripe
+            (result && has_fresh (view hand.old).row.holdings) hand.old.number key }
+        ensures happens { result ≡ true →
+            Happens (view hand.old) [] (step.Unlink key) (view hand.new) }
+        ensures unlinked { result ≡ true → view hand.new
+            ≡ key_unlinked hand.old.number held.old.number held.old.stripe key (view hand.old) }
+        ensures none { result ≡ false →
+            Happens (view hand.old) (change.DeletedNone key ∷ []) (step.MissStripe held.old.number)
+            (view hand.new) }
+        ensures view { result ≡ false → view hand.new
+            ≡ key_not_deleted hand.old.number held.old.number held.old.stripe key (view hand.old) }
     {
         let Some((chunk, _)) = held.stripe().find(key) else {
             self.tell_none(hand, held, key, Change::DeletedNone(key));
@@ -58,17 +67,21 @@ impl Arena {
     fn unlink_from(&self, hand: &mut Hand, held: &StripeHeld, key: Key, chunk: ChunkId)
         requires arena { IsHandOf self.now hand.old }
         requires of_key { key % (setup_of self.now).config.stripes ≡ held.now.number }
-        requires held { slice_index_or (view hand.old).stripes held.now.number None ≡ Some held.now.stripe }
+        requires held { slice_index_or (view hand.old).stripes held.now.number None
+            ≡ Some held.now.stripe }
         requires ready { held.now.stripe.ready ≡ true }
         requires inside { is_aside held.now.stripe.state key ≡ false }
-        requires free { has_fresh (view hand.old).row.holdings ≡ true → held.now.stripe.state.aside ≡ None }
-        requires leads { (stamp : ℕ) × (chunk_and_stamp held.now.stripe.state key ≡ Some (chunk, stamp)) }
+        requires free { has_fresh (view hand.old).row.holdings ≡ true →
+            held.now.stripe.state.aside ≡ None }
+        requires leads { (stamp : ℕ) × (chunk_and_stamp held.now.stripe.state key
+            ≡ Some (chunk, stamp)) }
         ensures arena { IsHandOf self.now hand.new }
         ensures locks { hand.new.locks ≡ hand.old.locks }
         ensures number { hand.new.number ≡ hand.old.number }
         ensures holdings { (view hand.new).row.holdings ≡ (view hand.old).row.holdings }
         ensures happens { Happens (view hand.old) [] (step.Unlink key) (view hand.new) }
-        ensures unlinked { view hand.new ≡ key_unlinked hand.old.number held.now.number held.now.stripe key (view hand.old) }
+        ensures unlinked { view hand.new ≡ key_unlinked hand.old.number held.now.number
+            held.now.stripe key (view hand.old) }
     {
         let word = self.head_word(chunk);
         let found = self.subtract(&mut hand.seat, word, LINKED, Step::Unlink(key));

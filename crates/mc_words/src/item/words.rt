@@ -38,7 +38,8 @@ impl Arena {
         requires in_range { place < length (held_item (view hand.old) reference.now.chunk) }
         ensures arena { IsHandOf self.now hand.new }
         ensures locks { hand.new.locks ≡ hand.old.locks }
-        ensures happens { Happens (view hand.old) [] (step.Word reference.now.chunk place) (view hand.new) }
+        ensures happens { Happens (view hand.old) [] (step.Word reference.now.chunk place)
+            (view hand.new) }
         ensures word { result ≡ slice_index (held_item (view hand.old) reference.now.chunk) place }
         ensures view { view hand.new ≡ word_seen reference.now.chunk place (view hand.old) }
         ensures reference { IsRefOf (view hand.new) reference.now.chunk reference.now.room }
@@ -56,7 +57,8 @@ impl Arena {
         ensures locks { hand.new.locks ≡ hand.old.locks }
         ensures view { view hand.new ≡ fields_seen reference.now.chunk (view hand.old) }
         ensures key { result.key ≡ key_of (held_item (view hand.old) reference.now.chunk) }
-        ensures stamp { result.stamp ≡ stamp_in_words (held_item (view hand.old) reference.now.chunk) }
+        ensures stamp { result.stamp ≡ stamp_in_words
+            (held_item (view hand.old) reference.now.chunk) }
         ensures len { length (held_item (view hand.old) reference.now.chunk) ≡ 3 + result.len }
         ensures reference { IsRefOf (view hand.new) reference.now.chunk reference.now.room }
     {
@@ -73,11 +75,13 @@ impl Arena {
         requires arena { IsHandOf self.now hand.old }
         requires reference { IsRefOf (view hand.old) reference.now.chunk reference.now.room }
         requires in_range { place < length (held_item (view hand.old) reference.now.chunk) }
-        requires at { at ≡ data_word (setup_of self.now) reference.now.room reference.now.chunk place }
+        requires at { at ≡ data_word (setup_of self.now) reference.now.room reference.now.chunk
+            place }
         requires inside { at < self.now.table.shared.table_id.words }
         ensures arena { IsHandOf self.now hand.new }
         ensures locks { hand.new.locks ≡ hand.old.locks }
-        ensures happens { Happens (view hand.old) [] (step.Word reference.now.chunk place) (view hand.new) }
+        ensures happens { Happens (view hand.old) [] (step.Word reference.now.chunk place)
+            (view hand.new) }
         ensures word { result ≡ slice_index (held_item (view hand.old) reference.now.chunk) place }
         ensures view { view hand.new ≡ word_seen reference.now.chunk place (view hand.old) }
         ensures reference { IsRefOf (view hand.new) reference.now.chunk reference.now.room }
@@ -93,13 +97,17 @@ impl Arena {
         requires in_range { has_chunk (setup_of self.now).table chunk ≡ true }
         requires held { (view hand.old).slabs ≡ Some held.now.shared }
         requires linked { was_linked (view hand.old).row.looks chunk ≡ true }
-        requires inside { place < room_in (setup_of self.now).table (class_of_page held.now.shared chunk.page) }
+        requires inside { place < room_in (setup_of self.now).table
+            (class_of_page held.now.shared chunk.page) }
         ensures arena { IsHandOf self.now hand.new }
         ensures locks { hand.new.locks ≡ hand.old.locks }
         ensures held { (view hand.new).slabs ≡ Some held.now.shared }
         ensures happens { Happens (view hand.old) [] (step.WordHeld chunk place) (view hand.new) }
-        ensures fits { place ≡ 2 → 3 + result ≤ room_in (setup_of self.now).table (class_of_page held.now.shared chunk.page) }
-        ensures known { (was : LawfulView (view hand.old)) × IsWordOfItem was.moment chunk place result }
+        ensures fits { place ≡ 2 →
+            3 + result ≤ room_in (setup_of self.now).table
+            (class_of_page held.now.shared chunk.page) }
+        ensures known { (was : LawfulView (view hand.old))
+            × IsWordOfItem was.moment chunk place result }
         ensures again { IfSome (word_read (view hand.old) chunk place) (λ before. result ≡ before) }
         ensures view { view hand.new ≡ held_word_seen chunk place result (view hand.old) }
     {

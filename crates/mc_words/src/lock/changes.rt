@@ -31,8 +31,10 @@ impl Arena {
         ensures locks { hand.new.locks ≡ hand.old.locks }
         ensures held { (view hand.new).slabs ≡ Some held.new.shared }
         ensures set { held.new.shared ≡ record held.old.shared { automove = mode } }
-        ensures happens { Happens (view hand.old) (change.SetAutomove mode ∷ []) step.MissSlabs (view hand.new) }
-        ensures view { view hand.new ≡ slabs_changed held.old.shared (change.SetAutomove mode) (hand.old.number + 1) (view hand.old) }
+        ensures happens { Happens (view hand.old) (change.SetAutomove mode ∷ []) step.MissSlabs
+            (view hand.new) }
+        ensures view { view hand.new ≡ slabs_changed held.old.shared (change.SetAutomove mode)
+            (hand.old.number + 1) (view hand.old) }
     {
         held.shared.slabs_mut().set_automove(mode);
         let change = Change::SetAutomove(mode);
@@ -48,8 +50,10 @@ impl Arena {
         ensures locks { hand.new.locks ≡ hand.old.locks }
         ensures held { (view hand.new).slabs ≡ Some held.new.shared }
         ensures trimmed { held.new.shared ≡ after_trim held.old.shared }
-        ensures happens { Happens (view hand.old) (change.TrimLedger ∷ []) step.MissSlabs (view hand.new) }
-        ensures view { view hand.new ≡ slabs_changed held.old.shared change.TrimLedger (hand.old.number + 1) (view hand.old) }
+        ensures happens { Happens (view hand.old) (change.TrimLedger ∷ []) step.MissSlabs
+            (view hand.new) }
+        ensures view { view hand.new ≡ slabs_changed held.old.shared change.TrimLedger
+            (hand.old.number + 1) (view hand.old) }
     {
         held.shared.slabs_mut().trim();
         let change = Change::TrimLedger;
@@ -66,8 +70,10 @@ impl Arena {
         ensures locks { hand.new.locks ≡ hand.old.locks }
         ensures held { (view hand.new).slabs ≡ Some held.new.shared }
         ensures touched { held.new.shared ≡ after_touch held.old.shared chunk }
-        ensures happens { Happens (view hand.old) (change.Touch chunk ∷ []) step.MissSlabs (view hand.new) }
-        ensures view { view hand.new ≡ slabs_changed held.old.shared (change.Touch chunk) (hand.old.number + 1) (view hand.old) }
+        ensures happens { Happens (view hand.old) (change.Touch chunk ∷ []) step.MissSlabs
+            (view hand.new) }
+        ensures view { view hand.new ≡ slabs_changed held.old.shared (change.Touch chunk)
+            (hand.old.number + 1) (view hand.old) }
     {
         held.shared.slabs_mut().touch(chunk);
         let change = Change::Touch(chunk);
@@ -83,8 +89,10 @@ impl Arena {
         ensures locks { hand.new.locks ≡ hand.old.locks }
         ensures held { (view hand.new).slabs ≡ Some held.new.shared }
         ensures counted { held.new.shared ≡ after_evicted held.old.shared class }
-        ensures happens { Happens (view hand.old) (change.Evicted class ∷ []) step.MissSlabs (view hand.new) }
-        ensures view { view hand.new ≡ slabs_changed held.old.shared (change.Evicted class) (hand.old.number + 1) (view hand.old) }
+        ensures happens { Happens (view hand.old) (change.Evicted class ∷ []) step.MissSlabs
+            (view hand.new) }
+        ensures view { view hand.new ≡ slabs_changed held.old.shared (change.Evicted class)
+            (hand.old.number + 1) (view hand.old) }
     {
         held.shared.slabs_mut().evicted(class);
         let change = Change::Evicted(class);
@@ -106,12 +114,17 @@ impl Arena {
         ensures arena { IsHandOf self.now hand.new }
         ensures locks { hand.new.locks ≡ hand.old.locks }
         ensures held { (view hand.new).slabs ≡ Some held.new.shared }
-        ensures given { IfOk result (λ page. (next_page held.old.shared class ≡ Some page) × (held.new.shared ≡ after_grow held.old.shared class page)) }
-        ensures happens { IfOk result (λ page. Happens (view hand.old) (change.Grow class ∷ []) step.MissSlabs (view hand.new)) }
-        ensures view { IfOk result (λ page. view hand.new ≡ slabs_changed held.old.shared (change.Grow class) (hand.old.number + 1) (view hand.old)) }
+        ensures given { IfOk result (λ page. (next_page held.old.shared class ≡ Some page)
+            × (held.new.shared ≡ after_grow held.old.shared class page)) }
+        ensures happens { IfOk result (λ page. Happens (view hand.old)
+            (change.Grow class ∷ []) step.MissSlabs (view hand.new)) }
+        ensures view { IfOk result (λ page. view hand.new
+            ≡ slabs_changed held.old.shared (change.Grow class) (hand.old.number + 1)
+            (view hand.old)) }
         ensures no_room { (result ≡ Err Grow.NoRoom) ↔ (next_page held.old.shared class ≡ None) }
         ensures full { result ≡ Err Grow.NoRoom → HasNoPageFor held.old.shared class }
-        ensures refused { OnErr result ((held.new.shared ≡ held.old.shared) × (view hand.new ≡ view hand.old)) }
+        ensures refused { OnErr result ((held.new.shared ≡ held.old.shared)
+            × (view hand.new ≡ view hand.old)) }
     {
         let page = held.shared.slabs_mut().grow(class)?;
         let word = self.page_word(page);
@@ -126,15 +139,20 @@ impl Arena {
         requires is { change ≡ call_of deletes key }
         requires arena { IsHandOf self.now hand.old }
         requires of_key { key % (setup_of self.now).config.stripes ≡ held.now.number }
-        requires held { slice_index_or (view hand.old).stripes held.now.number None ≡ Some held.now.stripe }
+        requires held { slice_index_or (view hand.old).stripes held.now.number None
+            ≡ Some held.now.stripe }
         requires ready { held.now.stripe.ready ≡ true }
         requires inside { is_aside held.now.stripe.state key ≡ false }
         requires none { chunk_and_stamp held.now.stripe.state key ≡ None }
         ensures arena { IsHandOf self.now hand.new }
         ensures locks { hand.new.locks ≡ hand.old.locks }
         ensures number { hand.new.number ≡ hand.old.number }
-        ensures happens { Happens (view hand.old) (call_of deletes key ∷ []) (step.MissStripe held.now.number) (view hand.new) }
-        ensures view { view hand.new ≡ (if deletes then key_not_deleted hand.old.number held.now.number held.now.stripe key (view hand.old) else key_missed hand.old.number held.now.number held.now.stripe key (view hand.old)) }
+        ensures happens { Happens (view hand.old) (call_of deletes key ∷ [])
+            (step.MissStripe held.now.number) (view hand.new) }
+        ensures view { view hand.new
+            ≡ (if deletes then key_not_deleted hand.old.number held.now.number held.now.stripe key
+            (view hand.old) else key_missed hand.old.number held.now.number held.now.stripe key
+            (view hand.old)) }
     {
         let stripe = held.number;
         let word = Lock::StripeLock(stripe).word();

@@ -28,11 +28,16 @@ impl Arena {
         ensures seat { IsOfArena self.now seat.new.table_id seat.new.me.0 }
         ensures hand { IsOneHand seat.old.me.0 seat.new.me.0 }
         ensures value { IfSome result (λ slot. HasValue seat.new.me.0 told slot) }
-        ensures out { IfSome result (λ slot. slots_out seat.new.me.1 ≡ slot_of told ∷ slots_out seat.old.me.1) }
+        ensures out { IfSome result (λ slot. slots_out seat.new.me.1
+            ≡ slot_of told ∷ slots_out seat.old.me.1) }
         ensures gains { IfSome result (λ slot. Gains told seat.old.me.0 seat.new.me.0) }
-        ensures taken { IfSome result (λ slot. Happens seat.old.me.0 [] (take_of told) seat.new.me.0) }
-        ensures stays { result ≡ None → (seat.new.me.1 ≡ seat.old.me.1) × IsSameHand seat.old.me.0 seat.new.me.0 }
-        ensures missed { result ≡ None → (word : ℕ) × (word ≢ 0) × HappensAt (lock_address (lock_number told)) word seat.old.me.0 [] (miss_of told) seat.new.me.0 }
+        ensures taken { IfSome result (λ slot. Happens seat.old.me.0 []
+            (take_of told) seat.new.me.0) }
+        ensures stays { result ≡ None → (seat.new.me.1 ≡ seat.old.me.1)
+            × IsSameHand seat.old.me.0 seat.new.me.0 }
+        ensures missed { result ≡ None → (word : ℕ) × (word ≢ 0)
+            × HappensAt (lock_address (lock_number told)) word seat.old.me.0 []
+            (miss_of told) seat.new.me.0 }
     {
         let word = lock.word();
         let slot = lock.slot();

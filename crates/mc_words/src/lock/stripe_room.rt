@@ -24,14 +24,20 @@ impl Arena {
     /// takes no memory and isn't refused. (own)
     pub fn reserve_call(&self, hand: &mut Hand, held: &mut StripeHeld) -> Result<(), NoMemory>
         requires arena { IsHandOf self.now hand.old }
-        requires held { slice_index_or (view hand.old).stripes held.old.number None ≡ Some held.old.stripe }
+        requires held { slice_index_or (view hand.old).stripes held.old.number None
+            ≡ Some held.old.stripe }
         ensures arena { IsHandOf self.now hand.new }
         ensures locks { hand.new.locks ≡ hand.old.locks }
         ensures number { held.new.number ≡ held.old.number }
-        ensures held { slice_index_or (view hand.new).stripes held.new.number None ≡ Some held.new.stripe }
-        ensures reserved { OnOk result (held.new ≡ record held.old { stripe = after_reserve_call held.old.stripe }) }
-        ensures happens { OnOk result (Happens (view hand.old) (change.OfStripe held.old.number ReserveCall ∷ []) (step.MissStripe held.old.number) (view hand.new)) }
-        ensures view { OnOk result (view hand.new ≡ call_reserved held.old.number held.old.stripe (hand.old.number + 1) (view hand.old)) }
+        ensures held { slice_index_or (view hand.new).stripes held.new.number None
+            ≡ Some held.new.stripe }
+        ensures reserved { OnOk result (held.new ≡ record held.old
+            { stripe = after_reserve_call held.old.stripe }) }
+        ensures happens { OnOk result (Happens (view hand.old)
+            (change.OfStripe held.old.number ReserveCall ∷ []) (step.MissStripe held.old.number)
+            (view hand.new)) }
+        ensures view { OnOk result (view hand.new
+            ≡ call_reserved held.old.number held.old.stripe (hand.old.number + 1) (view hand.old)) }
         ensures succeeds { held.old.stripe.ready ≡ true → IsOk result }
         ensures idle { held.old.stripe.state.recorded_from ≡ None → IsOk result }
         ensures refused { OnErr result ((held.new ≡ held.old) × (view hand.new ≡ view hand.old)) }
@@ -45,14 +51,21 @@ impl Arena {
     /// memory. (own)
     pub fn reserve(&self, hand: &mut Hand, held: &mut StripeHeld) -> Result<(), NoMemory>
         requires arena { IsHandOf self.now hand.old }
-        requires held { slice_index_or (view hand.old).stripes held.old.number None ≡ Some held.old.stripe }
+        requires held { slice_index_or (view hand.old).stripes held.old.number None
+            ≡ Some held.old.stripe }
         ensures arena { IsHandOf self.now hand.new }
         ensures locks { hand.new.locks ≡ hand.old.locks }
         ensures number { held.new.number ≡ held.old.number }
-        ensures held { slice_index_or (view hand.new).stripes held.new.number None ≡ Some held.new.stripe }
-        ensures reserved { OnOk result (held.new ≡ record held.old { stripe = after_reserve held.old.stripe }) }
-        ensures happens { OnOk result (Happens (view hand.old) (change.OfStripe held.old.number Reserve ∷ []) (step.MissStripe held.old.number) (view hand.new)) }
-        ensures view { OnOk result (view hand.new ≡ stripe_reserved held.old.number held.old.stripe (hand.old.number + 1) (view hand.old)) }
+        ensures held { slice_index_or (view hand.new).stripes held.new.number None
+            ≡ Some held.new.stripe }
+        ensures reserved { OnOk result (held.new ≡ record held.old
+            { stripe = after_reserve held.old.stripe }) }
+        ensures happens { OnOk result (Happens (view hand.old)
+            (change.OfStripe held.old.number Reserve ∷ []) (step.MissStripe held.old.number)
+            (view hand.new)) }
+        ensures view { OnOk result (view hand.new
+            ≡ stripe_reserved held.old.number held.old.stripe (hand.old.number + 1)
+            (view hand.old)) }
         ensures succeeds { can_store held.old.stripe ≡ true → IsOk result }
         ensures refused { OnErr result ((held.new ≡ held.old) × (view hand.new ≡ view hand.old)) }
     {
@@ -65,15 +78,23 @@ impl Arena {
     /// the stripe records and the place of its next call would pass the greatest number of 64 bits. (see `Stripe::trim`)
     pub fn trim(&self, hand: &mut Hand, held: &mut StripeHeld) -> Result<(), Trim>
         requires arena { IsHandOf self.now hand.old }
-        requires held { slice_index_or (view hand.old).stripes held.old.number None ≡ Some held.old.stripe }
+        requires held { slice_index_or (view hand.old).stripes held.old.number None
+            ≡ Some held.old.stripe }
         ensures arena { IsHandOf self.now hand.new }
         ensures locks { hand.new.locks ≡ hand.old.locks }
         ensures number { held.new.number ≡ held.old.number }
-        ensures held { slice_index_or (view hand.new).stripes held.new.number None ≡ Some held.new.stripe }
-        ensures trimmed { OnOk result (held.new ≡ record held.old { stripe = stripe_after Trimmed held.old.stripe }) }
-        ensures happens { OnOk result (Happens (view hand.old) (change.OfStripe held.old.number Trimmed ∷ []) (step.MissStripe held.old.number) (view hand.new)) }
-        ensures view { OnOk result (view hand.new ≡ stripe_changed Trimmed held.old.number held.old.stripe (hand.old.number + 1) (view hand.old)) }
-        ensures full { result ≡ Err Trim.Full → (is_some held.old.stripe.state.recorded_from ≡ true) × (2 ^ 64 ≤ length held.old.stripe.state.history) }
+        ensures held { slice_index_or (view hand.new).stripes held.new.number None
+            ≡ Some held.new.stripe }
+        ensures trimmed { OnOk result (held.new ≡ record held.old
+            { stripe = stripe_after Trimmed held.old.stripe }) }
+        ensures happens { OnOk result (Happens (view hand.old)
+            (change.OfStripe held.old.number Trimmed ∷ []) (step.MissStripe held.old.number)
+            (view hand.new)) }
+        ensures view { OnOk result (view hand.new
+            ≡ stripe_changed Trimmed held.old.number held.old.stripe (hand.old.number + 1)
+            (view hand.old)) }
+        ensures full { result ≡ Err Trim.Full → (is_some held.old.stripe.state.recorded_from ≡ true)
+            × (2 ^ 64 ≤ length held.old.stripe.state.history) }
         ensures first { is_some held.old.stripe.state.recorded_from ≡ true
             → 2 ^ 64 ≤ length held.old.stripe.state.history → result ≡ Err Trim.Full }
         ensures refused { OnErr result ((held.new ≡ held.old) × (view hand.new ≡ view hand.old)) }
@@ -86,14 +107,19 @@ impl Arena {
     /// No call of a stripe is recorded from now on, and none of those so far. (see `Stripe::forget`)
     pub fn forget(&self, hand: &mut Hand, held: &mut StripeHeld)
         requires arena { IsHandOf self.now hand.old }
-        requires held { slice_index_or (view hand.old).stripes held.old.number None ≡ Some held.old.stripe }
+        requires held { slice_index_or (view hand.old).stripes held.old.number None
+            ≡ Some held.old.stripe }
         ensures arena { IsHandOf self.now hand.new }
         ensures locks { hand.new.locks ≡ hand.old.locks }
         ensures number { held.new.number ≡ held.old.number }
-        ensures held { slice_index_or (view hand.new).stripes held.new.number None ≡ Some held.new.stripe }
-        ensures forgets { held.new ≡ record held.old { stripe = stripe_after Forget held.old.stripe } }
-        ensures happens { Happens (view hand.old) (change.OfStripe held.old.number Forget ∷ []) (step.MissStripe held.old.number) (view hand.new) }
-        ensures view { view hand.new ≡ stripe_changed Forget held.old.number held.old.stripe (hand.old.number + 1) (view hand.old) }
+        ensures held { slice_index_or (view hand.new).stripes held.new.number None
+            ≡ Some held.new.stripe }
+        ensures forgets { held.new ≡ record held.old
+            { stripe = stripe_after Forget held.old.stripe } }
+        ensures happens { Happens (view hand.old) (change.OfStripe held.old.number Forget ∷ [])
+            (step.MissStripe held.old.number) (view hand.new) }
+        ensures view { view hand.new ≡ stripe_changed Forget held.old.number held.old.stripe
+            (hand.old.number + 1) (view hand.old) }
     {
         held.stripe.stripe_mut().forget();
         self.tell_change(hand, held.number, StripeChange::Forget);
@@ -102,13 +128,17 @@ impl Arena {
     // Records that a stripe which the hand has got this change.
     fn tell_change(&self, hand: &mut Hand, stripe: u64, how: StripeChange)
         requires arena { IsHandOf self.now hand.old }
-        requires held { slice_index_or (view hand.old).stripes stripe None ≡ Some (lent_stripe (view hand.old) stripe) }
+        requires held { slice_index_or (view hand.old).stripes stripe None
+            ≡ Some (lent_stripe (view hand.old) stripe) }
         requires may { can_change_stripe how (lent_stripe (view hand.old) stripe).state ≡ true }
         ensures arena { IsHandOf self.now hand.new }
         ensures locks { hand.new.locks ≡ hand.old.locks }
-        ensures held { slice_index_or (view hand.new).stripes stripe None ≡ Some (stripe_after how (lent_stripe (view hand.old) stripe)) }
-        ensures happens { Happens (view hand.old) (change.OfStripe stripe how ∷ []) (step.MissStripe stripe) (view hand.new) }
-        ensures view { view hand.new ≡ stripe_changed how stripe (lent_stripe (view hand.old) stripe) (hand.old.number + 1) (view hand.old) }
+        ensures held { slice_index_or (view hand.new).stripes stripe None
+            ≡ Some (stripe_after how (lent_stripe (view hand.old) stripe)) }
+        ensures happens { Happens (view hand.old) (change.OfStripe stripe how ∷ [])
+            (step.MissStripe stripe) (view hand.new) }
+        ensures view { view hand.new ≡ stripe_changed how stripe
+            (lent_stripe (view hand.old) stripe) (hand.old.number + 1) (view hand.old) }
     {
         let word = Lock::StripeLock(stripe).word();
         let change = Change::OfStripe(stripe, how);

@@ -21,12 +21,15 @@ impl Arena {
         requires arena { IsHandOf self.now hand.old }
         ensures arena { IsHandOf self.now hand.new }
         ensures locks { IfOk result (λ held. hand.new.locks ≡ locks_with_slabs hand.old.locks) }
-        ensures taken { IfOk result (λ held. Happens (view hand.old) [] step.TakeSlabs (view hand.new)) }
-        ensures lent { IfOk result (λ held. view hand.new ≡ slabs_taken held.shared (view hand.old)) }
+        ensures taken { IfOk result (λ held. Happens (view hand.old) [] step.TakeSlabs
+            (view hand.new)) }
+        ensures lent { IfOk result (λ held. view hand.new
+            ≡ slabs_taken held.shared (view hand.old)) }
         ensures whole { IfOk result (λ held. IsLent (view hand.new) held.shared) }
         ensures same { OnErr result (hand.new.locks ≡ hand.old.locks) }
         ensures missed { OnErr result (Happens (view hand.old) [] step.MissSlabs (view hand.new)) }
-        ensures held { OnErr result ((word : ℕ) × (word ≢ 0) × (view hand.new ≡ slabs_missed word (view hand.old))) }
+        ensures held { OnErr result ((word : ℕ) × (word ≢ 0)
+            × (view hand.new ≡ slabs_missed word (view hand.old))) }
     {
         match self.take(&mut hand.seat, hand.number, Lock::SlabsLock) {
             Some(Slot::OfSlabs(shared)) => {
@@ -45,14 +48,19 @@ impl Arena {
         requires one { has_no_stripes (view hand.old) ≡ true }
         ensures arena { IsHandOf self.now hand.new }
         ensures number { IfOk result (λ held. held.number ≡ stripe) }
-        ensures locks { IfOk result (λ held. hand.new.locks ≡ locks_with_stripe stripe hand.old.locks) }
-        ensures taken { IfOk result (λ held. Happens (view hand.old) [] (step.TakeStripe stripe) (view hand.new)) }
-        ensures lent { IfOk result (λ held. view hand.new ≡ stripe_taken stripe held.stripe (view hand.old)) }
+        ensures locks { IfOk result (λ held. hand.new.locks
+            ≡ locks_with_stripe stripe hand.old.locks) }
+        ensures taken { IfOk result (λ held. Happens (view hand.old) [] (step.TakeStripe stripe)
+            (view hand.new)) }
+        ensures lent { IfOk result (λ held. view hand.new
+            ≡ stripe_taken stripe held.stripe (view hand.old)) }
         ensures whole { IfOk result (λ held. IsLentStripe (view hand.new) stripe held.stripe) }
         ensures seen { IfOk result (λ held. BeginsWithSeen (view hand.old) stripe held.stripe) }
         ensures same { OnErr result (hand.new.locks ≡ hand.old.locks) }
-        ensures missed { OnErr result (Happens (view hand.old) [] (step.MissStripe stripe) (view hand.new)) }
-        ensures held { OnErr result ((word : ℕ) × (word ≢ 0) × (view hand.new ≡ stripe_missed stripe word (view hand.old))) }
+        ensures missed { OnErr result (Happens (view hand.old) [] (step.MissStripe stripe)
+            (view hand.new)) }
+        ensures held { OnErr result ((word : ℕ) × (word ≢ 0)
+            × (view hand.new ≡ stripe_missed stripe word (view hand.old))) }
     {
         match self.take(&mut hand.seat, hand.number, Lock::StripeLock(stripe)) {
             Some(Slot::OfStripe(value)) => {

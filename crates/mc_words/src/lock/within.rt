@@ -19,7 +19,8 @@ impl Arena {
         requires arena { IsHandOf self.now hand.old }
         ensures arena { IsHandOf self.now hand.new }
         ensures locks { IfOk result (λ held. hand.new.locks ≡ locks_with_slabs hand.old.locks) }
-        ensures within { IfOk result (λ held. TakesSlabsWithin tries (view hand.old) held.shared (view hand.new)) }
+        ensures within { IfOk result (λ held. TakesSlabsWithin tries (view hand.old) held.shared
+            (view hand.new)) }
         ensures whole { IfOk result (λ held. IsLent (view hand.new) held.shared) }
         ensures same { OnErr result (hand.new.locks ≡ hand.old.locks) }
         ensures missed { OnErr result (MissesSlabsEachTime tries (view hand.old) (view hand.new)) }
@@ -48,11 +49,14 @@ impl Arena {
         requires unlocked { is_unlocked (view hand.old) ≡ true }
         ensures arena { IsHandOf self.now hand.new }
         ensures number { IfOk result (λ held. held.number ≡ stripe) }
-        ensures locks { IfOk result (λ held. hand.new.locks ≡ locks_with_stripe stripe hand.old.locks) }
-        ensures within { IfOk result (λ held. TakesStripeWithin tries stripe (view hand.old) held.stripe (view hand.new)) }
+        ensures locks { IfOk result (λ held. hand.new.locks
+            ≡ locks_with_stripe stripe hand.old.locks) }
+        ensures within { IfOk result (λ held. TakesStripeWithin tries stripe
+            (view hand.old) held.stripe (view hand.new)) }
         ensures whole { IfOk result (λ held. IsLentStripe (view hand.new) stripe held.stripe) }
         ensures same { OnErr result (hand.new.locks ≡ hand.old.locks) }
-        ensures missed { OnErr result (MissesStripeEachTime tries stripe (view hand.old) (view hand.new)) }
+        ensures missed { OnErr result (MissesStripeEachTime tries stripe (view hand.old)
+            (view hand.new)) }
     {
         let backoff = Backoff::new();
         for _missed in 0..tries {

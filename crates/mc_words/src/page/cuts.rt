@@ -18,13 +18,16 @@ impl Arena {
         requires arena { IsHandOf self.now hand.old }
         requires held { (view hand.old).slabs ≡ Some held.old.shared }
         requires first { held.old.shared.uncut ≡ Some (record { page = page; index = 0 }) }
-        requires chunks { (class_of_chunk held.old.shared (record { page = page; index = 0 })).per_page ≡ per_page }
+        requires chunks { (class_of_chunk held.old.shared
+            (record { page = page; index = 0 })).per_page ≡ per_page }
         requires some { 1 ≤ per_page }
         ensures arena { IsHandOf self.now hand.new }
         ensures locks { hand.new.locks ≡ hand.old.locks }
         ensures held { (view hand.new).slabs ≡ Some held.new.shared }
-        ensures cuts { CutsEach (first_chunks page per_page) (view hand.old) held.old.shared (view hand.new) held.new.shared }
-        ensures shared { held.new.shared ≡ fold after_cut held.old.shared (first_chunks page per_page) }
+        ensures cuts { CutsEach (first_chunks page per_page) (view hand.old) held.old.shared
+            (view hand.new) held.new.shared }
+        ensures shared { held.new.shared ≡ fold after_cut held.old.shared
+            (first_chunks page per_page) }
         ensures whole { held.new.shared.uncut ≡ None }
         ensures seen { view hand.new ≡ with_seen (view hand.old) (view hand.new) }
     {

@@ -36,8 +36,10 @@ impl Arena {
         ensures arena { IsHandOf self.now hand.new }
         ensures locks { hand.new.locks ≡ hand.old.locks }
         ensures held { (view hand.new).slabs ≡ Some held.now.shared }
-        ensures sees { (looked : List ChunkId) × SeesHeaders looked (view hand.old) (view hand.new) × (list_all (is_among looked) (class_at held.now.shared class).order ≡ true) }
-        ensures judged { (chunk : ChunkId) → Contains (class_at held.now.shared class).order chunk → IsAliveOrNoted (view hand.new).row.looks dead.new chunk }
+        ensures sees { (looked : List ChunkId) × SeesHeaders looked (view hand.old) (view hand.new)
+            × (list_all (is_among looked) (class_at held.now.shared class).order ≡ true) }
+        ensures judged { (chunk : ChunkId) → Contains (class_at held.now.shared class).order chunk →
+            IsAliveOrNoted (view hand.new).row.looks dead.new chunk }
         ensures out { AreHandedOut (setup_of self.now).table held.now.shared class dead.new }
     {
         let per_page = held.slabs().per_page(class);
@@ -63,14 +65,19 @@ impl Arena {
         requires page { page < arena_pages_of (setup_of self.now).table }
         requires most { per_page ≤ most_of (setup_of self.now).table }
         requires held { (view hand.old).slabs ≡ Some held.now.shared }
-        requires out { AreHandedOut (setup_of self.now).table held.now.shared (class_of_page held.now.shared page) dead.old }
+        requires out { AreHandedOut (setup_of self.now).table held.now.shared
+            (class_of_page held.now.shared page) dead.old }
         ensures arena { IsHandOf self.now hand.new }
         ensures locks { hand.new.locks ≡ hand.old.locks }
         ensures held { (view hand.new).slabs ≡ Some held.now.shared }
         ensures sees { LooksAlong page 0 per_page (view hand.old) (view hand.new) }
-        ensures out { AreHandedOut (setup_of self.now).table held.now.shared (class_of_page held.now.shared page) dead.new }
-        ensures judged { (index : ℕ) → index < per_page → IsAliveOrNoted (view hand.new).row.looks dead.new (record { page = page; index = index }) }
-        ensures kept { (other : ChunkId) → IsAliveOrNoted (view hand.old).row.looks dead.old other → IsAliveOrNoted (view hand.new).row.looks dead.new other }
+        ensures out { AreHandedOut (setup_of self.now).table held.now.shared
+            (class_of_page held.now.shared page) dead.new }
+        ensures judged { (index : ℕ) → index < per_page →
+            IsAliveOrNoted (view hand.new).row.looks dead.new
+            (record { page = page; index = index }) }
+        ensures kept { (other : ChunkId) → IsAliveOrNoted (view hand.old).row.looks dead.old other →
+            IsAliveOrNoted (view hand.new).row.looks dead.new other }
     {
         let heads = self.heads_of_page(page);
         let fours = per_page / 4;
@@ -104,15 +111,25 @@ impl Arena {
         requires arena { IsHandOf self.now hand.old }
         requires page { first.page < arena_pages_of (setup_of self.now).table }
         requires most { first.index + 4 ≤ most_of (setup_of self.now).table }
-        requires words { (index : ℕ) → head_word (setup_of self.now) (record { page = first.page; index = index }) ≡ heads + index }
-        requires within { heads + most_of (setup_of self.now).table ≤ self.now.table.shared.table_id.words }
+        requires words { (index : ℕ) →
+            head_word (setup_of self.now) (record { page = first.page; index = index })
+            ≡ heads + index }
+        requires within { heads + most_of (setup_of self.now).table
+            ≤ self.now.table.shared.table_id.words }
         requires held { (view hand.old).slabs ≡ Some held.now.shared }
         ensures arena { IsHandOf self.now hand.new }
         ensures locks { hand.new.locks ≡ hand.old.locks }
         ensures held { (view hand.new).slabs ≡ Some held.now.shared }
-        ensures sees { LooksAlong first.page first.index (first.index + 4) (view hand.old) (view hand.new) }
-        ensures alive { result ≡ true → (index : ℕ) → first.index ≤ index → index < first.index + 4 → is_found_alive (view hand.new).row.looks (record { page = first.page; index = index }) ≡ true }
-        ensures kept { (dead : NotedChunks) (other : ChunkId) → IsOutside first.page first.index (first.index + 4) other → IsAliveOrNoted (view hand.old).row.looks dead other → IsAliveOrNoted (view hand.new).row.looks dead other }
+        ensures sees { LooksAlong first.page first.index (first.index + 4) (view hand.old)
+            (view hand.new) }
+        ensures alive { result ≡ true → (index : ℕ) → first.index ≤ index →
+            index < first.index + 4 →
+            is_found_alive (view hand.new).row.looks (record { page = first.page; index = index })
+            ≡ true }
+        ensures kept { (dead : NotedChunks) (other : ChunkId) →
+            IsOutside first.page first.index (first.index + 4) other →
+            IsAliveOrNoted (view hand.old).row.looks dead other →
+            IsAliveOrNoted (view hand.new).row.looks dead other }
     {
         let mut common = u64::MAX;
         for offset in 0..4 {
@@ -138,17 +155,26 @@ impl Arena {
         requires arena { IsHandOf self.now hand.old }
         requires page { first.page < arena_pages_of (setup_of self.now).table }
         requires most { first.index + count ≤ most_of (setup_of self.now).table }
-        requires words { (index : ℕ) → head_word (setup_of self.now) (record { page = first.page; index = index }) ≡ heads + index }
-        requires within { heads + most_of (setup_of self.now).table ≤ self.now.table.shared.table_id.words }
+        requires words { (index : ℕ) →
+            head_word (setup_of self.now) (record { page = first.page; index = index })
+            ≡ heads + index }
+        requires within { heads + most_of (setup_of self.now).table
+            ≤ self.now.table.shared.table_id.words }
         requires held { (view hand.old).slabs ≡ Some held.now.shared }
-        requires out { AreHandedOut (setup_of self.now).table held.now.shared (class_of_page held.now.shared first.page) dead.old }
+        requires out { AreHandedOut (setup_of self.now).table held.now.shared
+            (class_of_page held.now.shared first.page) dead.old }
         ensures arena { IsHandOf self.now hand.new }
         ensures locks { hand.new.locks ≡ hand.old.locks }
         ensures held { (view hand.new).slabs ≡ Some held.now.shared }
-        ensures sees { LooksAlong first.page first.index (first.index + count) (view hand.old) (view hand.new) }
-        ensures out { AreHandedOut (setup_of self.now).table held.now.shared (class_of_page held.now.shared first.page) dead.new }
-        ensures judged { (index : ℕ) → first.index ≤ index → index < first.index + count → IsAliveOrNoted (view hand.new).row.looks dead.new (record { page = first.page; index = index }) }
-        ensures kept { (other : ChunkId) → IsAliveOrNoted (view hand.old).row.looks dead.old other → IsAliveOrNoted (view hand.new).row.looks dead.new other }
+        ensures sees { LooksAlong first.page first.index (first.index + count) (view hand.old)
+            (view hand.new) }
+        ensures out { AreHandedOut (setup_of self.now).table held.now.shared
+            (class_of_page held.now.shared first.page) dead.new }
+        ensures judged { (index : ℕ) → first.index ≤ index → index < first.index + count →
+            IsAliveOrNoted (view hand.new).row.looks dead.new
+            (record { page = first.page; index = index }) }
+        ensures kept { (other : ChunkId) → IsAliveOrNoted (view hand.old).row.looks dead.old other →
+            IsAliveOrNoted (view hand.new).row.looks dead.new other }
     {
         for offset in 0..count {
             let index = first.index + offset;
@@ -172,14 +198,17 @@ impl Arena {
         requires word { word ≡ head_word (setup_of self.now) chunk }
         requires within { word < self.now.table.shared.table_id.words }
         requires held { (view hand.old).slabs ≡ Some held.now.shared }
-        requires out { AreHandedOut (setup_of self.now).table held.now.shared (class_of_page held.now.shared chunk.page) dead.old }
+        requires out { AreHandedOut (setup_of self.now).table held.now.shared
+            (class_of_page held.now.shared chunk.page) dead.old }
         ensures arena { IsHandOf self.now hand.new }
         ensures locks { hand.new.locks ≡ hand.old.locks }
         ensures held { (view hand.new).slabs ≡ Some held.now.shared }
-        ensures out { AreHandedOut (setup_of self.now).table held.now.shared (class_of_page held.now.shared chunk.page) dead.new }
+        ensures out { AreHandedOut (setup_of self.now).table held.now.shared
+            (class_of_page held.now.shared chunk.page) dead.new }
         ensures sees { SeesHeader (view hand.old) chunk (view hand.new) }
         ensures judged { IsAliveOrNoted (view hand.new).row.looks dead.new chunk }
-        ensures kept { (other : ChunkId) → IsAliveOrNoted (view hand.old).row.looks dead.old other → IsAliveOrNoted (view hand.new).row.looks dead.new other }
+        ensures kept { (other : ChunkId) → IsAliveOrNoted (view hand.old).row.looks dead.old other →
+            IsAliveOrNoted (view hand.new).row.looks dead.new other }
     {
         let head = self.head_at(hand, word, chunk);
         if head % ISSUE_UNIT == DEAD {

@@ -32,10 +32,15 @@ impl Arena {
         ensures locks { hand.new.locks ≡ hand.old.locks }
         ensures held { (view hand.new).slabs ≡ Some held.new.shared }
         ensures answer { MayAnswer (answer_of held.old.shared src dst) result }
-        ensures began { OnOk result (IfOk (answer_of held.old.shared src dst) (λ source. held.new.shared ≡ after_begin held.old.shared src source dst)) }
-        ensures happens { OnOk result (Happens (view hand.old) (change.BeginMove src dst ∷ []) step.MissSlabs (view hand.new)) }
-        ensures view { OnOk result (view hand.new ≡ slabs_changed held.old.shared (change.BeginMove src dst) (hand.old.number + 1) (view hand.old)) }
-        ensures refused { OnErr result ((held.new.shared ≡ held.old.shared) × (view hand.new ≡ view hand.old)) }
+        ensures began { OnOk result (IfOk (answer_of held.old.shared src dst) (λ source.
+            held.new.shared ≡ after_begin held.old.shared src source dst)) }
+        ensures happens { OnOk result (Happens (view hand.old)
+            (change.BeginMove src dst ∷ []) step.MissSlabs (view hand.new)) }
+        ensures view { OnOk result (view hand.new
+            ≡ slabs_changed held.old.shared (change.BeginMove src dst) (hand.old.number + 1)
+            (view hand.old)) }
+        ensures refused { OnErr result ((held.new.shared ≡ held.old.shared)
+            × (view hand.new ≡ view hand.old)) }
     {
         match held.shared.slabs_mut().begin_move(src, dst) {
             Ok(()) => {
@@ -57,8 +62,10 @@ impl Arena {
         ensures locks { hand.new.locks ≡ hand.old.locks }
         ensures held { (view hand.new).slabs ≡ Some held.new.shared }
         ensures passed { held.new.shared ≡ after_passed held.old.shared found }
-        ensures happens { Happens (view hand.old) (change.Passed found ∷ []) step.MissSlabs (view hand.new) }
-        ensures view { view hand.new ≡ slabs_changed held.old.shared (change.Passed found) (hand.old.number + 1) (view hand.old) }
+        ensures happens { Happens (view hand.old) (change.Passed found ∷ []) step.MissSlabs
+            (view hand.new) }
+        ensures view { view hand.new ≡ slabs_changed held.old.shared (change.Passed found)
+            (hand.old.number + 1) (view hand.old) }
     {
         held.shared.slabs_mut().passed(found);
         let change = Change::Passed(found);
@@ -75,8 +82,10 @@ impl Arena {
         ensures locks { hand.new.locks ≡ hand.old.locks }
         ensures held { (view hand.new).slabs ≡ Some held.new.shared }
         ensures wrapped { held.new.shared ≡ after_wrap held.old.shared }
-        ensures happens { Happens (view hand.old) (change.Wrap ∷ []) step.MissSlabs (view hand.new) }
-        ensures view { view hand.new ≡ slabs_changed held.old.shared change.Wrap (hand.old.number + 1) (view hand.old) }
+        ensures happens { Happens (view hand.old) (change.Wrap ∷ []) step.MissSlabs
+            (view hand.new) }
+        ensures view { view hand.new ≡ slabs_changed held.old.shared change.Wrap
+            (hand.old.number + 1) (view hand.old) }
     {
         held.shared.slabs_mut().wrap();
         self.tell(&mut hand.seat, SLABS_WORD, Change::Wrap, Step::MissSlabs);
@@ -93,8 +102,10 @@ impl Arena {
         ensures locks { hand.new.locks ≡ hand.old.locks }
         ensures held { (view hand.new).slabs ≡ Some held.new.shared }
         ensures finished { held.new.shared ≡ after_finish held.old.shared held.old.shared.moving }
-        ensures happens { Happens (view hand.old) (change.FinishMove ∷ []) step.MissSlabs (view hand.new) }
-        ensures view { view hand.new ≡ slabs_changed held.old.shared change.FinishMove (hand.old.number + 1) (view hand.old) }
+        ensures happens { Happens (view hand.old) (change.FinishMove ∷ []) step.MissSlabs
+            (view hand.new) }
+        ensures view { view hand.new ≡ slabs_changed held.old.shared change.FinishMove
+            (hand.old.number + 1) (view hand.old) }
     {
         let Some(moving) = held.moving() else {
             unreachable!()

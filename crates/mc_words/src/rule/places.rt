@@ -34,8 +34,10 @@ impl Arena {
     #[inline(always)]
     pub(crate) fn heads_of_page(&self, page: PageId) -> usize
         requires in_range { page < arena_pages_of (setup_of self.now).table }
-        ensures words { (index : ℕ) → head_word (setup_of self.now) (record { page = page; index = index }) ≡ result + index }
-        ensures in_range { result + most_of (setup_of self.now).table ≤ self.now.table.shared.table_id.words }
+        ensures words { (index : ℕ) →
+            head_word (setup_of self.now) (record { page = page; index = index }) ≡ result + index }
+        ensures in_range { result + most_of (setup_of self.now).table
+            ≤ self.now.table.shared.table_id.words }
     {
         self.first_head + page as usize * self.most
     }
@@ -43,7 +45,8 @@ impl Arena {
     /// A data word of a chunk with room for n words.
     #[inline(always)]
     pub(crate) fn data_word(&self, room: u64, chunk: ChunkId, place: u64) -> usize
-        requires in_range { data_word (setup_of self.now) room chunk place < config_from (setup_of self.now) }
+        requires in_range { data_word (setup_of self.now) room chunk place
+            < config_from (setup_of self.now) }
         ensures word { result ≡ data_word (setup_of self.now) room chunk place }
         ensures in_range { result < self.now.table.shared.table_id.words }
     {

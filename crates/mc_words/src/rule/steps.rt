@@ -110,7 +110,8 @@ impl Arena {
     ) -> u64
         ghost told: { Step × Step }
         requires is { told ≡ (step, look) }
-        requires still { (keeps_locks_and_hands told.0 ≡ true) × (keeps_locks_and_hands told.1 ≡ true) }
+        requires still { (keeps_locks_and_hands told.0 ≡ true)
+            × (keeps_locks_and_hands told.1 ≡ true) }
         requires in_range { word < self.now.table.shared.table_id.words }
         requires seat { IsOfArena self.now seat.old.table_id seat.old.me.0 }
         requires may { MayExchange seat.old.me.0 told.0 word expected new }
@@ -118,8 +119,10 @@ impl Arena {
         ensures seat { IsOfArena self.now seat.new.table_id seat.new.me.0 }
         ensures out { seat.new.me.1 ≡ seat.old.me.1 }
         ensures hand { IsSameHand seat.old.me.0 seat.new.me.0 }
-        ensures happens { result ≡ expected → HappensAt word result seat.old.me.0 [] told.0 seat.new.me.0 }
-        ensures missed { result ≢ expected → HappensAt word result seat.old.me.0 [] told.1 seat.new.me.0 }
+        ensures happens { result ≡ expected →
+            HappensAt word result seat.old.me.0 [] told.0 seat.new.me.0 }
+        ensures missed { result ≢ expected →
+            HappensAt word result seat.old.me.0 [] told.1 seat.new.me.0 }
     {
         self.table
             .shared

@@ -67,7 +67,8 @@ fn hint_of_first<R: Abort + Wait>(
 ) -> Result<Hint, Fail>
     requires arena { IsReadyHandOf arena.now hand.old }
     ensures arena { IsReadyHandOf arena.now hand.new }
-    ensures in_range { IfOk result (λ hint. has_chunk (setup_of arena.now).table (hint_chunk hint) ≡ true) }
+    ensures in_range { IfOk result (λ hint. has_chunk (setup_of arena.now).table (hint_chunk hint)
+        ≡ true) }
 {
     play_all(rt, alloc, arena, hand, &[Step::Sets(1, 5, 61)])?;
     let Some(hint) = hint_of(rt, arena, hand, 1) else {

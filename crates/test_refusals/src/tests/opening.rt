@@ -89,7 +89,8 @@ pub fn drop_three(all: Three) {
 
 /// A new arena, and its three hands.
 pub fn opened<R: Print>(rt: &R, alloc: Global, config: &Config) -> Result<Three, Fail>
-    ensures ready { IfOk result (λ made. AreReadyOf made.arena made.hand made.reader made.looker.hand) }
+    ensures ready { IfOk result (λ made.
+        AreReadyOf made.arena made.hand made.reader made.looker.hand) }
 {
     opened_from(rt, alloc, config, None)
 }
@@ -101,7 +102,8 @@ pub fn opened_from<R: Print>(
     config: &Config,
     start: Option<u64>,
 ) -> Result<Three, Fail>
-    ensures ready { IfOk result (λ made. AreReadyOf made.arena made.hand made.reader made.looker.hand) }
+    ensures ready { IfOk result (λ made.
+        AreReadyOf made.arena made.hand made.reader made.looker.hand) }
 {
     let before = room(alloc, LENGTH)?;
     let after = room(alloc, LENGTH)?;

@@ -39,7 +39,8 @@ const CALLS: [Call; 10] = [
 fn hint_again<R: Wait>(rt: &R, arena: &Arena, hand: &mut Hand, key: Key) -> Option<Hint>
     requires arena { IsReadyHandOf arena.now hand.old }
     ensures arena { IsReadyHandOf arena.now hand.new }
-    ensures in_range { IfSome result (λ hint. has_chunk (setup_of arena.now).table (hint_chunk hint) ≡ true) }
+    ensures in_range { IfSome result (λ hint. has_chunk (setup_of arena.now).table (hint_chunk hint)
+        ≡ true) }
 {
     match hint_of(rt, arena, hand, key) {
         Some(hint) => Some(hint),

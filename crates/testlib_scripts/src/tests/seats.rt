@@ -80,7 +80,8 @@ pub fn mover_seat(alloc: Global, arena: &Arena, hand: Hand) -> Result<MoverSeat,
 /// A seat for each of these hands, which are those of the workers from 1 on.
 pub fn seats_of(alloc: Global, arena: &Arena, mut hands: Vec<Hand>) -> Result<Vec<Seat>, AllocError>
     requires hands { AreHandsFrom arena.now 1 hands.items }
-    ensures seats { IfOk result (λ seats. All (λ seat. IsKeeping arena.now seat.hand seat.kept.items) seats.items) }
+    ensures seats { IfOk result (λ seats. All (λ seat.
+        IsKeeping arena.now seat.hand seat.kept.items) seats.items) }
 {
     let mut seats = Vec::new(alloc);
     for worker in 1..64 {

@@ -31,7 +31,8 @@ fn item_of<R: Wait>(
     requires arena { IsReadyHandOf arena.now hand.old }
     ensures arena { IsReadyHandOf arena.now hand.new }
     ensures item { IfOk result (λ found. IfSome found (λ item. IsItemRef (view hand.new) item)) }
-    ensures in_range { IfOk result (λ found. IfSome found (λ item. has_chunk (setup_of arena.now).table (item_chunk item) ≡ true)) }
+    ensures in_range { IfOk result (λ found. IfSome found (λ item.
+        has_chunk (setup_of arena.now).table (item_chunk item) ≡ true)) }
     ensures holdings { IfOk result (λ found. HoldsToo found (view hand.old) (view hand.new)) }
     ensures no_more { OnErr result (HoldsTheSame (view hand.old) (view hand.new)) }
     ensures keeps { KeepsRefs (view hand.old) (view hand.new) }

@@ -31,8 +31,10 @@ const TRIES: u64 = 1000;
 
 /// One round of a reader, which waits for nobody.
 fn act<R: Wait>(rt: &R, alloc: Global, arena: &Arena, keeper: &mut Keeper, drawn: u64)
-    requires keeper { IsKeeperOf arena.now keeper.old.hand keeper.old.kept.items × AreNear arena.now keeper.old.hints.items }
-    ensures keeper { IsKeeperOf arena.now keeper.new.hand keeper.new.kept.items × AreNear arena.now keeper.new.hints.items }
+    requires keeper { IsKeeperOf arena.now keeper.old.hand keeper.old.kept.items
+        × AreNear arena.now keeper.old.hints.items }
+    ensures keeper { IsKeeperOf arena.now keeper.new.hand keeper.new.kept.items
+        × AreNear arena.now keeper.new.hints.items }
 {
     make_room(arena, keeper, MOST_KEPT, drawn);
     let place = place_in(keeper.kept.len(), drawn);
@@ -52,8 +54,10 @@ fn act_often<R: Wait>(
     thread: u64,
     rounds: (u64, u64),
 )
-    requires keeper { IsKeeperOf arena.now keeper.old.hand keeper.old.kept.items × AreNear arena.now keeper.old.hints.items }
-    ensures keeper { IsKeeperOf arena.now keeper.new.hand keeper.new.kept.items × AreNear arena.now keeper.new.hints.items }
+    requires keeper { IsKeeperOf arena.now keeper.old.hand keeper.old.kept.items
+        × AreNear arena.now keeper.old.hints.items }
+    ensures keeper { IsKeeperOf arena.now keeper.new.hand keeper.new.kept.items
+        × AreNear arena.now keeper.new.hints.items }
 {
     for round in rounds.0..rounds.1 {
         act(rt, alloc, arena, keeper, draw(thread, round));
@@ -187,9 +191,12 @@ fn jobs_of<R: Wait>(
     hands: &mut Vec<Hand>,
 ) -> Result<Jobs, Fail>
     requires hands { AreEmptyHandsOf arena.now hands.old.items }
-    ensures mover { IfOk result (λ jobs. IsEmptyHandOf arena.now jobs.0.0 × IsEmptyHandOf arena.now jobs.0.1) }
-    ensures first { IfOk result (λ jobs. IsEmptyHandOf arena.now jobs.1.0.1.0 × IsEmptyHandOf arena.now jobs.1.0.1.1 × IsEmptyHandOf arena.now jobs.1.0.1.2) }
-    ensures second { IfOk result (λ jobs. IsEmptyHandOf arena.now jobs.1.1.1.0 × IsEmptyHandOf arena.now jobs.1.1.1.1 × IsEmptyHandOf arena.now jobs.1.1.1.2) }
+    ensures mover { IfOk result (λ jobs. IsEmptyHandOf arena.now jobs.0.0
+        × IsEmptyHandOf arena.now jobs.0.1) }
+    ensures first { IfOk result (λ jobs. IsEmptyHandOf arena.now jobs.1.0.1.0
+        × IsEmptyHandOf arena.now jobs.1.0.1.1 × IsEmptyHandOf arena.now jobs.1.0.1.2) }
+    ensures second { IfOk result (λ jobs. IsEmptyHandOf arena.now jobs.1.1.1.0
+        × IsEmptyHandOf arena.now jobs.1.1.1.1 × IsEmptyHandOf arena.now jobs.1.1.1.2) }
 {
     let mut hand = next_hand(arena, hands)?;
     store_each(rt, alloc, arena, &mut hand);

@@ -26,8 +26,10 @@ type Pair = (Driver, Worker);
 /// Two of them, with the four hands of the lowest numbers that are left, which are the threads' numbers.
 fn two_pairs(arena: &Arena, hands: &mut Vec<Hand>) -> Result<(Pair, Pair), Fail>
     requires hands { AreEmptyHandsOf arena.now hands.old.items }
-    ensures low { IfOk result (λ jobs. IsEmptyHandOf arena.now jobs.0.0.1 × IsEmptyHandOf arena.now jobs.0.1.1) }
-    ensures high { IfOk result (λ jobs. IsEmptyHandOf arena.now jobs.1.0.1 × IsEmptyHandOf arena.now jobs.1.1.1) }
+    ensures low { IfOk result (λ jobs. IsEmptyHandOf arena.now jobs.0.0.1
+        × IsEmptyHandOf arena.now jobs.0.1.1) }
+    ensures high { IfOk result (λ jobs. IsEmptyHandOf arena.now jobs.1.0.1
+        × IsEmptyHandOf arena.now jobs.1.1.1) }
 {
     let mover = Driver(0, next_hand(arena, hands)?);
     let low = (mover, Worker(1, next_hand(arena, hands)?));

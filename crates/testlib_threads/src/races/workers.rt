@@ -107,8 +107,10 @@ pub struct Keeper {
 
 /// Gets and keeps the key's item, and notes a hint of it.
 fn keep_fresh<R: Wait>(rt: &R, arena: &Arena, keeper: &mut Keeper, key: Key, waits: bool)
-    requires keeper { IsKeeperOf arena.now keeper.old.hand keeper.old.kept.items × AreNear arena.now keeper.old.hints.items }
-    ensures keeper { IsKeeperOf arena.now keeper.new.hand keeper.new.kept.items × AreNear arena.now keeper.new.hints.items }
+    requires keeper { IsKeeperOf arena.now keeper.old.hand keeper.old.kept.items
+        × AreNear arena.now keeper.old.hints.items }
+    ensures keeper { IsKeeperOf arena.now keeper.new.hand keeper.new.kept.items
+        × AreNear arena.now keeper.new.hints.items }
 {
     match keep_key(rt, arena, &mut keeper.hand, &mut keeper.kept, key, waits) {
         Ok(Some(note)) => {
@@ -122,8 +124,10 @@ fn keep_fresh<R: Wait>(rt: &R, arena: &Arena, keeper: &mut Keeper, key: Key, wai
 
 /// Keeps the key's item by its hint; where it is gone, by a get.
 fn keep<R: Wait>(rt: &R, arena: &Arena, keeper: &mut Keeper, key: Key, waits: bool)
-    requires keeper { IsKeeperOf arena.now keeper.old.hand keeper.old.kept.items × AreNear arena.now keeper.old.hints.items }
-    ensures keeper { IsKeeperOf arena.now keeper.new.hand keeper.new.kept.items × AreNear arena.now keeper.new.hints.items }
+    requires keeper { IsKeeperOf arena.now keeper.old.hand keeper.old.kept.items
+        × AreNear arena.now keeper.old.hints.items }
+    ensures keeper { IsKeeperOf arena.now keeper.new.hand keeper.new.kept.items
+        × AreNear arena.now keeper.new.hints.items }
 {
     let Some(note) = hint_of(arena, &keeper.hints, key) else {
         return keep_fresh(rt, arena, keeper, key, waits);
@@ -158,8 +162,10 @@ fn change<R: Wait>(
 
 /// Reads an item that is kept.
 pub fn read_one(alloc: Global, arena: &Arena, keeper: &mut Keeper, place: usize)
-    requires keeper { IsKeeperOf arena.now keeper.old.hand keeper.old.kept.items × AreNear arena.now keeper.old.hints.items }
-    ensures keeper { IsKeeperOf arena.now keeper.new.hand keeper.new.kept.items × AreNear arena.now keeper.new.hints.items }
+    requires keeper { IsKeeperOf arena.now keeper.old.hand keeper.old.kept.items
+        × AreNear arena.now keeper.old.hints.items }
+    ensures keeper { IsKeeperOf arena.now keeper.new.hand keeper.new.kept.items
+        × AreNear arena.now keeper.new.hints.items }
 {
     let own = is_own(alloc, arena, &mut keeper.hand, &keeper.kept, place);
     keeper.told.note(matches!(own, Ok(true)));
@@ -183,8 +189,10 @@ pub fn keep_and_read<R: Wait>(
     key: Key,
     waits: bool,
 )
-    requires keeper { IsKeeperOf arena.now keeper.old.hand keeper.old.kept.items × AreNear arena.now keeper.old.hints.items }
-    ensures keeper { IsKeeperOf arena.now keeper.new.hand keeper.new.kept.items × AreNear arena.now keeper.new.hints.items }
+    requires keeper { IsKeeperOf arena.now keeper.old.hand keeper.old.kept.items
+        × AreNear arena.now keeper.old.hints.items }
+    ensures keeper { IsKeeperOf arena.now keeper.new.hand keeper.new.kept.items
+        × AreNear arena.now keeper.new.hints.items }
 {
     keep(rt, arena, keeper, key, waits);
     let last = keeper.kept.len().saturating_sub(1);
@@ -193,16 +201,20 @@ pub fn keep_and_read<R: Wait>(
 
 /// Gives back a reference that is kept.
 pub fn give_one_back(arena: &Arena, keeper: &mut Keeper, place: usize)
-    requires keeper { IsKeeperOf arena.now keeper.old.hand keeper.old.kept.items × AreNear arena.now keeper.old.hints.items }
-    ensures keeper { IsKeeperOf arena.now keeper.new.hand keeper.new.kept.items × AreNear arena.now keeper.new.hints.items }
+    requires keeper { IsKeeperOf arena.now keeper.old.hand keeper.old.kept.items
+        × AreNear arena.now keeper.old.hints.items }
+    ensures keeper { IsKeeperOf arena.now keeper.new.hand keeper.new.kept.items
+        × AreNear arena.now keeper.new.hints.items }
 {
     give_back(arena, &mut keeper.hand, &mut keeper.kept, place);
 }
 
 /// One round.
 fn act<R: Wait>(rt: &R, alloc: Global, arena: &Arena, keeper: &mut Keeper, drawn: u64)
-    requires keeper { IsKeeperOf arena.now keeper.old.hand keeper.old.kept.items × AreNear arena.now keeper.old.hints.items }
-    ensures keeper { IsKeeperOf arena.now keeper.new.hand keeper.new.kept.items × AreNear arena.now keeper.new.hints.items }
+    requires keeper { IsKeeperOf arena.now keeper.old.hand keeper.old.kept.items
+        × AreNear arena.now keeper.old.hints.items }
+    ensures keeper { IsKeeperOf arena.now keeper.new.hand keeper.new.kept.items
+        × AreNear arena.now keeper.new.hints.items }
 {
     let place = place_in(keeper.kept.len(), drawn);
     let (key, waits) = (drawn % KEYS, drawn / 65_536 % 4 != 0);
@@ -224,8 +236,10 @@ fn act<R: Wait>(rt: &R, alloc: Global, arena: &Arena, keeper: &mut Keeper, drawn
 
 /// Gives a reference back where there are more than n.
 pub fn make_room(arena: &Arena, keeper: &mut Keeper, most: u64, drawn: u64)
-    requires keeper { IsKeeperOf arena.now keeper.old.hand keeper.old.kept.items × AreNear arena.now keeper.old.hints.items }
-    ensures keeper { IsKeeperOf arena.now keeper.new.hand keeper.new.kept.items × AreNear arena.now keeper.new.hints.items }
+    requires keeper { IsKeeperOf arena.now keeper.old.hand keeper.old.kept.items
+        × AreNear arena.now keeper.old.hints.items }
+    ensures keeper { IsKeeperOf arena.now keeper.new.hand keeper.new.kept.items
+        × AreNear arena.now keeper.new.hints.items }
 {
     let count = keeper.kept.len();
     if count as u64 > most {
@@ -235,8 +249,10 @@ pub fn make_room(arena: &Arena, keeper: &mut Keeper, most: u64, drawn: u64)
 
 /// One round, before which a reference is given back where there are more than there are to be.
 fn do_round<R: Wait>(rt: &R, alloc: Global, arena: &Arena, keeper: &mut Keeper, place: (u64, u64))
-    requires keeper { IsKeeperOf arena.now keeper.old.hand keeper.old.kept.items × AreNear arena.now keeper.old.hints.items }
-    ensures keeper { IsKeeperOf arena.now keeper.new.hand keeper.new.kept.items × AreNear arena.now keeper.new.hints.items }
+    requires keeper { IsKeeperOf arena.now keeper.old.hand keeper.old.kept.items
+        × AreNear arena.now keeper.old.hints.items }
+    ensures keeper { IsKeeperOf arena.now keeper.new.hand keeper.new.kept.items
+        × AreNear arena.now keeper.new.hints.items }
 {
     let (thread, round) = place;
     let drawn = draw(thread, round);

@@ -44,8 +44,10 @@ type Searchers = (Searcher, Searcher);
 /// Four, with the hands of the lowest numbers that are left.
 fn four_searchers(arena: &Arena, hands: &mut Vec<Hand>) -> Result<(Searchers, Searchers), Fail>
     requires hands { AreEmptyHandsOf arena.now hands.old.items }
-    ensures low { IfOk result (λ jobs. IsEmptyHandOf arena.now jobs.0.0.0 × IsEmptyHandOf arena.now jobs.0.1.0) }
-    ensures high { IfOk result (λ jobs. IsEmptyHandOf arena.now jobs.1.0.0 × IsEmptyHandOf arena.now jobs.1.1.0) }
+    ensures low { IfOk result (λ jobs. IsEmptyHandOf arena.now jobs.0.0.0
+        × IsEmptyHandOf arena.now jobs.0.1.0) }
+    ensures high { IfOk result (λ jobs. IsEmptyHandOf arena.now jobs.1.0.0
+        × IsEmptyHandOf arena.now jobs.1.1.0) }
 {
     let first = Searcher(next_hand(arena, hands)?);
     let second = Searcher(next_hand(arena, hands)?);

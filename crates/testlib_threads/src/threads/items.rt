@@ -108,8 +108,10 @@ type Actors = (Actor, Actor);
 /// Four, with the eight hands of the lowest numbers that are left.
 fn four_actors(arena: &Arena, hands: &mut Vec<Hand>) -> Result<(Actors, Actors), Fail>
     requires hands { AreEmptyHandsOf arena.now hands.old.items }
-    ensures low { IfOk result (λ jobs. AreIdle arena.now jobs.0.0.1 × AreIdle arena.now jobs.0.1.1) }
-    ensures high { IfOk result (λ jobs. AreIdle arena.now jobs.1.0.1 × AreIdle arena.now jobs.1.1.1) }
+    ensures low { IfOk result (λ jobs. AreIdle arena.now jobs.0.0.1
+        × AreIdle arena.now jobs.0.1.1) }
+    ensures high { IfOk result (λ jobs. AreIdle arena.now jobs.1.0.1
+        × AreIdle arena.now jobs.1.1.1) }
 {
     let first = Actor(1, pair_of(arena, hands)?);
     let second = Actor(2, pair_of(arena, hands)?);

@@ -21,7 +21,8 @@ use testlib_hands::{Getter, Two, follow, hint_of, play_all, play_two};
 pub fn hint_behind<R: Wait>(rt: &R, alloc: Global, two: &mut Two, first: Step) -> Result<Hint, Fail>
     requires { AreReady two.old }
     ensures two { AreReady two.new }
-    ensures in_range { IfOk result (λ hint. has_chunk (setup_of two.new.arena).table (hint_chunk hint) ≡ true) }
+    ensures in_range { IfOk result (λ hint. has_chunk (setup_of two.new.arena).table
+        (hint_chunk hint) ≡ true) }
 {
     let Two { arena, hand, .. } = two;
     play_all(rt, alloc, arena, hand, &[first])?;

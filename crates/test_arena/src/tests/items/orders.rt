@@ -80,7 +80,8 @@ fn race<R: Abort>(
     requires in_range { IfSome hint (IsNear arena.now) }
     ensures hand { IfSome result (λ raced. IsReadyHandOf arena.now hand.new) }
     ensures other { IsReadyHandOf arena.now other.new }
-    ensures item { IfSome result (λ raced. IfSome raced.1 (λ item. IsItemRef (view other.new) item)) }
+    ensures item { IfSome result (λ raced. IfSome raced.1 (λ item.
+        IsItemRef (view other.new) item)) }
 {
     if !has_chunk(arena, chunk) {
         return None;

@@ -39,7 +39,8 @@ pub struct Locked {
 
 /// Whether the key leads to the chunk.
 fn leads_to(held: &StripeHeld, key: Key, chunk: ChunkId) -> bool
-    ensures leads { result ≡ true → (stamp : ℕ) × (chunk_and_stamp (stripe_lent held.now).state key ≡ Some (chunk, stamp)) }
+    ensures leads { result ≡ true → (stamp : ℕ)
+        × (chunk_and_stamp (stripe_lent held.now).state key ≡ Some (chunk, stamp)) }
 {
     match held.stripe().find(key) {
         Some((found, _)) => found == chunk,
@@ -53,7 +54,8 @@ fn class_on_move(arena: &Arena, _hand: &Hand, held: &SlabsHeld, chunk: ChunkId) 
     requires held { HasSlabs _hand.now held.now }
     requires in_range { has_chunk (setup_of arena.now).table chunk ≡ true }
     ensures own { IfSome result (λ class. class_of_page (slabs_lent held.now) chunk.page ≡ class) }
-    ensures moving { IfSome result (λ class. is_on_the_move (slabs_lent held.now) chunk.page ≡ true) }
+    ensures moving { IfSome result (λ class. is_on_the_move (slabs_lent held.now) chunk.page
+        ≡ true) }
     ensures class { IfSome result (λ class. is_class (setup_of arena.now).table class ≡ true) }
 {
     let moving = held.moving()?;

@@ -12,9 +12,11 @@ use testlib_values::FOUR_CLASSES;
 fn stripe_of(arena: &Arena, hand: &mut Hand, key: Key) -> Option<StripeHeld>
     requires arena { IsHandOf arena.now hand.old }
     ensures arena { IsHandOf arena.now hand.new }
-    ensures of_key { IfSome result (λ held. key % (setup_of arena.now).config.stripes ≡ held.number) }
+    ensures of_key { IfSome result (λ held. key % (setup_of arena.now).config.stripes
+        ≡ held.number) }
     ensures in_range { IfSome result (λ held. held.number < (setup_of arena.now).config.stripes) }
-    ensures held { IfSome result (λ held. slice_index_or (view hand.new).stripes held.number None ≡ Some held.stripe) }
+    ensures held { IfSome result (λ held. slice_index_or (view hand.new).stripes held.number None
+        ≡ Some held.stripe) }
     ensures ready { IfSome result (λ held. held.stripe.ready ≡ true) }
     ensures whole { IfSome result (λ held. held.stripe.state.aside ≡ None) }
 {
