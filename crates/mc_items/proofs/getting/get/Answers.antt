@@ -26,7 +26,7 @@ look_up-requires-clause-within_limit g c =
     let taken : View = c.lock_stripe-held.new.hand.seat.me.0 in
     let same = ap (λ (l : List Holding). length l) (waits_keep (λ (v : View). v.row.holdings) (c.args.key % c.config.result.now.stripes) (λ word v. refl) (λ value v. refl) before c.lock_stripe-held.result.stripe taken c.lock_stripe-held.ensures.waits) in
     let count = c.refs.ensures.count in
-    let within_limit = c.if-refs-geMOST_REFS.false in
+    let within_limit = c.if-refs-ge-MOST_REFS.false in
     omega arith
 
 pub returns-in-Ok-clause-locks : goal.returns-in-Ok-clause-locks
@@ -88,7 +88,7 @@ returns-in-Ok-clause-number g c =
 pub returns-in-Ok-clause-ready : goal.returns-in-Ok-clause-ready
 returns-in-Ok-clause-ready g c =
     let count = c.refs.ensures.count in
-    let within_limit = c.if-refs-geMOST_REFS.false in
+    let within_limit = c.if-refs-ge-MOST_REFS.false in
     get_ready c.args.hand.now c.look_up.new.hand c.in-Ok.found (returns-in-Ok-clause-locks g c) (returns-in-Ok-clause-holdings g c) (omega arith) c.requires.ready
 
 pub returns-in-Ok-clause-in_range : goal.returns-in-Ok-clause-in_range

@@ -96,7 +96,7 @@ returns-in-Ok-look_up-clause-number c =
 pub returns-in-Ok-look_up-clause-ready : goal.returns-in-Ok-look_up-clause-ready
 returns-in-Ok-look_up-clause-ready c =
     let count = c.refs.ensures.count in
-    let within_limit = c.if-refs-geMOST_REFS.false in
+    let within_limit = c.if-refs-ge-MOST_REFS.false in
     get_ready c.args.hand.now c.look_up.new.hand c.in-Ok-look_up.found (returns-in-Ok-look_up-clause-locks c) (returns-in-Ok-look_up-clause-holdings c) (omega arith) c.requires.ready
 
 pub returns-in-Ok-look_up-clause-in_range : goal.returns-in-Ok-look_up-clause-in_range
