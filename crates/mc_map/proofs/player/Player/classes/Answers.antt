@@ -11,5 +11,5 @@ loop-place-preserved c =
     let is = c.in_ok-line.ensures.line in
     record {
       lines = rw pushed (all_told (IsLine c.args.self.now.keeper c.args.self.now.items.keys.items) c.loop-place.lines.items line c.loop-place.invariant.lines is);
-      records = rw pushed (told_more c.args.self.now.keeper.slabs c.loop-place.lines.items line c.loop-place.place c.loop-place.invariant.told c.in_ok-line.ensures.class is.pages is.evictions);
+      told = rw pushed (told_more c.args.self.now.keeper.slabs c.loop-place.lines.items line c.loop-place.place c.loop-place.invariant.told c.in_ok-line.ensures.class is.pages is.evictions);
     }
