@@ -31,12 +31,12 @@ fn main(rt: HostRuntime) -> io::Result<()> {
     };
     let (mut one, mut two) = (workers.remove(0), workers.remove(0));
     let mut city = || -> bool
-        requires { BelongsTo cache one.now }
-        ensures { BelongsTo cache.entry one.exit.now }
+        requires { BelongsTo cache one }
+        ensures { BelongsTo cache one.exit }
     { one.set(&rt, &cache, b"city", b"Bern").is_ok() };
     let mut river = || -> bool
-        requires { BelongsTo cache two.now }
-        ensures { BelongsTo cache.entry two.exit.now }
+        requires { BelongsTo cache two }
+        ensures { BelongsTo cache two.exit }
     { two.set(&rt, &cache, b"river", b"Aare").is_ok() };
     let _stored = join_mut(&rt, &mut city, &mut river);
     let mut found = Vec::new(rt.alloc());
