@@ -31,7 +31,7 @@ blockers_text (blocker ∷ more) = flat_map blocker_line (blocker ∷ more)
 abbrev pub hang_text : Hang → List ℕ
 hang_text Idle = []
 hang_text (Found blockers) = blockers_text blockers.items
-hang_text Unknown = codes "  what holds it up takes too at_limit looks to find\n"
+hang_text Unknown = codes "  what holds it up takes too many looks to find\n"
 
 -- the text of which page moves, and from where
 abbrev pub moving_page_text : Moving → List ℕ
