@@ -2,6 +2,7 @@
 ghost use Rattle.std.specs.Prelude.{◌≡◌, None};
 ghost use Rattle.mc_classes.specs.declared.config.Config.{Config};
 ghost use Rattle.mc_classes.specs.Classes.{Classes, IsSound, IsTableOf};
+ghost use Rattle.mc_classes.specs.Limits.{least_page_bytes, most_arena_pages, most_bulk, most_classes, most_page_bytes, most_page_chunks, most_pages, most_refs, most_stripes};
 ghost use Rattle.mc_classes.specs.Refusals.{config_refusal};
 
 /// A configuration has no two class tables.
@@ -13,4 +14,17 @@ pub fn one_table()
 pub fn sound_table()
     ensures { (config : Config) (table : Classes) → config_refusal config ≡ None →
         IsTableOf config table → IsSound table }
+{}
+
+/// The limits as numbers. Definitions and code take a limit from one constant; a constant with another number breaks its clause
+/// here.
+pub fn worked_limits()
+    ensures page { (least_page_bytes ≡ 64) × (most_page_bytes ≡ 16384) }
+    ensures pages { most_pages ≡ 64 }
+    ensures classes { most_classes ≡ 63 }
+    ensures beyond { most_arena_pages ≡ 127 }
+    ensures stripes { most_stripes ≡ 64 }
+    ensures chunks { most_page_chunks ≡ 256 }
+    ensures bulk { most_bulk ≡ 256 }
+    ensures references { most_refs ≡ 255 }
 {}

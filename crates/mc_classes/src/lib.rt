@@ -30,7 +30,7 @@ mod limits;
 mod table;
 
 pub use config::{Config, ConfigError};
-pub use laws::{one_table, sound_table};
+pub use laws::{one_table, sound_table, worked_limits};
 pub use limits::{
     LEAST_PAGE_BYTES, MOST_BULK, MOST_CLASSES, MOST_PAGE_BYTES, MOST_PAGE_CHUNKS, MOST_PAGES,
     MOST_REFS, MOST_STRIPES,
