@@ -17,15 +17,17 @@ use Rattle.mc_core.specs.model.State.{has_chunk}
 use Rattle.mc_core.proofs.Known.KnownQuiet.{IsStill}
 use Rattle.mc_core.proofs.Hands.MoreRows.{each_contained, row_of}
 use Rattle.mc_core.proofs.Seen.SeenLooks.{some_is}
+use Rattle.mc_words.specs.declared.arena.Arena.{Arena}
 use Rattle.mc_words.specs.declared.hand.Hand.{Hand}
 use Rattle.mc_words.specs.hand.View.{View}
-use Rattle.mc_words.specs.hand.Arenas.{view}
+use Rattle.mc_words.specs.hand.Arenas.{IsHandOf, view}
 use Rattle.mc_words.specs.rule.Happens.{LawfulView}
 use Rattle.mc_words.specs.item.Items.{held_item}
 use Rattle.mc_words.specs.lock.Out.{is_neither}
-use Rattle.mc_words.specs.hand.Ready.{IsReady}
+use Rattle.mc_words.specs.hand.Ready.{IsReady, StaysReady}
 use Rattle.mc_words.specs.item.Refs.{IsRefOf, KeepsRemainingRefs, KeepsRefs}
 use Rattle.mc_words.proofs.Pages.Owners.{holdings_here}
+use Rattle.mc_words.proofs.Hands.HandNumbers.{number_stays}
 use Rattle.mc_words.proofs.Locks.Unlocked.{unlocked_from}
 use Rattle.mc_items.specs.declared.refs.Ref.{Ref}
 use Rattle.mc_items.specs.ItemRefs.{IsItemRef, item_chunk, item_stamp, item_words}
@@ -56,6 +58,10 @@ ready_more before now one locks holdings old within_limit ready = record {
 -- and one that holds less
 pub ready_less : (before now : Hand) → now.locks ≡ before.locks → has_fresh (view now).row.holdings ≡ false → length (view now).row.holdings ≤ length (view before).row.holdings → IsReady (view before) → IsReady (view now)
 ready_less before now locks none less ready = record { unlocked = unlocked_still before now locks ready; unfilled = none; within_limit = let within_limit = ready.within_limit in omega arith }
+
+-- a hand of the arena that has the locks and the numbers of a ready one, and holds what that one held, is ready still
+pub hand_still : (arena : Arena) (before now : Hand) → IsHandOf arena now → now.locks ≡ before.locks → (view now).row.holdings ≡ (view before).row.holdings → (view now).row.ids ≡ (view before).row.ids → IsReady (view before) → StaysReady arena before now
+hand_still arena before now is locks holdings ids ready = record { arena = is; ready = ready_still before now locks holdings ready; locks = locks; number = number_stays before now ids }
 
 -- a hand's number stands in its view
 pub number_kept : (before now : Hand) → (view now).row.ids.number ≡ (view before).row.ids.number → now.number ≡ before.number

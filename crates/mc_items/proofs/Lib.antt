@@ -26,3 +26,5 @@ pub mod GetLeaves
 pub mod Touched
 pub mod Currents
 pub mod Missed
+pub mod Visits
+pub mod Rooms

@@ -121,7 +121,7 @@ recovers_keep order view slabs now left recovers =
 pub sweeps_keep : (order : List ChunkId) (view : View) (slabs : SlabState) (now : View) (left : SlabState) → Sweeps order view slabs now left → own_of now ≡ own_of view
 sweeps_keep order view slabs now left sweeps = recovers_keep order view slabs now left sweeps.recovers
 
-empty_keeps : (class : ℕ) (view : View) (slabs : SlabState) (now : View) (left : SlabState) → SweepsEmpty class view slabs now left → own_of now ≡ own_of view
+pub empty_keeps : (class : ℕ) (view : View) (slabs : SlabState) (now : View) (left : SlabState) → SweepsEmpty class view slabs now left → own_of now ≡ own_of view
 empty_keeps class view slabs now left (inl (some, same, is)) = ap own_of same
 empty_keeps class view slabs now left (inr (none, recovers)) = recovers_keep (class_at slabs class).order view slabs now left recovers
 
@@ -129,7 +129,7 @@ cuts_keep : (chunks : List ChunkId) (view : View) (slabs : SlabState) (now : Vie
 cuts_keep [] view slabs now left (same, is) = ap own_of same
 cuts_keep (chunk ∷ chunks) view slabs now left (next, cut, rest) = cuts_keep chunks next (after_cut slabs chunk) now left rest ∙ ap own_of cut.is
 
-grows_keep : (number class : ℕ) (view : View) (slabs : SlabState) (now : View) (left : SlabState) → Grows number class view slabs now left → own_of now ≡ own_of view
+pub grows_keep : (number class : ℕ) (view : View) (slabs : SlabState) (now : View) (left : SlabState) → Grows number class view slabs now left → own_of now ≡ own_of view
 grows_keep number class view slabs now left grows = cuts_keep _ grows.grown _ now left grows.cuts ∙ ap own_of grows.is_grown
 
 -- where no page was left, one of the candidates for an eviction did

@@ -11,3 +11,5 @@ pub mod Sources
 pub mod Setting
 pub mod Current
 pub mod Within
+pub mod Visiting
+pub mod MakingRoom

@@ -3,7 +3,7 @@ ghost use Rattle.std.specs.Prelude.{◌≡◌, true};
 ghost use Rattle.mc_words.specs.hand.Arenas.{IsHandOf, view};
 ghost use Rattle.mc_words.specs.hand.Idle.{is_unlocked};
 ghost use Rattle.mc_words.specs.hand.Observers.{locks_of, hand_number, ref_chunk, ref_room};
-ghost use Rattle.mc_words.specs.hand.Ready.{IsReady};
+ghost use Rattle.mc_words.specs.hand.Ready.{IsReady, StaysReady};
 ghost use Rattle.mc_words.specs.item.Refs.{IsRefOf, KeepsRefs};
 ghost use Rattle.mc_words.specs.lock.Doing.{HoldsSlabs};
 ghost use Rattle.mc_items.specs.Calls.{Bumps, RecordsNoCall};
@@ -20,10 +20,6 @@ pub fn bump<R: Wait>(rt: &R, arena: &Arena, hand: &mut Hand, item: &Ref)
     requires arena { IsHandOf arena.now hand.old }
     requires ready { IsReady (view hand.old) }
     requires item { IsItemRef (view hand.old) item.now }
-    ensures arena { IsHandOf arena.now hand.new }
-    ensures ready { IsReady (view hand.new) }
-    ensures locks { locks_of hand.new ≡ locks_of hand.old }
-    ensures number { hand_number hand.new ≡ hand_number hand.old }
     ensures item { IsItemRef (view hand.new) item.now }
     ensures bumps { HoldsSlabs (Bumps (hand_number hand.old) (item_chunk item.now)) (view hand.old)
         (view hand.new) }
@@ -32,6 +28,7 @@ pub fn bump<R: Wait>(rt: &R, arena: &Arena, hand: &mut Hand, item: &Ref)
     ensures keeps { KeepsRefs (view hand.old) (view hand.new) }
     ensures calls { RecordsNoCall (view hand.old) (view hand.new) }
     ensures stores_nothing { StoresNothing (view hand.old) (view hand.new) }
+    ensures hand { StaysReady arena.now hand.old hand.new }
 {
     bump_chunk(rt, arena, hand, &item.reference);
 }

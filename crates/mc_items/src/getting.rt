@@ -1,14 +1,14 @@
 //! References to the items of keys, by the locks of their stripes.
 ghost use Rattle.std.specs.Option.{option_map};
-ghost use Rattle.std.specs.Prelude.{◌<◌, ◌↔◌, ◌≡◌, ◌≤◌, Err, IfOk, IfSome, OnErr, false, length, true};
+ghost use Rattle.std.specs.Prelude.{◌<◌, ◌↔◌, ◌≡◌, ◌≤◌, Err, IfOk, IfSome, OnErr, length, true};
 ghost use Rattle.mc_classes.specs.Limits.{most_refs};
 ghost use Rattle.mc_core.specs.model.State.{has_chunk};
 ghost use Rattle.mc_core.specs.run.Chunks.{most_holdings};
 ghost use Rattle.mc_words.specs.hand.Arenas.{IsHandOf, setup_of, view};
 ghost use Rattle.mc_words.specs.lock.Lent.{IsLentStripe};
-ghost use Rattle.mc_words.specs.hand.Observers.{locks_of, hand_number, stripe_lent, stripe_number};
+ghost use Rattle.mc_words.specs.hand.Observers.{locks_of, stripe_lent, stripe_number};
 ghost use Rattle.mc_words.specs.lock.Out.{without_stripe};
-ghost use Rattle.mc_words.specs.hand.Ready.{IsReady};
+ghost use Rattle.mc_words.specs.hand.Ready.{IsReady, StaysReady};
 ghost use Rattle.mc_words.specs.item.Refs.{KeepsRefs};
 ghost use Rattle.mc_items.specs.Calls.{LooksUp, RecordsNoCall, IsFull};
 ghost use Rattle.mc_items.specs.ItemRefs.{IsItemRef, item_chunk, item_key, item_stamp};
@@ -48,10 +48,6 @@ pub fn get<R: Wait>(
 ) -> Result<Option<Ref>, GetError>
     requires arena { IsHandOf arena.now hand.old }
     requires ready { IsReady (view hand.old) }
-    ensures arena { IsHandOf arena.now hand.new }
-    ensures ready { IsReady (view hand.new) }
-    ensures locks { locks_of hand.new ≡ locks_of hand.old }
-    ensures number { hand_number hand.new ≡ hand_number hand.old }
     ensures gets { IfOk result (λ found. Gets (setup_of arena.now) key found hand.old hand.new) }
     ensures item { IfOk result (λ found. IfSome found (λ item. IsItemRef (view hand.new) item
         × (item_key item ≡ key))) }
@@ -70,6 +66,7 @@ pub fn get<R: Wait>(
     ensures no_more { OnErr result (HoldsTheSame (view hand.old) (view hand.new)) }
     ensures keeps { KeepsRefs (view hand.old) (view hand.new) }
     ensures stores_nothing { StoresNothing (view hand.old) (view hand.new) }
+    ensures hand { StaysReady arena.now hand.old hand.new }
 {
     if hand.refs() >= MOST_REFS {
         return Err(GetError::TooManyRefs);
@@ -101,10 +98,6 @@ pub enum TryGetError {
 pub fn try_get(arena: &Arena, hand: &mut Hand, key: u64) -> Result<Option<Ref>, TryGetError>
     requires arena { IsHandOf arena.now hand.old }
     requires ready { IsReady (view hand.old) }
-    ensures arena { IsHandOf arena.now hand.new }
-    ensures ready { IsReady (view hand.new) }
-    ensures locks { locks_of hand.new ≡ locks_of hand.old }
-    ensures number { hand_number hand.new ≡ hand_number hand.old }
     ensures gets { IfOk result (λ found. Gets (setup_of arena.now) key found hand.old hand.new) }
     ensures item { IfOk result (λ found. IfSome found (λ item. IsItemRef (view hand.new) item
         × (item_key item ≡ key))) }
@@ -125,6 +118,7 @@ pub fn try_get(arena: &Arena, hand: &mut Hand, key: u64) -> Result<Option<Ref>, 
     ensures no_more { OnErr result (HoldsTheSame (view hand.old) (view hand.new)) }
     ensures keeps { KeepsRefs (view hand.old) (view hand.new) }
     ensures stores_nothing { StoresNothing (view hand.old) (view hand.new) }
+    ensures hand { StaysReady arena.now hand.old hand.new }
 {
     if hand.refs() >= MOST_REFS {
         return Err(TryGetError::TooManyRefs);

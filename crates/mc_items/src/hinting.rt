@@ -5,8 +5,8 @@ ghost use Rattle.mc_core.specs.model.State.{has_chunk};
 ghost use Rattle.mc_words.specs.hand.Arenas.{IsHandOf, setup_of, view};
 ghost use Rattle.mc_words.specs.item.Again.{FindsContended, FindsGone};
 ghost use Rattle.mc_words.specs.item.Items.{held_item};
-ghost use Rattle.mc_words.specs.hand.Observers.{hint_chunk, hint_issue, locks_of, hand_number};
-ghost use Rattle.mc_words.specs.hand.Ready.{IsReady};
+ghost use Rattle.mc_words.specs.hand.Observers.{hint_chunk, hint_issue};
+ghost use Rattle.mc_words.specs.hand.Ready.{IsReady, StaysReady};
 ghost use Rattle.mc_words.specs.item.Refs.{KeepsRefs};
 ghost use Rattle.mc_items.specs.ItemRefs.{IsItemRef, item_chunk, item_issue};
 ghost use Rattle.mc_items.specs.Keeping.{HoldsTheSame, HoldsToo, HasStoredWords, StoresNothing};
@@ -32,10 +32,6 @@ pub fn again(arena: &Arena, hand: &mut Hand, hint: Hint) -> Result<Ref, Again>
     requires arena { IsHandOf arena.now hand.old }
     requires ready { IsReady (view hand.old) }
     requires in_range { has_chunk (setup_of arena.now).table (hint_chunk hint) ≡ true }
-    ensures arena { IsHandOf arena.now hand.new }
-    ensures ready { IsReady (view hand.new) }
-    ensures locks { locks_of hand.new ≡ locks_of hand.old }
-    ensures number { hand_number hand.new ≡ hand_number hand.old }
     ensures hinted { IfOk result (λ item. (item_chunk item ≡ hint_chunk hint)
         × (item_issue item ≡ hint_issue hint)) }
     ensures gets { IfOk result (λ item. GetsByHint hint item (view hand.old) (view hand.new)) }
@@ -55,6 +51,7 @@ pub fn again(arena: &Arena, hand: &mut Hand, hint: Hint) -> Result<Ref, Again>
     ensures no_more { OnErr result (HoldsTheSame (view hand.old) (view hand.new)) }
     ensures keeps { KeepsRefs (view hand.old) (view hand.new) }
     ensures stores_nothing { StoresNothing (view hand.old) (view hand.new) }
+    ensures hand { StaysReady arena.now hand.old hand.new }
 {
     match arena.again(hand, hint) {
         Ok(reference) => Ok(look_at(arena, hand, reference)),

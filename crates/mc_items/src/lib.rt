@@ -7,6 +7,7 @@
 //! - [`get`] returns a [`Ref`] to the key's item, and [`try_get`] does so without waiting. [`read`] and [`word`] read the item's
 //!   words, and [`release`] gives the reference back.
 //! - [`hint`] makes a hint of a reference, and [`again`] gets the item by the hint with no lock, if it is there still.
+//! - [`make_room`] makes room in a class without a sweep: it evicts some of its oldest items, but those that [`Marks`] spare.
 //! - [`touch`] and [`bump`] make an item the one of its class that is evicted last, and [`delete`] deletes a key.
 //!
 //! ```rust
@@ -33,12 +34,15 @@ mod filling;
 mod getting;
 mod hinting;
 pub mod laws;
+mod making_room;
+mod marks;
 mod reading;
 mod refs;
 mod setting;
 mod storing;
 mod supplying;
 mod touching;
+mod visiting;
 mod within;
 
 pub use bumping::bump;
@@ -46,8 +50,11 @@ pub use deleting::delete;
 pub use evicting::Supply;
 pub use getting::{GetError, TryGetError, get, try_get};
 pub use hinting::{again, hint};
+pub use making_room::{Room, make_room};
+pub use marks::{Marks, NoMarks};
 pub use reading::{read, release, word};
 pub use refs::Ref;
 pub use setting::{SetError, set};
 pub use touching::touch;
+pub use visiting::{ROOM_ITEMS, ROOM_TRIES, Visit};
 pub use within::{SetWithinError, set_within};

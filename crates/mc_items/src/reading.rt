@@ -3,8 +3,7 @@ ghost use Rattle.std.specs.Prelude.{◌≡◌, ◌+◌, ◌<◌, [], IfOk, OnErr
 ghost use Rattle.mc_words.specs.hand.Arenas.{IsHandOf, view};
 ghost use Rattle.mc_words.specs.rule.Happens.{Happens};
 ghost use Rattle.mc_words.specs.item.Items.{item_with};
-ghost use Rattle.mc_words.specs.hand.Observers.{locks_of, hand_number};
-ghost use Rattle.mc_words.specs.hand.Ready.{IsReady};
+ghost use Rattle.mc_words.specs.hand.Ready.{IsReady, StaysReady};
 ghost use Rattle.mc_words.specs.item.Refs.{KeepsRemainingRefs, KeepsRefs};
 ghost use Rattle.mc_words.specs.hand.Views.{chunk_released, word_seen};
 ghost use Rattle.mc_items.specs.ItemRefs.{IsItemRef, item_chunk, item_key, item_len, item_stamp, item_words};
@@ -22,10 +21,6 @@ pub fn read(alloc: Global, arena: &Arena, hand: &mut Hand, item: &Ref) -> Result
     requires arena { IsHandOf arena.now hand.old }
     requires ready { IsReady (view hand.old) }
     requires item { IsItemRef (view hand.old) item.now }
-    ensures arena { IsHandOf arena.now hand.new }
-    ensures ready { IsReady (view hand.new) }
-    ensures locks { locks_of hand.new ≡ locks_of hand.old }
-    ensures number { hand_number hand.new ≡ hand_number hand.old }
     ensures item { IsItemRef (view hand.new) item.now }
     ensures view { IfOk result (λ words. view hand.new
         ≡ words_seen (item_chunk item.now) 3 (item_len item.now) (view hand.old)) }
@@ -37,6 +32,7 @@ pub fn read(alloc: Global, arena: &Arena, hand: &mut Hand, item: &Ref) -> Result
     ensures holdings { HoldsTheSame (view hand.old) (view hand.new) }
     ensures keeps { KeepsRefs (view hand.old) (view hand.new) }
     ensures stores_nothing { StoresNothing (view hand.old) (view hand.new) }
+    ensures hand { StaysReady arena.now hand.old hand.new }
 {
     let mut words = with_capacity(alloc, item.len as usize)?;
     for place in 0..item.len {
@@ -53,10 +49,6 @@ pub fn word(arena: &Arena, hand: &mut Hand, item: &Ref, place: u64) -> u64
     requires ready { IsReady (view hand.old) }
     requires item { IsItemRef (view hand.old) item.now }
     requires in_range { place < item_len item.now }
-    ensures arena { IsHandOf arena.now hand.new }
-    ensures ready { IsReady (view hand.new) }
-    ensures locks { locks_of hand.new ≡ locks_of hand.old }
-    ensures number { hand_number hand.new ≡ hand_number hand.old }
     ensures item { IsItemRef (view hand.new) item.now }
     ensures happens { Happens (view hand.old) [] (step.Word (item_chunk item.now) (3 + place))
         (view hand.new) }
@@ -69,6 +61,7 @@ pub fn word(arena: &Arena, hand: &mut Hand, item: &Ref, place: u64) -> u64
     ensures holdings { HoldsTheSame (view hand.old) (view hand.new) }
     ensures keeps { KeepsRefs (view hand.old) (view hand.new) }
     ensures stores_nothing { StoresNothing (view hand.old) (view hand.new) }
+    ensures hand { StaysReady arena.now hand.old hand.new }
 {
     arena.word(hand, &item.reference, 3 + place)
 }
@@ -80,15 +73,12 @@ pub fn release(arena: &Arena, hand: &mut Hand, item: Ref)
     requires arena { IsHandOf arena.now hand.old }
     requires ready { IsReady (view hand.old) }
     requires item { IsItemRef (view hand.old) item }
-    ensures arena { IsHandOf arena.now hand.new }
-    ensures ready { IsReady (view hand.new) }
-    ensures locks { locks_of hand.new ≡ locks_of hand.old }
-    ensures number { hand_number hand.new ≡ hand_number hand.old }
     ensures happens { Happens (view hand.old) [] (step.Release (item_chunk item)) (view hand.new) }
     ensures dropped { view hand.new ≡ chunk_released (item_chunk item) (view hand.old) }
     ensures holdings { HoldsLess item (view hand.old) (view hand.new) }
     ensures keeps { KeepsRemainingRefs (view hand.old) (view hand.new) }
     ensures stores_nothing { StoresNothing (view hand.old) (view hand.new) }
+    ensures hand { StaysReady arena.now hand.old hand.new }
 {
     let Ref { reference, .. } = item;
     arena.release(hand, reference);

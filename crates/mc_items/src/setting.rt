@@ -7,7 +7,7 @@ ghost use Rattle.mc_words.specs.hand.Arenas.{IsHandOf, setup_of, view};
 ghost use Rattle.mc_words.specs.hand.Idle.{is_unlocked};
 ghost use Rattle.mc_words.specs.item.Items.{item_with};
 ghost use Rattle.mc_words.specs.hand.Observers.{fresh_chunk, locks_of, hand_number};
-ghost use Rattle.mc_words.specs.hand.Ready.{IsReady};
+ghost use Rattle.mc_words.specs.hand.Ready.{IsReady, StaysReady};
 ghost use Rattle.mc_words.specs.item.Refs.{KeepsRefs};
 ghost use Rattle.mc_items.specs.Evicting.{RecordsEviction};
 ghost use Rattle.mc_items.specs.FreshChunks.{IsFreshFor};
@@ -56,10 +56,6 @@ pub fn set<R: Wait>(
 ) -> Result<Stamp, SetError>
     requires arena { IsHandOf arena.now hand.old }
     requires ready { IsReady (view hand.old) }
-    ensures arena { IsHandOf arena.now hand.new }
-    ensures ready { IsReady (view hand.new) }
-    ensures locks { locks_of hand.new ≡ locks_of hand.old }
-    ensures number { hand_number hand.new ≡ hand_number hand.old }
     ensures sets { IfOk result (λ stamp. SetsItem (hand_number hand.old) key stamp words.now
         (view hand.old) (view hand.new)) }
     ensures calls { IfOk result (λ stamp. RecordsSet (hand_number hand.old) key stamp
@@ -74,6 +70,7 @@ pub fn set<R: Wait>(
     ensures stamps { OnErr result ((view hand.new).row.ids ≡ (view hand.old).row.ids) }
     ensures holdings { HoldsTheSame (view hand.old) (view hand.new) }
     ensures keeps { KeepsRefs (view hand.old) (view hand.new) }
+    ensures hand { StaysReady arena.now hand.old hand.new }
 {
     let Some(class) = arena.classes().class_for(24 + 8 * words.len() as u64) else {
         return Err(SetError::TooLarge);

@@ -143,7 +143,13 @@ fn make_free(
 
 // Asks for a move of any class's page to this one, if an item was evicted and the automover's mode is 2. Its answer is ignored, want of
 // memory too. (after items.c's `lru_pull_tail`)
-fn ask_move(arena: &Arena, hand: &mut Hand, held: &mut SlabsHeld, class: ClassId, supply: Supply)
+pub(crate) fn ask_move(
+    arena: &Arena,
+    hand: &mut Hand,
+    held: &mut SlabsHeld,
+    class: ClassId,
+    supply: Supply,
+)
     requires arena { IsHandOf arena.now hand.old }
     requires held { HasSlabs hand.old held.old }
     ensures arena { IsHandOf arena.now hand.new }

@@ -1,6 +1,5 @@
 use Rattle.std.proofs.Common.{ap}
-use Rattle.mc_words.proofs.Hands.HandNumbers.{number_stays}
-use Rattle.mc_items.proofs.Chains.{kept_refs_keep_items, ready_still, refs_stay}
+use Rattle.mc_items.proofs.Chains.{kept_refs_keep_items, hand_still, refs_stay}
 use Rattle.mc_items.proofs.Left.{Kept, bumped_keeps, bumped_tells}
 use Rattle.mc_items.proofs.bumping.bump.Goals as goal
 
@@ -9,9 +8,6 @@ returns-clause-holdings g c = ap (λ (k : Kept). k.0) (bumped_keeps _ _ _ _ c.bu
 
 pub returns-clause-stores_nothing : goal.returns-clause-stores_nothing
 returns-clause-stores_nothing g c = ap (λ (k : Kept). k.2) (bumped_keeps _ _ _ _ c.bump_chunk.ensures.bumps)
-
-pub returns-clause-number : goal.returns-clause-number
-returns-clause-number g c = number_stays c.args.hand.now c.bump_chunk.new.hand (ap (λ (k : Kept). k.3) (bumped_keeps _ _ _ _ c.bump_chunk.ensures.bumps))
 
 pub returns-clause-calls : goal.returns-clause-calls
 returns-clause-calls g c = bumped_tells _ _ _ _ c.bump_chunk.ensures.bumps
@@ -25,5 +21,6 @@ returns-clause-item g c = (kept_refs_keep_items c.args.hand.now.seat.me.0 c.bump
 pub returns-clause-words : goal.returns-clause-words
 returns-clause-words g c = (kept_refs_keep_items c.args.hand.now.seat.me.0 c.bump_chunk.new.hand.seat.me.0 c.args.item.now (returns-clause-keeps g c) c.requires.item).words
 
-pub returns-clause-ready : goal.returns-clause-ready
-returns-clause-ready g c = ready_still c.args.hand.now c.bump_chunk.new.hand c.bump_chunk.ensures.locks (returns-clause-holdings g c) c.requires.ready
+pub returns-clause-hand : goal.returns-clause-hand
+returns-clause-hand g c =
+    hand_still c.args.arena.now c.args.hand.now c.bump_chunk.new.hand c.bump_chunk.ensures.arena c.bump_chunk.ensures.locks (returns-clause-holdings g c) (ap (λ (k : Kept). k.3) (bumped_keeps _ _ _ _ c.bump_chunk.ensures.bumps)) c.requires.ready

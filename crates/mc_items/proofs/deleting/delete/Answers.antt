@@ -1,4 +1,4 @@
-use Rattle.std.proofs.Common.{◌≡◌, ◌%◌, ℕ, false, refl, ap, subst, ◌∙◌}
+use Rattle.std.proofs.Common.{◌≡◌, ◌%◌, ℕ, refl, ap, subst, ◌∙◌}
 use Rattle.mc_classes.specs.declared.config.Config.{Config}
 use Rattle.mc_core.specs.model.Holdings.{has_fresh}
 use Rattle.mc_words.specs.lock.Doing.{UsesRoomForCall}
@@ -9,7 +9,7 @@ use Rattle.mc_words.specs.hand.Views.{stripe_given}
 use Rattle.mc_words.specs.lock.Wait.{WaitsForStripe}
 use Rattle.mc_stripe.specs.declared.history.Call.TheVariants.{Delete}
 use Rattle.mc_items.specs.Calls.{CallsOn, Deletes, OnlyWaits, RecordsCall, RecordsNoCall, IsFull}
-use Rattle.mc_items.proofs.Chains.{ready_still, refs_stay}
+use Rattle.mc_items.proofs.Chains.{hand_still, refs_stay}
 use Rattle.mc_items.proofs.Left.{Kept}
 use Rattle.mc_items.proofs.GetLeaves.{delete_kept}
 use Rattle.mc_items.proofs.Deletes.{ok_map, err_map}
@@ -24,9 +24,6 @@ pub delete_at-requires-clause-fresh : goal.delete_at-requires-clause-fresh
 delete_at-requires-clause-fresh g c =
     let held = c.lock_stripe-held in
     ap has_fresh (waits_keep (λ (v : View). v.row.holdings) (c.args.key % c.config.result.now.stripes) (λ word v. refl) (λ value v. refl) c.args.hand.now.seat.me.0 held.result.stripe held.new.hand.seat.me.0 held.ensures.waits) ∙ c.requires.ready.unfilled
-
-pub returns-clause-locks : goal.returns-clause-locks
-returns-clause-locks g c = c.delete_at.ensures.locks ∙ (ap without_stripe c.lock_stripe-held.ensures.locks ∙ locks_back c.args.hand.now (c.args.key % c.config.result.now.stripes) c.requires.ready.unlocked)
 
 pub returns-clause-deletes : goal.returns-clause-deletes
 returns-clause-deletes g c =
@@ -86,15 +83,13 @@ returns-clause-holdings g c =
     let kept = delete_kept c.delete_at.result hand.number (c.args.key % c.args.arena.now.table.shared.key.config.stripes) c.args.key hand.seat.me.0 now.seat.me.0 (returns-clause-deletes g c) (returns-clause-no_memory g c) in
     ap (λ (k : Kept). k.0) kept
 
-pub returns-clause-ready : goal.returns-clause-ready
-returns-clause-ready g c = ready_still c.args.hand.now c.delete_at.new.hand (returns-clause-locks g c) (returns-clause-holdings g c) c.requires.ready
-
-pub returns-clause-number : goal.returns-clause-number
-returns-clause-number g c =
+pub returns-clause-hand : goal.returns-clause-hand
+returns-clause-hand g c =
     let hand = c.args.hand.now in
     let now = c.delete_at.new.hand in
     let kept = delete_kept c.delete_at.result hand.number (c.args.key % c.args.arena.now.table.shared.key.config.stripes) c.args.key hand.seat.me.0 now.seat.me.0 (returns-clause-deletes g c) (returns-clause-no_memory g c) in
-    number_stays hand now (ap (λ (k : Kept). k.3) kept)
+    let locks = c.delete_at.ensures.locks ∙ (ap without_stripe c.lock_stripe-held.ensures.locks ∙ locks_back hand (c.args.key % c.config.result.now.stripes) c.requires.ready.unlocked) in
+    hand_still c.args.arena.now hand now c.delete_at.ensures.arena locks (returns-clause-holdings g c) (ap (λ (k : Kept). k.3) kept) c.requires.ready
 
 pub returns-clause-keeps : goal.returns-clause-keeps
 returns-clause-keeps g c =

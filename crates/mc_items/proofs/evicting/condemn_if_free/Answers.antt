@@ -1,4 +1,4 @@
-use Rattle.std.proofs.Common.{◌≡◌, ◌<◌, ◌%◌, ℕ, true, false, Some, [], refl, ap, sym, subst, ◌∙◌, inl, inr}
+use Rattle.std.proofs.Common.{◌≡◌, ◌<◌, ◌%◌, ℕ, true, Some, [], refl, ap, sym, subst, ◌∙◌, inl, inr}
 use Rattle.mc_classes.specs.declared.config.Config.{Config}
 use Rattle.mc_core.specs.model.Head.{decode}
 use Rattle.mc_core.specs.model.State.{has_chunk, is_class, room_in}

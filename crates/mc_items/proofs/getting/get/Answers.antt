@@ -11,7 +11,7 @@ use Rattle.mc_words.specs.lock.Doing.{UsesRoomForCall}
 use Rattle.mc_items.specs.Calls.{CallsOn, LooksUp}
 use Rattle.mc_items.specs.ItemRefs.{item_chunk}
 use Rattle.mc_stripe.specs.declared.history.Call.TheVariants.{Get}
-use Rattle.mc_items.proofs.Chains.{ready_still, refs_stay}
+use Rattle.mc_items.proofs.Chains.{hand_still, refs_stay}
 use Rattle.mc_items.proofs.Left.{Kept, only_keeps}
 use Rattle.mc_items.proofs.GetLeaves.{get_leaves, get_near, get_ready, get_said}
 use Rattle.mc_items.proofs.Gets.{and_reads, called_on, only_waits}
@@ -28,12 +28,6 @@ look_up-requires-clause-within_limit g c =
     let count = c.refs.ensures.count in
     let within_limit = c.if-refs-ge-MOST_REFS.false in
     omega arith
-
-pub returns-in-Ok-clause-locks : goal.returns-in-Ok-clause-locks
-returns-in-Ok-clause-locks g c = c.look_up.ensures.locks ∙ (ap without_stripe c.lock_stripe-held.ensures.locks ∙ locks_back c.args.hand.now (c.args.key % c.config.result.now.stripes) c.requires.ready.unlocked)
-
-pub returns-in-Err-clause-locks : goal.returns-in-Err-clause-locks
-returns-in-Err-clause-locks g c = c.look_up.ensures.locks ∙ (ap without_stripe c.lock_stripe-held.ensures.locks ∙ locks_back c.args.hand.now (c.args.key % c.config.result.now.stripes) c.requires.ready.unlocked)
 
 pub returns-in-Ok-clause-gets : goal.returns-in-Ok-clause-gets
 returns-in-Ok-clause-gets g c =
@@ -79,17 +73,19 @@ returns-in-Ok-clause-stores_nothing g c =
     let now = c.look_up.new.hand in
     (get_leaves hand.number (c.args.key % c.args.arena.now.table.shared.key.config.stripes) c.args.key c.in-Ok.found hand.seat.me.0 now.seat.me.0 (returns-in-Ok-clause-gets g c)).stored
 
-pub returns-in-Ok-clause-number : goal.returns-in-Ok-clause-number
-returns-in-Ok-clause-number g c =
+pub returns-in-Ok-clause-hand : goal.returns-in-Ok-clause-hand
+returns-in-Ok-clause-hand g c =
     let hand = c.args.hand.now in
     let now = c.look_up.new.hand in
-    number_stays hand now (get_leaves hand.number (c.args.key % c.args.arena.now.table.shared.key.config.stripes) c.args.key c.in-Ok.found hand.seat.me.0 now.seat.me.0 (returns-in-Ok-clause-gets g c)).ids
-
-pub returns-in-Ok-clause-ready : goal.returns-in-Ok-clause-ready
-returns-in-Ok-clause-ready g c =
     let count = c.refs.ensures.count in
     let within_limit = c.if-refs-ge-MOST_REFS.false in
-    get_ready c.args.hand.now c.look_up.new.hand c.in-Ok.found (returns-in-Ok-clause-locks g c) (returns-in-Ok-clause-holdings g c) (omega arith) c.requires.ready
+    let locks = c.look_up.ensures.locks ∙ (ap without_stripe c.lock_stripe-held.ensures.locks ∙ locks_back hand (c.args.key % c.config.result.now.stripes) c.requires.ready.unlocked) in
+    let leaves = get_leaves hand.number (c.args.key % c.args.arena.now.table.shared.key.config.stripes) c.args.key c.in-Ok.found hand.seat.me.0 now.seat.me.0 (returns-in-Ok-clause-gets g c) in record {
+      arena = c.look_up.ensures.arena;
+      ready = get_ready hand now c.in-Ok.found locks leaves.holds (omega arith) c.requires.ready;
+      locks = locks;
+      number = number_stays hand now leaves.ids;
+    }
 
 pub returns-in-Ok-clause-in_range : goal.returns-in-Ok-clause-in_range
 returns-in-Ok-clause-in_range g c =
@@ -112,14 +108,13 @@ returns-in-Err-clause-no_more g c =
     let now = c.look_up.new.hand in
     ap (λ (k : Kept). k.0) (only_keeps (c.args.key % c.args.arena.now.table.shared.key.config.stripes) hand.seat.me.0 now.seat.me.0 (returns-in-Err-clause-no_memory g c refl))
 
-pub returns-in-Err-clause-ready : goal.returns-in-Err-clause-ready
-returns-in-Err-clause-ready g c = ready_still c.args.hand.now c.look_up.new.hand (returns-in-Err-clause-locks g c) (returns-in-Err-clause-no_more g c) c.requires.ready
-
-pub returns-in-Err-clause-number : goal.returns-in-Err-clause-number
-returns-in-Err-clause-number g c =
+pub returns-in-Err-clause-hand : goal.returns-in-Err-clause-hand
+returns-in-Err-clause-hand g c =
     let hand = c.args.hand.now in
     let now = c.look_up.new.hand in
-    number_stays hand now (ap (λ (k : Kept). k.3) (only_keeps (c.args.key % c.args.arena.now.table.shared.key.config.stripes) hand.seat.me.0 now.seat.me.0 (returns-in-Err-clause-no_memory g c refl)))
+    let kept = only_keeps (c.args.key % c.args.arena.now.table.shared.key.config.stripes) hand.seat.me.0 now.seat.me.0 (returns-in-Err-clause-no_memory g c refl) in
+    let locks = c.look_up.ensures.locks ∙ (ap without_stripe c.lock_stripe-held.ensures.locks ∙ locks_back hand (c.args.key % c.config.result.now.stripes) c.requires.ready.unlocked) in
+    hand_still c.args.arena.now hand now c.look_up.ensures.arena locks (returns-in-Err-clause-no_more g c) (ap (λ (k : Kept). k.3) kept) c.requires.ready
 
 pub returns-in-Err-clause-keeps : goal.returns-in-Err-clause-keeps
 returns-in-Err-clause-keeps g c =

@@ -10,7 +10,7 @@ use Rattle.mc_words.specs.lock.Doing.{UsesRoomForCall}
 use Rattle.mc_items.specs.Calls.{CallsOn, IsFull, LooksUp}
 use Rattle.mc_items.specs.ItemRefs.{item_chunk}
 use Rattle.mc_stripe.specs.declared.history.Call.TheVariants.{Get}
-use Rattle.mc_items.proofs.Chains.{ready_still, refs_stay}
+use Rattle.mc_items.proofs.Chains.{hand_still, refs_stay}
 use Rattle.mc_items.proofs.Left.{Kept, only_keeps}
 use Rattle.mc_items.proofs.GetLeaves.{get_leaves, get_near, get_ready, get_said}
 use Rattle.mc_items.proofs.Gets.{and_reads, called_on, only_waits}
@@ -18,12 +18,6 @@ use Rattle.mc_words.proofs.Hands.HandNumbers.{number_stays}
 use Rattle.mc_items.proofs.Locks.{locks_back, taken_at_once}
 use Rattle.mc_items.proofs.Tells.{told_none, told_on}
 use Rattle.mc_items.proofs.getting.try_get.Goals as goal
-
-pub returns-in-Ok-look_up-clause-locks : goal.returns-in-Ok-look_up-clause-locks
-returns-in-Ok-look_up-clause-locks c = c.look_up.ensures.locks ∙ (ap without_stripe c.in-Ok.ensures.locks ∙ locks_back c.args.hand.now (c.args.key % c.config.result.now.stripes) c.requires.ready.unlocked)
-
-pub returns-in-Err-clause-locks : goal.returns-in-Err-clause-locks
-returns-in-Err-clause-locks c = c.look_up.ensures.locks ∙ (ap without_stripe c.in-Ok.ensures.locks ∙ locks_back c.args.hand.now (c.args.key % c.config.result.now.stripes) c.requires.ready.unlocked)
 
 pub returns-in-Ok-look_up-clause-gets : goal.returns-in-Ok-look_up-clause-gets
 returns-in-Ok-look_up-clause-gets c =
@@ -87,17 +81,19 @@ returns-in-Ok-look_up-clause-stores_nothing c =
     let now = c.look_up.new.hand in
     (get_leaves hand.number (c.args.key % c.args.arena.now.table.shared.key.config.stripes) c.args.key c.in-Ok-look_up.found hand.seat.me.0 now.seat.me.0 (returns-in-Ok-look_up-clause-gets c)).stored
 
-pub returns-in-Ok-look_up-clause-number : goal.returns-in-Ok-look_up-clause-number
-returns-in-Ok-look_up-clause-number c =
+pub returns-in-Ok-look_up-clause-hand : goal.returns-in-Ok-look_up-clause-hand
+returns-in-Ok-look_up-clause-hand c =
     let hand = c.args.hand.now in
     let now = c.look_up.new.hand in
-    number_stays hand now (get_leaves hand.number (c.args.key % c.args.arena.now.table.shared.key.config.stripes) c.args.key c.in-Ok-look_up.found hand.seat.me.0 now.seat.me.0 (returns-in-Ok-look_up-clause-gets c)).ids
-
-pub returns-in-Ok-look_up-clause-ready : goal.returns-in-Ok-look_up-clause-ready
-returns-in-Ok-look_up-clause-ready c =
     let count = c.refs.ensures.count in
     let within_limit = c.if-refs-ge-MOST_REFS.false in
-    get_ready c.args.hand.now c.look_up.new.hand c.in-Ok-look_up.found (returns-in-Ok-look_up-clause-locks c) (returns-in-Ok-look_up-clause-holdings c) (omega arith) c.requires.ready
+    let locks = c.look_up.ensures.locks ∙ (ap without_stripe c.in-Ok.ensures.locks ∙ locks_back hand (c.args.key % c.config.result.now.stripes) c.requires.ready.unlocked) in
+    let leaves = get_leaves hand.number (c.args.key % c.args.arena.now.table.shared.key.config.stripes) c.args.key c.in-Ok-look_up.found hand.seat.me.0 now.seat.me.0 (returns-in-Ok-look_up-clause-gets c) in record {
+      arena = c.look_up.ensures.arena;
+      ready = get_ready hand now c.in-Ok-look_up.found locks leaves.holds (omega arith) c.requires.ready;
+      locks = locks;
+      number = number_stays hand now leaves.ids;
+    }
 
 pub returns-in-Ok-look_up-clause-in_range : goal.returns-in-Ok-look_up-clause-in_range
 returns-in-Ok-look_up-clause-in_range c =
@@ -107,11 +103,13 @@ pub returns-in-Ok-look_up-clause-stores_words : goal.returns-in-Ok-look_up-claus
 returns-in-Ok-look_up-clause-stores_words c =
     get_said c.look_up.new.hand.seat.me.0 c.in-Ok-look_up.found c.args.key c.look_up.ensures.arena.lawful c.in-Ok-look_up.ensures.item
 
-pub returns-in-Err-clause-ready : goal.returns-in-Err-clause-ready
-returns-in-Err-clause-ready c =
+pub returns-in-Err-clause-hand : goal.returns-in-Err-clause-hand
+returns-in-Err-clause-hand c =
     let hand = c.args.hand.now in
     let now = c.look_up.new.hand in
-    ready_still hand now (returns-in-Err-clause-locks c) (ap (λ (k : Kept). k.0) (only_keeps (c.args.key % c.args.arena.now.table.shared.key.config.stripes) hand.seat.me.0 now.seat.me.0 (returns-in-Err-clause-no_memory c refl))) c.requires.ready
+    let kept = only_keeps (c.args.key % c.args.arena.now.table.shared.key.config.stripes) hand.seat.me.0 now.seat.me.0 (returns-in-Err-clause-no_memory c refl) in
+    let locks = c.look_up.ensures.locks ∙ (ap without_stripe c.in-Ok.ensures.locks ∙ locks_back hand (c.args.key % c.config.result.now.stripes) c.requires.ready.unlocked) in
+    hand_still c.args.arena.now hand now c.look_up.ensures.arena locks (ap (λ (k : Kept). k.0) kept) (ap (λ (k : Kept). k.3) kept) c.requires.ready
 
 pub returns-in-Err-clause-keeps : goal.returns-in-Err-clause-keeps
 returns-in-Err-clause-keeps c =

@@ -14,7 +14,7 @@ use Rattle.mc_words.specs.item.References.{reference_to}
 use Rattle.mc_words.specs.hand.Views.{fields_seen}
 use Rattle.std.proofs.Math.Nat.{lt_of_not-le}
 use Rattle.mc_words.proofs.Hands.HandNumbers.{number_stays}
-use Rattle.mc_items.proofs.Chains.{item_said, ready_more, ready_still, refs_and_more, refs_stay}
+use Rattle.mc_items.proofs.Chains.{hand_still, item_said, ready_more, refs_and_more, refs_stay}
 use Rattle.mc_items.proofs.Left.{GotOne, Kept, again_one, read_one}
 use Rattle.mc_items.proofs.GetLeaves.{again_kept}
 use Rattle.mc_items.proofs.Currents.{gets_current}
@@ -50,8 +50,8 @@ returns-in-Ok-clause-keeps c =
     let holding = reference_to hint.chunk hint.issue one.item in
     refs_and_more view now holding (known_by room holding ∷ []) (ap (λ (k : Kept). k.0) one.kept) (ap (λ (k : Kept). k.1) one.kept)
 
-pub returns-in-Ok-clause-ready : goal.returns-in-Ok-clause-ready
-returns-in-Ok-clause-ready c =
+pub returns-in-Ok-clause-hand : goal.returns-in-Ok-clause-hand
+returns-in-Ok-clause-hand c =
     let view : View = c.args.hand.now.seat.me.0 in
     let got : View = c.again.new.hand.seat.me.0 in
     let now : View = c.look_at.new.hand.seat.me.0 in
@@ -59,19 +59,12 @@ returns-in-Ok-clause-ready c =
     let room = c.in-Ok.reference.room in
     let is = c.look_at.ensures.view ∙ ap (λ (chunk : ChunkId). fields_seen chunk got) c.in-Ok.ensures.hinted.0 in
     let one : GotOne hint.chunk hint.issue room view now = read_one hint.chunk hint.issue room view got now is (again_one hint.chunk hint.issue room view got c.in-Ok.ensures.gets) in
-    let holding = reference_to hint.chunk hint.issue one.item in
-    ready_more c.args.hand.now c.look_at.new.hand holding (c.look_at.ensures.locks ∙ c.again.ensures.locks) (ap (λ (k : Kept). k.0) one.kept) refl (lt_of_not-le (λ at_limit. let e = c.in-Ok.ensures.at_limit.1 at_limit in absurd (cc))) c.requires.ready
-
-pub returns-in-Ok-clause-number : goal.returns-in-Ok-clause-number
-returns-in-Ok-clause-number c =
-    let view : View = c.args.hand.now.seat.me.0 in
-    let got : View = c.again.new.hand.seat.me.0 in
-    let now : View = c.look_at.new.hand.seat.me.0 in
-    let hint = c.args.hint in
-    let room = c.in-Ok.reference.room in
-    let is = c.look_at.ensures.view ∙ ap (λ (chunk : ChunkId). fields_seen chunk got) c.in-Ok.ensures.hinted.0 in
-    let one : GotOne hint.chunk hint.issue room view now = read_one hint.chunk hint.issue room view got now is (again_one hint.chunk hint.issue room view got c.in-Ok.ensures.gets) in
-    number_stays c.args.hand.now c.look_at.new.hand (ap (λ (k : Kept). k.3) one.kept)
+    let holding = reference_to hint.chunk hint.issue one.item in record {
+      arena = c.look_at.ensures.arena;
+      ready = ready_more c.args.hand.now c.look_at.new.hand holding (c.look_at.ensures.locks ∙ c.again.ensures.locks) (ap (λ (k : Kept). k.0) one.kept) refl (lt_of_not-le (λ at_limit. let e = c.in-Ok.ensures.at_limit.1 at_limit in absurd (cc))) c.requires.ready;
+      locks = c.look_at.ensures.locks ∙ c.again.ensures.locks;
+      number = number_stays c.args.hand.now c.look_at.new.hand (ap (λ (k : Kept). k.3) one.kept);
+    }
 
 pub returns-in-Ok-clause-stores_words : goal.returns-in-Ok-clause-stores_words
 returns-in-Ok-clause-stores_words c =
@@ -84,19 +77,12 @@ returns-in-Err-clause-keeps c =
     let kept = again_kept c.in-Err.error view c.args.hint.chunk c.args.hint.issue now c.in-Err.ensures.gone c.in-Err.ensures.contended c.in-Err.ensures.refused in
     refs_stay view now (ap (λ (k : Kept). k.0) kept) (ap (λ (k : Kept). k.1) kept)
 
-pub returns-in-Err-clause-ready : goal.returns-in-Err-clause-ready
-returns-in-Err-clause-ready c =
+pub returns-in-Err-clause-hand : goal.returns-in-Err-clause-hand
+returns-in-Err-clause-hand c =
     let view : View = c.args.hand.now.seat.me.0 in
     let now : View = c.again.new.hand.seat.me.0 in
     let kept = again_kept c.in-Err.error view c.args.hint.chunk c.args.hint.issue now c.in-Err.ensures.gone c.in-Err.ensures.contended c.in-Err.ensures.refused in
-    ready_still c.args.hand.now c.again.new.hand c.again.ensures.locks (ap (λ (k : Kept). k.0) kept) c.requires.ready
-
-pub returns-in-Err-clause-number : goal.returns-in-Err-clause-number
-returns-in-Err-clause-number c =
-    let view : View = c.args.hand.now.seat.me.0 in
-    let now : View = c.again.new.hand.seat.me.0 in
-    let kept = again_kept c.in-Err.error view c.args.hint.chunk c.args.hint.issue now c.in-Err.ensures.gone c.in-Err.ensures.contended c.in-Err.ensures.refused in
-    number_stays c.args.hand.now c.again.new.hand (ap (λ (k : Kept). k.3) kept)
+    hand_still c.args.arena.now c.args.hand.now c.again.new.hand c.again.ensures.arena c.again.ensures.locks (ap (λ (k : Kept). k.0) kept) (ap (λ (k : Kept). k.3) kept) c.requires.ready
 
 pub returns-in-Err-clause-no_more : goal.returns-in-Err-clause-no_more
 returns-in-Err-clause-no_more c =

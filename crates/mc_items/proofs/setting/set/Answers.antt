@@ -14,7 +14,7 @@ use Rattle.mc_words.proofs.Hands.HandNumbers.{number_stays}
 use Rattle.mc_words.specs.item.Items.{item_with}
 use Rattle.mc_core.specs.declared.ids.Ids.{Ids}
 use Rattle.mc_core.specs.run.Items.{ids_after_stamp}
-use Rattle.mc_items.proofs.Chains.{number_kept, ready_still, refs_stay}
+use Rattle.mc_items.proofs.Chains.{hand_still, number_kept, ready_still, refs_stay}
 use Rattle.mc_items.proofs.StoredRows.{dead_holds, dead_keeps, stored_holds, stored_ids, stored_keeps}
 use Rattle.mc_items.proofs.Locks.{still_unlocked}
 use Rattle.mc_items.proofs.Made.{Tells, refused_tells, supplied_tells, tells_before, refused_holds, supplied_gains}
@@ -134,14 +134,6 @@ pub returns-in-Err-clause-holdings : goal.returns-in-Err-clause-holdings
 returns-in-Err-clause-holdings g c =
     refused_holds c.args.hand.now.number c.in-Some.class c.in-Err.error c.args.hand.now.seat.me.0 c.chunk_of.new.hand.seat.me.0 c.in-Err.ensures.none
 
-pub returns-in-Err-clause-number : goal.returns-in-Err-clause-number
-returns-in-Err-clause-number g c =
-    let hand = c.args.hand.now in
-    let now = c.chunk_of.new.hand in
-    let none = c.in-Err.ensures.none in
-    let told = refused_tells hand.number c.in-Some.class c.in-Err.error hand.seat.me.0 now.seat.me.0 none in
-    number_stays hand now told.ids
-
 pub returns-in-Err-clause-keeps : goal.returns-in-Err-clause-keeps
 returns-in-Err-clause-keeps g c =
     let hand = c.args.hand.now in
@@ -150,9 +142,9 @@ returns-in-Err-clause-keeps g c =
     let told = refused_tells hand.number c.in-Some.class c.in-Err.error hand.seat.me.0 now.seat.me.0 none in
     refs_stay hand.seat.me.0 now.seat.me.0 (returns-in-Err-clause-holdings g c) told.known
 
-pub returns-in-Err-clause-ready : goal.returns-in-Err-clause-ready
-returns-in-Err-clause-ready g c =
-    ready_still c.args.hand.now c.chunk_of.new.hand c.chunk_of.ensures.locks (returns-in-Err-clause-holdings g c) c.requires.ready
+pub returns-in-Err-clause-hand : goal.returns-in-Err-clause-hand
+returns-in-Err-clause-hand g c =
+    hand_still c.args.arena.now c.args.hand.now c.chunk_of.new.hand c.chunk_of.ensures.arena c.chunk_of.ensures.locks (returns-in-Err-clause-holdings g c) (returns-in-Err-clause-stamps g c) c.requires.ready
 
 pub returns-in-Ok-store_words-clause-holdings : goal.returns-in-Ok-store_words-clause-holdings
 returns-in-Ok-store_words-clause-holdings g c =
@@ -180,8 +172,8 @@ returns-in-Ok-store_words-clause-keeps g c =
     let told = supplied_tells hand.number c.in-Some.class fresh.chunk view between c.in-Ok.ensures.supplies in
     stored_keeps fresh.chunk words view between c.requires.ready.unfilled gains c.in-Ok.ensures.own c.chunk_of.new.hand.number _ c.args.key stamp fresh.room now.seat.me.0 c.in-Ok-store_words.ensures.stores told.known
 
-pub returns-in-Ok-store_words-clause-number : goal.returns-in-Ok-store_words-clause-number
-returns-in-Ok-store_words-clause-number g c =
+pub returns-in-Ok-store_words-clause-hand : goal.returns-in-Ok-store_words-clause-hand
+returns-in-Ok-store_words-clause-hand g c =
     let hand = c.args.hand.now in
     let view : View = hand.seat.me.0 in
     let between : View = c.chunk_of.new.hand.seat.me.0 in
@@ -190,12 +182,12 @@ returns-in-Ok-store_words-clause-number g c =
     let stamp = c.in-Some-next_stamp.stamp in
     let words = item_with c.args.key stamp c.args.words.now in
     let gains = supplied_gains hand.number c.in-Some.class fresh.chunk view between c.in-Ok.ensures.supplies in
-    let told = supplied_tells hand.number c.in-Some.class fresh.chunk view between c.in-Ok.ensures.supplies in
-    number_kept hand now (ap (λ (i : Ids). i.number) (stored_ids fresh.chunk words view between c.requires.ready.unfilled gains c.in-Ok.ensures.own c.chunk_of.new.hand.number _ c.args.key stamp fresh.room now.seat.me.0 c.in-Ok-store_words.ensures.stores ∙ ap ids_after_stamp told.ids))
-
-pub returns-in-Ok-store_words-clause-ready : goal.returns-in-Ok-store_words-clause-ready
-returns-in-Ok-store_words-clause-ready g c =
-    ready_still c.args.hand.now c.store_words.new.hand (c.store_words.ensures.locks ∙ c.chunk_of.ensures.locks) (returns-in-Ok-store_words-clause-holdings g c) c.requires.ready
+    let told = supplied_tells hand.number c.in-Some.class fresh.chunk view between c.in-Ok.ensures.supplies in record {
+      arena = c.store_words.ensures.arena;
+      ready = ready_still hand now (c.store_words.ensures.locks ∙ c.chunk_of.ensures.locks) (returns-in-Ok-store_words-clause-holdings g c) c.requires.ready;
+      locks = c.store_words.ensures.locks ∙ c.chunk_of.ensures.locks;
+      number = number_kept hand now (ap (λ (i : Ids). i.number) (stored_ids fresh.chunk words view between c.requires.ready.unfilled gains c.in-Ok.ensures.own c.chunk_of.new.hand.number _ c.args.key stamp fresh.room now.seat.me.0 c.in-Ok-store_words.ensures.stores ∙ ap ids_after_stamp told.ids));
+    }
 
 pub returns-in-Err-store_words-clause-holdings : goal.returns-in-Err-store_words-clause-holdings
 returns-in-Err-store_words-clause-holdings g c =
@@ -223,10 +215,6 @@ returns-in-Err-store_words-clause-keeps g c =
     let told = supplied_tells hand.number c.in-Some.class fresh.chunk view between c.in-Ok.ensures.supplies in
     dead_keeps fresh.chunk words view between c.requires.ready.unfilled gains c.in-Ok.ensures.own _ now.seat.me.0 c.in-Err-store_words.ensures.no_memory told.known
 
-pub returns-in-Err-store_words-clause-number : goal.returns-in-Err-store_words-clause-number
-returns-in-Err-store_words-clause-number g c =
-    number_stays c.args.hand.now c.store_words.new.hand (returns-in-Err-store_words-clause-stamps g c)
-
-pub returns-in-Err-store_words-clause-ready : goal.returns-in-Err-store_words-clause-ready
-returns-in-Err-store_words-clause-ready g c =
-    ready_still c.args.hand.now c.store_words.new.hand (c.store_words.ensures.locks ∙ c.chunk_of.ensures.locks) (returns-in-Err-store_words-clause-holdings g c) c.requires.ready
+pub returns-in-Err-store_words-clause-hand : goal.returns-in-Err-store_words-clause-hand
+returns-in-Err-store_words-clause-hand g c =
+    hand_still c.args.arena.now c.args.hand.now c.store_words.new.hand c.store_words.ensures.arena (c.store_words.ensures.locks ∙ c.chunk_of.ensures.locks) (returns-in-Err-store_words-clause-holdings g c) (returns-in-Err-store_words-clause-stamps g c) c.requires.ready

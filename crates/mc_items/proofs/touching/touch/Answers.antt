@@ -15,7 +15,7 @@ use Rattle.std.specs.Option.{option_map}
 use Rattle.mc_stripe.specs.declared.history.Call.TheVariants.{Get}
 use Rattle.mc_stripe.specs.StripeState.{stamp_of_key as stripe_stamp}
 use Rattle.mc_core.specs.model.Columns.{count_of_holdings}
-use Rattle.mc_items.proofs.Chains.{ready_less, ready_still, refs_stay}
+use Rattle.mc_items.proofs.Chains.{hand_still, ready_less, refs_stay}
 use Rattle.mc_items.proofs.Left.{Kept, finds_one, none_keeps, only_keeps}
 use Rattle.mc_items.proofs.Gets.{called_on, only_waits}
 use Rattle.mc_items.proofs.Tells.{looked_tells, told_none, told_on}
@@ -34,12 +34,6 @@ refer_at-requires-clause-within_limit g c =
     let same = ap (λ (l : List Holding). length l) (waits_keep (λ (v : View). v.row.holdings) (c.args.key % c.config.result.now.stripes) (λ word v. refl) (λ value v. refl) c.args.hand.now.seat.me.0 held.result.stripe held.new.hand.seat.me.0 held.ensures.waits) in
     let within_limit = c.requires.ready.within_limit in
     omega arith
-
-pub returns-in-Ok-None-clause-locks : goal.returns-in-Ok-None-clause-locks
-returns-in-Ok-None-clause-locks g c = c.refer_at.ensures.locks ∙ (ap without_stripe c.lock_stripe-held.ensures.locks ∙ locks_back c.args.hand.now (c.args.key % c.config.result.now.stripes) c.requires.ready.unlocked)
-
-pub returns-in-Err-clause-locks : goal.returns-in-Err-clause-locks
-returns-in-Err-clause-locks g c = c.refer_at.ensures.locks ∙ (ap without_stripe c.lock_stripe-held.ensures.locks ∙ locks_back c.args.hand.now (c.args.key % c.config.result.now.stripes) c.requires.ready.unlocked)
 
 pub returns-in-Ok-None-clause-none : goal.returns-in-Ok-None-clause-none
 returns-in-Ok-None-clause-none g c _ =
@@ -76,19 +70,13 @@ returns-in-Ok-None-clause-holdings g c =
     let kept = none_keeps hand.number (c.args.key % c.args.arena.now.table.shared.key.config.stripes) c.args.key hand.seat.me.0 now.seat.me.0 (returns-in-Ok-None-clause-none g c refl) in
     λ chunk. ap (λ (k : Kept). count_of_holdings chunk k.0) kept
 
-pub returns-in-Ok-None-clause-ready : goal.returns-in-Ok-None-clause-ready
-returns-in-Ok-None-clause-ready g c =
+pub returns-in-Ok-None-clause-hand : goal.returns-in-Ok-None-clause-hand
+returns-in-Ok-None-clause-hand g c =
     let hand = c.args.hand.now in
     let now = c.refer_at.new.hand in
     let kept = none_keeps hand.number (c.args.key % c.args.arena.now.table.shared.key.config.stripes) c.args.key hand.seat.me.0 now.seat.me.0 (returns-in-Ok-None-clause-none g c refl) in
-    ready_still hand now (returns-in-Ok-None-clause-locks g c) (ap (λ (k : Kept). k.0) kept) c.requires.ready
-
-pub returns-in-Ok-None-clause-number : goal.returns-in-Ok-None-clause-number
-returns-in-Ok-None-clause-number g c =
-    let hand = c.args.hand.now in
-    let now = c.refer_at.new.hand in
-    let kept = none_keeps hand.number (c.args.key % c.args.arena.now.table.shared.key.config.stripes) c.args.key hand.seat.me.0 now.seat.me.0 (returns-in-Ok-None-clause-none g c refl) in
-    number_stays hand now (ap (λ (k : Kept). k.3) kept)
+    let locks = c.refer_at.ensures.locks ∙ (ap without_stripe c.lock_stripe-held.ensures.locks ∙ locks_back hand (c.args.key % c.config.result.now.stripes) c.requires.ready.unlocked) in
+    hand_still c.args.arena.now hand now c.refer_at.ensures.arena locks (ap (λ (k : Kept). k.0) kept) (ap (λ (k : Kept). k.3) kept) c.requires.ready
 
 pub returns-in-Ok-None-clause-keeps : goal.returns-in-Ok-None-clause-keeps
 returns-in-Ok-None-clause-keeps g c =
@@ -126,19 +114,13 @@ returns-in-Err-clause-holdings g c =
     let kept = only_keeps (c.args.key % c.args.arena.now.table.shared.key.config.stripes) hand.seat.me.0 now.seat.me.0 (returns-in-Err-clause-no_memory g c) in
     λ chunk. ap (λ (k : Kept). count_of_holdings chunk k.0) kept
 
-pub returns-in-Err-clause-ready : goal.returns-in-Err-clause-ready
-returns-in-Err-clause-ready g c =
+pub returns-in-Err-clause-hand : goal.returns-in-Err-clause-hand
+returns-in-Err-clause-hand g c =
     let hand = c.args.hand.now in
     let now = c.refer_at.new.hand in
     let kept = only_keeps (c.args.key % c.args.arena.now.table.shared.key.config.stripes) hand.seat.me.0 now.seat.me.0 (returns-in-Err-clause-no_memory g c) in
-    ready_still hand now (returns-in-Err-clause-locks g c) (ap (λ (k : Kept). k.0) kept) c.requires.ready
-
-pub returns-in-Err-clause-number : goal.returns-in-Err-clause-number
-returns-in-Err-clause-number g c =
-    let hand = c.args.hand.now in
-    let now = c.refer_at.new.hand in
-    let kept = only_keeps (c.args.key % c.args.arena.now.table.shared.key.config.stripes) hand.seat.me.0 now.seat.me.0 (returns-in-Err-clause-no_memory g c) in
-    number_stays hand now (ap (λ (k : Kept). k.3) kept)
+    let locks = c.refer_at.ensures.locks ∙ (ap without_stripe c.lock_stripe-held.ensures.locks ∙ locks_back hand (c.args.key % c.config.result.now.stripes) c.requires.ready.unlocked) in
+    hand_still c.args.arena.now hand now c.refer_at.ensures.arena locks (ap (λ (k : Kept). k.0) kept) (ap (λ (k : Kept). k.3) kept) c.requires.ready
 
 pub returns-in-Err-clause-keeps : goal.returns-in-Err-clause-keeps
 returns-in-Err-clause-keeps g c =
@@ -169,12 +151,6 @@ release-requires-clause-reference g c =
     let got : View = c.refer_at.new.hand.seat.me.0 in
     let ref = (subst (λ (o : Option Ref). IfSome o (λ r. IsRefOf got r.chunk r.room × IsIssueOf got r.chunk r.issue × (key_of (held_item got r.chunk) ≡ c.args.key))) c.in-Ok-Some.field-0-is c.in-Ok-Some.ensures.reference).0 in
     subst (λ (k : Kept). IsRefIn k.0 k.1 r.chunk r.room) (sym (bumped_keeps _ _ _ _ c.bump_chunk.ensures.bumps)) ref
-
-pub returns-clause-locks : goal.returns-clause-locks
-returns-clause-locks g c =
-    c.release.ensures.locks
-    ∙ (c.bump_chunk.ensures.locks
-    ∙ (c.refer_at.ensures.locks ∙ (ap without_stripe c.lock_stripe-held.ensures.locks ∙ locks_back c.args.hand.now (c.args.key % c.config.result.now.stripes) c.requires.ready.unlocked)))
 
 pub returns-clause-touches : goal.returns-clause-touches
 returns-clause-touches g c _ =
@@ -218,9 +194,6 @@ returns-clause-calls g c =
 pub returns-clause-holdings : goal.returns-clause-holdings
 returns-clause-holdings g c = touch_holds_as_often _ _ _ _ _ (returns-clause-touches g c refl)
 
-pub returns-clause-number : goal.returns-clause-number
-returns-clause-number g c = number_stays c.args.hand.now c.release.new.hand (touch_keeps_ids _ _ _ _ _ (returns-clause-touches g c refl))
-
 pub returns-clause-stores_nothing : goal.returns-clause-stores_nothing
 returns-clause-stores_nothing g c = touch_says_nothing _ _ _ _ _ (returns-clause-touches g c refl)
 
@@ -228,7 +201,16 @@ pub returns-clause-keeps : goal.returns-clause-keeps
 unfolding returns-clause-touches
 returns-clause-keeps g c = touch_keeps_refs _ _ _ _ _ (returns-clause-touches g c refl) c.requires.ready.unfilled c.refer_at.ensures.arena.lawful
 
-pub returns-clause-ready : goal.returns-clause-ready
-returns-clause-ready g c =
+pub returns-clause-hand : goal.returns-clause-hand
+returns-clause-hand g c =
+    let hand = c.args.hand.now in
+    let now = c.release.new.hand in
     let touches = returns-clause-touches g c refl in
-    ready_less c.args.hand.now c.release.new.hand (returns-clause-locks g c) (touch_fills_none _ _ _ _ _ touches c.requires.ready.unfilled) (touch_holds_no_more _ _ _ _ _ touches) c.requires.ready
+    let locks = c.release.ensures.locks
+    ∙ (c.bump_chunk.ensures.locks
+    ∙ (c.refer_at.ensures.locks ∙ (ap without_stripe c.lock_stripe-held.ensures.locks ∙ locks_back hand (c.args.key % c.config.result.now.stripes) c.requires.ready.unlocked))) in record {
+      arena = c.release.ensures.arena;
+      ready = ready_less hand now locks (touch_fills_none _ _ _ _ _ touches c.requires.ready.unfilled) (touch_holds_no_more _ _ _ _ _ touches) c.requires.ready;
+      locks = locks;
+      number = number_stays hand now (touch_keeps_ids _ _ _ _ _ touches);
+    }
