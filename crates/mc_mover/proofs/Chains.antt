@@ -9,16 +9,18 @@ use Rattle.mc_core.specs.declared.event.Change.TheVariants as change
 use Rattle.mc_core.specs.declared.holding.Holding.{Holding}
 use Rattle.mc_core.specs.model.Holdings.{has_fresh, holding_of}
 use Rattle.mc_core.specs.past.Past.{KnownItem, known_by}
+use Rattle.mc_words.specs.declared.arena.Arena.{Arena}
 use Rattle.mc_words.specs.declared.hand.Hand.{Hand}
 use Rattle.mc_words.specs.hand.View.{View}
-use Rattle.mc_words.specs.hand.Arenas.{view}
+use Rattle.mc_words.specs.hand.Arenas.{IsHandOf, view}
 use Rattle.mc_words.specs.lock.Doing.{HoldsSlabs}
 use Rattle.mc_words.specs.lock.Out.{is_neither}
-use Rattle.mc_words.specs.hand.Ready.{IsReady}
+use Rattle.mc_words.specs.hand.Ready.{IsReady, StaysReady}
 use Rattle.mc_words.specs.page.Moves.{Reassigns}
 use Rattle.mc_words.specs.item.Refs.{KeepsRefs}
 use Rattle.mc_words.specs.hand.Views.{slabs_changed, slabs_given}
 use Rattle.mc_words.specs.lock.Wait.{WaitsForSlabs}
+use Rattle.mc_words.proofs.Hands.HandNumbers.{number_stays}
 use Rattle.mc_words.proofs.Locks.Unlocked.{unlocked_from}
 use Rattle.mc_mover.specs.declared.counts.Turn.{Turn}
 use Rattle.mc_mover.specs.Answering.{AnswersMove, IsAnswerOf}
@@ -33,6 +35,10 @@ ready_still before now locks holdings ready = record {
   unfilled = ap has_fresh holdings ∙ ready.unfilled;
   within_limit = subst (λ (hs : List Holding). length hs ≤ most_refs) (sym holdings) ready.within_limit;
 }
+
+-- a hand of the arena that has the locks and the numbers of a ready one, and holds what that one held, is ready still
+pub hand_still : (arena : Arena) (before now : Hand) → IsHandOf arena now → now.locks ≡ before.locks → (view now).row.holdings ≡ (view before).row.holdings → (view now).row.ids ≡ (view before).row.ids → IsReady (view before) → StaysReady arena before now
+hand_still arena before now is locks holdings ids ready = record { arena = is; ready = ready_still before now locks holdings ready; locks = locks; number = number_stays before now ids }
 
 -- what is held stays, and what is known grows: so each reference stays
 pub refs_kept : (view now : View) (more : List KnownItem) → now.row.holdings ≡ view.row.holdings → now.row.knows.known ≡ view.row.knows.known ++ more → KeepsRefs view now

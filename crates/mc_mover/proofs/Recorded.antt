@@ -10,13 +10,15 @@ use Rattle.mc_core.specs.declared.holding.Holding.{Holding}
 use Rattle.mc_core.specs.declared.ids.Ids.{Ids}
 use Rattle.mc_core.specs.past.Past.{KnownItem, Own, StoredItem}
 use Rattle.mc_core.specs.run.Silent.{stripe_after}
+use Rattle.mc_words.specs.declared.arena.Arena.{Arena}
 use Rattle.mc_words.specs.declared.hand.Hand.{Hand}
 use Rattle.mc_words.specs.declared.lock.locks.Locks.{Locks}
 use Rattle.mc_words.specs.declared.lock.locks.Locks.TheVariants.{Neither, Slabs, Stripe, SlabsLast, StripeLast}
 use Rattle.mc_words.specs.hand.View.{View}
-use Rattle.mc_words.specs.hand.Arenas.{view}
+use Rattle.mc_words.specs.hand.Arenas.{IsHandOf, view}
 use Rattle.mc_words.specs.lock.Doing.{Doing, HoldsSlabs, HoldsStripe}
 use Rattle.mc_words.specs.hand.Idle.{is_unlocked}
+use Rattle.mc_words.specs.hand.Ready.{IsReady, StaysReady}
 use Rattle.mc_words.specs.lock.Out.{is_neither, locks_with_stripe, without_stripe}
 use Rattle.mc_words.specs.hand.Views.{stripe_changed, stripe_given}
 use Rattle.mc_words.specs.lock.Wait.{WaitsForStripe}
@@ -25,7 +27,7 @@ use Rattle.mc_words.proofs.Hands.HandNumbers.{number_stays}
 use Rattle.mc_words.proofs.Locks.Unlocked.{unlocked_from}
 use Rattle.mc_words.proofs.Locks.Waited.{waits_keep}
 use Rattle.mc_mover.proofs.HoldsSlabs.{wait_keeps}
-use Rattle.mc_mover.proofs.Chains.{refs_stay}
+use Rattle.mc_mover.proofs.Chains.{hand_still, refs_stay}
 use Rattle.mc_mover.specs.Recording.{Changes, ChangesEach, FindsStripeFull, Leaves, TrimsLedger}
 
 -- what is held, known and said, the hand's own calls, and who it is
@@ -126,5 +128,5 @@ module _ (before now : Hand) (same : kept_of (view now) ≡ kept_of (view before
   pub mine_kept : (view now).row.knows.mine ≡ (view before).row.knows.mine
   mine_kept = ap (λ (k : Kept). k.3) same
 
-  pub number_kept : now.number ≡ before.number
-  number_kept = number_stays before now (ap (λ (k : Kept). k.4) same)
+  pub hand_kept : (arena : Arena) → IsHandOf arena now → now.locks ≡ before.locks → IsReady (view before) → StaysReady arena before now
+  hand_kept arena is locks ready = hand_still arena before now is locks holdings_kept (ap (λ (k : Kept). k.4) same) ready

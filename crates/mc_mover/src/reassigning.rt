@@ -1,8 +1,7 @@
 //! Moves that begin, and the automover's mode.
 ghost use Rattle.std.specs.Prelude.{◌≡◌, ◌≤◌};
 ghost use Rattle.mc_words.specs.hand.Arenas.{IsHandOf, view};
-ghost use Rattle.mc_words.specs.hand.Observers.{locks_of, hand_number};
-ghost use Rattle.mc_words.specs.hand.Ready.{IsReady};
+ghost use Rattle.mc_words.specs.hand.Ready.{IsReady, StaysReady};
 ghost use Rattle.mc_words.specs.page.Moves.{Reassigns};
 ghost use Rattle.mc_words.specs.item.Refs.{KeepsRefs};
 ghost use Rattle.mc_mover.specs.Acting.{ActsOnceByNumber};
@@ -30,16 +29,13 @@ pub fn reassign<R: Wait>(
 ) -> Result<(), Reassign>
     requires arena { IsHandOf arena.now hand.old }
     requires ready { IsReady (view hand.old) }
-    ensures arena { IsHandOf arena.now hand.new }
-    ensures ready { IsReady (view hand.new) }
-    ensures locks { locks_of hand.new ≡ locks_of hand.old }
-    ensures number { hand_number hand.new ≡ hand_number hand.old }
     ensures reassigns { ActsOnceByNumber (λ number.
         Reassigns number src dst result) hand.old hand.new }
     ensures holdings { (view hand.new).row.holdings ≡ (view hand.old).row.holdings }
     ensures keeps { KeepsRefs (view hand.old) (view hand.new) }
     ensures stores_nothing { (view hand.new).row.knows.stored ≡ (view hand.old).row.knows.stored }
     ensures records_nothing { (view hand.new).row.knows.mine ≡ (view hand.old).row.knows.mine }
+    ensures hand { StaysReady arena.now hand.old hand.new }
 {
     let mut held = arena.lock_slabs(rt, hand);
     let answer = arena.begin_move(hand, &mut held, src, dst);
@@ -53,15 +49,12 @@ pub fn set_mode<R: Wait>(rt: &R, arena: &Arena, hand: &mut Hand, mode: u64)
     requires arena { IsHandOf arena.now hand.old }
     requires ready { IsReady (view hand.old) }
     requires mode { mode ≤ 2 }
-    ensures arena { IsHandOf arena.now hand.new }
-    ensures ready { IsReady (view hand.new) }
-    ensures locks { locks_of hand.new ≡ locks_of hand.old }
-    ensures number { hand_number hand.new ≡ hand_number hand.old }
     ensures sets { ActsOnceByNumber (λ number. SetsMode number mode) hand.old hand.new }
     ensures holdings { (view hand.new).row.holdings ≡ (view hand.old).row.holdings }
     ensures keeps { KeepsRefs (view hand.old) (view hand.new) }
     ensures stores_nothing { (view hand.new).row.knows.stored ≡ (view hand.old).row.knows.stored }
     ensures records_nothing { (view hand.new).row.knows.mine ≡ (view hand.old).row.knows.mine }
+    ensures hand { StaysReady arena.now hand.old hand.new }
 {
     let mut held = arena.lock_slabs(rt, hand);
     arena.set_automove(hand, &mut held, mode);

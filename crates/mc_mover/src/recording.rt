@@ -4,8 +4,8 @@ ghost use Rattle.std.specs.Prelude.{◌≡◌, ◌<◌, ℕ, Err, OnErr, OnOk};
 ghost use Rattle.mc_core.specs.declared.event.StripeChange.TheVariants.{Forget, Trim as Trimmed};
 ghost use Rattle.mc_words.specs.hand.Arenas.{IsHandOf, setup_of, view};
 ghost use Rattle.mc_words.specs.lock.Doing.{HoldsStripe};
-ghost use Rattle.mc_words.specs.hand.Observers.{locks_of, hand_number};
-ghost use Rattle.mc_words.specs.hand.Ready.{IsReady};
+ghost use Rattle.mc_words.specs.hand.Observers.{hand_number};
+ghost use Rattle.mc_words.specs.hand.Ready.{IsReady, StaysReady};
 ghost use Rattle.mc_words.specs.item.Refs.{KeepsRefs};
 ghost use Rattle.mc_mover.specs.Acting.{ActsOnceByNumber};
 ghost use Rattle.mc_mover.specs.Recording.{Changes, ChangesEach, FindsStripeFull, FindsNotFull, GivesBackChanged, GivesBackUpToOne, Leaves, StopsTrimming, TakesNotFull, TrimsAll, TrimsLedger};
@@ -22,10 +22,6 @@ use std::sync::Wait;
 pub fn trim<R: Wait>(rt: &R, arena: &Arena, hand: &mut Hand) -> Result<(), Trim>
     requires arena { IsHandOf arena.now hand.old }
     requires ready { IsReady (view hand.old) }
-    ensures arena { IsHandOf arena.now hand.new }
-    ensures ready { IsReady (view hand.new) }
-    ensures locks { locks_of hand.new ≡ locks_of hand.old }
-    ensures number { hand_number hand.new ≡ hand_number hand.old }
     ensures trims { OnOk result (TrimsAll (hand_number hand.old) (setup_of arena.now).config.stripes
         (view hand.old) (view hand.new)) }
     ensures stops { OnErr result (StopsTrimming (hand_number hand.old) Leaves (view hand.old)
@@ -41,6 +37,7 @@ pub fn trim<R: Wait>(rt: &R, arena: &Arena, hand: &mut Hand) -> Result<(), Trim>
     ensures keeps { KeepsRefs (view hand.old) (view hand.new) }
     ensures stores_nothing { (view hand.new).row.knows.stored ≡ (view hand.old).row.knows.stored }
     ensures records_nothing { (view hand.new).row.knows.mine ≡ (view hand.old).row.knows.mine }
+    ensures hand { StaysReady arena.now hand.old hand.new }
 {
     trim_stripes(rt, arena, hand)?;
     trim_ledger(rt, arena, hand);
@@ -52,15 +49,12 @@ pub fn trim<R: Wait>(rt: &R, arena: &Arena, hand: &mut Hand) -> Result<(), Trim>
 pub fn trim_ledger<R: Wait>(rt: &R, arena: &Arena, hand: &mut Hand)
     requires arena { IsHandOf arena.now hand.old }
     requires ready { IsReady (view hand.old) }
-    ensures arena { IsHandOf arena.now hand.new }
-    ensures ready { IsReady (view hand.new) }
-    ensures locks { locks_of hand.new ≡ locks_of hand.old }
-    ensures number { hand_number hand.new ≡ hand_number hand.old }
     ensures trims { ActsOnceByNumber TrimsLedger hand.old hand.new }
     ensures holdings { (view hand.new).row.holdings ≡ (view hand.old).row.holdings }
     ensures keeps { KeepsRefs (view hand.old) (view hand.new) }
     ensures stores_nothing { (view hand.new).row.knows.stored ≡ (view hand.old).row.knows.stored }
     ensures records_nothing { (view hand.new).row.knows.mine ≡ (view hand.old).row.knows.mine }
+    ensures hand { StaysReady arena.now hand.old hand.new }
 {
     let mut held = arena.lock_slabs(rt, hand);
     arena.trim_ledger(hand, &mut held);
@@ -73,10 +67,6 @@ pub fn trim_ledger<R: Wait>(rt: &R, arena: &Arena, hand: &mut Hand)
 pub fn forget<R: Wait>(rt: &R, arena: &Arena, hand: &mut Hand)
     requires arena { IsHandOf arena.now hand.old }
     requires ready { IsReady (view hand.old) }
-    ensures arena { IsHandOf arena.now hand.new }
-    ensures ready { IsReady (view hand.new) }
-    ensures locks { locks_of hand.new ≡ locks_of hand.old }
-    ensures number { hand_number hand.new ≡ hand_number hand.old }
     ensures forgets { ChangesEach Forget (hand_number hand.old)
         (range_with_len 0 (setup_of arena.now).config.stripes) (view hand.old) (view hand.new) }
     ensures given { (stripe : ℕ) → stripe < (setup_of arena.now).config.stripes →
@@ -85,6 +75,7 @@ pub fn forget<R: Wait>(rt: &R, arena: &Arena, hand: &mut Hand)
     ensures keeps { KeepsRefs (view hand.old) (view hand.new) }
     ensures stores_nothing { (view hand.new).row.knows.stored ≡ (view hand.old).row.knows.stored }
     ensures records_nothing { (view hand.new).row.knows.mine ≡ (view hand.old).row.knows.mine }
+    ensures hand { StaysReady arena.now hand.old hand.new }
 {
     for stripe in 0..arena.config().stripes {
         forget_stripe(rt, arena, hand, stripe);
@@ -95,10 +86,6 @@ pub fn forget<R: Wait>(rt: &R, arena: &Arena, hand: &mut Hand)
 fn trim_stripes<R: Wait>(rt: &R, arena: &Arena, hand: &mut Hand) -> Result<(), Trim>
     requires arena { IsHandOf arena.now hand.old }
     requires ready { IsReady (view hand.old) }
-    ensures arena { IsHandOf arena.now hand.new }
-    ensures ready { IsReady (view hand.new) }
-    ensures locks { locks_of hand.new ≡ locks_of hand.old }
-    ensures number { hand_number hand.new ≡ hand_number hand.old }
     ensures trims { OnOk result (ChangesEach Trimmed (hand_number hand.old)
         (range_with_len 0 (setup_of arena.now).config.stripes) (view hand.old) (view hand.new)) }
     ensures unfull { OnOk result ((stripe : ℕ) → stripe < (setup_of arena.now).config.stripes
@@ -113,6 +100,7 @@ fn trim_stripes<R: Wait>(rt: &R, arena: &Arena, hand: &mut Hand) -> Result<(), T
     ensures keeps { KeepsRefs (view hand.old) (view hand.new) }
     ensures stores_nothing { (view hand.new).row.knows.stored ≡ (view hand.old).row.knows.stored }
     ensures records_nothing { (view hand.new).row.knows.mine ≡ (view hand.old).row.knows.mine }
+    ensures hand { StaysReady arena.now hand.old hand.new }
 {
     for stripe in 0..arena.config().stripes {
         trim_stripe(rt, arena, hand, stripe)?;
@@ -125,10 +113,6 @@ fn trim_stripe<R: Wait>(rt: &R, arena: &Arena, hand: &mut Hand, stripe: u64) -> 
     requires arena { IsHandOf arena.now hand.old }
     requires ready { IsReady (view hand.old) }
     requires in_range { stripe < (setup_of arena.now).config.stripes }
-    ensures arena { IsHandOf arena.now hand.new }
-    ensures ready { IsReady (view hand.new) }
-    ensures locks { locks_of hand.new ≡ locks_of hand.old }
-    ensures number { hand_number hand.new ≡ hand_number hand.old }
     ensures trims { OnOk result (HoldsStripe stripe (Changes Trimmed (hand_number hand.old) stripe)
         (view hand.old) (view hand.new)) }
     ensures leaves { OnErr result (HoldsStripe stripe Leaves (view hand.old) (view hand.new)) }
@@ -137,6 +121,7 @@ fn trim_stripe<R: Wait>(rt: &R, arena: &Arena, hand: &mut Hand, stripe: u64) -> 
         HoldsStripe stripe FindsStripeFull (view hand.old) (view hand.new) }
     ensures first { result ≡ Err (Trim.NoMemory tt)
         → HoldsStripe stripe FindsNotFull (view hand.old) (view hand.new) }
+    ensures hand { StaysReady arena.now hand.old hand.new }
 {
     let mut held = arena.lock_stripe(rt, hand, stripe);
     if let Err(refused) = arena.trim(hand, &mut held) {
@@ -152,12 +137,9 @@ fn forget_stripe<R: Wait>(rt: &R, arena: &Arena, hand: &mut Hand, stripe: u64)
     requires arena { IsHandOf arena.now hand.old }
     requires ready { IsReady (view hand.old) }
     requires in_range { stripe < (setup_of arena.now).config.stripes }
-    ensures arena { IsHandOf arena.now hand.new }
-    ensures ready { IsReady (view hand.new) }
-    ensures locks { locks_of hand.new ≡ locks_of hand.old }
-    ensures number { hand_number hand.new ≡ hand_number hand.old }
     ensures forgets { HoldsStripe stripe (Changes Forget (hand_number hand.old) stripe)
         (view hand.old) (view hand.new) }
+    ensures hand { StaysReady arena.now hand.old hand.new }
 {
     let mut held = arena.lock_stripe(rt, hand, stripe);
     arena.forget(hand, &mut held);

@@ -2,8 +2,8 @@
 ghost use Rattle.std.specs.Prelude.{◌≡◌, ◌≤◌, [], length, map, vec_capacity, IfOk, OnErr};
 ghost use Rattle.mc_pages.specs.ClassState.{numbers_of};
 ghost use Rattle.mc_words.specs.hand.Arenas.{IsHandOf, view};
-ghost use Rattle.mc_words.specs.hand.Observers.{HasSlabs, locks_of, hand_number, slabs_lent};
-ghost use Rattle.mc_words.specs.hand.Ready.{IsReady};
+ghost use Rattle.mc_words.specs.hand.Observers.{HasSlabs, locks_of, slabs_lent};
+ghost use Rattle.mc_words.specs.hand.Ready.{IsReady, StaysReady};
 ghost use Rattle.mc_words.specs.item.Refs.{KeepsRefs};
 ghost use Rattle.mc_words.specs.chunk.Sweeps.{with_seen};
 ghost use Rattle.mc_mover.specs.Acting.{ActsByNumber, ActsOnceByNumber};
@@ -29,10 +29,6 @@ pub fn survey<R: Wait>(
 ) -> Result<Survey, NoMemory>
     requires arena { IsHandOf arena.now hand.old }
     requires ready { IsReady (view hand.old) }
-    ensures arena { IsHandOf arena.now hand.new }
-    ensures ready { IsReady (view hand.new) }
-    ensures locks { locks_of hand.new ≡ locks_of hand.old }
-    ensures number { hand_number hand.new ≡ hand_number hand.old }
     ensures surveys { IfOk result (λ survey. ActsOnceByNumber (λ number.
         Surveys sweep survey) hand.old hand.new) }
     ensures no_memory { OnErr result (view hand.new ≡ view hand.old) }
@@ -40,6 +36,7 @@ pub fn survey<R: Wait>(
     ensures keeps { KeepsRefs (view hand.old) (view hand.new) }
     ensures stores_nothing { (view hand.new).row.knows.stored ≡ (view hand.old).row.knows.stored }
     ensures records_nothing { (view hand.new).row.knows.mine ≡ (view hand.old).row.knows.mine }
+    ensures hand { StaysReady arena.now hand.old hand.new }
 {
     let count = arena.classes().count();
     let room = with_capacity(alloc, count as usize)?;

@@ -4,8 +4,8 @@ ghost use Rattle.mc_classes.specs.Limits.{most_refs};
 ghost use Rattle.mc_core.specs.model.Holdings.{has_fresh};
 ghost use Rattle.mc_words.specs.hand.Arenas.{IsHandOf, view};
 ghost use Rattle.mc_words.specs.hand.Idle.{has_no_stripes};
-ghost use Rattle.mc_words.specs.hand.Observers.{HasSlabs, locks_of, hand_number, slabs_lent};
-ghost use Rattle.mc_words.specs.hand.Ready.{IsReady};
+ghost use Rattle.mc_words.specs.hand.Observers.{HasSlabs, locks_of, slabs_lent};
+ghost use Rattle.mc_words.specs.hand.Ready.{IsReady, StaysReady};
 ghost use Rattle.mc_words.specs.item.Refs.{KeepsRefs};
 ghost use Rattle.mc_mover.specs.Acting.{ActsByNumber, ActsOnceByNumber, FindsSlabsHeld, RecordsTurn, RecordsUntilStopped};
 ghost use Rattle.mc_mover.specs.Answering.{AnswersMove, IsAnswerOf};
@@ -38,10 +38,6 @@ use std::sync::Wait;
 pub fn turn<R: Wait>(rt: &R, arena: &Arena, hand: &mut Hand) -> Result<Turn, NoMemory>
     requires arena { IsHandOf arena.now hand.old }
     requires ready { IsReady (view hand.old) }
-    ensures arena { IsHandOf arena.now hand.new }
-    ensures ready { IsReady (view hand.new) }
-    ensures locks { locks_of hand.new ≡ locks_of hand.old }
-    ensures number { hand_number hand.new ≡ hand_number hand.old }
     ensures turns { IfOk result (λ turn. ActsOnceByNumber (λ number.
         Turns number turn) hand.old hand.new) }
     ensures lacks { OnErr result (ActsOnceByNumber TurnLacksMemory hand.old hand.new) }
@@ -51,6 +47,7 @@ pub fn turn<R: Wait>(rt: &R, arena: &Arena, hand: &mut Hand) -> Result<Turn, NoM
     ensures holdings { (view hand.new).row.holdings ≡ (view hand.old).row.holdings }
     ensures keeps { KeepsRefs (view hand.old) (view hand.new) }
     ensures stores_nothing { (view hand.new).row.knows.stored ≡ (view hand.old).row.knows.stored }
+    ensures hand { StaysReady arena.now hand.old hand.new }
 {
     arena.rest(rt, arena.config().bulk);
     let mut held = arena.lock_slabs(rt, hand);
@@ -63,10 +60,6 @@ pub fn turn<R: Wait>(rt: &R, arena: &Arena, hand: &mut Hand) -> Result<Turn, NoM
 pub fn try_turn(arena: &Arena, hand: &mut Hand) -> Result<Turn, TryTurn>
     requires arena { IsHandOf arena.now hand.old }
     requires ready { IsReady (view hand.old) }
-    ensures arena { IsHandOf arena.now hand.new }
-    ensures ready { IsReady (view hand.new) }
-    ensures locks { locks_of hand.new ≡ locks_of hand.old }
-    ensures number { hand_number hand.new ≡ hand_number hand.old }
     ensures turns { IfOk result (λ turn. ActsOnceByNumber (λ number.
         Turns number turn) hand.old hand.new) }
     ensures held { result ≡ Err TryTurn.Held → FindsSlabsHeld hand.old hand.new }
@@ -79,6 +72,7 @@ pub fn try_turn(arena: &Arena, hand: &mut Hand) -> Result<Turn, TryTurn>
     ensures holdings { (view hand.new).row.holdings ≡ (view hand.old).row.holdings }
     ensures keeps { KeepsRefs (view hand.old) (view hand.new) }
     ensures stores_nothing { (view hand.new).row.knows.stored ≡ (view hand.old).row.knows.stored }
+    ensures hand { StaysReady arena.now hand.old hand.new }
 {
     let Ok(mut held) = arena.try_slabs(hand) else {
         return Err(TryTurn::Held);

@@ -4,7 +4,7 @@ use Rattle.mc_words.specs.declared.arena.Arena.{Arena}
 use Rattle.mc_words.specs.declared.hand.Hand.{Hand}
 use Rattle.mc_words.specs.hand.Arenas.{IsHandOf, view}
 use Rattle.mc_words.specs.hand.Observers.{hand_number}
-use Rattle.mc_words.specs.hand.Ready.{IsReady, IsReadyHandOf}
+use Rattle.mc_words.specs.hand.Ready.{IsReadyHandOf}
 use Rattle.mc_items.specs.declared.refs.Ref.{Ref}
 use Rattle.mc_items.specs.ItemRefs.{RefersToEach}
 use Rattle.mc_items.specs.Keeping.{HoldsTheSame}
@@ -13,11 +13,6 @@ use Rattle.mc_items.specs.Keeping.{HoldsTheSame}
 pub record IsKeeping (arena : Arena) (hand : Hand) (kept : List Ref) : Type 0 where
   pub hand_is : IsReadyHandOf arena hand
   pub keeps : RefersToEach (view hand) kept
-
--- the hand may make any call after the call, too, and has the same number
-pub record StaysReady (arena : Arena) (before now : Hand) : Type 0 where
-  pub hand_is : IsReadyHandOf arena now
-  pub number : hand_number now ≡ hand_number before
 
 -- the hand may make any call after the call, too, has the same number, and holds what it held
 pub record StaysHolding (arena : Arena) (before now : Hand) : Type 0 where

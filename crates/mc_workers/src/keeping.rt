@@ -2,7 +2,8 @@
 ghost use Rattle.std.specs.Prelude.{◌≡◌, All, IfOk, IfSome, None, OnErr, true};
 ghost use Rattle.mc_words.specs.hand.Arenas.{view};
 ghost use Rattle.mc_words.specs.hand.Idle.{is_idle};
-ghost use Rattle.mc_workers.specs.Hands.{IsKeeping, StaysKeeping, StaysReady};
+ghost use Rattle.mc_words.specs.hand.Ready.{StaysReady};
+ghost use Rattle.mc_workers.specs.Hands.{IsKeeping, StaysKeeping};
 ghost use Rattle.mc_workers.specs.Kept.{IsLastAt, IsToOther};
 ghost use Rattle.mc_workers.specs.Lines.{all_released};
 ghost use Rattle.mc_workers.specs.OnHands.{AnswersDropBy, AnswersHoldBy};
@@ -78,9 +79,9 @@ fn place_of_last(kept: &[Ref], key: u64) -> Option<usize>
 // Gives back each reference that is kept, the last one first.
 pub(crate) fn release_all(arena: &Arena, hand: &mut Hand, mut kept: Vec<Ref>)
     requires keeping { IsKeeping arena.now hand.old kept.items }
-    ensures stays { StaysReady arena.now hand.old hand.new }
     ensures idle { is_idle (view hand.new) ≡ true }
     ensures released { view hand.new ≡ all_released kept.items (view hand.old) }
+    ensures hand { StaysReady arena.now hand.old hand.new }
 {
     while let Some(item) = kept.pop() {
         release(arena, hand, item);

@@ -5,8 +5,8 @@ ghost use Rattle.mc_words.specs.hand.Arenas.{setup_of, view};
 ghost use Rattle.mc_words.specs.item.Refs.{KeepsRefs};
 ghost use Rattle.mc_items.specs.Keeping.{HoldsAsOften};
 ghost use Rattle.mc_workers.specs.Asking.{is_workers};
-ghost use Rattle.mc_words.specs.hand.Ready.{IsReadyHandOf};
-ghost use Rattle.mc_workers.specs.Hands.{IsKeeping, StaysHolding, StaysKeeping, StaysReady};
+ghost use Rattle.mc_words.specs.hand.Ready.{IsReadyHandOf, StaysReady};
+ghost use Rattle.mc_workers.specs.Hands.{IsKeeping, StaysHolding, StaysKeeping};
 ghost use Rattle.mc_workers.specs.OnHands.{ServesBy};
 ghost use Rattle.mc_workers.specs.Serving.{AnswersDelete, AnswersGet, AnswersTouch};
 
@@ -65,11 +65,11 @@ fn get_words<R: Wait>(
     key: u64,
 ) -> Result<Reply, Refused>
     requires ready { IsReadyHandOf arena.now hand.old }
-    ensures stays { StaysReady arena.now hand.old hand.new }
     ensures answers { IfOk result (λ reply. AnswersGet
         (setup_of arena.now) key reply hand.old hand.new) }
     ensures holdings { HoldsAsOften (view hand.old) (view hand.new) }
     ensures keeps { KeepsRefs (view hand.old) (view hand.new) }
+    ensures hand { StaysReady arena.now hand.old hand.new }
 {
     let item = match get(rt, arena, hand, key) {
         Ok(Some(item)) => item,
@@ -103,11 +103,11 @@ fn delete_key<R: Wait>(rt: &R, arena: &Arena, hand: &mut Hand, key: u64) -> Resu
 // Touches the key, and returns whether it has an item.
 fn touch_key<R: Wait>(rt: &R, arena: &Arena, hand: &mut Hand, key: u64) -> Result<Reply, Refused>
     requires ready { IsReadyHandOf arena.now hand.old }
-    ensures stays { StaysReady arena.now hand.old hand.new }
     ensures answers { IfOk result (λ reply. AnswersTouch
         (setup_of arena.now) key reply hand.old hand.new) }
     ensures holdings { HoldsAsOften (view hand.old) (view hand.new) }
     ensures keeps { KeepsRefs (view hand.old) (view hand.new) }
+    ensures hand { StaysReady arena.now hand.old hand.new }
 {
     match touch(rt, arena, hand, key) {
         Ok(true) => Ok(Reply::Touched),

@@ -3,8 +3,7 @@ use Rattle.mc_words.specs.lock.Out.{without_slabs}
 use Rattle.mc_words.specs.hand.View.{View}
 use Rattle.mc_words.specs.page.Moves.{Reassigns}
 use Rattle.mc_words.proofs.Pages.BegunMoves.{reassigns_from, reassigns_holdings}
-use Rattle.mc_words.proofs.Hands.HandNumbers.{number_stays}
-use Rattle.mc_mover.proofs.Chains.{held_ids, held_known_same, held_mine, held_said, ready_still, refs_stay, reassigns_keep}
+use Rattle.mc_mover.proofs.Chains.{hand_still, held_ids, held_known_same, held_mine, held_said, reassigns_keep, refs_stay}
 use Rattle.mc_mover.proofs.HoldsSlabs.{lock_back, held_for, held_holdings, wait_number}
 use Rattle.mc_mover.proofs.reassigning.reassign.Goals as goal
 
@@ -33,14 +32,8 @@ returns-clause-holdings g c =
     (reassigns_holdings held.new.hand.number c.args.src c.args.dst taken last held.result.shared begun.new.held.shared begun.result
     (reassigns_from held.new.hand.number c.args.src c.args.dst taken last held.result.shared begun.new.held.shared begun.result e.answer e.began e.happens e.view e.refused)) c.give_slabs.ensures.left
 
-pub returns-clause-locks : goal.returns-clause-locks
-returns-clause-locks g c = c.give_slabs.ensures.locks ∙ (ap without_slabs (c.begin_move-answer.ensures.locks ∙ c.lock_slabs-held.ensures.locks) ∙ lock_back c.args.hand.now c.requires.ready.unlocked)
-
-pub returns-clause-ready : goal.returns-clause-ready
-returns-clause-ready g c = ready_still c.args.hand.now c.give_slabs.new.hand (returns-clause-locks g c) (returns-clause-holdings g c) c.requires.ready
-
-pub returns-clause-number : goal.returns-clause-number
-returns-clause-number g c =
+pub returns-clause-hand : goal.returns-clause-hand
+returns-clause-hand g c =
     let held = c.lock_slabs-held in
     let taken : View = held.new.hand.seat.me.0 in
     let begun = c.begin_move-answer in
@@ -48,7 +41,8 @@ returns-clause-number g c =
     let left = begun.new.held.shared in
     let e = begun.ensures in
     let does = reassigns_from held.new.hand.number c.args.src c.args.dst taken last held.result.shared left begun.result e.answer e.began e.happens e.view e.refused in
-    number_stays c.args.hand.now c.give_slabs.new.hand (held_ids c.args.hand.now.seat.me.0 taken last c.give_slabs.new.hand.seat.me.0 held.result.shared left held.ensures.waits c.give_slabs.ensures.left (reassigns_keep (λ (v : View). v.row.ids) (λ slabs one word v. refl) held.new.hand.number c.args.src c.args.dst taken last held.result.shared left begun.result does))
+    let locks = c.give_slabs.ensures.locks ∙ (ap without_slabs (c.begin_move-answer.ensures.locks ∙ c.lock_slabs-held.ensures.locks) ∙ lock_back c.args.hand.now c.requires.ready.unlocked) in
+    hand_still c.args.arena.now c.args.hand.now c.give_slabs.new.hand c.give_slabs.ensures.arena locks (returns-clause-holdings g c) (held_ids c.args.hand.now.seat.me.0 taken last c.give_slabs.new.hand.seat.me.0 held.result.shared left held.ensures.waits c.give_slabs.ensures.left (reassigns_keep (λ (v : View). v.row.ids) (λ slabs one word v. refl) held.new.hand.number c.args.src c.args.dst taken last held.result.shared left begun.result does)) c.requires.ready
 
 pub returns-clause-keeps : goal.returns-clause-keeps
 returns-clause-keeps g c =

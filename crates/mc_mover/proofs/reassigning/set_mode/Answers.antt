@@ -2,8 +2,7 @@ use Rattle.std.proofs.Common.{ap, subst, ◌∙◌}
 use Rattle.mc_words.specs.lock.Out.{without_slabs}
 use Rattle.mc_words.specs.hand.View.{View}
 use Rattle.mc_mover.specs.Reassigning.{SetsMode}
-use Rattle.mc_words.proofs.Hands.HandNumbers.{number_stays}
-use Rattle.mc_mover.proofs.Chains.{held_ids, held_known_same, held_mine, held_said, ready_still, refs_stay}
+use Rattle.mc_mover.proofs.Chains.{hand_still, held_ids, held_known_same, held_mine, held_said, refs_stay}
 use Rattle.mc_mover.proofs.HoldsSlabs.{lock_back, held_for, held_holdings, wait_number}
 use Rattle.mc_mover.proofs.reassigning.set_mode.Goals as goal
 
@@ -26,20 +25,15 @@ returns-clause-holdings g c =
     held_holdings c.args.hand.now.seat.me.0 held.new.hand.seat.me.0 set.new.hand.seat.me.0 c.give_slabs.new.hand.seat.me.0 held.result.shared set.new.held.shared held.ensures.waits
     (ap (λ (v : View). v.row.holdings) set.ensures.view) c.give_slabs.ensures.left
 
-pub returns-clause-locks : goal.returns-clause-locks
-returns-clause-locks g c = c.give_slabs.ensures.locks ∙ (ap without_slabs (c.set_automove.ensures.locks ∙ c.lock_slabs-held.ensures.locks) ∙ lock_back c.args.hand.now c.requires.ready.unlocked)
-
-pub returns-clause-ready : goal.returns-clause-ready
-returns-clause-ready g c = ready_still c.args.hand.now c.give_slabs.new.hand (returns-clause-locks g c) (returns-clause-holdings g c) c.requires.ready
-
-pub returns-clause-number : goal.returns-clause-number
-returns-clause-number g c =
+pub returns-clause-hand : goal.returns-clause-hand
+returns-clause-hand g c =
     let held = c.lock_slabs-held in
     let taken : View = held.new.hand.seat.me.0 in
     let set = c.set_automove in
     let last : View = set.new.hand.seat.me.0 in
     let left = set.new.held.shared in
-    number_stays c.args.hand.now c.give_slabs.new.hand (held_ids c.args.hand.now.seat.me.0 taken last c.give_slabs.new.hand.seat.me.0 held.result.shared left held.ensures.waits c.give_slabs.ensures.left (ap (λ (v : View). v.row.ids) set.ensures.view))
+    let locks = c.give_slabs.ensures.locks ∙ (ap without_slabs (c.set_automove.ensures.locks ∙ c.lock_slabs-held.ensures.locks) ∙ lock_back c.args.hand.now c.requires.ready.unlocked) in
+    hand_still c.args.arena.now c.args.hand.now c.give_slabs.new.hand c.give_slabs.ensures.arena locks (returns-clause-holdings g c) (held_ids c.args.hand.now.seat.me.0 taken last c.give_slabs.new.hand.seat.me.0 held.result.shared left held.ensures.waits c.give_slabs.ensures.left (ap (λ (v : View). v.row.ids) set.ensures.view)) c.requires.ready
 
 pub returns-clause-keeps : goal.returns-clause-keeps
 returns-clause-keeps g c =

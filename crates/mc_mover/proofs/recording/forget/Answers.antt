@@ -16,11 +16,14 @@ loop-stripe-preserved g c =
     let view : View = c.args.hand.now.seat.me.0 in
     let before : View = c.loop-stripe.hand.seat.me.0 in
     let now : View = c.forget_stripe.new.hand.seat.me.0 in
-    let one = subst (λ (n : ℕ). HoldsStripe stripe (Changes Forget n stripe) before now) inv.number c.forget_stripe.ensures.forgets in record {
-      arena = c.forget_stripe.ensures.arena;
-      ready = c.forget_stripe.ensures.ready;
-      locks = c.forget_stripe.ensures.locks ∙ inv.locks;
-      number = c.forget_stripe.ensures.number ∙ inv.number;
+    let stays = c.forget_stripe.ensures.hand in
+    let one = subst (λ (n : ℕ). HoldsStripe stripe (Changes Forget n stripe) before now) inv.hand.number c.forget_stripe.ensures.forgets in record {
+      hand = record {
+        arena = stays.arena;
+        ready = stays.ready;
+        locks = stays.locks ∙ inv.hand.locks;
+        number = stays.number ∙ inv.hand.number;
+      };
       so_far = subst (λ (stripes : List ℕ). ChangesEach Forget c.args.hand.now.number stripes view now) (sym (numbers_more stripe)) (each_more Forget c.args.hand.now.number stripe (range_with_len 0 stripe) view before now inv.so_far one);
     }
 

@@ -1,17 +1,13 @@
-use Rattle.std.proofs.Common.{◌≡◌}
 use Rattle.std.specs.List.{range_with_len}
 use Rattle.mc_core.specs.declared.event.StripeChange.TheVariants.{Forget}
-use Rattle.mc_words.specs.hand.Arenas.{IsHandOf, view}
-use Rattle.mc_words.specs.hand.Ready.{IsReady}
+use Rattle.mc_words.specs.hand.Arenas.{view}
+use Rattle.mc_words.specs.hand.Ready.{StaysReady}
 use Rattle.mc_mover.specs.Recording.{ChangesEach}
 use Rattle.mc_mover.proofs.recording.forget.Given as goal
 
 -- the stripes so far changed
 abbrev pub invariant-loop-stripe : goal.invariant-loop-stripe
 invariant-loop-stripe g l = record {
-  arena : IsHandOf l.arena l.hand;
-  ready : IsReady (view l.hand);
-  locks : l.hand.locks ≡ l.fn.hand.locks;
-  number : l.hand.number ≡ l.fn.hand.number;
+  hand : StaysReady l.arena l.fn.hand l.hand;
   so_far : ChangesEach Forget l.fn.hand.number (range_with_len 0 l.stripe) (view l.fn.hand) (view l.hand);
 }

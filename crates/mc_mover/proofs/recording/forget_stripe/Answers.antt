@@ -2,13 +2,9 @@ use Rattle.std.proofs.Common.{ap, ◌∙◌}
 use Rattle.mc_core.specs.declared.event.StripeChange.TheVariants.{Forget}
 use Rattle.mc_words.specs.lock.Out.{without_stripe}
 use Rattle.mc_words.specs.declared.hand.held.StripeHeld.{StripeHeld}
-use Rattle.mc_mover.proofs.Chains.{ready_still}
 use Rattle.mc_mover.specs.Recording.{Changes}
-use Rattle.mc_mover.proofs.Recorded.{changes_quiet, held_for, hold_keeps, holdings_kept, number_kept, stripe_back, waited_number}
+use Rattle.mc_mover.proofs.Recorded.{changes_quiet, hand_kept, held_for, hold_keeps, stripe_back, waited_number}
 use Rattle.mc_mover.proofs.recording.forget_stripe.Goals as goal
-
-pub returns-clause-locks : goal.returns-clause-locks
-returns-clause-locks g c = c.give_stripe.ensures.locks ∙ (ap without_stripe (c.forget.ensures.locks ∙ c.lock_stripe-held.ensures.locks) ∙ stripe_back c.args.hand.now c.args.stripe c.requires.ready.unlocked)
 
 pub returns-clause-forgets : goal.returns-clause-forgets
 returns-clause-forgets g c =
@@ -18,12 +14,7 @@ returns-clause-forgets g c =
     (waited_number c.args.hand.now held.new.hand c.args.stripe held.result.stripe held.ensures.waits) held.ensures.number (c.forget.ensures.number ∙ held.ensures.number)
     (ap (λ (h : StripeHeld). h.stripe) c.forget.ensures.forgets) c.forget.ensures.view c.give_stripe.ensures.left
 
-pub returns-clause-number : goal.returns-clause-number
-returns-clause-number g c = number_kept c.args.hand.now c.give_stripe.new.hand
-    (hold_keeps (Changes Forget c.args.hand.now.number c.args.stripe) (changes_quiet Forget c.args.hand.now.number c.args.stripe) c.args.stripe c.args.hand.now.seat.me.0 c.give_stripe.new.hand.seat.me.0 (returns-clause-forgets g c))
-
-pub returns-clause-ready : goal.returns-clause-ready
-returns-clause-ready g c = ready_still c.args.hand.now c.give_stripe.new.hand (returns-clause-locks g c)
-    (holdings_kept c.args.hand.now c.give_stripe.new.hand
-    (hold_keeps (Changes Forget c.args.hand.now.number c.args.stripe) (changes_quiet Forget c.args.hand.now.number c.args.stripe) c.args.stripe c.args.hand.now.seat.me.0 c.give_stripe.new.hand.seat.me.0 (returns-clause-forgets g c)))
-    c.requires.ready
+pub returns-clause-hand : goal.returns-clause-hand
+returns-clause-hand g c =
+    let locks = c.give_stripe.ensures.locks ∙ (ap without_stripe (c.forget.ensures.locks ∙ c.lock_stripe-held.ensures.locks) ∙ stripe_back c.args.hand.now c.args.stripe c.requires.ready.unlocked) in
+    hand_kept c.args.hand.now c.give_stripe.new.hand (hold_keeps (Changes Forget c.args.hand.now.number c.args.stripe) (changes_quiet Forget c.args.hand.now.number c.args.stripe) c.args.stripe c.args.hand.now.seat.me.0 c.give_stripe.new.hand.seat.me.0 (returns-clause-forgets g c)) c.args.arena.now c.give_stripe.ensures.arena locks c.requires.ready

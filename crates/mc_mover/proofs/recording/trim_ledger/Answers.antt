@@ -2,9 +2,8 @@ use Rattle.std.proofs.Common.{ap, subst, ◌∙◌}
 use Rattle.mc_words.specs.lock.Out.{without_slabs}
 use Rattle.mc_words.specs.hand.View.{View}
 use Rattle.mc_mover.specs.Recording.{TrimsLedger}
-use Rattle.mc_mover.proofs.Chains.{ready_still}
 use Rattle.mc_mover.proofs.HoldsSlabs.{lock_back, held_for, wait_number}
-use Rattle.mc_mover.proofs.Recorded.{holdings_kept, ledger_keeps, mine_kept, number_kept, refs_kept, said_kept}
+use Rattle.mc_mover.proofs.Recorded.{hand_kept, holdings_kept, ledger_keeps, mine_kept, refs_kept, said_kept}
 use Rattle.mc_mover.proofs.recording.trim_ledger.Goals as goal
 
 pub returns-clause-trims : goal.returns-clause-trims
@@ -22,14 +21,10 @@ returns-clause-trims g c =
 pub returns-clause-holdings : goal.returns-clause-holdings
 returns-clause-holdings g c = holdings_kept c.args.hand.now c.give_slabs.new.hand (ledger_keeps c.args.hand.now.number c.args.hand.now.seat.me.0 c.give_slabs.new.hand.seat.me.0 (returns-clause-trims g c))
 
-pub returns-clause-locks : goal.returns-clause-locks
-returns-clause-locks g c = c.give_slabs.ensures.locks ∙ (ap without_slabs (c.trim_ledger.ensures.locks ∙ c.lock_slabs-held.ensures.locks) ∙ lock_back c.args.hand.now c.requires.ready.unlocked)
-
-pub returns-clause-ready : goal.returns-clause-ready
-returns-clause-ready g c = ready_still c.args.hand.now c.give_slabs.new.hand (returns-clause-locks g c) (returns-clause-holdings g c) c.requires.ready
-
-pub returns-clause-number : goal.returns-clause-number
-returns-clause-number g c = number_kept c.args.hand.now c.give_slabs.new.hand (ledger_keeps c.args.hand.now.number c.args.hand.now.seat.me.0 c.give_slabs.new.hand.seat.me.0 (returns-clause-trims g c))
+pub returns-clause-hand : goal.returns-clause-hand
+returns-clause-hand g c =
+    let locks = c.give_slabs.ensures.locks ∙ (ap without_slabs (c.trim_ledger.ensures.locks ∙ c.lock_slabs-held.ensures.locks) ∙ lock_back c.args.hand.now c.requires.ready.unlocked) in
+    hand_kept c.args.hand.now c.give_slabs.new.hand (ledger_keeps c.args.hand.now.number c.args.hand.now.seat.me.0 c.give_slabs.new.hand.seat.me.0 (returns-clause-trims g c)) c.args.arena.now c.give_slabs.ensures.arena locks c.requires.ready
 
 pub returns-clause-keeps : goal.returns-clause-keeps
 returns-clause-keeps g c = refs_kept c.args.hand.now c.give_slabs.new.hand (ledger_keeps c.args.hand.now.number c.args.hand.now.seat.me.0 c.give_slabs.new.hand.seat.me.0 (returns-clause-trims g c))

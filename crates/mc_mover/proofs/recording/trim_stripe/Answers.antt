@@ -5,13 +5,9 @@ use Rattle.mc_mover.proofs.GivenBack.{taken_unfull}
 use Rattle.mc_core.specs.declared.event.StripeChange.TheVariants.{Trim}
 use Rattle.mc_words.specs.lock.Out.{without_stripe}
 use Rattle.mc_words.specs.declared.hand.held.StripeHeld.{StripeHeld}
-use Rattle.mc_mover.proofs.Chains.{ready_still}
 use Rattle.mc_mover.specs.Recording.{Changes, Leaves}
-use Rattle.mc_mover.proofs.Recorded.{changes_quiet, held_for, hold_keeps, holdings_kept, leaves_quiet, number_kept, stripe_back, waited_number}
+use Rattle.mc_mover.proofs.Recorded.{changes_quiet, hand_kept, held_for, hold_keeps, leaves_quiet, stripe_back, waited_number}
 use Rattle.mc_mover.proofs.recording.trim_stripe.Goals as goal
-
-pub returns-in-Err-clause-locks : goal.returns-in-Err-clause-locks
-returns-in-Err-clause-locks g c = c.give_stripe.ensures.locks ∙ (ap without_stripe (c.trim.ensures.locks ∙ c.lock_stripe-held.ensures.locks) ∙ stripe_back c.args.hand.now c.args.stripe c.requires.ready.unlocked)
 
 pub returns-in-Err-clause-leaves : goal.returns-in-Err-clause-leaves
 returns-in-Err-clause-leaves g c =
@@ -26,15 +22,10 @@ returns-in-Err-clause-leaves g c =
       given = c.give_stripe.ensures.left ∙ ap (λ n. stripe_given n c.trim.new.held.stripe c.trim.new.hand.seat.me.0) (c.trim.ensures.number ∙ held.ensures.number);
     }
 
-pub returns-in-Err-clause-number : goal.returns-in-Err-clause-number
-returns-in-Err-clause-number g c = number_kept c.args.hand.now c.give_stripe.new.hand (hold_keeps Leaves leaves_quiet c.args.stripe c.args.hand.now.seat.me.0 c.give_stripe.new.hand.seat.me.0 (returns-in-Err-clause-leaves g c))
-
-pub returns-in-Err-clause-ready : goal.returns-in-Err-clause-ready
-returns-in-Err-clause-ready g c = ready_still c.args.hand.now c.give_stripe.new.hand (returns-in-Err-clause-locks g c)
-    (holdings_kept c.args.hand.now c.give_stripe.new.hand (hold_keeps Leaves leaves_quiet c.args.stripe c.args.hand.now.seat.me.0 c.give_stripe.new.hand.seat.me.0 (returns-in-Err-clause-leaves g c))) c.requires.ready
-
-pub returns-clause-locks : goal.returns-clause-locks
-returns-clause-locks g c = c.give_stripe-2.ensures.locks ∙ (ap without_stripe (c.trim.ensures.locks ∙ c.lock_stripe-held.ensures.locks) ∙ stripe_back c.args.hand.now c.args.stripe c.requires.ready.unlocked)
+pub returns-in-Err-clause-hand : goal.returns-in-Err-clause-hand
+returns-in-Err-clause-hand g c =
+    let locks = c.give_stripe.ensures.locks ∙ (ap without_stripe (c.trim.ensures.locks ∙ c.lock_stripe-held.ensures.locks) ∙ stripe_back c.args.hand.now c.args.stripe c.requires.ready.unlocked) in
+    hand_kept c.args.hand.now c.give_stripe.new.hand (hold_keeps Leaves leaves_quiet c.args.stripe c.args.hand.now.seat.me.0 c.give_stripe.new.hand.seat.me.0 (returns-in-Err-clause-leaves g c)) c.args.arena.now c.give_stripe.ensures.arena locks c.requires.ready
 
 pub returns-clause-trims : goal.returns-clause-trims
 returns-clause-trims g c =
@@ -44,15 +35,10 @@ returns-clause-trims g c =
     (waited_number c.args.hand.now held.new.hand c.args.stripe held.result.stripe held.ensures.waits) held.ensures.number (c.trim.ensures.number ∙ held.ensures.number)
     (ap (λ (h : StripeHeld). h.stripe) c.in_default.ensures.trimmed) c.in_default.ensures.view c.give_stripe-2.ensures.left
 
-pub returns-clause-number : goal.returns-clause-number
-returns-clause-number g c = number_kept c.args.hand.now c.give_stripe-2.new.hand
-    (hold_keeps (Changes Trim c.args.hand.now.number c.args.stripe) (changes_quiet Trim c.args.hand.now.number c.args.stripe) c.args.stripe c.args.hand.now.seat.me.0 c.give_stripe-2.new.hand.seat.me.0 (returns-clause-trims g c))
-
-pub returns-clause-ready : goal.returns-clause-ready
-returns-clause-ready g c = ready_still c.args.hand.now c.give_stripe-2.new.hand (returns-clause-locks g c)
-    (holdings_kept c.args.hand.now c.give_stripe-2.new.hand
-    (hold_keeps (Changes Trim c.args.hand.now.number c.args.stripe) (changes_quiet Trim c.args.hand.now.number c.args.stripe) c.args.stripe c.args.hand.now.seat.me.0 c.give_stripe-2.new.hand.seat.me.0 (returns-clause-trims g c)))
-    c.requires.ready
+pub returns-clause-hand : goal.returns-clause-hand
+returns-clause-hand g c =
+    let locks = c.give_stripe-2.ensures.locks ∙ (ap without_stripe (c.trim.ensures.locks ∙ c.lock_stripe-held.ensures.locks) ∙ stripe_back c.args.hand.now c.args.stripe c.requires.ready.unlocked) in
+    hand_kept c.args.hand.now c.give_stripe-2.new.hand (hold_keeps (Changes Trim c.args.hand.now.number c.args.stripe) (changes_quiet Trim c.args.hand.now.number c.args.stripe) c.args.stripe c.args.hand.now.seat.me.0 c.give_stripe-2.new.hand.seat.me.0 (returns-clause-trims g c)) c.args.arena.now c.give_stripe-2.ensures.arena locks c.requires.ready
 
 pub returns-in-Err-clause-first : goal.returns-in-Err-clause-first
 returns-in-Err-clause-first g c = λ other.

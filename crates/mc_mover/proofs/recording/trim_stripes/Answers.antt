@@ -49,11 +49,14 @@ loop-stripe-preserved g c =
     let view : View = c.args.hand.now.seat.me.0 in
     let before : View = c.loop-stripe.hand.seat.me.0 in
     let now : View = c.trim_stripe.new.hand.seat.me.0 in
-    let one = subst (λ (n : ℕ). HoldsStripe stripe (Changes Trim n stripe) before now) inv.number c.in_ok-trim_stripe.ensures.trims in record {
-      arena = c.trim_stripe.ensures.arena;
-      ready = c.trim_stripe.ensures.ready;
-      locks = c.trim_stripe.ensures.locks ∙ inv.locks;
-      number = c.trim_stripe.ensures.number ∙ inv.number;
+    let stays = c.trim_stripe.ensures.hand in
+    let one = subst (λ (n : ℕ). HoldsStripe stripe (Changes Trim n stripe) before now) inv.hand.number c.in_ok-trim_stripe.ensures.trims in record {
+      hand = record {
+        arena = stays.arena;
+        ready = stays.ready;
+        locks = stays.locks ∙ inv.hand.locks;
+        number = stays.number ∙ inv.hand.number;
+      };
       so_far = subst (λ (stripes : List ℕ). ChangesEach Trim c.args.hand.now.number stripes view now) (sym (numbers_more stripe)) (each_more Trim c.args.hand.now.number stripe (range_with_len 0 stripe) view before now inv.so_far one);
       unfull = unfull_more c.args.hand.now.number stripe before now one inv.unfull c.in_ok-trim_stripe.ensures.unfull;
     }

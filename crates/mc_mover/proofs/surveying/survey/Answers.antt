@@ -3,8 +3,7 @@ use Rattle.mc_classes.specs.Classes.{Classes}
 use Rattle.mc_pages.specs.SlabState.{SlabState}
 use Rattle.mc_words.specs.lock.Out.{without_slabs}
 use Rattle.mc_words.specs.hand.View.{Setup, View}
-use Rattle.mc_words.proofs.Hands.HandNumbers.{number_stays}
-use Rattle.mc_mover.proofs.Chains.{held_ids, held_known_same, held_mine, held_said, ready_still, refs_stay}
+use Rattle.mc_mover.proofs.Chains.{hand_still, held_ids, held_known_same, held_mine, held_said, refs_stay}
 use Rattle.mc_mover.proofs.HoldsSlabs.{lock_back, held_holdings}
 use Rattle.mc_mover.proofs.Surveys.{classes_here}
 use Rattle.mc_mover.proofs.surveying.survey.Goals as goal
@@ -23,20 +22,15 @@ returns-clause-holdings g c =
     held_holdings c.args.hand.now.seat.me.0 held.new.hand.seat.me.0 swept.new.hand.seat.me.0 c.give_slabs.new.hand.seat.me.0 held.result.shared swept.new.held.shared held.ensures.waits
     (ap (λ (v : View). v.row.holdings) swept.ensures.view) c.give_slabs.ensures.left
 
-pub returns-clause-locks : goal.returns-clause-locks
-returns-clause-locks g c = c.give_slabs.ensures.locks ∙ (ap without_slabs (c.sweep_classes.ensures.locks ∙ c.lock_slabs-held.ensures.locks) ∙ lock_back c.args.hand.now c.requires.ready.unlocked)
-
-pub returns-clause-ready : goal.returns-clause-ready
-returns-clause-ready g c = ready_still c.args.hand.now c.give_slabs.new.hand (returns-clause-locks g c) (returns-clause-holdings g c) c.requires.ready
-
-pub returns-clause-number : goal.returns-clause-number
-returns-clause-number g c =
+pub returns-clause-hand : goal.returns-clause-hand
+returns-clause-hand g c =
     let held = c.lock_slabs-held in
     let taken : View = held.new.hand.seat.me.0 in
     let swept = c.sweep_classes in
     let last : View = swept.new.hand.seat.me.0 in
     let left = swept.new.held.shared in
-    number_stays c.args.hand.now c.give_slabs.new.hand (held_ids c.args.hand.now.seat.me.0 taken last c.give_slabs.new.hand.seat.me.0 held.result.shared left held.ensures.waits c.give_slabs.ensures.left (ap (λ (v : View). v.row.ids) swept.ensures.view))
+    let locks = c.give_slabs.ensures.locks ∙ (ap without_slabs (c.sweep_classes.ensures.locks ∙ c.lock_slabs-held.ensures.locks) ∙ lock_back c.args.hand.now c.requires.ready.unlocked) in
+    hand_still c.args.arena.now c.args.hand.now c.give_slabs.new.hand c.give_slabs.ensures.arena locks (returns-clause-holdings g c) (held_ids c.args.hand.now.seat.me.0 taken last c.give_slabs.new.hand.seat.me.0 held.result.shared left held.ensures.waits c.give_slabs.ensures.left (ap (λ (v : View). v.row.ids) swept.ensures.view)) c.requires.ready
 
 pub returns-clause-keeps : goal.returns-clause-keeps
 returns-clause-keeps g c =

@@ -3,20 +3,12 @@ use Rattle.mc_words.specs.lock.Out.{without_slabs}
 use Rattle.mc_words.specs.hand.View.{View}
 use Rattle.mc_mover.specs.Turning.{TurnLacksMemory, Turns}
 use Rattle.mc_words.proofs.Hands.HandNumbers.{number_stays}
-use Rattle.mc_mover.proofs.Chains.{held_answer, lacks_leaves, ready_still, refs_kept, turn_leaves}
+use Rattle.mc_mover.proofs.Chains.{hand_still, held_answer, lacks_leaves, refs_kept, turn_leaves}
 use Rattle.mc_mover.proofs.Grows.{turns_grow}
 use Rattle.mc_mover.proofs.HoldsSlabs.{held_for, lock_back}
 use Rattle.mc_mover.proofs.Locks.{taken_at_once}
 use Rattle.mc_mover.proofs.Tells.{fewer_told, turn_told}
 use Rattle.mc_mover.proofs.turning.try_turn.Goals as goal
-
-pub returns-in-Ok-answer-clause-locks : goal.returns-in-Ok-answer-clause-locks
-returns-in-Ok-answer-clause-locks c =
-    c.give_slabs.ensures.locks ∙ (ap without_slabs (c.turn_held-answer.ensures.locks ∙ c.in-Ok.ensures.locks) ∙ lock_back c.args.hand.now c.requires.ready.unlocked)
-
-pub returns-in-Err-clause-locks : goal.returns-in-Err-clause-locks
-returns-in-Err-clause-locks c =
-    c.give_slabs.ensures.locks ∙ (ap without_slabs (c.turn_held-answer.ensures.locks ∙ c.in-Ok.ensures.locks) ∙ lock_back c.args.hand.now c.requires.ready.unlocked)
 
 pub returns-in-Ok-answer-clause-turns : goal.returns-in-Ok-answer-clause-turns
 returns-in-Ok-answer-clause-turns c =
@@ -56,14 +48,12 @@ pub returns-in-Ok-answer-clause-holdings : goal.returns-in-Ok-answer-clause-hold
 returns-in-Ok-answer-clause-holdings c =
     ap (λ (v : View). v.row.holdings) c.give_slabs.ensures.left ∙ (c.turn_held-answer.ensures.holdings ∙ ap (λ (v : View). v.row.holdings) c.in-Ok.ensures.lent)
 
-pub returns-in-Ok-answer-clause-ready : goal.returns-in-Ok-answer-clause-ready
-returns-in-Ok-answer-clause-ready c = ready_still c.args.hand.now c.give_slabs.new.hand (returns-in-Ok-answer-clause-locks c) (returns-in-Ok-answer-clause-holdings c) c.requires.ready
-
-pub returns-in-Ok-answer-clause-number : goal.returns-in-Ok-answer-clause-number
-returns-in-Ok-answer-clause-number c =
+pub returns-in-Ok-answer-clause-hand : goal.returns-in-Ok-answer-clause-hand
+returns-in-Ok-answer-clause-hand c =
     let hand = c.args.hand.now in
     let now = c.give_slabs.new.hand in
-    number_stays hand now (turn_leaves hand.number c.in-Ok-answer.turn hand.seat.me.0 now.seat.me.0 (returns-in-Ok-answer-clause-turns c)).ids
+    let locks = c.give_slabs.ensures.locks ∙ (ap without_slabs (c.turn_held-answer.ensures.locks ∙ c.in-Ok.ensures.locks) ∙ lock_back c.args.hand.now c.requires.ready.unlocked) in
+    hand_still c.args.arena.now hand now c.give_slabs.ensures.arena locks (returns-in-Ok-answer-clause-holdings c) (turn_leaves hand.number c.in-Ok-answer.turn hand.seat.me.0 now.seat.me.0 (returns-in-Ok-answer-clause-turns c)).ids c.requires.ready
 
 pub returns-in-Ok-answer-clause-keeps : goal.returns-in-Ok-answer-clause-keeps
 returns-in-Ok-answer-clause-keeps c =
@@ -82,14 +72,12 @@ pub returns-in-Err-clause-holdings : goal.returns-in-Err-clause-holdings
 returns-in-Err-clause-holdings c =
     ap (λ (v : View). v.row.holdings) c.give_slabs.ensures.left ∙ (c.turn_held-answer.ensures.holdings ∙ ap (λ (v : View). v.row.holdings) c.in-Ok.ensures.lent)
 
-pub returns-in-Err-clause-ready : goal.returns-in-Err-clause-ready
-returns-in-Err-clause-ready c = ready_still c.args.hand.now c.give_slabs.new.hand (returns-in-Err-clause-locks c) (returns-in-Err-clause-holdings c) c.requires.ready
-
-pub returns-in-Err-clause-number : goal.returns-in-Err-clause-number
-returns-in-Err-clause-number c =
+pub returns-in-Err-clause-hand : goal.returns-in-Err-clause-hand
+returns-in-Err-clause-hand c =
     let hand = c.args.hand.now in
     let now = c.give_slabs.new.hand in
-    number_stays hand now (lacks_leaves hand.number hand.seat.me.0 now.seat.me.0 (returns-in-Err-clause-lacks c refl)).ids
+    let locks = c.give_slabs.ensures.locks ∙ (ap without_slabs (c.turn_held-answer.ensures.locks ∙ c.in-Ok.ensures.locks) ∙ lock_back c.args.hand.now c.requires.ready.unlocked) in
+    hand_still c.args.arena.now hand now c.give_slabs.ensures.arena locks (returns-in-Err-clause-holdings c) (lacks_leaves hand.number hand.seat.me.0 now.seat.me.0 (returns-in-Err-clause-lacks c refl)).ids c.requires.ready
 
 pub returns-in-Err-clause-keeps : goal.returns-in-Err-clause-keeps
 returns-in-Err-clause-keeps c =

@@ -5,13 +5,12 @@ use Rattle.mc_core.specs.model.Holdings.{has_fresh}
 use Rattle.mc_words.specs.lock.Doing.{HoldsSlabs}
 use Rattle.mc_words.specs.lock.Out.{locks_have_no_stripe, without_slabs}
 use Rattle.mc_words.specs.hand.View.{View}
-use Rattle.mc_words.proofs.Hands.HandNumbers.{number_stays}
 use Rattle.mc_words.proofs.Locks.Unlocked.{no_stripes_there}
 use Rattle.mc_mover.specs.declared.counts.Turn.{Turn}
 use Rattle.mc_mover.specs.Answering.{AnswersMove, IsAnswerOf}
 use Rattle.mc_mover.specs.Telling.{RecordsAsCounted, counts_in}
 use Rattle.mc_mover.specs.Turning.{TurnLacksMemory, Turns}
-use Rattle.mc_mover.proofs.Chains.{answer_leaves, held_answer, ready_still, refs_kept}
+use Rattle.mc_mover.proofs.Chains.{answer_leaves, hand_still, held_answer, refs_kept}
 use Rattle.mc_mover.proofs.Grows.{turns_grow}
 use Rattle.mc_mover.proofs.HoldsSlabs.{held_for, held_holdings, lock_back, wait_holdings, wait_number}
 use Rattle.mc_mover.proofs.Locks.{none_with_slabs}
@@ -83,18 +82,12 @@ returns-clause-holdings g c =
     held_holdings c.args.hand.now.seat.me.0 held.new.hand.seat.me.0 c.turn_held-answer.new.hand.seat.me.0 c.give_slabs.new.hand.seat.me.0 held.result.shared c.turn_held-answer.new.held.shared
     held.ensures.waits c.turn_held-answer.ensures.holdings c.give_slabs.ensures.left
 
-pub returns-clause-locks : goal.returns-clause-locks
-returns-clause-locks g c =
-    c.give_slabs.ensures.locks ∙ (ap without_slabs (c.turn_held-answer.ensures.locks ∙ c.lock_slabs-held.ensures.locks) ∙ lock_back c.args.hand.now c.requires.ready.unlocked)
-
-pub returns-clause-ready : goal.returns-clause-ready
-returns-clause-ready g c = ready_still c.args.hand.now c.give_slabs.new.hand (returns-clause-locks g c) (returns-clause-holdings g c) c.requires.ready
-
-pub returns-clause-number : goal.returns-clause-number
-returns-clause-number g c =
+pub returns-clause-hand : goal.returns-clause-hand
+returns-clause-hand g c =
     let hand = c.args.hand.now in
     let now = c.give_slabs.new.hand in
-    number_stays hand now (answer_leaves hand.number c.turn_held-answer.result hand.seat.me.0 now.seat.me.0 (returns-clause-turns g c) (returns-clause-lacks g c)).ids
+    let locks = c.give_slabs.ensures.locks ∙ (ap without_slabs (c.turn_held-answer.ensures.locks ∙ c.lock_slabs-held.ensures.locks) ∙ lock_back c.args.hand.now c.requires.ready.unlocked) in
+    hand_still c.args.arena.now hand now c.give_slabs.ensures.arena locks (returns-clause-holdings g c) (answer_leaves hand.number c.turn_held-answer.result hand.seat.me.0 now.seat.me.0 (returns-clause-turns g c) (returns-clause-lacks g c)).ids c.requires.ready
 
 pub returns-clause-answers : goal.returns-clause-answers
 returns-clause-answers g c =

@@ -18,8 +18,8 @@ pub returns-clause-stays : goal.returns-clause-stays
 returns-clause-stays c =
     let there : IsLastAt c.args.key c.args.kept.now.items c.in-Some.place = subst (λ (l : List Ref). IsLastAt c.args.key l c.in-Some.place) c.deref.ensures.value c.in-Some.ensures.last in
     record {
-      hand_is = (c.release.ensures.arena, c.release.ensures.ready);
-      number = c.release.ensures.number ∙ c.in-Ok.ensures.number;
+      hand_is = (c.release.ensures.hand.arena, c.release.ensures.hand.ready);
+      number = c.release.ensures.hand.number ∙ c.in-Ok.ensures.hand.number;
       keeps = subst (RefersToEach (view c.release.new.hand)) (sym c.remove-item.ensures.items)
           (kept_without (view c.args.hand.now) (view c.read.new.hand) (view c.release.new.hand) c.args.kept.now.items c.in-Some.place c.remove-item.result there.there c.remove-item.ensures.value
           c.requires.keeping.keeps c.in-Ok.ensures.keeps c.in-Ok.ensures.holdings c.release.ensures.keeps c.release.ensures.holdings);

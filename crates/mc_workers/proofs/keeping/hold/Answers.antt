@@ -17,8 +17,8 @@ returns-in-Ok-Some-clause-stays g c =
     let item = c.in-Ok-Some.item in
     let gained = subst (λ (o : Option Ref). HoldsToo o before now) c.in-Ok-Some.field-0-is c.in-Ok-Some.ensures.holdings in
     record {
-      hand_is = (c.get.ensures.arena, c.get.ensures.ready);
-      number = c.get.ensures.number;
+      hand_is = (c.get.ensures.hand.arena, c.get.ensures.hand.ready);
+      number = c.get.ensures.hand.number;
       keeps = subst (RefersToEach now) (sym (c.push_reserved.ensures.items ∙ ap (λ (l : List Ref). l ++ item ∷ []) c.reserve.ensures.items))
           (kept_too before now kept item c.requires.keeping.keeps c.get.ensures.keeps gained (subst (λ (o : Option Ref). IfSome o (λ item. IsItemRef now item × (item_key item ≡ c.args.key))) c.in-Ok-Some.field-0-is c.in-Ok-Some.ensures.item).0);
     }
@@ -42,8 +42,8 @@ returns-in-Ok-None-clause-stays g c =
     let now = view c.get.new.hand in
     let same = subst (λ (o : Option Ref). HoldsToo o before now) c.in-Ok-None.field-0-is c.in-Ok-None.ensures.holdings in
     record {
-      hand_is = (c.get.ensures.arena, c.get.ensures.ready);
-      number = c.get.ensures.number;
+      hand_is = (c.get.ensures.hand.arena, c.get.ensures.hand.ready);
+      number = c.get.ensures.hand.number;
       keeps = subst (RefersToEach now) (sym c.reserve.ensures.items) (kept_stay before now c.args.kept.now.items c.requires.keeping.keeps c.get.ensures.keeps (as_often before now same));
     }
 
@@ -60,7 +60,7 @@ returns-in-Err-NoMemory-clause-stays g c =
     let before = view c.args.hand.now in
     let now = view c.get.new.hand in
     record {
-      hand_is = (c.get.ensures.arena, c.get.ensures.ready);
-      number = c.get.ensures.number;
+      hand_is = (c.get.ensures.hand.arena, c.get.ensures.hand.ready);
+      number = c.get.ensures.hand.number;
       keeps = subst (RefersToEach now) (sym c.reserve.ensures.items) (kept_stay before now c.args.kept.now.items c.requires.keeping.keeps c.get.ensures.keeps (as_often before now c.in-Err-NoMemory.ensures.no_more));
     }

@@ -17,14 +17,18 @@ loop-item-preserved c =
     let now = view c.release.new.hand in
     let left = c.pop.new.self.items in
     let item = c.in-Some.item in
+    let stays = c.release.ensures.hand in
     record {
-      arena = c.release.ensures.arena;
-      ready = c.release.ensures.ready;
+      hand = record {
+        arena = stays.arena;
+        ready = stays.ready;
+        locks = stays.locks ∙ c.loop-item.invariant.hand.locks;
+        number = stays.number ∙ c.loop-item.invariant.hand.number;
+      };
       kept = kept_but_last before now left item (subst (RefersToEach before) c.in-Some.ensures.items c.loop-item.invariant.kept) c.release.ensures.keeps c.release.ensures.holdings;
-      number = c.release.ensures.number ∙ c.loop-item.invariant.number;
       released = c.loop-item.invariant.released ∙ (ap (λ (l : List Ref). all_released l before) c.in-Some.ensures.items ∙ (released_last left item before ∙ ap (all_released left) (sym c.release.ensures.dropped)));
     }
 
 pub returns-clause-idle : goal.returns-clause-idle
-returns-clause-idle c = idle_then (view c.loop-item.hand) c.loop-item.invariant.ready
+returns-clause-idle c = idle_then (view c.loop-item.hand) c.loop-item.invariant.hand.ready
     (subst (RefersToEach (view c.loop-item.hand)) (nil_from_length c.loop-item.kept.items (let none = c.in_default.ensures.cases.0 in omega (arith, c.loop-item.kept.ok.0))) c.loop-item.invariant.kept)

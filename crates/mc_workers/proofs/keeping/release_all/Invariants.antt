@@ -1,7 +1,6 @@
 use Rattle.std.proofs.Common.{◌≡◌, vec_len}
-use Rattle.mc_words.specs.hand.Arenas.{IsHandOf, view}
-use Rattle.mc_words.specs.hand.Observers.{hand_number}
-use Rattle.mc_words.specs.hand.Ready.{IsReady}
+use Rattle.mc_words.specs.hand.Arenas.{view}
+use Rattle.mc_words.specs.hand.Ready.{StaysReady}
 use Rattle.mc_items.specs.ItemRefs.{RefersToEach}
 use Rattle.mc_workers.specs.Lines.{all_released}
 use Rattle.mc_workers.proofs.keeping.release_all.Given as goal
@@ -9,10 +8,8 @@ use Rattle.mc_workers.proofs.keeping.release_all.Given as goal
 -- what is still kept, and that what was given back were the last ones
 abbrev pub invariant-loop-item : goal.invariant-loop-item
 invariant-loop-item l = record {
-  arena : IsHandOf l.arena l.hand;
-  ready : IsReady (view l.hand);
+  hand : StaysReady l.arena l.initial.hand l.hand;
   kept : RefersToEach (view l.hand) l.kept.items;
-  number : hand_number l.hand ≡ hand_number l.initial.hand;
   released : all_released l.initial.kept.items (view l.initial.hand) ≡ all_released l.kept.items (view l.hand);
 }
 

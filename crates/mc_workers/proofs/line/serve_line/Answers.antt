@@ -29,8 +29,8 @@ returns-in-Set-clause-serves g c =
 
 pub returns-in-Get-clause-stays : goal.returns-in-Get-clause-stays
 returns-in-Get-clause-stays g c = record {
-  hand_is = c.get_words.ensures.stays.hand_is;
-  number = c.get_words.ensures.stays.number;
+  hand_is = (c.get_words.ensures.hand.arena, c.get_words.ensures.hand.ready);
+  number = c.get_words.ensures.hand.number;
   keeps = kept_stay (view c.args.hand.now) (view c.get_words.new.hand) c.args.kept.now.items c.requires.keeping.keeps c.get_words.ensures.keeps c.get_words.ensures.holdings;
 }
 
@@ -63,8 +63,8 @@ returns-in-Delete-clause-serves g c =
 
 pub returns-in-Touch-clause-stays : goal.returns-in-Touch-clause-stays
 returns-in-Touch-clause-stays g c = record {
-  hand_is = c.touch_key.ensures.stays.hand_is;
-  number = c.touch_key.ensures.stays.number;
+  hand_is = (c.touch_key.ensures.hand.arena, c.touch_key.ensures.hand.ready);
+  number = c.touch_key.ensures.hand.number;
   keeps = kept_stay (view c.args.hand.now) (view c.touch_key.new.hand) c.args.kept.now.items c.requires.keeping.keeps c.touch_key.ensures.keeps c.touch_key.ensures.holdings;
 }
 

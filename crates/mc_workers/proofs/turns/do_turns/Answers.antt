@@ -40,9 +40,9 @@ loop-preserved g c =
     let went = is_went c.ending_of-ending.result (sym c.ne.ensures ∙ c.if-ne.false) in
     let left : Mover = record c.loop.mover { turns = c.loop.mover.turns + 1 } in
     record {
-      arena = c.turn.ensures.arena;
-      ready = c.turn.ensures.ready;
-      number = c.turn.ensures.number ∙ inv.number;
+      arena = c.turn.ensures.hand.arena;
+      ready = c.turn.ensures.hand.ready;
+      number = c.turn.ensures.hand.number ∙ inv.number;
       holdings = c.turn.ensures.holdings ∙ inv.holdings;
       gone = gone_more c.args.asked c.loop.counter c.loop.counts c.add_counts.new.counts turn c.args.mover.now c.args.hand.now c.loop.mover c.loop.hand left c.turn.new.hand
           inv.gone c.if-mover-ge-MAX_TURNS.false refl (c.in-Ok.ensures.turns, c.in-Ok.ensures.records) c.add_counts.ensures.added (sym c.ending_of-ending.ensures.ending ∙ went);

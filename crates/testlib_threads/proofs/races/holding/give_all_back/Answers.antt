@@ -13,7 +13,7 @@ pub loop-item-preserved : goal.loop-item-preserved
 loop-item-preserved c =
     let before = view c.loop-item.hand in
     let now = view c.release.new.hand in
-    ((c.release.ensures.arena, c.release.ensures.ready), kept_but_last before now c.pop.new.self.items c.in-Some.item (subst (RefersToEach before) c.in-Some.ensures.items c.loop-item.invariant.1) c.release.ensures.keeps c.release.ensures.holdings)
+    ((c.release.ensures.hand.arena, c.release.ensures.hand.ready), kept_but_last before now c.pop.new.self.items c.in-Some.item (subst (RefersToEach before) c.in-Some.ensures.items c.loop-item.invariant.1) c.release.ensures.keeps c.release.ensures.holdings)
 
 pub returns : goal.returns
 returns c = record {

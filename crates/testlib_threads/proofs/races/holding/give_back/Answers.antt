@@ -20,4 +20,4 @@ returns c =
     let now = view c.release.new.hand in
     let kept = c.args.kept.now.items in
     let within : c.args.place < length kept = search rules in
-    record { keeper = ((c.release.ensures.arena, c.release.ensures.ready), subst (RefersToEach now) (sym c.remove-item.ensures.items) (kept_without before now kept c.args.place c.remove-item.result within c.remove-item.ensures.value c.requires.keeper.1 c.release.ensures.keeps c.release.ensures.holdings)) }
+    record { keeper = ((c.release.ensures.hand.arena, c.release.ensures.hand.ready), subst (RefersToEach now) (sym c.remove-item.ensures.items) (kept_without before now kept c.args.place c.remove-item.result within c.remove-item.ensures.value c.requires.keeper.1 c.release.ensures.keeps c.release.ensures.holdings)) }
