@@ -8,6 +8,7 @@ mod lost;
 mod mode_two;
 mod refusals;
 mod rescuing;
+mod rooms;
 mod steps;
 mod surveys;
 mod trims;

@@ -3,8 +3,9 @@ ghost use Rattle.mc_words.specs.hand.Ready.{IsReadyHandOf};
 ghost use Rattle.mc_items.specs.ItemRefs.{IsItemRef};
 ghost use Rattle.mc_words.specs.hand.Arenas.{view};
 
+use super::rooms::makes;
 use mc_classes::ClassId;
-use mc_items::{Ref, TryGetError, read, release, try_get};
+use mc_items::{Ref, Room, TryGetError, read, release, try_get};
 use mc_mover::{Counts, Turn, forget, reassign, trim};
 use mc_pages::{ChunkId, Reassign};
 use mc_stripe::Key;
@@ -43,6 +44,8 @@ pub enum Step {
     Trims,
     /// Each stripe forgets its calls.
     Forgets,
+    /// Room is made for items of 61 words, where keys below this one are marked: how.
+    Makes(Key, Room),
     /// The automover's mode is set, and a survey has it.
     Modes(u64),
     /// This many pages are granted, and in the pool, and one moves or none does.
@@ -223,6 +226,7 @@ fn acts<R: Wait>(rt: &R, arena: &Arena, hand: &mut Hand, step: &Step) -> bool
             forget(rt, arena, hand);
             true
         }
+        Step::Makes(below, room) => makes(rt, arena, hand, *below, *room),
         _ => match turn_of(step) {
             Some(wanted) => turn_by(rt, arena, hand) == Some(wanted),
             None => false,
