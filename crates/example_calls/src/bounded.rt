@@ -2,8 +2,7 @@
 ghost use Rattle.std.specs.Prelude.{◌+◌, ◌≡◌, IfOk, OnErr};
 ghost use Rattle.mc_stripe.specs.StripeState.{stamp_of_key};
 ghost use Rattle.mc_words.specs.hand.Arenas.{view};
-ghost use Rattle.mc_words.specs.hand.Observers.{locks_of, hand_number};
-ghost use Rattle.mc_words.specs.hand.Ready.{IsReady, IsReadyHandOf};
+ghost use Rattle.mc_words.specs.hand.Ready.{IsReady, IsReadyHandOf, StaysReady};
 ghost use Rattle.mc_words.specs.hand.Seats.{IsSeatedAt};
 ghost use Rattle.mc_words.specs.item.Refs.{KeepsRefs};
 ghost use Rattle.example_calls.specs.Bounded.{FindsStamp, GivesNoStamp, IsNextStamp, Makes, MakesAtMost, StoresKeyAndWords, SetsOwn, granted_as_given};
@@ -91,10 +90,8 @@ pub fn recall_and_set(
 ) -> Result<Stamp, SetWithinError>
     requires seated { IsSeatedAt arena.now hand.old }
     requires ready { IsReady (view hand.old) }
-    ensures ready { IsReadyHandOf arena.now hand.new }
-    ensures locks { locks_of hand.new ≡ locks_of hand.old }
-    ensures number { hand_number hand.new ≡ hand_number hand.old }
     ensures sets { IfOk result (SetsOwn key words.now hand.old hand.new) }
+    ensures hand { StaysReady arena.now hand.old hand.new }
 {
     arena.recall(hand);
     set_within(arena, hand, key, words, tries)

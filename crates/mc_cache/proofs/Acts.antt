@@ -3,14 +3,11 @@ use Rattle.std.proofs.Common.{None, Some, ◌≡◌, ◌<◌, ◌∙◌, ◌++�
 use Rattle.std.proofs.lemmas.Option.{slice_get_read}
 use Rattle.mc_words.specs.declared.arena.Arena.{Arena}
 use Rattle.mc_words.specs.declared.hand.Hand.{Hand}
-use Rattle.mc_words.specs.hand.Arenas.{setup_of, view}
-use Rattle.mc_items.specs.Keeping.{StoresNothing}
-use Rattle.mc_cache.specs.shard.Finding.{GivesTouchedIf}
 use Rattle.mc_cache.specs.shard.Hands.{IsIdleHandOf}
 use Rattle.mc_cache.specs.declared.cache.Cache.{Cache}
 use Rattle.mc_cache.specs.declared.place.Place.{Place}
 use Rattle.mc_cache.specs.Belonging.{hash_in, shard_in}
-use Rattle.mc_cache.specs.Shards.{ActsOnShard, AreIdleHands, ReadsTouchingIf}
+use Rattle.mc_cache.specs.Shards.{ActsOnShard, AreIdleHands}
 use Rattle.mc_cache.proofs.Pairs.{pair_set}
 
 -- the hand of a shard is idle
@@ -65,12 +62,6 @@ acted cache key hands at arena hand after Does are is_hash is_shard in_range is_
     let done : Does (hash_in cache key) arena hand after = subst (λ (h : ℕ). Does h arena hand after) is_hash does in
     subst (λ (s : ℕ). ActsOnShard cache.arenas.items s (Does (hash_in cache key)) hands (set hands at.shard after)) is_shard
     (acts cache.arenas.items hands at.shard arena hand after (Does (hash_in cache key)) in_range are.count is_arena is_hand done)
-
--- what a get gave, which said nothing
-pub reads_touching_if : (touches : Bool) (arena : Arena) (hash : ℕ) (key : List ℕ) (before now : Hand) (old new : List ℕ) → GivesTouchedIf touches (setup_of arena) hash key before now old new → StoresNothing (view before) (view now)
-    → (value : List ℕ) × ReadsTouchingIf touches hash key value arena before now × (new ≡ old ++ value)
-reads_touching_if true arena hash key before now old new gives stores_nothing = (gives.0, (gives.1, stores_nothing), gives.2)
-reads_touching_if false arena hash key before now old new gives stores_nothing = (gives.0, (gives.1, stores_nothing), gives.2)
 
 -- a place that was found is one
 pub no_none : {T : Type 0} (x : T) → Some x ≡ None → ⊥

@@ -9,4 +9,6 @@ pub mod Tendings
 pub mod Deciders
 pub mod EachShard
 pub mod Counted
-pub mod Forgotten
+pub mod Accepts
+pub mod Doubling
+pub mod Sized

@@ -4,3 +4,5 @@ pub mod Found
 pub mod WordsRead
 pub mod Appended
 pub mod Slabs
+pub mod Recorded
+pub mod Stored

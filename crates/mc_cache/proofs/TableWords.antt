@@ -17,7 +17,7 @@ use Rattle.mc_words.specs.hand.View.{Setup}
 use Rattle.mc_cache.specs.declared.opening.CacheConfig.{CacheConfig}
 use Rattle.mc_cache.specs.declared.opening.NewError.{NewError}
 use Rattle.mc_cache.specs.declared.opening.NewError.TheVariants as refused
-use Rattle.mc_cache.specs.Bytes.{cache_bytes, class_count, classes_from, words_an_arena, words_of_arenas}
+use Rattle.mc_cache.specs.Bytes.{class_count, classes_from, config_table_bytes, words_an_arena, words_of_arenas}
 use Rattle.mc_cache.specs.Opening.{IsNewShard, cache_refusal}
 
 -- the first of a table's sizes is the one that the configuration tells
@@ -133,7 +133,7 @@ arena_accepted config h =
     unmapped _ (passed (is_between 1 63 config.workers) refused.Workers _ workers)
 
 -- the tables of all shards of a new cache
-pub bytes_are : (config : CacheConfig) (arenas : List Arena) → config_refusal config.arena ≡ None → length arenas ≡ config.shards → All (IsNewShard config) arenas → 8 * words_of_arenas arenas ≡ cache_bytes config
+pub bytes_are : (config : CacheConfig) (arenas : List Arena) → config_refusal config.arena ≡ None → length arenas ≡ config.shards → All (IsNewShard config) arenas → 8 * words_of_arenas arenas ≡ config_table_bytes config
 bytes_are config arenas none count new =
     let all : words_of_arenas arenas ≡ length arenas * words_an_arena config.arena =
     words_of_all arenas (words_an_arena config.arena) (λ place arena in_range. words_are config.arena (config.workers + 1) (setup_of (get_or arenas place arena)) none (new place arena in_range).made) in

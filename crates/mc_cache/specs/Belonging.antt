@@ -6,9 +6,7 @@ use Rattle.mc_items.specs.declared.setting.SetError.{SetError}
 use Rattle.mc_cache.specs.declared.cache.Cache.{Cache}
 use Rattle.mc_cache.specs.declared.cache.Worker.{Worker}
 use Rattle.mc_cache.specs.Hashing.{hash_of, shard_of}
-use Rattle.mc_cache.specs.Marks.{asks_after, marks_with}
-use Rattle.mc_cache.specs.Recent.{is_due, marks_found, recent_marks}
-use Rattle.mc_cache.specs.Shards.{ActsOnShard, AreIdleHands, DeletesThere, ReadsOther, ReadsTouchingIf, ReadsValue, RefusesValue}
+use Rattle.mc_cache.specs.Shards.{ActsOnShard, AreIdleHands, AreUnusedHands, DeletesThere, ReadsOther, ReadsValue, RefusesValue}
 
 -- the worker has an idle hand of each of the cache's arenas
 abbrev pub BelongsTo : Cache → Worker → Type 0
@@ -17,6 +15,10 @@ BelongsTo cache worker = AreIdleHands cache.arenas.items worker.hands.items
 -- each worker has an idle hand of each of these arenas
 abbrev pub HaveIdleHands : List Arena → List Worker → Type 0
 HaveIdleHands arenas workers = All (λ worker. AreIdleHands arenas worker.hands.items) workers
+
+-- each worker has an idle hand of each of these arenas, and none of these hands did anything yet
+abbrev pub HaveUnusedHands : List Arena → List Worker → Type 0
+HaveUnusedHands arenas workers = All (λ worker. AreUnusedHands arenas worker.hands.items) workers
 
 -- the hash of a key, by which the cache finds its shard
 abbrev pub hash_in : Cache → List ℕ → ℕ
@@ -37,19 +39,6 @@ KeepsHands before now = now.hands.items ≡ before.hands.items
 -- the worker found the key with a value, which was added behind the old bytes
 abbrev pub GivesValueOf : Cache → List ℕ → List ℕ → List ℕ → Worker → Worker → Type 0
 GivesValueOf cache key old new before now = (value : List ℕ) × ActsOnKey cache key (ReadsValue (hash_in cache key) key value) before now × (new ≡ old ++ value)
-
--- the worker found the key with a value, which was added behind the old bytes, and touched the key if that was due
-abbrev pub GivesAndTouches : Cache → List ℕ → List ℕ → List ℕ → Worker → Worker → Type 0
-GivesAndTouches cache key old new before now =
-    (value : List ℕ) × ActsOnKey cache key (ReadsTouchingIf (is_due before.recent (hash_in cache key)) (hash_in cache key) key value) before now × (new ≡ old ++ value)
-
--- the key's hash is noted as that of a key which the worker touched lately
-abbrev pub NotesHashOf : Cache → List ℕ → Worker → Worker → Type 0
-NotesHashOf cache key before now = recent_marks now.recent ≡ marks_with (hash_in cache key) (marks_found before.recent)
-
--- the worker has counted one ask more
-abbrev pub CountsAsk : Worker → Worker → Type 0
-CountsAsk before now = now.recent.asks ≡ asks_after before.recent.asks
 
 -- the worker found no such key, or one that was gone when it was to be deleted
 abbrev pub DeletesNoneOf : Cache → List ℕ → Worker → Worker → Type 0

@@ -2,13 +2,12 @@ pub mod shard
 pub mod Hashing
 pub mod HasherInside
 pub mod Pairs
-pub mod Marks
-pub mod Recent
 pub mod Shards
 pub mod Observers
 pub mod Opening
 pub mod Belonging
 pub mod Bytes
+pub mod Sizing
 pub mod Windows
 pub mod Tending
 pub mod Stats

@@ -1,5 +1,5 @@
 -- Hands of the arenas of all shards, and what a call does on one of them.
-use Rattle.std.specs.Prelude.{◌≡◌, ◌≤◌, ℕ, Bool, false, true, List, All, length, slice_get, slice_set, Some}
+use Rattle.std.specs.Prelude.{◌≡◌, ◌≤◌, ℕ, Bool, List, All, length, slice_get, slice_set, Some}
 use Rattle.mc_packing.specs.Packing.{packed_item}
 use Rattle.mc_words.specs.declared.arena.Arena.{Arena}
 use Rattle.mc_words.specs.declared.hand.Hand.{Hand}
@@ -7,22 +7,25 @@ use Rattle.mc_words.specs.hand.Arenas.{setup_of, view}
 use Rattle.mc_words.specs.item.Items.{item_with}
 use Rattle.mc_words.specs.hand.Observers.{hand_number}
 use Rattle.mc_items.specs.Keeping.{StoresWithStamp, StoresNothing}
-use Rattle.mc_items.specs.OnKeys.{FindsStripeHeld}
-use Rattle.mc_items.specs.Setting.{SetsItem}
 use Rattle.mc_items.specs.declared.setting.SetError.{SetError}
-use Rattle.mc_cache.specs.shard.Finding.{DeletesKey, FindsFull, FindsKey, FindsOtherKey, FindsValue, TouchesKey, TouchesValue}
-use Rattle.mc_cache.specs.shard.Hands.{IsIdleHandOf}
+use Rattle.mc_cache.specs.shard.Finding.{DeletesKey, FindsFull, FindsKey, FindsLockTaken, FindsOtherKey, FindsValue, TouchesKey}
+use Rattle.mc_cache.specs.shard.Hands.{IsIdleHandOf, IsUnusedHandOf}
 use Rattle.mc_cache.specs.shard.Reading.{LeavesSlabs}
-use Rattle.mc_cache.specs.shard.Setting.{RefusesBytes}
+use Rattle.mc_cache.specs.shard.Recording.{RecordsDeleteAtMost, RecordsGetAtMost}
+use Rattle.mc_cache.specs.shard.Setting.{RecordsEvictionsAlone, RecordsSetBehindRoom, RefusesBytes, SetsBehindRoom}
 use Rattle.mc_cache.specs.Pairs.{ArePaired}
 
 -- the list has one hand for each arena, an idle hand of that arena
 abbrev pub AreIdleHands : List Arena → List Hand → Type 0
 AreIdleHands arenas hands = ArePaired IsIdleHandOf arenas hands
 
--- each of these hands is an idle one of the arena
-abbrev pub AreIdleHandsOf : Arena → List Hand → Type 0
-AreIdleHandsOf arena hands = All (IsIdleHandOf arena) hands
+-- the list has one hand for each arena, an idle hand of that arena that did nothing yet
+abbrev pub AreUnusedHands : List Arena → List Hand → Type 0
+AreUnusedHands arenas hands = ArePaired IsUnusedHandOf arenas hands
+
+-- each of these hands is an idle one of the arena that did nothing yet
+abbrev pub AreUnusedHandsOf : Arena → List Hand → Type 0
+AreUnusedHandsOf arena hands = All (IsUnusedHandOf arena) hands
 
 -- the hand of one shard did this on its arena; the hands of the other shards are unchanged
 pub record ActsOnShard (arenas : List Arena) (shard : ℕ) (Does : Arena → Hand → Hand → Type 0) (before now : List Hand) : Type 0 where
@@ -38,13 +41,16 @@ pub record ActsOnShard (arenas : List Arena) (shard : ℕ) (Does : Arena → Han
 abbrev pub IsKey : List ℕ → Type 0
 IsKey key = (1 ≤ length key) × (length key ≤ 250)
 
--- the hand stored this value under the key, with a stamp of its own
+-- the hand stored this value under the key, with a stamp of its own, and perhaps evicted items before; its own calls got no more than that
 abbrev pub StoresValue : ℕ → List ℕ → List ℕ → Arena → Hand → Hand → Type 0
-StoresValue hash key value arena hand now = (stamp : ℕ) × StoresWithStamp (item_with hash stamp (packed_item key value)) stamp (view hand) (view now) × SetsItem (hand_number hand) hash stamp (packed_item key value) (view hand) (view now)
+StoresValue hash key value arena hand now =
+    (hand_number now ≡ hand_number hand) × ((stamp : ℕ) × StoresWithStamp (item_with hash stamp (packed_item key value)) stamp (view hand) (view now)
+    × SetsBehindRoom (hand_number hand) hash stamp (packed_item key value) hand now × RecordsSetBehindRoom (hand_number hand) hash stamp hand now)
 
--- the store of this value under the key was refused to the hand
+-- the store of this value under the key was refused to the hand, whose own calls got evictions at most
 abbrev pub RefusesValue : ℕ → List ℕ → List ℕ → SetError → Arena → Hand → Hand → Type 0
-RefusesValue hash key value error arena hand now = RefusesBytes (hand_number hand) hash (packed_item key value) error (view hand) (view now)
+RefusesValue hash key value error arena hand now =
+    (hand_number now ≡ hand_number hand) × RefusesBytes (hand_number hand) hash (packed_item key value) error hand now × RecordsEvictionsAlone (hand_number hand) hand now
 
 -- the hand found the key with this value, and stored nothing
 abbrev pub ReadsValue : ℕ → List ℕ → List ℕ → Arena → Hand → Hand → Type 0
@@ -78,15 +84,14 @@ LooksInVain hash arena hand now = StoresNothing (view hand) (view now) × ((betw
 abbrev pub TouchesNothing : Arena → Hand → Hand → Type 0
 TouchesNothing arena hand now = LeavesSlabs (view hand) (view now)
 
--- the hand found the lock of the hash's stripe with another hand
+-- the hand found the lock of the hash's stripe with another hand, perhaps after a hint led to nothing
 abbrev pub FindsStripeLocked : ℕ → Arena → Hand → Hand → Type 0
-FindsStripeLocked hash arena hand now = FindsStripeHeld (setup_of arena) hash hand now
+FindsStripeLocked hash arena hand now = FindsLockTaken (setup_of arena) hash hand now
 
--- the hand found the key with this value and touched it, and stored nothing
-abbrev pub ReadsAndTouches : ℕ → List ℕ → List ℕ → Arena → Hand → Hand → Type 0
-ReadsAndTouches hash key value arena hand now = TouchesValue (setup_of arena) hash key value hand now × StoresNothing (view hand) (view now)
+-- the hand keeps its number, and its own calls got a get of the hash, or no call
+abbrev pub GetsAtMost : ℕ → Arena → Hand → Hand → Type 0
+GetsAtMost hash arena hand now = (hand_number now ≡ hand_number hand) × RecordsGetAtMost (setup_of arena) hash hand now
 
--- the hand found the key with this value, touched it if that was asked, and stored nothing
-abbrev pub ReadsTouchingIf : Bool → ℕ → List ℕ → List ℕ → Arena → Hand → Hand → Type 0
-ReadsTouchingIf true hash key value arena hand now = ReadsAndTouches hash key value arena hand now
-ReadsTouchingIf false hash key value arena hand now = ReadsValue hash key value arena hand now
+-- the hand keeps its number, and its own calls got a get of the hash or none, and then a delete of the hash or none
+abbrev pub DeletesAtMost : ℕ → Arena → Hand → Hand → Type 0
+DeletesAtMost hash arena hand now = (hand_number now ≡ hand_number hand) × RecordsDeleteAtMost (setup_of arena) hash hand now

@@ -2,4 +2,5 @@
 pub mod Hands
 pub mod Reading
 pub mod Finding
+pub mod Recording
 pub mod Setting

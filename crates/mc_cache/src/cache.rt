@@ -3,7 +3,6 @@ ghost use Rattle.std.specs.Prelude.{◌≡◌, ◌≤◌, length};
 ghost use Rattle.mc_cache.specs.Shards.{AreIdleHands};
 
 use crate::hashing::KeyedHasher;
-use crate::recent::Recent;
 use crate::shard::HintTable;
 use mc_words::{Arena, Hand};
 
@@ -12,16 +11,15 @@ use mc_words::{Arena, Hand};
 pub struct Cache {
     pub(crate) arenas: Vec<Arena>,
     pub(crate) hashing: KeyedHasher,
-    /// Where items were found last.
+    /// Where items were found last, and which were got since an eviction looked at them.
     pub(crate) hints: HintTable,
     ghost some: { 1 ≤ length arenas.items },
     ghost within_limit: { length arenas.items ≤ 4096 },
 }
 
-/// What one thread acts with: a hand of each shard, room for the words of the item that it sets, and which keys it touched lately.
+/// What one thread acts with: a hand of each shard, and room for the words of the item that it sets.
 #[derive(Drop)]
 pub struct Worker {
     pub(crate) hands: Vec<Hand>,
     pub(crate) words: Vec<u64>,
-    pub(crate) recent: Recent,
 }

@@ -1,9 +1,10 @@
 //! A cache of bytes that threads share: many arenas side by side, the shards, and items whose words are packed bytes.
 //!
 //! - [`Cache::new`] tests a [`CacheConfig`] and makes the cache, its workers, and its tender. [`Cache::bytes`] returns the bytes
-//!   that the cache's tables take. A [`HashKey`] has the two numbers with which keys are hashed.
-//! - A thread has the cache by `&`, and a [`Worker`] of its own by `&mut`. [`Worker::set`], `get`, `get_touching`, `try_get`,
-//!   `contains`, `touch` and `delete` are the calls on a key of 1 to 250 bytes.
+//!   that the cache takes then, and [`CacheConfig::for_bytes`] a configuration that takes at most so many. A [`HashKey`] has the
+//!   two numbers with which keys are hashed.
+//! - A thread has the cache by `&`, and a [`Worker`] of its own by `&mut`. [`Worker::set`], `get`, `peek`, `try_get`, `contains`,
+//!   `touch` and `delete` are the calls on a key of 1 to 250 bytes.
 //! - The [`Tender`] has a thread of its own. [`Tender::tend`], called about once a second, moves pages between classes on each
 //!   shard. [`Tender::stats`] returns sums over all shards, and [`Tender::set_automove`] sets the mode.
 //!
@@ -28,8 +29,8 @@ mod cache;
 mod hashing;
 mod opening;
 mod place;
-mod recent;
 pub mod shard;
+mod sizing;
 mod stats;
 mod tended;
 mod tending;
@@ -40,7 +41,8 @@ pub use bytes::worked_bytes;
 pub use cache::{Cache, Worker};
 pub use hashing::HashKey;
 pub use opening::{CacheConfig, NewError};
+pub use sizing::{SizingError, worked_sizes};
 pub use stats::{CacheStats, ClassStats, worked_stats};
 pub use tended::{Tended, worked_tended};
 pub use tending::Tender;
-pub use working::{CallError, SetError, TryGetError, worked_recent};
+pub use working::{CallError, SetError, TryGetError};

@@ -3,22 +3,21 @@ ghost use Rattle.std.specs.Prelude.{◌≡◌, ◌≤◌, ◌+◌, ◌-◌, ◌+
 ghost use Rattle.mc_words.specs.declared.arena.Arena.{Arena};
 ghost use Rattle.mc_words.specs.hand.Arenas.{setup_of};
 ghost use Rattle.mc_words.specs.hand.Hands.{IsMadeWith};
-ghost use Rattle.mc_cache.specs.Belonging.{BelongsTo, HaveIdleHands};
+ghost use Rattle.mc_cache.specs.Belonging.{BelongsTo, HaveUnusedHands};
 ghost use Rattle.mc_cache.specs.Observers.{arenas_of, hash_key, shard_count};
-ghost use Rattle.mc_cache.specs.Bytes.{cache_bytes, table_bytes};
+ghost use Rattle.mc_cache.specs.Bytes.{config_table_bytes, table_bytes};
 ghost use Rattle.mc_cache.specs.Opening.{AreNewShards, IsNewShard, KeepsNoHistory, cache_refusal};
 ghost use Rattle.mc_cache.specs.Pairs.{ArePaired};
 ghost use Rattle.mc_cache.specs.Tending.{IsFreshDecider, IsTenderOf, deciders_of, tender_hands};
-ghost use Rattle.mc_cache.specs.Shards.{AreIdleHands, AreIdleHandsOf};
+ghost use Rattle.mc_cache.specs.Shards.{AreUnusedHands, AreUnusedHandsOf};
 ghost use Rattle.mc_cache.specs.declared.opening.NewError.TheVariants as refused;
 
 use crate::cache::{Cache, Worker};
 use crate::hashing::{HashKey, KeyedHasher};
-use crate::recent::Recent;
 use crate::shard::HintTable;
 use crate::tending::Tender;
 use mc_classes::{Config, ConfigError};
-use mc_memory::{Refused, push};
+use mc_memory::{Refused, push, with_capacity};
 use mc_mover::forget;
 use mc_watch::Decider;
 use mc_words::{Arena, Hand};
@@ -94,7 +93,9 @@ impl Cache {
         ensures deciders { IfOk result (λ made. ArePaired IsFreshDecider (arenas_of made.0)
             (deciders_of made.2)) }
         ensures arenas { IfOk result (λ made. All (IsNewShard config.now) (arenas_of made.0)) }
-        ensures bytes { IfOk result (λ made. table_bytes made.0 ≡ cache_bytes config.now) }
+        ensures empty { IfOk result (λ made. HaveUnusedHands (arenas_of made.0) made.1.items
+            × AreUnusedHands (arenas_of made.0) (tender_hands made.2)) }
+        ensures bytes { IfOk result (λ made. table_bytes made.0 ≡ config_table_bytes config.now) }
         ensures refused { IfErr result (λ error. error
             ≡ unwrap_or (cache_refusal config.now) (refused.NoMemory tt)) }
     {
@@ -126,14 +127,14 @@ fn open<R: Wait>(
     requires accepted { cache_refusal config.now ≡ None }
     ensures shards { IfOk result (λ made. length made.0.items ≡ config.now.shards) }
     ensures count { IfOk result (λ made. length made.1.items ≡ config.now.workers) }
-    ensures hands { IfOk result (λ made. HaveIdleHands made.0.items made.1.items) }
-    ensures tender { IfOk result (λ made. AreIdleHands made.0.items (tender_hands made.2)) }
+    ensures hands { IfOk result (λ made. HaveUnusedHands made.0.items made.1.items) }
+    ensures tender { IfOk result (λ made. AreUnusedHands made.0.items (tender_hands made.2)) }
     ensures deciders { IfOk result (λ made. ArePaired IsFreshDecider made.0.items
         (deciders_of made.2)) }
     ensures new { IfOk result (λ made. All (IsNewShard config.now) made.0.items) }
 {
-    let mut arenas = Vec::new(alloc);
-    let mut workers = Vec::new(alloc);
+    let mut arenas = with_capacity(alloc, config.shards as usize)?;
+    let mut workers = with_capacity(alloc, config.workers as usize + 1)?;
     fill(rt, alloc, config, &mut arenas, &mut workers)?;
     let deciders = make_deciders(alloc, &arenas)?;
     let Some(worker) = workers.pop() else {
@@ -151,7 +152,7 @@ fn open<R: Wait>(
 fn make_deciders(alloc: Global, arenas: &[Arena]) -> Result<Vec<Decider>, Refused>
     ensures { IfOk result (λ deciders. ArePaired IsFreshDecider arenas.now deciders.items) }
 {
-    let mut deciders = Vec::new(alloc);
+    let mut deciders = with_capacity(alloc, arenas.len())?;
     for arena in arenas {
         push(&mut deciders, Decider::new(alloc, arena.classes())?)?;
     }
@@ -172,28 +173,32 @@ fn fill<R: Wait>(
     requires no_workers { workers.old.items ≡ [] }
     ensures shards { OnOk result (length arenas.new.items ≡ config.now.shards) }
     ensures count { OnOk result (length workers.new.items ≡ config.now.workers + 1) }
-    ensures hands { OnOk result (HaveIdleHands arenas.new.items workers.new.items) }
+    ensures hands { OnOk result (HaveUnusedHands arenas.new.items workers.new.items) }
     ensures new { OnOk result (All (IsNewShard config.now) arenas.new.items) }
 {
-    add_workers(alloc, config.workers + 1, workers)?;
+    add_workers(alloc, config.workers + 1, config.shards, workers)?;
     for _ in 0..config.shards {
         add_shard(rt, alloc, config, arenas, workers)?;
     }
     Ok(())
 }
 
-// Adds the workers, who have no hands yet.
+// Adds the workers, who have no hands yet, and room for one of each shard.
 #[tactic(auto, using(crate::proofs::Opened::one_worker_more))]
-fn add_workers(alloc: Global, count: u64, workers: &mut Vec<Worker>) -> Result<(), Refused>
+fn add_workers(
+    alloc: Global,
+    count: u64,
+    shards: u64,
+    workers: &mut Vec<Worker>,
+) -> Result<(), Refused>
     requires { workers.old.items ≡ [] }
     ensures count { OnOk result (length workers.new.items ≡ count) }
-    ensures hands { OnOk result (HaveIdleHands [] workers.new.items) }
+    ensures hands { OnOk result (HaveUnusedHands [] workers.new.items) }
 {
     for _ in 0..count {
         let worker = Worker {
-            hands: Vec::new(alloc),
+            hands: with_capacity(alloc, shards as usize)?,
             words: Vec::new(alloc),
-            recent: Recent::new(alloc)?,
         };
         push(workers, worker)?;
     }
@@ -209,11 +214,11 @@ fn add_shard<R: Wait>(
     workers: &mut Vec<Worker>,
 ) -> Result<(), Refused>
     requires count { length workers.old.items ≡ config.now.workers + 1 }
-    requires hands { HaveIdleHands arenas.old.items workers.old.items }
+    requires hands { HaveUnusedHands arenas.old.items workers.old.items }
     requires shards { AreNewShards config.now arenas.old.items }
     ensures arenas { OnOk result (length arenas.new.items ≡ length arenas.old.items + 1) }
     ensures count { OnOk result (length workers.new.items ≡ config.now.workers + 1) }
-    ensures hands { OnOk result (HaveIdleHands arenas.new.items workers.new.items) }
+    ensures hands { OnOk result (HaveUnusedHands arenas.new.items workers.new.items) }
     ensures new { OnOk result (All (IsNewShard config.now) arenas.new.items) }
 {
     let (arena, mut hands) = open_arena(rt, alloc, config)?;
@@ -231,7 +236,7 @@ fn open_arena<R: Wait>(
 ) -> Result<(Arena, Vec<Hand>), Refused>
     requires { cache_refusal config.now ≡ None }
     ensures count { IfOk result (λ made. length made.1.items ≡ config.now.workers + 1) }
-    ensures hands { IfOk result (λ made. AreIdleHandsOf made.0 made.1.items) }
+    ensures hands { IfOk result (λ made. AreUnusedHandsOf made.0 made.1.items) }
     ensures made { IfOk result (λ made. IsMadeWith config.now.arena (config.now.workers + 1) 0
         (setup_of made.0)) }
     ensures history { IfOk result (λ made. KeepsNoHistory made.0) }
@@ -251,9 +256,9 @@ fn deal(arenas: &[Arena], workers: &mut [Worker], hands: &mut Vec<Hand>) -> Resu
     requires some { 1 ≤ length arenas.now }
     requires enough { length workers.old ≤ length hands.old.items }
     requires own { (last : Arena) →
-        AreIdleHandsOf (slice_index_or arenas.now (length arenas.now - 1) last) hands.old.items }
-    requires workers { HaveIdleHands (take (length arenas.now - 1) arenas.now) workers.old }
-    ensures { OnOk result (HaveIdleHands arenas.now workers.new) }
+        AreUnusedHandsOf (slice_index_or arenas.now (length arenas.now - 1) last) hands.old.items }
+    requires workers { HaveUnusedHands (take (length arenas.now - 1) arenas.now) workers.old }
+    ensures { OnOk result (HaveUnusedHands arenas.now workers.new) }
 {
     for worker in workers.iter_mut() {
         let Some(hand) = hands.pop() else {

@@ -4,8 +4,8 @@
 //! [`Label`] is a key with its hash.
 //!
 //! - [`set`] packs key and value and stores them under the hash, in place of what was there.
-//! - [`get`] puts the key's value behind bytes that are there, and makes its item the newest of its class if that is asked.
-//!   [`try_get`] doesn't wait. [`contains`] only looks.
+//! - [`get`] puts the key's value behind bytes that are there, and marks its item as got. [`peek`] marks nothing. [`try_get`] doesn't
+//!   wait. [`contains`] only looks.
 //! - [`touch`] makes the key's item the newest of its class, and [`delete`] deletes the key.
 //! - A [`HintTable`] has notes of where items may be. A call that finds one gets the item with no lock.
 //!
@@ -13,12 +13,12 @@
 //! fn store_and_get<R: Wait>(rt: &R, arena: &Arena, hints: &HintTable, hand: &mut Hand, at: Label, into: &mut Vec<u8>,
 //!     words: &mut Vec<u64>) -> Result<bool, Refused> {
 //!     let _stored = set(rt, arena, hand, at, b"value", words); // words: room that is used again
-//!     get(rt, arena, hints, hand, at, into, false)
+//!     get(rt, arena, hints, hand, at, into)
 //! }
 //! ```
 //!
 //! A caller may rely on this: a value comes only from words that are the packing of this key and that value, and that some hand
-//! stored. An item of another key under the same hash is none to [`get`], [`try_get`], [`contains`], [`touch`] and [`delete`],
+//! stored. An item of another key under the same hash is none to [`get`], [`peek`], [`try_get`], [`contains`], [`touch`] and [`delete`],
 //! and a [`set`] takes its place. Hashes, shards and the lengths of keys and values are `mc_cache`'s.
 
 mod deleting;
@@ -32,7 +32,7 @@ mod setting;
 mod try_gets;
 
 pub use deleting::delete;
-pub use gets::{get, touch};
+pub use gets::{get, peek, touch};
 pub use hints::HintTable;
 pub use label::Label;
 pub use setting::set;

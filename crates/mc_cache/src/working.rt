@@ -1,6 +1,4 @@
 //! The calls of a worker.
-ghost use Rattle.mc_cache.specs.Cases.{AskedAgain};
-
 use crate::cache::{Cache, Worker};
 use crate::shard;
 use crate::shard::Label;
@@ -53,8 +51,8 @@ const MOST_VALUE_BYTES: usize = 16_384;
 impl Worker {
     ghost use Rattle.std.specs.Prelude.{◌≡◌, ◌<◌, ◌↔◌, ◌⊎◌, Err, Ok, OnErr, OnOk, false, length, true};
     ghost use Rattle.mc_items.specs.declared.setting.SetError as items;
-    ghost use Rattle.mc_cache.specs.Belonging.{ActsOnKey, BelongsTo, CountsAsk, DeletesNoneOf, GivesAndTouches, GivesValueOf, KeepsHands, NotesHashOf, RefusesValueOf, hash_in};
-    ghost use Rattle.mc_cache.specs.Shards.{DeletesThere, FindsStripeLocked, IsKey, LooksInVain, FindsKeyInShard, ReadsOther, StoresNoMore, StoresValue, TouchesNothing, TouchesThere};
+    ghost use Rattle.mc_cache.specs.Belonging.{ActsOnKey, BelongsTo, DeletesNoneOf, GivesValueOf, KeepsHands, RefusesValueOf, hash_in};
+    ghost use Rattle.mc_cache.specs.Shards.{DeletesAtMost, DeletesThere, FindsStripeLocked, FindsKeyInShard, GetsAtMost, IsKey, LooksInVain, ReadsOther, StoresNoMore, StoresValue, TouchesNothing, TouchesThere};
     ghost use Rattle.mc_cache.specs.declared.working.CallError.TheVariants as call_error;
     ghost use Rattle.mc_cache.specs.declared.working.SetError.TheVariants as set_error;
     ghost use Rattle.mc_cache.specs.declared.working.TryGetError.TheVariants as try_error;
@@ -88,15 +86,14 @@ impl Worker {
         let arena = &cache.arenas[at.shard];
         let hand = &mut self.hands[at.shard];
         let label = Label { hash: at.hash, key };
-        match shard::set(rt, arena, hand, label, value, &mut self.words) {
+        match shard::set(rt, arena, &cache.hints, hand, label, value, &mut self.words) {
             Ok(_stamp) => Ok(()),
             Err(error) => Err(SetError::Item(error)),
         }
     }
 
-    /// Puts the key's value behind the bytes that are there, and returns whether the key has one. Where it has none, or the call
-    /// is refused, the bytes stay. It takes memory for these bytes alone, where the vector has too little room. It waits for a
-    /// lock of the key's shard, unless a hint leads it to the key's item with no lock. (memcached's `get`)
+    /// The same as `peek`; and the key's item is marked as got. An eviction that looks at a marked item takes the mark off, and lets
+    /// the item stay. (memcached's `get`, which sets `ITEM_ACTIVE`)
     pub fn get<R: Wait>(
         &mut self,
         rt: &R,
@@ -118,6 +115,8 @@ impl Worker {
             ActsOnKey cache.now key.now StoresNoMore self.old self.new) }
         ensures untouched { IsKey key.now →
             ActsOnKey cache.now key.now TouchesNothing self.old self.new }
+        ensures calls { IsKey key.now →
+            ActsOnKey cache.now key.now (GetsAtMost (hash_in cache.now key.now)) self.old self.new }
     {
         let Some(at) = cache.place_of(key) else {
             return Err(CallError::KeyLength);
@@ -125,14 +124,13 @@ impl Worker {
         let arena = &cache.arenas[at.shard];
         let hand = &mut self.hands[at.shard];
         let label = Label { hash: at.hash, key };
-        shard::get(rt, arena, &cache.hints, hand, label, into, false).map_err(CallError::NoMemory)
+        shard::get(rt, arena, &cache.hints, hand, label, into).map_err(CallError::NoMemory)
     }
 
-    /// The same as `get`; and where the key has a value, it is touched then, as by `touch`, unless this worker did so lately: it notes one
-    /// hash for each remainder by 1,024, and forgets all after 4,096 gets that found their keys. The touch takes no memory, and isn't
-    /// refused. It waits for locks of the key's shard. (memcached's `do_item_bump`, which lets `ITEM_UPDATE_INTERVAL`, 60 seconds, go by;
-    /// by counts of gets and not by a clock: own)
-    pub fn get_touching<R: Wait>(
+    /// Puts the key's value behind the bytes that are there, and returns whether the key has one. Where it has none, or the call
+    /// is refused, the bytes stay. It takes memory for these bytes alone, where the vector has too little room. It waits for a
+    /// lock of the key's shard, unless a hint leads it to the key's item with no lock. (own)
+    pub fn peek<R: Wait>(
         &mut self,
         rt: &R,
         cache: &Cache,
@@ -144,32 +142,25 @@ impl Worker {
         ensures key { (result ≡ Err call_error.KeyLength) ↔ ¬ IsKey key.now }
         ensures same { result ≡ Err call_error.KeyLength → KeepsHands self.old self.new }
         ensures value { result ≡ Ok true →
-            GivesAndTouches cache.now key.now into.old.items into.new.items self.old self.new }
-        ensures noted { result ≡ Ok true → NotesHashOf cache.now key.now self.old self.new }
-        ensures counted { result ≡ Ok true → CountsAsk self.old self.new }
+            GivesValueOf cache.now key.now into.old.items into.new.items self.old self.new }
         ensures none { result ≡ Ok false →
             ActsOnKey cache.now key.now (ReadsOther (hash_in cache.now key.now) key.now) self.old
             self.new }
-        ensures unasked { (result ≡ Ok true → ⊥) → self.new.recent ≡ self.old.recent }
         ensures kept { (result ≡ Ok true → ⊥) → into.new.items ≡ into.old.items }
         ensures refused { OnErr result (IsKey key.now →
             ActsOnKey cache.now key.now StoresNoMore self.old self.new) }
+        ensures untouched { IsKey key.now →
+            ActsOnKey cache.now key.now TouchesNothing self.old self.new }
+        ensures calls { IsKey key.now →
+            ActsOnKey cache.now key.now (GetsAtMost (hash_in cache.now key.now)) self.old self.new }
     {
         let Some(at) = cache.place_of(key) else {
             return Err(CallError::KeyLength);
         };
         let arena = &cache.arenas[at.shard];
         let hand = &mut self.hands[at.shard];
-        let due = self.recent.is_due(at.hash);
         let label = Label { hash: at.hash, key };
-        match shard::get(rt, arena, &cache.hints, hand, label, into, due) {
-            Ok(true) => {
-                self.recent.note(at.hash);
-                Ok(true)
-            }
-            Ok(false) => Ok(false),
-            Err(refused) => Err(CallError::NoMemory(refused)),
-        }
+        shard::peek(rt, arena, &cache.hints, hand, label, into).map_err(CallError::NoMemory)
     }
 
     /// The same as `get`, but refused where another hand has the lock that it wants. It doesn't wait. (own)
@@ -196,6 +187,8 @@ impl Worker {
             ActsOnKey cache.now key.now StoresNoMore self.old self.new) }
         ensures untouched { IsKey key.now →
             ActsOnKey cache.now key.now TouchesNothing self.old self.new }
+        ensures calls { IsKey key.now →
+            ActsOnKey cache.now key.now (GetsAtMost (hash_in cache.now key.now)) self.old self.new }
     {
         let Some(at) = cache.place_of(key) else {
             return Err(TryGetError::KeyLength);
@@ -203,7 +196,7 @@ impl Worker {
         let arena = &cache.arenas[at.shard];
         let hand = &mut self.hands[at.shard];
         let label = Label { hash: at.hash, key };
-        match shard::try_get(arena, hand, label, into) {
+        match shard::try_get(arena, &cache.hints, hand, label, into) {
             Ok(found) => Ok(found),
             Err(shard::TryGetError::NoMemory(refused)) => { Err(TryGetError::NoMemory(refused)) }
             Err(shard::TryGetError::Held) => Err(TryGetError::Held),
@@ -232,6 +225,8 @@ impl Worker {
             self.new) }
         ensures untouched { IsKey key.now →
             ActsOnKey cache.now key.now TouchesNothing self.old self.new }
+        ensures calls { IsKey key.now →
+            ActsOnKey cache.now key.now (GetsAtMost (hash_in cache.now key.now)) self.old self.new }
     {
         let Some(at) = cache.place_of(key) else {
             return Err(CallError::KeyLength);
@@ -256,6 +251,9 @@ impl Worker {
         ensures refused { OnErr result (IsKey key.now →
             ActsOnKey cache.now key.now (LooksInVain (hash_in cache.now key.now)) self.old
             self.new) }
+        ensures calls { IsKey key.now →
+            ActsOnKey cache.now key.now (DeletesAtMost (hash_in cache.now key.now)) self.old
+            self.new }
     {
         let Some(at) = cache.place_of(key) else {
             return Err(CallError::KeyLength);
@@ -282,6 +280,8 @@ impl Worker {
         ensures refused { OnErr result (IsKey key.now →
             ActsOnKey cache.now key.now (LooksInVain (hash_in cache.now key.now)) self.old
             self.new) }
+        ensures calls { IsKey key.now →
+            ActsOnKey cache.now key.now (GetsAtMost (hash_in cache.now key.now)) self.old self.new }
     {
         let Some(at) = cache.place_of(key) else {
             return Err(CallError::KeyLength);
@@ -292,8 +292,3 @@ impl Worker {
         shard::touch(rt, arena, &cache.hints, hand, label).map_err(CallError::NoMemory)
     }
 }
-
-/// A worked case: a hash is noted once it was asked for, and no more once another was that has its remainder by 1,024.
-pub fn worked_recent()
-    ensures { AskedAgain }
-{}

@@ -19,8 +19,8 @@ pub fn call_twice<R: Wait>(
     let _ = worker.set(rt, cache, key, b"second");
     let _ = worker.get(rt, cache, key, into);
     let _ = worker.get(rt, cache, key, into);
-    let _ = worker.get_touching(rt, cache, key, into);
-    let _ = worker.get_touching(rt, cache, key, into);
+    let _ = worker.peek(rt, cache, key, into);
+    let _ = worker.peek(rt, cache, key, into);
     let _ = worker.try_get(cache, key, into);
     let _ = worker.try_get(cache, key, into);
     let _ = worker.contains(rt, cache, key);

@@ -14,7 +14,7 @@ use Rattle.mc_items.specs.Keeping.{HoldsToo, StoresNothing}
 use Rattle.mc_items.specs.OnKeys.{ActsOn, FindsNoRoomFor, Gets}
 use Rattle.mc_words.specs.item.Items.{item_with}
 use Rattle.mc_items.proofs.Chains.{words_said}
-use Rattle.mc_cache.specs.shard.Finding.{BumpsItem, DeletesKey, FindsFull, FindsSome, FindsItem, FindsKey, FindsOtherKey, FindsWords, GetsUnder, TriesHint, GivesTouched, GivesTouchedIf, ReturnsValue, PutsValue, TouchesKey, TouchesValue}
+use Rattle.mc_cache.specs.shard.Finding.{BumpsItem, DeletesKey, FindsFull, FindsSome, FindsItem, FindsKey, FindsOtherKey, FindsWords, GetsUnder, TriesHint, ReturnsValue, PutsValue, TouchesKey, TouchesValue}
 use Rattle.mc_cache.specs.shard.Hands.{WereStored, items_stored_by}
 use Rattle.mc_cache.proofs.Shards.Idle.{alone}
 
@@ -101,17 +101,8 @@ module _ (arena : Arena) (hash : ℕ) (key : List ℕ) (before got : Hand) (item
         bumps = bumps;
       }
 
-  pub gives_touched : (old new : List ℕ) → PutsValue key (item_words (view got) item) old new → (now : Hand) → BumpsItem (hand_number before) item now → GivesTouched (setup_of arena) hash key before now old new
-  gives_touched old new puts now bumps = (puts.0, touches_words puts.0 puts.1 now bumps, puts.2)
-
   pub touches_key : IsPackingOf key (item_words (view got) item) → (now : Hand) → BumpsItem (hand_number before) item now → TouchesKey (setup_of arena) hash key before now
   touches_key own now bumps = (value_in (item_words (view got) item), touches_words (value_in (item_words (view got) item)) own now bumps)
-
--- or it was found, and touched if that was asked
-pub gives_touched_if : (touches : Bool) (arena : Arena) (hash : ℕ) (key : List ℕ) (before got : Hand) (item : Ref) → FindsItem arena hash item before got → (old new : List ℕ) → PutsValue key (item_words (view got) item) old new → (now : Hand)
-    → (touches ≡ true → BumpsItem (hand_number before) item now) → GivesTouchedIf touches (setup_of arena) hash key before now old new
-gives_touched_if true arena hash key before got item found old new puts now bumps = gives_touched arena hash key before got item found old new puts now (bumps refl)
-gives_touched_if false arena hash key before got item found old new puts now bumps = gives_value (setup_of arena) hash key before (item_words (view got) item) found.finds old new puts
 
 -- two answers that are the same
 pub same_ok : {T E : Type 0} (x y : T) → ◌≡◌ {A = Result T E} (Ok x) (Ok y) → x ≡ y

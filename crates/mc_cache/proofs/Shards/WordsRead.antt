@@ -18,7 +18,7 @@ use Rattle.mc_cache.specs.shard.Finding.{PutsValue}
 use Rattle.mc_cache.specs.shard.Reading.{OnlyReads, RefersTo}
 
 pub reads_none : (arena : Arena) (item : Ref) (hand : Hand) → RefersTo arena item hand → OnlyReads arena item hand hand
-reads_none arena item hand refers = record { hand = refers; number = refl; words = refl; holdings = refl; stores_nothing = refl; slabs = refl }
+reads_none arena item hand refers = record { hand = refers; number = refl; words = refl; holdings = refl; stores_nothing = refl; calls = refl; slabs = refl }
 
 pub reads_on : (arena : Arena) (item : Ref) (before next now : Hand) → OnlyReads arena item before next → OnlyReads arena item next now → OnlyReads arena item before now
 reads_on arena item before next now first second = record {
@@ -27,6 +27,7 @@ reads_on arena item before next now first second = record {
   words = second.words ∙ first.words;
   holdings = second.holdings ∙ first.holdings;
   stores_nothing = second.stores_nothing ∙ first.stores_nothing;
+  calls = second.calls ∙ first.calls;
   slabs = second.slabs ∙ first.slabs;
 }
 

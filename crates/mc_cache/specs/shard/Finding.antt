@@ -15,7 +15,7 @@ use Rattle.mc_words.specs.lock.Doing.{HoldsSlabs}
 use Rattle.mc_items.specs.declared.refs.Ref.{Ref}
 use Rattle.mc_items.specs.Current.{GetsCurrent}
 use Rattle.mc_items.specs.ItemRefs.{item_chunk, item_key, item_words}
-use Rattle.mc_items.specs.OnKeys.{ActsOn, Gets, FindsNoRoomFor}
+use Rattle.mc_items.specs.OnKeys.{ActsOn, FindsNoRoomFor, FindsStripeHeld, Gets}
 use Rattle.mc_items.specs.Calls.{Bumps, Deletes}
 use Rattle.mc_items.specs.Keeping.{holding_by}
 use Rattle.mc_cache.specs.shard.Hands.{WereStored, items_stored_by}
@@ -62,6 +62,12 @@ pub record FindsFull (setup : Setup) (hash : ℕ) (before now : Hand) : Type 0 w
   pub tried : Hand
   pub tries : TriesHint hash before tried
   pub full : FindsNoRoomFor setup hash tried now
+
+-- the hand perhaps tried a hint in vain, and then found the lock of the hash's stripe with another hand
+pub record FindsLockTaken (setup : Setup) (hash : ℕ) (before now : Hand) : Type 0 where
+  pub tried : Hand
+  pub tries : TriesHint hash before tried
+  pub held : FindsStripeHeld setup hash tried now
 
 -- the hand got this item under the hash, whose words some hand stored, and holds nothing else
 pub record FindsItem (arena : Arena) (hash : ℕ) (item : Ref) (before got : Hand) : Type 0 where
@@ -115,16 +121,6 @@ pub record TouchesValue (setup : Setup) (hash : ℕ) (key value : List ℕ) (bef
 -- the item under the hash is of this key, with some value, and became the newest of its class
 abbrev pub TouchesKey : Setup → ℕ → List ℕ → Hand → Hand → Type 0
 TouchesKey setup hash key before now = (value : List ℕ) × TouchesValue setup hash key value before now
-
--- the item under the hash is of this key and a value, which was added behind the old bytes; the item became the newest of its class
-abbrev pub GivesTouched : Setup → ℕ → List ℕ → Hand → Hand → List ℕ → List ℕ → Type 0
-GivesTouched setup hash key before now old new = (value : List ℕ) × TouchesValue setup hash key value before now × (new ≡ old ++ value)
-
--- the item under the hash is of this key and a value, which was added behind the old bytes; the item became the newest of its class, if
--- that was asked
-abbrev pub GivesTouchedIf : Bool → Setup → ℕ → List ℕ → Hand → Hand → List ℕ → List ℕ → Type 0
-GivesTouchedIf true setup hash key before now old new = GivesTouched setup hash key before now old new
-GivesTouchedIf false setup hash key before now old new = ReturnsValue setup hash key before old new
 
 -- no item under the hash was of this key, or it was gone when the hand came to delete it
 abbrev pub DeletesNone : Setup → ℕ → List ℕ → Hand → Hand → Type 0

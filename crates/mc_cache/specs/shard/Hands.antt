@@ -1,5 +1,5 @@
 -- Hands between two calls, and what hands of the arena stored.
-use Rattle.std.specs.Prelude.{◌≡◌, ℕ, List, []}
+use Rattle.std.specs.Prelude.{◌≡◌, ℕ, List, [], ◌∷◌, replicate}
 use Rattle.mc_core.specs.past.Past.{StoredItem}
 use Rattle.mc_words.specs.declared.arena.Arena.{Arena}
 use Rattle.mc_words.specs.declared.hand.Hand.{Hand}
@@ -14,6 +14,17 @@ pub record IsIdleHandOf (arena : Arena) (hand : Hand) : Type 0 where
   pub of_arena : IsHandOf arena hand
   pub ready : IsReady (view hand)
   pub none : (view hand).row.holdings ≡ []
+
+-- the hand stored no words yet, and made no call on a key
+pub record IsUnused (view : View) : Type 0 where
+  pub stored : view.row.knows.stored ≡ []
+  pub number : ℕ
+  pub calls : view.row.knows.mine ≡ record { number = number; calls = replicate view.setup.config.stripes [] } ∷ []
+
+-- the hand is an idle one of the arena's, which stored no words yet, and made no call on a key
+pub record IsUnusedHandOf (arena : Arena) (hand : Hand) : Type 0 where
+  pub idle : IsIdleHandOf arena hand
+  pub unused : IsUnused (view hand)
 
 -- the words that the hand stored so far, with their stamps
 abbrev pub items_stored_by : Hand → List StoredItem

@@ -7,6 +7,7 @@ use Rattle.mc_words.specs.hand.Observers.{hand_number}
 use Rattle.mc_words.specs.hand.Ready.{IsReady}
 use Rattle.mc_words.specs.hand.View.{View}
 use Rattle.mc_items.specs.declared.refs.Ref.{Ref}
+use Rattle.mc_items.specs.Calls.{RecordsNoCall}
 use Rattle.mc_items.specs.ItemRefs.{IsItemRef, item_words}
 use Rattle.mc_items.specs.Keeping.{HoldsTheSame, StoresNothing}
 
@@ -27,4 +28,5 @@ pub record OnlyReads (arena : Arena) (item : Ref) (before now : Hand) : Type 0 w
   pub words : item_words (view now) item ≡ item_words (view before) item
   pub holdings : HoldsTheSame (view before) (view now)
   pub stores_nothing : StoresNothing (view before) (view now)
+  pub calls : RecordsNoCall (view before) (view now)
   pub slabs : LeavesSlabs (view before) (view now)

@@ -1,10 +1,53 @@
--- Why an item of bytes isn't stored.
-use Rattle.std.specs.Prelude.{◌≡◌, ◌⊎◌, ℕ, List}
-use Rattle.mc_words.specs.hand.View.{View}
-use Rattle.mc_items.specs.Setting.{RefusesSet}
+-- How an item of bytes is stored, and why it isn't.
+use Rattle.std.specs.Prelude.{◌≡◌, ◌⊎◌, ℕ, List, None, Some}
+use Rattle.mc_words.specs.declared.hand.Hand.{Hand}
+use Rattle.mc_words.specs.hand.Arenas.{view}
+use Rattle.mc_words.specs.hand.Observers.{hand_number}
+use Rattle.mc_items.specs.Evicting.{RecordsEviction}
+use Rattle.mc_items.specs.MakingRoom.{LacksRoomMemory, MakesRoom, RecordsSomeDeletes}
+use Rattle.mc_items.specs.OnKeys.{ActsOnce}
+use Rattle.mc_items.specs.Setting.{RecordsSet, RefusesSet, SetsItem, class_for_words}
+use Rattle.mc_items.specs.declared.making_room.Room.{Room}
 use Rattle.mc_items.specs.declared.setting.SetError.{SetError}
 use Rattle.mc_items.specs.declared.setting.SetError.TheVariants.{NoMemory}
 
--- the set of these words was refused; or there was no memory for them, and nothing was done
-abbrev pub RefusesBytes : ℕ → ℕ → List ℕ → SetError → View → View → Type 0
-RefusesBytes number hash words error view now = RefusesSet number hash words error view now ⊎ ((error ≡ NoMemory tt) × (now ≡ view))
+-- room was made in the class of these words; or no class has such chunks, and nothing was done
+abbrev pub MakesRoomFor : List ℕ → Hand → Hand → Type 0
+MakesRoomFor words before now =
+    ((class_for_words (view before) words ≡ None) × (view now ≡ view before))
+    ⊎ ((class : ℕ) × (class_for_words (view before) words ≡ Some class) × (room : Room) × ActsOnce (MakesRoom (hand_number before) class room) before now)
+
+-- room was wanted in the class of these words, and there was no memory for that
+abbrev pub LacksRoomFor : List ℕ → Hand → Hand → Type 0
+LacksRoomFor words before now =
+    (class : ℕ) × (class_for_words (view before) words ≡ Some class) × ActsOnce (LacksRoomMemory (hand_number before) class) before now
+
+-- room was made in the class of these words, and then an item of them was stored under the hash, with this stamp
+pub record SetsBehindRoom (number hash stamp : ℕ) (words : List ℕ) (before now : Hand) : Type 0 where
+  pub between : Hand
+  pub makes : MakesRoomFor words before between
+  pub sets : SetsItem number hash stamp words (view between) (view now)
+
+-- the hand's own calls got deletes of keys that were there or none, and then the set, with an eviction before it at most
+pub record RecordsSetBehindRoom (number hash stamp : ℕ) (before now : Hand) : Type 0 where
+  pub between : Hand
+  pub deletes : RecordsSomeDeletes number (view before) (view between)
+  pub sets : RecordsSet number hash stamp (view between) (view now)
+
+-- the hand's own calls got deletes of keys that were there or none, and then an eviction at most
+pub record RecordsEvictionsAlone (number : ℕ) (before now : Hand) : Type 0 where
+  pub between : Hand
+  pub deletes : RecordsSomeDeletes number (view before) (view between)
+  pub evicts : RecordsEviction number (view between) (view now)
+
+-- room was made in the class of these words, and then the set of them was refused
+pub record RefusesBehindRoom (number hash : ℕ) (words : List ℕ) (error : SetError) (before now : Hand) : Type 0 where
+  pub between : Hand
+  pub makes : MakesRoomFor words before between
+  pub refuses : RefusesSet number hash words error (view between) (view now)
+
+-- there was no memory for the words, or for room in their class; or room was made, and then the set was refused
+abbrev pub RefusesBytes : ℕ → ℕ → List ℕ → SetError → Hand → Hand → Type 0
+RefusesBytes number hash words error before now =
+    ((error ≡ NoMemory tt) × ((view now ≡ view before) ⊎ LacksRoomFor words before now))
+    ⊎ RefusesBehindRoom number hash words error before now

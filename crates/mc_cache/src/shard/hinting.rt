@@ -2,6 +2,7 @@
 ghost use Rattle.std.specs.Prelude.{◌≡◌, IfSome, None};
 ghost use Rattle.mc_words.specs.hand.Arenas.{setup_of, view};
 ghost use Rattle.mc_words.specs.hand.Observers.{hand_number};
+ghost use Rattle.mc_items.specs.Calls.{RecordsNoCall};
 ghost use Rattle.mc_items.specs.Keeping.{StoresNothing};
 ghost use Rattle.mc_cache.specs.shard.Finding.{FindsItem, TriesHint};
 ghost use Rattle.mc_cache.specs.shard.Hands.{IsIdleHandOf};
@@ -25,6 +26,7 @@ pub(crate) fn get_hinted(
     ensures none { result ≡ None → IsIdleHandOf arena.now hand.new }
     ensures tries { result ≡ None → TriesHint hash hand.old hand.new }
     ensures number { hand_number hand.new ≡ hand_number hand.old }
+    ensures calls { RecordsNoCall (view hand.old) (view hand.new) }
     ensures stores_nothing { StoresNothing (view hand.old) (view hand.new) }
     ensures slabs { LeavesSlabs (view hand.old) (view hand.new) }
 {

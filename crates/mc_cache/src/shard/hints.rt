@@ -1,5 +1,5 @@
-//! Hints of where items are, in words beside the arenas. No proof rests on them: the words may have any numbers, and a get looks
-//! at the chunk's header before it takes a hint for true. (own)
+//! Hints of where items are, and marks of those that were got, in words beside the arenas. No proof rests on them: the words may
+//! have any numbers, and a get looks at the chunk's header before it takes a hint for true. (own)
 ghost use Rattle.std.specs.Prelude.{◌≡◌, true, IfSome};
 ghost use Rattle.mc_core.specs.model.State.{has_chunk};
 ghost use Rattle.mc_words.specs.hand.Arenas.{setup_of};
@@ -15,17 +15,24 @@ use std::sync::atomic::Ordering::SeqCst;
 /// The most places that are made are two to the power of this. (own)
 const MOST_BITS: u64 = 24;
 
-/// A place holds the chunk in which an item was found last, and the issue number that the chunk had. A hash leads to the place of its lowest
-/// bits, so hashes share places.
+/// How many places a hash may have. They lie side by side, in one line of the processor's cache. (own)
+const WAYS: usize = 4;
+
+/// A place holds the chunk in which an item was found last, and the issue number that the chunk had. A hash leads to a bucket of
+/// [`WAYS`] places by its lowest bits, so hashes share places.
 ///
-/// A word is `issue * 2^32 + part * 2^16 + page * 2^8 + index`. `part` is 16 bits of the hash: a get passes over most hints of other hashes by
-/// them, with no look at a header. An issue number of `2^32` or more is cut, and its hint leads nowhere.
+/// A word is `issue * 2^32 + part * 2^16 + used * 2^15 + page * 2^8 + index`. `part` is 16 bits of the hash: a get passes over most hints of
+/// other hashes by them, with no look at a header. `used` is 1 where the item was got since an eviction looked at it. An issue number of
+/// `2^32` or more is cut, and its hint leads nowhere.
 #[derive(Drop)]
 pub struct HintTable {
     words: Vec<AtomicU64>,
-    /// One less than the number of places.
+    /// One less than the number of buckets.
     mask: u64,
 }
+
+/// The mark of an item that was got. (after memcached's `ITEM_ACTIVE`)
+const USED: u64 = 1 << 15;
 
 // The part of the hash that a word has.
 fn part_of(hash: u64) -> u64 {
@@ -49,20 +56,54 @@ impl HintTable {
         for _ in 0..count {
             push(&mut words, AtomicU64::new(0))?;
         }
-        let mask = count.wrapping_sub(1);
+        let mask = (count / WAYS as u64).wrapping_sub(1);
         Ok(HintTable { words, mask })
     }
 
-    /// The hint at the hash's place, if its word has the hash's part and a chunk of the arena.
+    // The places of a hash. A table of fewer than `WAYS` places has none.
+    #[inline(always)]
+    fn bucket(&self, hash: u64) -> &[AtomicU64] {
+        let first = ((hash & self.mask) as usize).wrapping_mul(WAYS);
+        self.words
+            .get(first..first.wrapping_add(WAYS))
+            .unwrap_or(&[])
+    }
+
+    // The place whose word has the hash's part, with that word.
+    #[inline(always)]
+    fn find(&self, hash: u64) -> Option<(&AtomicU64, u64)> {
+        for place in self.bucket(hash) {
+            let word = place.load(SeqCst);
+            if word >> 16 & 0xffff == part_of(hash) {
+                return Some((place, word));
+            }
+        }
+        None
+    }
+
+    // The place for a hint of the hash: the one with its part; else one without a mark; else one by bits of the hash.
+    fn place_for(&self, hash: u64) -> Option<&AtomicU64> {
+        let bucket = self.bucket(hash);
+        let mut spare = bucket.get((hash >> 32) as usize % WAYS);
+        for place in bucket {
+            let word = place.load(SeqCst);
+            if word >> 16 & 0xffff == part_of(hash) {
+                return Some(place);
+            }
+            if word & USED == 0 {
+                spare = Some(place);
+            }
+        }
+        spare
+    }
+
+    /// The hint at a place of the hash, if its word has the hash's part and a chunk of the arena.
     #[inline(always)]
     pub(crate) fn load(&self, arena: &Arena, hash: u64) -> Option<Hint>
         ensures in_range { IfSome result (λ hint.
             has_chunk (setup_of arena.now).table (hint_chunk hint) ≡ true) }
     {
-        let word = self.words.get((hash & self.mask) as usize)?.load(SeqCst);
-        if word >> 16 & 0xffff != part_of(hash) {
-            return None;
-        }
+        let (_place, word) = self.find(hash)?;
         let chunk = chunk_of(word);
         if !arena.has_chunk(chunk) {
             return None;
@@ -70,12 +111,35 @@ impl HintTable {
         Some(Hint::new(chunk, word >> 32))
     }
 
-    /// Puts the hint at the hash's place, over the one that was there.
+    /// Puts the hint at a place of the hash, without a mark.
     pub(crate) fn note(&self, hash: u64, hint: Hint) {
         let (chunk, issue) = hint.numbers();
-        if let Some(word) = self.words.get((hash & self.mask) as usize) {
-            let place = (chunk.page & 127) << 8 | chunk.index & 255;
-            word.store(issue << 32 | part_of(hash) << 16 | place, SeqCst);
+        if let Some(place) = self.place_for(hash) {
+            let at = (chunk.page & 127) << 8 | chunk.index & 255;
+            place.store(issue << 32 | part_of(hash) << 16 | at, SeqCst);
         }
+    }
+
+    /// Marks the item of the hash as got, where a place has a word of the hash. A mark that is there is left, so most gets only load
+    /// the word.
+    #[inline(always)]
+    pub(crate) fn mark(&self, hash: u64) {
+        if let Some((place, word)) = self.find(hash) {
+            if word & USED == 0 {
+                place.store(word | USED, SeqCst);
+            }
+        }
+    }
+
+    /// Whether the item of the hash is marked as got, and takes the mark off.
+    pub fn take_mark(&self, hash: u64) -> bool {
+        let Some((place, word)) = self.find(hash) else {
+            return false;
+        };
+        if word & USED == 0 {
+            return false;
+        }
+        place.store(word & !USED, SeqCst);
+        true
     }
 }

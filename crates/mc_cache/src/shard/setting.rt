@@ -1,47 +1,108 @@
 //! The set of an item of bytes.
-ghost use Rattle.std.specs.Prelude.{◌≡◌, IfErr, IfOk, OnErr};
+ghost use Rattle.std.specs.Prelude.{◌≡◌, IfErr, IfOk, OnErr, OnOk};
 ghost use Rattle.mc_packing.specs.Packing.{packed_item};
 ghost use Rattle.mc_words.specs.hand.Arenas.{view};
 ghost use Rattle.mc_words.specs.item.Items.{item_with};
 ghost use Rattle.mc_words.specs.hand.Observers.{hand_number};
 ghost use Rattle.mc_items.specs.Keeping.{StoresWithStamp, StoresNothing};
-ghost use Rattle.mc_items.specs.Setting.{RefusesSet, SetsItem};
+ghost use Rattle.mc_items.specs.MakingRoom.{RecordsSomeDeletes};
 ghost use Rattle.mc_cache.specs.shard.Hands.{IsIdleHandOf};
-ghost use Rattle.mc_cache.specs.shard.Setting.{RefusesBytes};
+ghost use Rattle.mc_cache.specs.shard.Setting.{LacksRoomFor, MakesRoomFor, RecordsEvictionsAlone, RecordsSetBehindRoom, RefusesBytes, SetsBehindRoom};
 
+use crate::shard::hints::HintTable;
 use crate::shard::label::Label;
-use mc_items::SetError;
+use mc_items::{Marks, SetError, make_room};
+use mc_memory::Refused;
 use mc_packing::pack;
 use mc_stripe::Stamp;
 use mc_words::{Arena, Hand};
+use std::cell::Cell;
 use std::sync::Wait;
+
+/// How many marked items a set lets stay. Behind these it evicts marked ones, too, so that it finds room where all are marked. (own)
+const MOST_CHANCES: u64 = 12;
+
+// The marks as one set takes them off.
+#[derive(Drop)]
+struct Chances<'a> {
+    hints: &'a HintTable,
+    /// How many items it let stay.
+    given: Cell<u64>,
+}
+
+impl Marks for Chances<'_> {
+    fn take(&self, key: u64) -> bool {
+        let given = self.given.get();
+        if given >= MOST_CHANCES || !self.hints.take_mark(key) {
+            return false;
+        }
+        self.given.set(given.wrapping_add(1));
+        true
+    }
+}
 
 /// Stores an item of this key and this value under its hash, in place of what was there, and returns its stamp. The item is
 /// packed into `words`, which takes memory only where it has too little; what was in it is gone. A packing of `n` words goes to
-/// the lowest class with chunks of `24 + 8 n` bytes. It waits for the locks of the slabs and of the hash's stripe. (memcached's
+/// the lowest class with chunks of `24 + 8 n` bytes. Where that class has no free chunk and no page is left for it, some of its
+/// oldest items that aren't marked are evicted first. It waits for the locks of the slabs and of the hash's stripe. (memcached's
 /// `process_update_command`)
 pub fn set<R: Wait>(
     rt: &R,
     arena: &Arena,
+    hints: &HintTable,
     hand: &mut Hand,
     at: Label,
     value: &[u8],
     words: &mut Vec<u64>,
 ) -> Result<Stamp, SetError>
     requires { IsIdleHandOf arena.now hand.old }
-    ensures idle { IsIdleHandOf arena.now hand.new }
-    ensures number { hand_number hand.new ≡ hand_number hand.old }
-    ensures sets { IfOk result (λ stamp. SetsItem (hand_number hand.old) at.entry.hash stamp
-        (packed_item at.entry.key.now value.now) (view hand.old) (view hand.new)) }
+    ensures sets { IfOk result (λ stamp. SetsBehindRoom (hand_number hand.old) at.entry.hash stamp
+        (packed_item at.entry.key.now value.now) hand.old hand.new) }
     ensures stores_words { IfOk result (λ stamp.
         StoresWithStamp (item_with at.entry.hash stamp (packed_item at.entry.key.now value.now))
         stamp (view hand.old) (view hand.new)) }
+    ensures calls { IfOk result (λ stamp. RecordsSetBehindRoom
+        (hand_number hand.old) at.entry.hash stamp hand.old hand.new) }
     ensures refused { IfErr result (λ error. RefusesBytes (hand_number hand.old) at.entry.hash
-        (packed_item at.entry.key.now value.now) error (view hand.old) (view hand.new)) }
+        (packed_item at.entry.key.now value.now) error hand.old hand.new) }
+    ensures evicts { OnErr result (RecordsEvictionsAlone
+        (hand_number hand.old) hand.old hand.new) }
     ensures stores_nothing { OnErr result (StoresNothing (view hand.old) (view hand.new)) }
+    ensures number { hand_number hand.new ≡ hand_number hand.old }
+    ensures idle { IsIdleHandOf arena.now hand.new }
 {
-    match pack(words, at.key, value) {
-        Ok(()) => mc_items::set(rt, arena, hand, at.hash, words),
-        Err(refused) => Err(SetError::NoMemory(refused)),
+    if let Err(refused) = pack(words, at.key, value) {
+        return Err(SetError::NoMemory(refused));
+    }
+    if let Err(refused) = make_room_for(rt, arena, hints, hand, words) {
+        return Err(SetError::NoMemory(refused));
+    }
+    mc_items::set(rt, arena, hand, at.hash, words)
+}
+
+// Makes room in the class of these words, if it has none. Where no class has such chunks, nothing is done.
+fn make_room_for<R: Wait>(
+    rt: &R,
+    arena: &Arena,
+    hints: &HintTable,
+    hand: &mut Hand,
+    words: &[u64],
+) -> Result<(), Refused>
+    requires { IsIdleHandOf arena.now hand.old }
+    ensures makes { OnOk result (MakesRoomFor words.now hand.old hand.new) }
+    ensures refused { OnErr result (LacksRoomFor words.now hand.old hand.new) }
+    ensures calls { RecordsSomeDeletes (hand_number hand.old) (view hand.old) (view hand.new) }
+    ensures stores_nothing { StoresNothing (view hand.old) (view hand.new) }
+    ensures number { hand_number hand.new ≡ hand_number hand.old }
+    ensures idle { IsIdleHandOf arena.now hand.new }
+{
+    let Some(class) = arena.classes().class_for(24 + 8 * words.len() as u64) else {
+        return Ok(());
+    };
+    let given = Cell::new(0);
+    let chances = Chances { hints, given };
+    match make_room(rt, arena, hand, class, &chances) {
+        Ok(_room) => Ok(()),
+        Err(refused) => Err(refused),
     }
 }

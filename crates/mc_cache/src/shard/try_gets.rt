@@ -3,17 +3,18 @@ ghost use Rattle.std.specs.Prelude.{◌≡◌, [], ◌∷◌, ◌⊎◌, Err, Ok
 ghost use Rattle.mc_packing.specs.Packing.{IsPackingOf};
 ghost use Rattle.mc_words.specs.hand.Arenas.{setup_of, view};
 ghost use Rattle.mc_words.specs.hand.Observers.{hand_number};
+ghost use Rattle.mc_items.specs.Calls.{RecordsNoCall};
 ghost use Rattle.mc_items.specs.ItemRefs.{item_words};
 ghost use Rattle.mc_items.specs.Keeping.{StoresNothing, holding_by};
-ghost use Rattle.mc_items.specs.OnKeys.{FindsStripeHeld};
-ghost use Rattle.mc_cache.specs.shard.Finding.{FindsKey, FindsOtherKey, ReturnsValue, PutsValue, FindsFull, FindsSome};
+ghost use Rattle.mc_cache.specs.shard.Finding.{FindsFull, FindsKey, FindsLockTaken, FindsOtherKey, FindsSome, PutsValue, ReturnsValue};
 ghost use Rattle.mc_cache.specs.declared.shard.try_gets.TryGetError.TheVariants as try_error;
 ghost use Rattle.mc_cache.specs.shard.Hands.{IsIdleHandOf};
 ghost use Rattle.mc_cache.specs.shard.Reading.{LeavesSlabs, RefersTo};
+ghost use Rattle.mc_cache.specs.shard.Recording.{RecordsGetAtMost};
 
 use crate::shard::hints::HintTable;
 use crate::shard::label::Label;
-use crate::shard::lookup::get_item;
+use crate::shard::lookup::{get_item, try_item};
 use crate::shard::reading::{is_of, push_value};
 use mc_items::{Ref, release};
 use mc_memory::Refused;
@@ -32,16 +33,16 @@ pub enum TryGetError {
     Held,
 }
 
-/// The same as `get` with no touch, but refused where another hand has the lock of the hash's stripe. It doesn't wait. (own)
+/// The same as `get`, but refused where no hint leads to the item, and another hand has the lock of the hash's stripe. It doesn't
+/// wait. (own)
 pub fn try_get(
     arena: &Arena,
+    hints: &HintTable,
     hand: &mut Hand,
     at: Label,
     into: &mut Vec<u8>,
 ) -> Result<bool, TryGetError>
     requires { IsIdleHandOf arena.now hand.old }
-    ensures idle { IsIdleHandOf arena.now hand.new }
-    ensures number { hand_number hand.new ≡ hand_number hand.old }
     ensures value { result ≡ Ok true →
         ReturnsValue (setup_of arena.now) at.entry.hash at.entry.key.now hand.old into.old.items
         into.new.items }
@@ -49,22 +50,57 @@ pub fn try_get(
         FindsOtherKey (setup_of arena.now) at.entry.hash at.entry.key.now hand.old }
     ensures kept { (result ≡ Ok true → ⊥) → into.new.items ≡ into.old.items }
     ensures held { result ≡ Err try_error.Held →
-        FindsStripeHeld (setup_of arena.now) at.entry.hash hand.old hand.new }
+        FindsLockTaken (setup_of arena.now) at.entry.hash hand.old hand.new }
     ensures full { result ≡ Err (try_error.NoMemory tt) →
         FindsFull (setup_of arena.now) at.entry.hash hand.old hand.new
         ⊎ FindsSome (setup_of arena.now) at.entry.hash hand.old }
+    ensures calls { RecordsGetAtMost (setup_of arena.now) at.entry.hash hand.old hand.new }
     ensures stores_nothing { StoresNothing (view hand.old) (view hand.new) }
     ensures slabs { LeavesSlabs (view hand.old) (view hand.new) }
+    ensures number { hand_number hand.new ≡ hand_number hand.old }
+    ensures idle { IsIdleHandOf arena.now hand.new }
 {
-    match mc_items::try_get(arena, hand, at.hash) {
+    let found = try_peek(arena, hints, hand, at, into);
+    if let Ok(true) = found {
+        hints.mark(at.hash);
+    }
+    found
+}
+
+// The same, and the item isn't marked.
+fn try_peek(
+    arena: &Arena,
+    hints: &HintTable,
+    hand: &mut Hand,
+    at: Label,
+    into: &mut Vec<u8>,
+) -> Result<bool, TryGetError>
+    requires { IsIdleHandOf arena.now hand.old }
+    ensures value { result ≡ Ok true →
+        ReturnsValue (setup_of arena.now) at.entry.hash at.entry.key.now hand.old into.old.items
+        into.new.items }
+    ensures other { result ≡ Ok false →
+        FindsOtherKey (setup_of arena.now) at.entry.hash at.entry.key.now hand.old }
+    ensures kept { (result ≡ Ok true → ⊥) → into.new.items ≡ into.old.items }
+    ensures held { result ≡ Err try_error.Held →
+        FindsLockTaken (setup_of arena.now) at.entry.hash hand.old hand.new }
+    ensures full { result ≡ Err (try_error.NoMemory tt) →
+        FindsFull (setup_of arena.now) at.entry.hash hand.old hand.new
+        ⊎ FindsSome (setup_of arena.now) at.entry.hash hand.old }
+    ensures calls { RecordsGetAtMost (setup_of arena.now) at.entry.hash hand.old hand.new }
+    ensures stores_nothing { StoresNothing (view hand.old) (view hand.new) }
+    ensures slabs { LeavesSlabs (view hand.old) (view hand.new) }
+    ensures number { hand_number hand.new ≡ hand_number hand.old }
+    ensures idle { IsIdleHandOf arena.now hand.new }
+{
+    match try_item(arena, hints, hand, at.hash) {
         Ok(Some(item)) => match give_value(arena, hand, item, at.key, into) {
             Ok(there) => Ok(there),
             Err(refused) => Err(TryGetError::NoMemory(refused)),
         },
         Ok(None) => Ok(false),
-        Err(mc_items::TryGetError::NoMemory(refused)) => Err(TryGetError::NoMemory(refused)),
-        Err(mc_items::TryGetError::Held) => Err(TryGetError::Held),
-        Err(mc_items::TryGetError::TooManyRefs) => unreachable!(),
+        Err(TryGetError::NoMemory(refused)) => Err(TryGetError::NoMemory(refused)),
+        Err(TryGetError::Held) => Err(TryGetError::Held),
     }
 }
 
@@ -84,6 +120,7 @@ pub fn contains<R: Wait>(
     ensures other { result ≡ Ok false →
         FindsOtherKey (setup_of arena.now) at.entry.hash at.entry.key.now hand.old }
     ensures full { OnErr result (FindsFull (setup_of arena.now) at.entry.hash hand.old hand.new) }
+    ensures calls { RecordsGetAtMost (setup_of arena.now) at.entry.hash hand.old hand.new }
     ensures stores_nothing { StoresNothing (view hand.old) (view hand.new) }
     ensures slabs { LeavesSlabs (view hand.old) (view hand.new) }
 {
@@ -110,6 +147,7 @@ pub(crate) fn give_value(
         PutsValue key.now (item_words (view hand.old) item) into.old.items into.new.items }
     ensures other { result ≡ Ok false → ¬ IsPackingOf key.now (item_words (view hand.old) item) }
     ensures kept { (result ≡ Ok true → ⊥) → into.new.items ≡ into.old.items }
+    ensures calls { RecordsNoCall (view hand.old) (view hand.new) }
     ensures stores_nothing { StoresNothing (view hand.old) (view hand.new) }
     ensures slabs { LeavesSlabs (view hand.old) (view hand.new) }
 {
@@ -126,6 +164,7 @@ fn tell_key(arena: &Arena, hand: &mut Hand, item: Ref, key: &[u8]) -> bool
     ensures number { hand_number hand.new ≡ hand_number hand.old }
     ensures own { result ≡ true → IsPackingOf key.now (item_words (view hand.old) item) }
     ensures other { result ≡ false → ¬ IsPackingOf key.now (item_words (view hand.old) item) }
+    ensures calls { RecordsNoCall (view hand.old) (view hand.new) }
     ensures stores_nothing { StoresNothing (view hand.old) (view hand.new) }
     ensures slabs { LeavesSlabs (view hand.old) (view hand.new) }
 {

@@ -30,7 +30,7 @@ fn store<R: Wait>(
 {
     let value = value_of(alloc, call.number, call.version)?;
     let mut words = Vec::new(alloc);
-    if set(rt, arena, hand, at, &value, &mut words).is_err() {
+    if set(rt, arena, hints, hand, at, &value, &mut words).is_err() {
         return Ok(false);
     }
     let key = key_of(alloc, call.number.wrapping_add(HASHES))?;
@@ -84,7 +84,7 @@ fn finds<R: Wait>(
     ensures { IsIdleHandOf arena.now hand.new }
 {
     let mut bytes = Vec::new(trial.alloc);
-    if get(rt, arena, hints, hand, at, &mut bytes, false)? {
+    if get(rt, arena, hints, hand, at, &mut bytes)? {
         Ok(trial.is_value(number, &bytes)?)
     } else {
         Ok(bytes.is_empty())

@@ -11,20 +11,20 @@ use std::test::Fail;
 /// How many calls are made.
 const CALLS: u64 = 4000;
 
-/// The key's bytes by either get.
+/// The key's bytes, by a get or a peek.
 fn get_either<R: Wait>(
     rt: &R,
     cache: &Cache,
     worker: &mut Worker,
     key: &[u8],
-    touching: bool,
+    peeking: bool,
     into: &mut Vec<u8>,
 ) -> Result<bool, CallError>
     requires { BelongsTo cache.now worker.old }
     ensures { BelongsTo cache.now worker.new }
 {
-    if touching {
-        worker.get_touching(rt, cache, key, into)
+    if peeking {
+        worker.peek(rt, cache, key, into)
     } else {
         worker.get(rt, cache, key, into)
     }

@@ -92,12 +92,21 @@ fn pages_go_where_they_are_wanted(rt: HostRuntime) -> Result<(), Fail> {
     assert_pages_move(&rt, rt.alloc(), &cache, &mut worker, &mut tender)
 }
 
-/// A cache takes as many words as the configuration gives.
+/// A cache takes as many bytes as the configuration gives.
 #[test]
 fn bytes_are_told(rt: HostRuntime) -> Result<(), Fail> {
     let bytes = Cache::bytes(&config_of(3, 2)).ok();
-    // of each arena: 96 words of locks, 8 pages and a first one for each of 4 classes, of 1 + 16 + 128 words, and 8
-    assert!(rt; bytes == Some(3 * 8 * (96 + 12 * 145 + 8)), "three arenas");
+    // of each shard: in the table 96 words of locks, 8 pages and a first one for each of 4 classes, of 1 + 16 + 128 words, and 8
+    let table = 8 * (96 + 12 * 145 + 8);
+    // what is behind five locks; room for 63 sizes, the classes and their lists; 12 pages of 16 chunks; hints of the dead
+    let lists = (128 * 5 + 440 + 384 * 4)
+        + (504 + 104 * 4 + 40 * 4)
+        + 12 * (64 + 16 * 20)
+        + 508 * 8;
+    let shard = table + lists + 656 + 72 + 48 * 3;
+    // two workers and the tender; and 192 times 128 bytes of limits have 256 places for hints
+    let wanted = 3 * shard + 3 * 48 + 256 * 8;
+    assert!(rt; bytes == Some(wanted), "three arenas");
     assert!(rt;
         Cache::bytes(&config_of(3, 64)).is_err(),
         "too many workers"

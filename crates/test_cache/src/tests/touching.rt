@@ -1,4 +1,4 @@
-//! Gets that touch what they find: it is evicted later, and its bytes are right however often it was asked for.
+//! Gets mark what they find: it is evicted later, and its bytes are right however often it was asked for.
 ghost use Rattle.mc_cache.specs.Belonging.{BelongsTo};
 
 use super::made::with_one_worker;
@@ -12,16 +12,16 @@ use std::test::Fail;
 /// How many short values a shard has room for.
 const ROOM: u64 = 64;
 
-/// More gets than a worker's notes outlast.
+/// How often one value is got.
 const GETS: u64 = 5000;
 
-/// Whether a get that touches finds the short value under this key.
+/// Whether a get finds the short value under this key.
 fn finds<R: Wait>(rt: &R, alloc: Global, cache: &Cache, worker: &mut Worker, number: u64) -> bool
     requires { BelongsTo cache.now worker.old }
     ensures { BelongsTo cache.now worker.new }
 {
     let mut bytes = Vec::new(alloc);
-    let found = worker.get_touching(rt, cache, &number.to_le_bytes(), &mut bytes);
+    let found = worker.get(rt, cache, &number.to_le_bytes(), &mut bytes);
     found == Ok(true) && bytes.as_slice() == &SHORT[..]
 }
 
@@ -47,7 +47,7 @@ fn what_was_got_is_evicted_later(rt: HostRuntime) -> Result<(), Fail> {
     Ok(())
 }
 
-/// One value is got more often than the worker's notes outlast.
+/// One value is got again and again.
 #[test]
 fn a_value_is_found_each_time(rt: HostRuntime) -> Result<(), Fail> {
     let (cache, mut worker, _tender) = with_one_worker(&rt, rt.alloc(), 1)?;

@@ -3,7 +3,7 @@ use Rattle.std.proofs.lemmas.List.{take_at}
 use Rattle.std.proofs.lemmas.Result.{on_ok_weaker}
 use Rattle.mc_words.specs.declared.arena.Arena.{Arena}
 use Rattle.mc_cache.specs.declared.cache.Worker.{Worker}
-use Rattle.mc_cache.specs.Belonging.{HaveIdleHands}
+use Rattle.mc_cache.specs.Belonging.{HaveUnusedHands}
 use Rattle.mc_cache.proofs.Opened.{have_front, one_arena_more, own_last}
 use Rattle.mc_cache.proofs.opening.add_shard.Goals as goal
 
@@ -12,7 +12,7 @@ deal-requires-clause-own g c = own_last c.args.arenas.now.items c.as_slice.resul
 
 pub deal-requires-clause-workers : goal.deal-requires-clause-workers
 deal-requires-clause-workers g c =
-    subst (λ (workers : List Worker). HaveIdleHands (take (length c.as_slice.result.now - 1) c.as_slice.result.now) workers) (sym c.as_mut_slice.ensures.value)
+    subst (λ (workers : List Worker). HaveUnusedHands (take (length c.as_slice.result.now - 1) c.as_slice.result.now) workers) (sym c.as_mut_slice.ensures.value)
     (have_front c.args.arenas.now.items c.as_slice.result.now c.in_ok-arena.arena c.args.workers.now.items (c.as_slice.ensures.value ∙ c.in-Ok.ensures.items) c.requires.hands)
 
 pub returns-in-Ok-clause-hands : goal.returns-in-Ok-clause-hands
@@ -20,8 +20,8 @@ returns-in-Ok-clause-hands g c =
     let len : length c.deal.new.workers ≡ c.args.workers.now.len = omega (arith, c.deal.auto.workers, c.as_mut_slice.ensures.len) in
     let same = take_at c.deal.new.workers (drop (length c.deal.new.workers) c.args.workers.now.items) c.args.workers.now.len len in
     on_ok_weaker c.deal.result
-    (λ (have : HaveIdleHands c.as_slice.result.now c.deal.new.workers).
-    subst (λ (workers : List Worker). HaveIdleHands c.push.new.list.items workers) (sym same) (subst (λ (arenas : List Arena). HaveIdleHands arenas c.deal.new.workers) c.as_slice.ensures.value have))
+    (λ (have : HaveUnusedHands c.as_slice.result.now c.deal.new.workers).
+    subst (λ (workers : List Worker). HaveUnusedHands c.push.new.list.items workers) (sym same) (subst (λ (arenas : List Arena). HaveUnusedHands arenas c.deal.new.workers) c.as_slice.ensures.value have))
     c.deal.ensures
 
 pub returns-in-Ok-clause-new : goal.returns-in-Ok-clause-new

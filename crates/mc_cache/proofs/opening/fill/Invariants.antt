@@ -1,5 +1,5 @@
 use Rattle.std.proofs.Common.{◌≡◌, ◌+◌, All, length}
-use Rattle.mc_cache.specs.Belonging.{HaveIdleHands}
+use Rattle.mc_cache.specs.Belonging.{HaveUnusedHands}
 use Rattle.mc_cache.specs.Opening.{IsNewShard}
 use Rattle.mc_cache.proofs.opening.fill.Given as goal
 
@@ -7,6 +7,6 @@ abbrev pub invariant-loop : goal.invariant-loop
 invariant-loop g l = record {
   shards : length l.arenas.items ≡ l.counter;
   count : length l.workers.items ≡ l.config.workers + 1;
-  hands : HaveIdleHands l.arenas.items l.workers.items;
+  hands : HaveUnusedHands l.arenas.items l.workers.items;
   new : All (IsNewShard l.config) l.arenas.items;
 }

@@ -1,16 +1,16 @@
 use Rattle.std.proofs.Common.{◌<◌, length, rules, subst, sym}
 use Rattle.mc_words.specs.hand.Hands.{IsNewHand}
-use Rattle.mc_cache.specs.shard.Hands.{IsIdleHandOf}
+use Rattle.mc_cache.specs.shard.Hands.{IsUnusedHandOf}
 use Rattle.mc_cache.proofs.Dealt.{each_set}
-use Rattle.mc_cache.proofs.Opened.{first_is_new, new_hands_are_idle, stays_idle}
+use Rattle.mc_cache.proofs.Opened.{first_is_new, new_hands_are_unused, stays_unused}
 use Rattle.mc_cache.proofs.opening.open_arena.Goals as goal
 
 pub returns-in-Ok-clause-hands : goal.returns-in-Ok-clause-hands
 returns-in-Ok-clause-hands g c =
-    let all = new_hands_are_idle c.in-Ok.arena c.in-Ok.hands.items c.in-Ok.ensures.hands in
+    let all = new_hands_are_unused c.in-Ok.arena c.in-Ok.hands.items c.in-Ok.ensures.hands in
     let some : 0 < length c.in-Ok.hands.items = search rules in
-    let first : IsIdleHandOf c.in-Ok.arena c.index_mut.result.now = subst (IsIdleHandOf c.in-Ok.arena) (sym c.index_mut.ensures.value) (all 0 c.index_mut.result.now some) in
-    each_set (IsIdleHandOf c.in-Ok.arena) c.in-Ok.hands.items 0 c.forget.new.hand (stays_idle c.in-Ok.arena c.index_mut.result.now c.forget.new.hand first c.forget.ensures.arena c.forget.ensures.ready c.forget.ensures.holdings) all
+    let first : IsUnusedHandOf c.in-Ok.arena c.index_mut.result.now = subst (IsUnusedHandOf c.in-Ok.arena) (sym c.index_mut.ensures.value) (all 0 c.index_mut.result.now some) in
+    each_set (IsUnusedHandOf c.in-Ok.arena) c.in-Ok.hands.items 0 c.forget.new.hand (stays_unused c.in-Ok.arena c.index_mut.result.now c.forget.new.hand first c.forget.ensures.hand.arena c.forget.ensures.hand.ready c.forget.ensures.holdings c.forget.ensures.stores_nothing c.forget.ensures.records_nothing) all
 
 pub returns-in-Ok-clause-history : goal.returns-in-Ok-clause-history
 returns-in-Ok-clause-history g c =

@@ -1,5 +1,5 @@
-use Rattle.std.proofs.Common.{false, refl, true, ℕ}
-use Rattle.mc_cache.specs.Shards.{ReadsOther, ReadsValue, StoresNoMore, TouchesNothing}
+use Rattle.std.proofs.Common.{false, true, ℕ}
+use Rattle.mc_cache.specs.Shards.{GetsAtMost, ReadsOther, ReadsValue, StoresNoMore, TouchesNothing}
 use Rattle.mc_cache.proofs.Acts.{acted, answer_stays, idle_after, on_refusal, same_answer}
 use Rattle.mc_cache.proofs.cache.Worker.get.Goals as goal
 
@@ -19,4 +19,7 @@ pub returns-clause-kept : goal.returns-clause-kept
 returns-clause-kept g c = λ isnt. c.get.ensures.kept (λ is. isnt (answer_stays _ c.get.result c.map_err.result true c.map_err.ensures.cases is))
 
 pub returns-clause-untouched : goal.returns-clause-untouched
-returns-clause-untouched g c = λ is_key. acted c.args.cache.now c.args.key.now c.args.self.now.hands.items c.in-Some.at c.index-arena.result.now c.index_mut-hand.result.now c.get.new.hand (λ (hash : ℕ). TouchesNothing) c.requires c.in-Some.ensures.hash c.in-Some.ensures.shard c.in-Some.ensures.in_range c.index-arena.ensures c.index_mut-hand.ensures.value (c.get.ensures.unasked refl)
+returns-clause-untouched g c = λ is_key. acted c.args.cache.now c.args.key.now c.args.self.now.hands.items c.in-Some.at c.index-arena.result.now c.index_mut-hand.result.now c.get.new.hand (λ (hash : ℕ). TouchesNothing) c.requires c.in-Some.ensures.hash c.in-Some.ensures.shard c.in-Some.ensures.in_range c.index-arena.ensures c.index_mut-hand.ensures.value (c.get.ensures.slabs)
+
+pub returns-clause-calls : goal.returns-clause-calls
+returns-clause-calls g c = λ is_key. acted c.args.cache.now c.args.key.now c.args.self.now.hands.items c.in-Some.at c.index-arena.result.now c.index_mut-hand.result.now c.get.new.hand (λ (hash : ℕ). GetsAtMost hash) c.requires c.in-Some.ensures.hash c.in-Some.ensures.shard c.in-Some.ensures.in_range c.index-arena.ensures c.index_mut-hand.ensures.value (c.get.ensures.number, c.get.ensures.calls)

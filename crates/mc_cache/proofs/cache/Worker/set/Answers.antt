@@ -17,9 +17,9 @@ pub returns-in-Ok-clause-same : goal.returns-in-Ok-clause-same
 returns-in-Ok-clause-same g c = λ either. absurd (⊎_elim (λ no. no_none c.in-Some.at (c.in-Some.ensures.key.1 no)) (λ long. omega arith) either)
 
 pub returns-in-Ok-clause-stores : goal.returns-in-Ok-clause-stores
-returns-in-Ok-clause-stores g c = acted c.args.cache.now c.args.key.now c.args.self.now.hands.items c.in-Some.at c.index-arena.result.now c.index_mut-hand.result.now c.set.new.hand (λ (hash : ℕ). StoresValue hash c.args.key.now c.args.value.now) c.requires c.in-Some.ensures.hash c.in-Some.ensures.shard c.in-Some.ensures.in_range c.index-arena.ensures c.index_mut-hand.ensures.value (c.in-Ok._stamp, c.in-Ok.ensures.stores_words, c.in-Ok.ensures.sets)
+returns-in-Ok-clause-stores g c = acted c.args.cache.now c.args.key.now c.args.self.now.hands.items c.in-Some.at c.index-arena.result.now c.index_mut-hand.result.now c.set.new.hand (λ (hash : ℕ). StoresValue hash c.args.key.now c.args.value.now) c.requires c.in-Some.ensures.hash c.in-Some.ensures.shard c.in-Some.ensures.in_range c.index-arena.ensures c.index_mut-hand.ensures.value (c.set.ensures.number, (c.in-Ok._stamp, c.in-Ok.ensures.stores_words, c.in-Ok.ensures.sets, c.in-Ok.ensures.calls))
 
 pub returns-in-Err-clause-refused : goal.returns-in-Err-clause-refused
 returns-in-Err-clause-refused g c = λ error is.
     let same : c.in-Err.error ≡ error = cc in
-    acted c.args.cache.now c.args.key.now c.args.self.now.hands.items c.in-Some.at c.index-arena.result.now c.index_mut-hand.result.now c.set.new.hand (λ (hash : ℕ). RefusesValue hash c.args.key.now c.args.value.now error) c.requires c.in-Some.ensures.hash c.in-Some.ensures.shard c.in-Some.ensures.in_range c.index-arena.ensures c.index_mut-hand.ensures.value (subst (λ (e : SetError). RefusesValue c.in-Some.at.hash c.args.key.now c.args.value.now e c.index-arena.result.now c.index_mut-hand.result.now c.set.new.hand) same c.in-Err.ensures.refused)
+    acted c.args.cache.now c.args.key.now c.args.self.now.hands.items c.in-Some.at c.index-arena.result.now c.index_mut-hand.result.now c.set.new.hand (λ (hash : ℕ). RefusesValue hash c.args.key.now c.args.value.now error) c.requires c.in-Some.ensures.hash c.in-Some.ensures.shard c.in-Some.ensures.in_range c.index-arena.ensures c.index_mut-hand.ensures.value (subst (λ (e : SetError). RefusesValue c.in-Some.at.hash c.args.key.now c.args.value.now e c.index-arena.result.now c.index_mut-hand.result.now c.set.new.hand) same (c.set.ensures.number, c.in-Err.ensures.refused, c.in-Err.ensures.evicts))

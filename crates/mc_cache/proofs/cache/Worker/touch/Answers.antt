@@ -1,5 +1,5 @@
 use Rattle.std.proofs.Common.{false, true, ℕ}
-use Rattle.mc_cache.specs.Shards.{ReadsOther, LooksInVain, TouchesThere}
+use Rattle.mc_cache.specs.Shards.{GetsAtMost, LooksInVain, ReadsOther, TouchesThere}
 use Rattle.mc_cache.proofs.Acts.{acted, idle_after, refused_so, same_answer}
 use Rattle.mc_cache.proofs.cache.Worker.touch.Goals as goal
 
@@ -14,3 +14,6 @@ returns-clause-none g c = λ is. acted c.args.cache.now c.args.key.now c.args.se
 
 pub returns-clause-refused : goal.returns-clause-refused
 returns-clause-refused g c = refused_so _ _ c.touch.result c.map_err.result c.map_err.ensures.variant c.touch.ensures.full (λ full is_key. acted c.args.cache.now c.args.key.now c.args.self.now.hands.items c.in-Some.at c.index-arena.result.now c.index_mut-hand.result.now c.touch.new.hand (λ (hash : ℕ). LooksInVain hash) c.requires c.in-Some.ensures.hash c.in-Some.ensures.shard c.in-Some.ensures.in_range c.index-arena.ensures c.index_mut-hand.ensures.value (c.touch.ensures.stores_nothing, (c.index_mut-hand.result.now, full)))
+
+pub returns-clause-calls : goal.returns-clause-calls
+returns-clause-calls g c = λ is_key. acted c.args.cache.now c.args.key.now c.args.self.now.hands.items c.in-Some.at c.index-arena.result.now c.index_mut-hand.result.now c.touch.new.hand (λ (hash : ℕ). GetsAtMost hash) c.requires c.in-Some.ensures.hash c.in-Some.ensures.shard c.in-Some.ensures.in_range c.index-arena.ensures c.index_mut-hand.ensures.value (c.touch.ensures.number, c.touch.ensures.calls)

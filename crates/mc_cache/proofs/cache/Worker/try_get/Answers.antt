@@ -1,5 +1,5 @@
 use Rattle.std.proofs.Common.{ℕ, Err, Ok, ap, false, true}
-use Rattle.mc_cache.specs.Shards.{FindsStripeLocked, ReadsOther, ReadsValue, StoresNoMore, TouchesNothing}
+use Rattle.mc_cache.specs.Shards.{FindsStripeLocked, GetsAtMost, ReadsOther, ReadsValue, StoresNoMore, TouchesNothing}
 use Rattle.mc_cache.proofs.Acts.{acted, idle_after, same_ok}
 use Rattle.mc_cache.proofs.cache.Worker.try_get.Goals as goal
 
@@ -38,3 +38,12 @@ returns-in-Err-NoMemory-clause-untouched c = λ is_key. acted c.args.cache.now c
 
 pub returns-in-Err-Held-clause-untouched : goal.returns-in-Err-Held-clause-untouched
 returns-in-Err-Held-clause-untouched c = λ is_key. acted c.args.cache.now c.args.key.now c.args.self.now.hands.items c.in-Some.at c.index-arena.result.now c.index_mut-hand.result.now c.try_get.new.hand (λ (hash : ℕ). TouchesNothing) c.requires c.in-Some.ensures.hash c.in-Some.ensures.shard c.in-Some.ensures.in_range c.index-arena.ensures c.index_mut-hand.ensures.value c.try_get.ensures.slabs
+
+pub returns-in-Ok-clause-calls : goal.returns-in-Ok-clause-calls
+returns-in-Ok-clause-calls c = λ is_key. acted c.args.cache.now c.args.key.now c.args.self.now.hands.items c.in-Some.at c.index-arena.result.now c.index_mut-hand.result.now c.try_get.new.hand (λ (hash : ℕ). GetsAtMost hash) c.requires c.in-Some.ensures.hash c.in-Some.ensures.shard c.in-Some.ensures.in_range c.index-arena.ensures c.index_mut-hand.ensures.value (c.try_get.ensures.number, c.try_get.ensures.calls)
+
+pub returns-in-Err-NoMemory-clause-calls : goal.returns-in-Err-NoMemory-clause-calls
+returns-in-Err-NoMemory-clause-calls c = λ is_key. acted c.args.cache.now c.args.key.now c.args.self.now.hands.items c.in-Some.at c.index-arena.result.now c.index_mut-hand.result.now c.try_get.new.hand (λ (hash : ℕ). GetsAtMost hash) c.requires c.in-Some.ensures.hash c.in-Some.ensures.shard c.in-Some.ensures.in_range c.index-arena.ensures c.index_mut-hand.ensures.value (c.try_get.ensures.number, c.try_get.ensures.calls)
+
+pub returns-in-Err-Held-clause-calls : goal.returns-in-Err-Held-clause-calls
+returns-in-Err-Held-clause-calls c = λ is_key. acted c.args.cache.now c.args.key.now c.args.self.now.hands.items c.in-Some.at c.index-arena.result.now c.index_mut-hand.result.now c.try_get.new.hand (λ (hash : ℕ). GetsAtMost hash) c.requires c.in-Some.ensures.hash c.in-Some.ensures.shard c.in-Some.ensures.in_range c.index-arena.ensures c.index_mut-hand.ensures.value (c.try_get.ensures.number, c.try_get.ensures.calls)

@@ -1,6 +1,7 @@
 use Rattle.std.proofs.Common.{ap, false, inr, Ok, true}
 use Rattle.mc_words.specs.hand.Arenas.{setup_of}
 use Rattle.mc_cache.proofs.Shards.Found.{deletes_key, refused_full}
+use Rattle.mc_cache.proofs.Shards.Recorded.{delete_or_none}
 use Rattle.mc_cache.proofs.shard.deleting.delete.Goals as goal
 
 pub returns-in-Ok-true-clause-deletes : goal.returns-in-Ok-true-clause-deletes
@@ -11,3 +12,6 @@ returns-in-Ok-true-clause-none g c = λ is. inr (deletes_key (setup_of c.args.ar
 
 pub returns-in-Ok-true-clause-full : goal.returns-in-Ok-true-clause-full
 returns-in-Ok-true-clause-full g c = refused_full c.delete.result (setup_of c.args.arena.now) c.args.at.hash c.contains.new.hand c.delete.new.hand c.delete.ensures.no_memory
+
+pub returns-in-Ok-true-clause-calls : goal.returns-in-Ok-true-clause-calls
+returns-in-Ok-true-clause-calls g c = delete_or_none (setup_of c.args.arena.now) c.args.at.hash c.delete.result c.args.hand.now c.contains.new.hand c.delete.new.hand c.contains.ensures.calls c.delete.ensures.calls c.delete.ensures.refused

@@ -3,6 +3,7 @@ use Rattle.mc_words.specs.hand.Arenas.{setup_of, view}
 use Rattle.mc_items.specs.ItemRefs.{item_words}
 use Rattle.mc_cache.specs.shard.Finding.{BumpsItem}
 use Rattle.mc_cache.proofs.Shards.Found.{finds_other, same_ok, the_item, touches_key}
+use Rattle.mc_cache.proofs.Shards.Recorded.{get_at_most}
 use Rattle.mc_cache.proofs.shard.gets.touch.Goals as goal
 
 pub returns-clause-touches : goal.returns-clause-touches
@@ -13,3 +14,6 @@ returns-clause-touches g c = λ is.
 
 pub returns-clause-none : goal.returns-clause-none
 returns-clause-none g c = λ is. finds_other (setup_of c.args.arena.now) c.args.at.hash c.args.at.key.now c.args.hand.now (item_words (view c.get_item.new.hand) c.in-Some.item) (the_item c.args.arena.now c.args.at.hash c.args.hand.now c.get_item.new.hand c.in_ok-item.field-0 c.in-Some.item c.in-Some.is c.in_ok-item.ensures.item).finds (c.touch_own.ensures.other (same_ok c.touch_own.result false is))
+
+pub returns-clause-calls : goal.returns-clause-calls
+returns-clause-calls g c = get_at_most (setup_of c.args.arena.now) c.args.at.hash c.args.hand.now c.get_item.new.hand c.touch_own.new.hand c.get_item.ensures.calls c.touch_own.ensures.calls

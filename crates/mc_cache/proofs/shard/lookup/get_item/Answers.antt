@@ -4,12 +4,13 @@ use Rattle.mc_items.specs.declared.refs.Ref.{Ref}
 use Rattle.mc_items.specs.Keeping.{HoldsToo}
 use Rattle.mc_cache.proofs.Shards.Found.{found_item, none_words, the_item}
 use Rattle.mc_cache.proofs.Shards.Slabs.{got_leaves, no_room_leaves, still_left}
+use Rattle.mc_cache.proofs.Shards.Recorded.{get_behind_hint}
 use Rattle.mc_cache.proofs.shard.lookup.get_item.Goals as goal
 
 pub returns-in-Ok-Some-clause-item : goal.returns-in-Ok-Some-clause-item
 returns-in-Ok-Some-clause-item g c =
     the_item c.args.arena.now c.args.hash c.args.hand.now c.get.new.hand _ c.in-Ok-Some.item c.in-Ok-Some.field-0-is
-    (found_item c.args.arena.now c.args.hash c.args.hand.now c.get_hinted.new.hand c.get.new.hand _ (c.in_default.ensures.tries refl) c.get.ensures.arena c.get.ensures.ready (c.get.ensures.stores_nothing ∙ c.get_hinted.ensures.stores_nothing)
+    (found_item c.args.arena.now c.args.hash c.args.hand.now c.get_hinted.new.hand c.get.new.hand _ (c.in_default.ensures.tries refl) c.get.ensures.hand.arena c.get.ensures.hand.ready (c.get.ensures.stores_nothing ∙ c.get_hinted.ensures.stores_nothing)
     (inl c.in-Ok-Some.ensures.gets) c.in-Ok-Some.ensures.item (c.in_default.ensures.none refl).none c.in-Ok-Some.ensures.holdings)
 
 pub returns-in-Ok-Some-clause-slabs : goal.returns-in-Ok-Some-clause-slabs
@@ -21,8 +22,8 @@ pub returns-in-Ok-None-clause-none : goal.returns-in-Ok-None-clause-none
 returns-in-Ok-None-clause-none g c = λ is. (
   none_words (setup_of c.args.arena.now) c.args.hash c.args.hand.now c.get_hinted.new.hand c.get.new.hand _ (c.in_default.ensures.tries refl) c.in-Ok-None.field-0-is c.in-Ok-None.ensures.gets,
   record {
-    of_arena = c.get.ensures.arena;
-    ready = c.get.ensures.ready;
+    of_arena = c.get.ensures.hand.arena;
+    ready = c.get.ensures.hand.ready;
     none = subst (λ (o : Option Ref). HoldsToo o (view c.get_hinted.new.hand) (view c.get.new.hand)) c.in-Ok-None.field-0-is c.in-Ok-None.ensures.holdings ∙ (c.in_default.ensures.none refl).none;
   },
 )
@@ -43,3 +44,9 @@ returns-in-Err-NoMemory-clause-full g c = record {
   tries = c.in_default.ensures.tries refl;
   full = c.in-Err-NoMemory.ensures.no_memory (ap Err c.in-Err-NoMemory.field-0-is);
 }
+
+pub returns-in-Ok-Some-clause-calls : goal.returns-in-Ok-Some-clause-calls
+returns-in-Ok-Some-clause-calls g c = get_behind_hint (setup_of c.args.arena.now) c.args.hash _ c.args.hand.now c.get_hinted.new.hand c.get.new.hand c.get_hinted.ensures.number c.get_hinted.ensures.calls c.in-Ok-Some.ensures.calls
+
+pub returns-in-Ok-None-clause-calls : goal.returns-in-Ok-None-clause-calls
+returns-in-Ok-None-clause-calls g c = get_behind_hint (setup_of c.args.arena.now) c.args.hash _ c.args.hand.now c.get_hinted.new.hand c.get.new.hand c.get_hinted.ensures.number c.get_hinted.ensures.calls c.in-Ok-None.ensures.calls

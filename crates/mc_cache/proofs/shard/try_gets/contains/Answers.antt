@@ -3,6 +3,7 @@ use Rattle.mc_words.specs.hand.Arenas.{setup_of, view}
 use Rattle.mc_items.specs.ItemRefs.{item_words}
 use Rattle.mc_cache.proofs.Shards.Found.{finds_key, finds_other, same_ok, the_item}
 use Rattle.mc_cache.proofs.Shards.Slabs.{still_left}
+use Rattle.mc_cache.proofs.Shards.Recorded.{get_at_most}
 use Rattle.mc_cache.proofs.shard.try_gets.contains.Goals as goal
 
 pub returns-clause-key : goal.returns-clause-key
@@ -13,3 +14,6 @@ returns-clause-other g c = λ is. finds_other (setup_of c.args.arena.now) c.args
 
 pub returns-clause-slabs : goal.returns-clause-slabs
 returns-clause-slabs g c = still_left (view c.args.hand.now) (view c.get_item.new.hand) (view c.tell_key.new.hand) c.get_item.ensures.slabs c.tell_key.ensures.slabs
+
+pub returns-clause-calls : goal.returns-clause-calls
+returns-clause-calls g c = get_at_most (setup_of c.args.arena.now) c.args.at.hash c.args.hand.now c.get_item.new.hand c.tell_key.new.hand c.get_item.ensures.calls c.tell_key.ensures.calls

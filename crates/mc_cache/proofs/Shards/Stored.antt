@@ -1,0 +1,47 @@
+-- A set behind the room that was made for it.
+use Rattle.std.proofs.Common.{◌≡◌, ℕ, List, [], Err, IfErr, IfOk, Ok, OnErr, Result, inl, inr, refl, subst}
+use Rattle.mc_words.specs.declared.hand.Hand.{Hand}
+use Rattle.mc_words.specs.hand.Arenas.{view}
+use Rattle.mc_words.specs.hand.View.{View}
+use Rattle.mc_items.specs.Evicting.{RecordsEviction}
+use Rattle.mc_items.specs.MakingRoom.{RecordsSomeDeletes}
+use Rattle.mc_items.specs.Setting.{RecordsSet, RefusesSet, SetsItem}
+use Rattle.mc_items.specs.declared.setting.SetError.{SetError}
+use Rattle.mc_cache.specs.shard.Setting.{MakesRoomFor, RecordsEvictionsAlone, RecordsSetBehindRoom, RefusesBytes, SetsBehindRoom}
+
+-- who did nothing recorded no delete
+pub no_deletes : (number : ℕ) (view : View) → RecordsSomeDeletes number view view
+no_deletes number view = (0, record { places = []; as_many = refl; recorded = refl })
+
+-- room was made, and nothing came behind it
+pub room_alone : (number : ℕ) (before now : Hand) → RecordsSomeDeletes number (view before) (view now) → RecordsEvictionsAlone number before now
+room_alone number before now deletes = record { between = now; deletes = deletes; evicts = inl refl }
+
+-- room was made for the words, and then they were stored, or refused
+module _ (number own hash : ℕ) (same : own ≡ number) (first second words : List ℕ) (is_first : first ≡ words) (is_second : second ≡ words) (before between now : Hand) where
+  made : MakesRoomFor first before between → MakesRoomFor words before between
+  made makes = subst (λ (ws : List ℕ). MakesRoomFor ws before between) is_first makes
+
+  pub sets_behind : {E : Type 0} (result : Result ℕ E) → MakesRoomFor first before between → IfOk result (λ stamp. SetsItem own hash stamp second (view between) (view now)) → IfOk result (λ stamp. SetsBehindRoom number hash stamp words before now)
+  sets_behind (Ok stamp) makes sets = record {
+    between = between;
+    makes = made makes;
+    sets = subst (λ (ws : List ℕ). SetsItem number hash stamp ws (view between) (view now)) is_second (subst (λ (n : ℕ). SetsItem n hash stamp second (view between) (view now)) same sets);
+  }
+  sets_behind (Err error) makes sets = tt
+
+  pub calls_behind : {E : Type 0} (result : Result ℕ E) → RecordsSomeDeletes number (view before) (view between) → IfOk result (λ stamp. RecordsSet own hash stamp (view between) (view now)) → IfOk result (λ stamp. RecordsSetBehindRoom number hash stamp before now)
+  calls_behind (Ok stamp) deletes sets = record { between = between; deletes = deletes; sets = subst (λ (n : ℕ). RecordsSet n hash stamp (view between) (view now)) same sets }
+  calls_behind (Err error) deletes sets = tt
+
+  pub refuses_behind : (result : Result ℕ SetError) → MakesRoomFor first before between → IfErr result (λ error. RefusesSet own hash second error (view between) (view now)) → IfErr result (λ error. RefusesBytes number hash words error before now)
+  refuses_behind (Ok stamp) makes refuses = tt
+  refuses_behind (Err error) makes refuses = inr (record {
+    between = between;
+    makes = made makes;
+    refuses = subst (λ (ws : List ℕ). RefusesSet number hash ws error (view between) (view now)) is_second (subst (λ (n : ℕ). RefusesSet n hash second error (view between) (view now)) same refuses);
+  })
+
+  pub evicts_behind : {E : Type 0} (result : Result ℕ E) → RecordsSomeDeletes number (view before) (view between) → OnErr result (RecordsEviction own (view between) (view now)) → OnErr result (RecordsEvictionsAlone number before now)
+  evicts_behind (Ok stamp) deletes evicts = tt
+  evicts_behind (Err error) deletes evicts = record { between = between; deletes = deletes; evicts = subst (λ (n : ℕ). RecordsEviction n (view between) (view now)) same evicts }
