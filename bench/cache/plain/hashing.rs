@@ -1,19 +1,21 @@
 //! The hash of a key, and its shard.
 use std::hash::{DefaultHasher, Hasher};
 
-/// Two numbers that go before each key.
-#[derive(Clone, Copy)]
-pub struct HashKey {
-    pub first: u64,
-    pub second: u64,
-}
+/// A hasher that was started with two numbers, which go before each key.
+#[derive(Clone)]
+pub struct KeyedHasher(DefaultHasher);
 
-impl HashKey {
+impl KeyedHasher {
+    pub fn new(first: u64, second: u64) -> KeyedHasher {
+        let mut hasher = DefaultHasher::new();
+        hasher.write_u64(first);
+        hasher.write_u64(second);
+        KeyedHasher(hasher)
+    }
+
     /// SipHash-1-3 of the two numbers and then of the key.
     pub fn hash(&self, key: &[u8]) -> u64 {
-        let mut hasher = DefaultHasher::new();
-        hasher.write_u64(self.first);
-        hasher.write_u64(self.second);
+        let mut hasher = self.0.clone();
         hasher.write(key);
         hasher.finish()
     }
@@ -26,11 +28,11 @@ pub fn choose_shard(shards: usize, hash: u64) -> usize {
 
 #[cfg(test)]
 mod tests {
-    use super::{choose_shard, HashKey};
+    use super::{choose_shard, KeyedHasher};
 
     #[test]
     fn depends_on_each_number() {
-        let hash = |first, second| HashKey { first, second }.hash(b"key");
+        let hash = |first, second| KeyedHasher::new(first, second).hash(b"key");
         assert_ne!(hash(1, 2), hash(1, 3));
         assert_ne!(hash(1, 2), hash(3, 2));
     }

@@ -1,6 +1,6 @@
 //! Many small caches side by side, each behind a mutex of its own.
 use crate::driver::{Store, HASH_KEY};
-use crate::hashing::{choose_shard, HashKey};
+use crate::hashing::{choose_shard, KeyedHasher};
 use std::sync::Mutex;
 
 /// A cache for one thread at a time. It has the lower halves of its keys' hashes; the upper halves chose the shard.
@@ -24,7 +24,7 @@ struct Apart<S>(Mutex<S>);
 
 pub struct Shards<S> {
     shards: Box<[Apart<S>]>,
-    hashing: HashKey,
+    hashing: KeyedHasher,
 }
 
 impl<S: Shard> Shards<S> {
@@ -40,7 +40,7 @@ impl<S: Shard> Store for Shards<S> {
 
     fn open(shards: u64, shard_bytes: u64, workers: u64) -> (Shards<S>, Vec<()>) {
         let shards = (0..shards).map(|_| Apart(Mutex::new(S::new(shard_bytes as usize)))).collect();
-        let hashing = HashKey { first: HASH_KEY.0, second: HASH_KEY.1 };
+        let hashing = KeyedHasher::new(HASH_KEY.0, HASH_KEY.1);
         (Shards { shards, hashing }, vec![(); workers as usize])
     }
 
