@@ -15,7 +15,7 @@ pub enum SetError {
     /// The value has more than 16,384 bytes, as no chunk has. Nothing was done.
     #[error("a value must have at most 16384 bytes; nothing was done")]
     ValueLength,
-    /// The item isn't stored. The key has what it had, unless its item was the one that was evicted.
+    /// The item isn't stored. The key has what it had, unless its item was among those that were evicted.
     #[error("the value isn't stored: {0}")]
     Item(mc_items::SetError),
 }
@@ -58,7 +58,7 @@ impl Worker {
     ghost use Rattle.mc_cache.specs.declared.working.TryGetError.TheVariants as try_error;
 
     /// Stores the value under the key, in the place of what the key had. An item of another key with the same hash goes, as by an
-    /// eviction. It waits for locks of the key's shard. (memcached's `set`)
+    /// eviction. Where its class is full, some of the oldest items are evicted first. It waits for locks of the key's shard. (memcached's `set`)
     pub fn set<R: Wait>(
         &mut self,
         rt: &R,
