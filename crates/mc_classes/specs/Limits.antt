@@ -1,6 +1,6 @@
 -- The limits of a slab memory, as numbers.
 use Rattle.std.specs.Prelude.{ℕ, ◌+◌}
-use Rattle.mc_classes.specs.declared.limits.TheConstants.{LEAST_PAGE_BYTES, MOST_PAGE_BYTES, MOST_PAGES, MOST_CLASSES, MOST_STRIPES, MOST_PAGE_CHUNKS, MOST_BULK, MOST_REFS}
+use Rattle.mc_classes.specs.declared.limits.TheConstants.{LEAST_PAGE_BYTES, MOST_PAGE_BYTES, MOST_PAGES, MOST_CLASSES, MOST_STRIPES, MOST_PAGE_CHUNKS, MOST_BULK, MOST_HANDS, MOST_WORKERS, MOST_REFS}
 
 -- the least bytes of a page
 abbrev pub least_page_bytes : ℕ
@@ -33,6 +33,14 @@ most_page_chunks = MOST_PAGE_CHUNKS
 -- the most chunks that the mover looks at in a turn
 abbrev pub most_bulk : ℕ
 most_bulk = MOST_BULK
+
+-- the most hands of an arena
+abbrev pub most_hands : ℕ
+most_hands = MOST_HANDS
+
+-- the most workers of a script or a cache
+abbrev pub most_workers : ℕ
+most_workers = MOST_WORKERS
 
 -- a hand or worker that holds as many chunks gets no reference
 abbrev pub most_refs : ℕ

@@ -2,7 +2,7 @@
 ghost use Rattle.std.specs.Prelude.{◌≡◌, None};
 ghost use Rattle.mc_classes.specs.declared.config.Config.{Config};
 ghost use Rattle.mc_classes.specs.Classes.{Classes, IsSound, IsTableOf};
-ghost use Rattle.mc_classes.specs.Limits.{least_page_bytes, most_arena_pages, most_bulk, most_classes, most_page_bytes, most_page_chunks, most_pages, most_refs, most_stripes};
+ghost use Rattle.mc_classes.specs.Limits.{least_page_bytes, most_arena_pages, most_bulk, most_classes, most_hands, most_page_bytes, most_page_chunks, most_pages, most_refs, most_stripes, most_workers};
 ghost use Rattle.mc_classes.specs.Refusals.{config_refusal};
 
 /// A configuration has no two class tables.
@@ -26,5 +26,7 @@ pub fn worked_limits()
     ensures stripes { most_stripes ≡ 64 }
     ensures chunks { most_page_chunks ≡ 256 }
     ensures bulk { most_bulk ≡ 256 }
+    ensures hands { most_hands ≡ 64 }
+    ensures workers { most_workers ≡ 63 }
     ensures references { most_refs ≡ 255 }
 {}

@@ -32,8 +32,8 @@ mod table;
 pub use config::{Config, ConfigError};
 pub use laws::{one_table, sound_table, worked_limits};
 pub use limits::{
-    LEAST_PAGE_BYTES, MOST_BULK, MOST_CLASSES, MOST_PAGE_BYTES, MOST_PAGE_CHUNKS, MOST_PAGES,
-    MOST_REFS, MOST_STRIPES,
+    LEAST_PAGE_BYTES, MOST_BULK, MOST_CLASSES, MOST_HANDS, MOST_PAGE_BYTES, MOST_PAGE_CHUNKS,
+    MOST_PAGES, MOST_REFS, MOST_STRIPES, MOST_WORKERS,
 };
 pub use mc_io::{Failures, Fault, Sink};
 pub use table::{ClassId, ClassTable, PageId};
