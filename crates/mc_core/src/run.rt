@@ -1,5 +1,6 @@
 //! Lists of events, played from the beginning.
 ghost use Rattle.std.specs.Prelude.{◌≡◌, ◌≤◌, None};
+ghost use Rattle.mc_classes.specs.Limits.{most_hands};
 ghost use Rattle.mc_classes.specs.Refusals.{config_refusal};
 ghost use Rattle.mc_core.specs.run.Run.{state_after_all, EndsRunAs, IsPlayed};
 
@@ -12,7 +13,7 @@ use std::alloc::Global;
 /// Plays the events, one after another, on an arena in which nothing was granted yet.
 pub fn replay(alloc: Global, config: &Config, hands: u64, events: &[Event]) -> Result<State, Stop>
     requires config { config_refusal config.now ≡ None }
-    requires hands { (1 ≤ hands) × (hands ≤ 64) }
+    requires hands { (1 ≤ hands) × (hands ≤ most_hands) }
     ensures { IsPlayed config.now hands events.now result }
 {
     let table = match ClassTable::build(alloc, config) {

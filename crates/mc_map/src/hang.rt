@@ -8,7 +8,7 @@ ghost use Rattle.mc_map.specs.Kept.{chunks_a_page};
 
 use crate::items::{HeldItem, Items};
 use crate::map::MapError;
-use mc_classes::{ClassId, ClassTable, Config, ConfigError};
+use mc_classes::{ClassId, ClassTable, Config, ConfigError, MOST_HANDS};
 use mc_keeper::{Keeper, Moving, Stop};
 use mc_memory::{Refused, from_slice, insert, push};
 use mc_options::Run;
@@ -160,7 +160,7 @@ impl Probe {
     /// Lets go of the item, whoever holds it.
     fn release(&mut self, held: &HeldItem) {
         for worker in &held.workers {
-            if *worker < 64 {
+            if *worker < MOST_HANDS {
                 let _words = self.keeper.drop(*worker, held.key);
             }
         }

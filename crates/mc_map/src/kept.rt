@@ -1,5 +1,6 @@
 //! The numbers of a class on a map: its pages, and what is in its chunks.
 ghost use Rattle.std.specs.Prelude.{◌≡◌, ℕ, ◌≤◌, ◌^◌, length, IfOk, IfSome};
+ghost use Rattle.mc_classes.specs.Limits.{most_page_bytes};
 ghost use Rattle.mc_pages.specs.SlabState.{HasClass};
 ghost use Rattle.mc_serial_spec.specs.Item.{item_bytes};
 ghost use Rattle.mc_map.specs.Kept.{asked_bytes, bytes_as, bytes_of_key, linked_count, IsLine};
@@ -68,7 +69,7 @@ struct Held {
 fn bytes_as(table: &ClassTable, class: ClassId, words: u64) -> Option<u64>
     requires { words ≤ 2 ^ 60 }
     ensures bytes { result ≡ bytes_as table.now class words }
-    ensures most { IfSome result (λ bytes. bytes ≤ 16384) }
+    ensures most { IfSome result (λ bytes. bytes ≤ most_page_bytes) }
 {
     let bytes = 24 + 8 * words;
     match table.class_for(bytes) {
@@ -80,7 +81,7 @@ fn bytes_as(table: &ClassTable, class: ClassId, words: u64) -> Option<u64>
 /// The bytes that the key's item asks for, if it has one in the class.
 fn bytes_in(keeper: &Keeper, class: ClassId, key: u64) -> Result<Option<u64>, MapError>
     ensures bytes { IfOk result (λ bytes. bytes ≡ bytes_of_key keeper.now class key) }
-    ensures most { IfOk result (λ bytes. IfSome bytes (λ n. n ≤ 16384)) }
+    ensures most { IfOk result (λ bytes. IfSome bytes (λ n. n ≤ most_page_bytes)) }
 {
     match keeper.get(0, key) {
         Ok(Some(words)) => Ok(bytes_as(keeper.table(), class, words.len() as u64)),

@@ -1,5 +1,6 @@
 //! A keeper that does commands one after another, with books of what it doesn't show.
 ghost use Rattle.std.specs.Prelude.{◌≡◌, ◌≤◌, ◌<◌, ◌^◌, None, Some, Ok, Err, ◌++◌, All, IfOk, IfErr, OnOk, length, map, unwrap_or};
+ghost use Rattle.mc_classes.specs.Limits.{most_hands};
 ghost use Rattle.std.specs.Option.{option_map};
 ghost use Rattle.mc_classes.specs.Classes.{IsTableOf, class_of};
 ghost use Rattle.mc_classes.specs.Refusals.{config_refusal};
@@ -150,7 +151,7 @@ impl Player {
 
     /// The worker holds the key's item.
     fn hold(&mut self, worker: u64, key: u64) -> Result<(), Stop>
-        requires { worker < 64 }
+        requires { worker < most_hands }
         ensures machine { OnOk result (self.new.keeper
             ≡ (hold_outcome self.old.keeper worker key).machine) }
         ensures books { OnOk result (self.new.books ≡ self.old.books) }
@@ -166,7 +167,7 @@ impl Player {
 
     /// The worker gives back its last hold of the key.
     fn drop(&mut self, worker: u64, key: u64)
-        requires { worker < 64 }
+        requires { worker < most_hands }
         ensures machine { self.new.keeper
             ≡ (release_outcome self.old.keeper worker key
             (last_hold self.old.keeper worker key)).machine }

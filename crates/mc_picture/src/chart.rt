@@ -1,5 +1,6 @@
 //! Pages over time, as an SVG: a row for each page, and a column before the first entry of the ledger and after each.
 ghost use Rattle.std.specs.Prelude.{◌≡◌, ◌≤◌, ◌<◌, ◌^◌, ◌⊎◌, Err, OnOk, length, map, string_bytes};
+ghost use Rattle.mc_classes.specs.Limits.{most_classes};
 ghost use Rattle.mc_picture.specs.Charts.{IsChart};
 ghost use Rattle.mc_picture.specs.Drawn.{TextExtends, IsDrawn};
 
@@ -66,7 +67,7 @@ pub fn write_chart(
     page: u64,
     text: &mut String,
 ) -> Result<(), ChartError>
-    requires { length classes.now ≤ 63 }
+    requires { length classes.now ≤ most_classes }
     ensures chart { OnOk result (IsChart pages ledger.now (string_bytes text.old)
         (string_bytes text.new)) }
     ensures large { result ≡ Err ChartError.Large → (4095 < length ledger.now) ⊎ (4096 < pages) }

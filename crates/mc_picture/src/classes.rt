@@ -1,5 +1,6 @@
 //! The class table, before anything runs.
 ghost use Rattle.std.specs.Prelude.{◌≡◌, ◌≤◌, ◌++◌, IfOk, OnOk, flat_map, length, string_bytes};
+ghost use Rattle.mc_classes.specs.Limits.{most_classes};
 ghost use Rattle.mc_classes.specs.Classes.{IsClass, page_limit};
 ghost use Rattle.mc_picture.specs.Rows.{row_of, class_table_rows};
 ghost use Rattle.mc_picture.specs.Tables.{class_table_text, memory_text, row_columns, row_text, table_note, waste_text};
@@ -43,7 +44,7 @@ fn class_row(table: &ClassTable, class: ClassId) -> ClassRow
 pub fn class_rows(alloc: Global, table: &ClassTable) -> Result<Vec<ClassRow>, Refused>
     ensures rows { IfOk result (λ rows. rows.items
         ≡ class_table_rows table.now (length table.now.sizes)) }
-    ensures within_limit { IfOk result (λ rows. length rows.items ≤ 63) }
+    ensures within_limit { IfOk result (λ rows. length rows.items ≤ most_classes) }
 {
     let mut rows = Vec::new(alloc);
     for place in 0..table.count() {

@@ -1,5 +1,6 @@
 //! The sheet of a chart: pages, ledger and classes, no more than it has room for.
 ghost use Rattle.std.specs.Prelude.{◌≤◌, length};
+ghost use Rattle.mc_classes.specs.Limits.{most_classes};
 
 use crate::classes::ClassRow;
 use mc_pages::Entry;
@@ -13,5 +14,5 @@ pub(crate) struct Sheet<'a> {
     pub(crate) classes: &'a [ClassRow],
     ghost few_pages: { pages ≤ 4096 },
     ghost few_entries: { length ledger.now ≤ 4096 },
-    ghost few_classes: { length classes.now ≤ 63 },
+    ghost few_classes: { length classes.now ≤ most_classes },
 }

@@ -1,5 +1,6 @@
 //! A list of events, as it is played.
 ghost use Rattle.std.specs.Prelude.{◌≡◌, ◌≤◌, None};
+ghost use Rattle.mc_classes.specs.Limits.{most_hands};
 ghost use Rattle.mc_classes.specs.Refusals.{config_refusal};
 
 use mc_classes::Config;
@@ -22,5 +23,5 @@ pub struct List<'a> {
     pub events: Vec<Event>,
     ghost accepted: { config_refusal config ≡ None },
     ghost some: { 1 ≤ hands },
-    ghost most: { hands ≤ 64 },
+    ghost most: { hands ≤ most_hands },
 }

@@ -1,11 +1,12 @@
 -- Which numbers a command may have.
 use Rattle.std.specs.Prelude.{ℕ, ◌^◌, ◌<◌, ◌≤◌, Option, IfSome}
+use Rattle.mc_classes.specs.Limits.{most_workers}
 use Rattle.mc_script.specs.declared.command.Command.{Command}
 use Rattle.mc_script.specs.declared.command.Command.TheVariants.{Set, Delete, Get, Hold, Drop, Touch, Reassign, Automove, Window, Turn, Stats, StatsSlabs}
 
--- workers are numbered from 1 to 63
+-- workers are numbered from 1 to `most_workers`
 abbrev pub IsWorker : ℕ → Type 0
-IsWorker worker = (1 ≤ worker) × (worker ≤ 63)
+IsWorker worker = (1 ≤ worker) × (worker ≤ most_workers)
 
 -- a source is none or a number below 2^64
 abbrev pub IsSource : Option ℕ → Type 0

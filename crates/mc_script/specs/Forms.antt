@@ -1,14 +1,15 @@
 -- The forms of a command.
 use Rattle.std.specs.Prelude.{ℕ, ◌&&◌, codes, if◌then◌else◌, List, [], ◌∷◌, Option, Some, None}
+use Rattle.mc_classes.specs.Limits.{most_workers}
 use Rattle.std.specs.Option.{option_or}
 use Rattle.std.specs.Str.{bytes_eq}
 use Rattle.mc_script.specs.declared.command.Command.{Command}
 use Rattle.mc_script.specs.declared.command.Command.TheVariants.{Set, Delete, Get, Hold, Drop, Touch, Reassign, Automove, Window, Turn, Stats, StatsSlabs}
 use Rattle.mc_script.specs.Words.{◌>>=◌, parsed_number, number_between}
 
--- a worker's number is from 1 to 63
+-- a worker's number is from 1 to `most_workers`
 abbrev pub parsed_worker : List ℕ → Option ℕ
-parsed_worker word = number_between 1 63 word
+parsed_worker word = number_between 1 most_workers word
 
 -- `<worker> set <key> <n> <base>`
 unfoldable pub set_of : List (List ℕ) → Option Command

@@ -5,9 +5,7 @@ ghost use Rattle.mc_script.specs.Forms.{bare_of, command_of, key_command_of, on_
 
 use crate::command::Command;
 use crate::number::{number, number_between};
-
-/// Workers are numbered from 1 to this (own).
-const MAX_WORKER: u64 = 63;
+use mc_classes::MOST_WORKERS;
 
 /// The most words of an item (own).
 const MAX_WORDS: u64 = 4096;
@@ -140,7 +138,7 @@ fn source(word: &[u8]) -> Option<Option<u64>>
 fn worker_number(word: &[u8]) -> Option<u64>
     ensures { result ≡ parsed_worker word.now }
 {
-    number_between(1, MAX_WORKER, word)
+    number_between(1, MOST_WORKERS, word)
 }
 
 /// Whether a word is this text.

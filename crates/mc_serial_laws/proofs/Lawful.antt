@@ -7,7 +7,7 @@ use Rattle.std.proofs.lemmas.Bool.Decides.{nat_tests}
 use Rattle.std.proofs.lemmas.Option.{none-some}
 use Rattle.std.proofs.lemmas.List.{get_or_past}
 use Rattle.std.proofs.lemmas.List.Sums.{get_or-le-sum_by}
-use Rattle.mc_classes.specs.Limits.{most_refs}
+use Rattle.mc_classes.specs.Limits.{most_hands, most_refs}
 use Rattle.mc_pages.specs.declared.ids.ChunkId.{ChunkId}
 use Rattle.mc_pages.specs.ClassState.{is_chunk, times_in}
 use Rattle.mc_pages.specs.SlabState.{SlabState, granted_count}
@@ -34,7 +34,7 @@ pub record IsLawful (m : Machine) : Type 0 where
   pub kept : IsConsistent m.table (off m.slabs) m.items
   pub granted : ℕ
   pub order : AreSlabsInOrder (off m.slabs) granted
-  pub workers : length m.holds ≡ 64
+  pub workers : length m.holds ≡ most_hands
   pub within_limit : (worker : ℕ) → length (held_by m.holds worker) ≤ most_refs
   -- a chunk that a worker holds has an item
   pub stored : (worker : ℕ) (chunk : ChunkId) → 1 ≤ times_in chunk (held_by m.holds worker) → 1 ≤ place_count chunk m.items

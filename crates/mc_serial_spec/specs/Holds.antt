@@ -1,6 +1,6 @@
 -- Which chunks the workers hold.
 use Rattle.std.specs.Prelude.{ℕ, Bool, nat_lt, not, List, [], ◌∷◌, length, sum_by, slice_index_or, slice_set, replicate}
-use Rattle.mc_classes.specs.Limits.{most_refs}
+use Rattle.mc_classes.specs.Limits.{most_hands, most_refs}
 use Rattle.mc_pages.specs.declared.ids.ChunkId.{ChunkId}
 use Rattle.mc_pages.specs.ClassState.{times_in, without}
 
@@ -10,7 +10,7 @@ Holds = List (List ChunkId)
 
 -- nobody holds a chunk: worker 0 is the thread that moves pages
 abbrev pub no_holds : Holds
-no_holds = replicate 64 []
+no_holds = replicate most_hands []
 
 -- the most chunks that a worker may hold
 abbrev pub most_holds : ℕ

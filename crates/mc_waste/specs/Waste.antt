@@ -1,5 +1,6 @@
 -- How much of a chunk its item leaves unused.
 use Rattle.std.specs.Prelude.{◌≡◌, ℕ, ◌+◌, ◌-◌, ◌*◌, ◌/◌, ◌==◌, ◌<◌, ◌≤◌, nat_lt, if◌then◌else◌, length, None, Some}
+use Rattle.mc_classes.specs.Limits.{most_classes}
 use Rattle.mc_classes.specs.declared.config.Config.{Config}
 use Rattle.mc_classes.specs.Classes.{Classes, IsTableOf, class_of, size_of}
 use Rattle.mc_classes.specs.Refusals.{first_size, config_refusal, rounded_up}
@@ -25,7 +26,7 @@ abbrev pub most_chunk : Config → Classes → ℕ → ℕ → ℕ
 most_chunk config table class bytes =
     if class == 1 then first_size config
     else if nat_lt class (length table.sizes) then rounded_up (scaled_size config (bytes - 8))
-    else if nat_lt class 63 then scaled_size config (scaled_size config (bytes - 8))
+    else if nat_lt class most_classes then scaled_size config (scaled_size config (bytes - 8))
     else config.max
 
 -- an item leaves less than this percentage of its chunk unused

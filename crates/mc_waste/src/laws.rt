@@ -1,5 +1,6 @@
 //! Laws of every class table, each the contract of a function with nothing to do.
 ghost use Rattle.std.specs.Prelude.{◌≡◌, ◌≤◌, ◌<◌, ◌+◌, ◌-◌, ◌*◌, ℕ, length, None};
+ghost use Rattle.mc_classes.specs.Limits.{most_classes};
 ghost use Rattle.mc_classes.specs.declared.config.Config.{Config};
 ghost use Rattle.mc_classes.specs.Classes.{Classes, IsTableOf, size_of};
 ghost use Rattle.mc_classes.specs.Refusals.{first_size, config_refusal};
@@ -28,7 +29,7 @@ pub fn waste_is_a_share()
         GoesTo config table words class → 1 < class → class < length table.sizes →
         size_of table class * config.den < item_bytes words * config.num }
     ensures last { (config : Config) (table : Classes) (words class : ℕ) →
-        GoesTo config table words class → 1 < class → class < 63 →
+        GoesTo config table words class → 1 < class → class < most_classes →
         size_of table class * config.den * config.den < item_bytes words * config.num * config.num }
 {}
 
@@ -38,7 +39,7 @@ pub fn five_quarters()
     ensures first { (config : Config) (table : Classes) (words : ℕ) → GoesTo config table words 1 →
         size_of table 1 - item_bytes words ≤ first_size config - 24 }
     ensures within_limit { (config : Config) (table : Classes) → config_refusal config ≡ None →
-        IsTableOf config table → config.num * 4 ≡ config.den * 5 → length table.sizes < 63 }
+        IsTableOf config table → config.num * 4 ≡ config.den * 5 → length table.sizes < most_classes }
     ensures between { (config : Config) (table : Classes) (words class : ℕ) →
         GoesTo config table words class → config.num * 4 ≡ config.den * 5 → 1 < class →
         class < length table.sizes → WastesLessThan 20 (item_bytes words) (size_of table class) }

@@ -6,6 +6,7 @@ pub(crate) mod plan;
 pub(crate) mod refusal;
 
 ghost use Rattle.std.specs.Prelude.{◌≡◌, ◌+◌, ◌^◌, ◌<◌, ◌≤◌};
+ghost use Rattle.mc_classes.specs.Limits.{most_hands, most_stripes};
 ghost use Rattle.mc_classes.specs.Classes.{IsSound};
 ghost use Rattle.mc_core.specs.run.Chunks.{most_issue};
 ghost use Rattle.mc_core.specs.model.State.{most_of, page_words};
@@ -41,8 +42,8 @@ pub struct Arena {
     ghost slots: { table.shared.table_id.slots ≡ slot_count plan.config.stripes },
     ghost sound: { IsSound plan.table },
     ghost some: { 1 ≤ plan.config.stripes },
-    ghost within_limit: { plan.config.stripes ≤ 64 },
-    ghost hands: { (1 ≤ plan.hands) × (plan.hands ≤ 64) },
+    ghost within_limit: { plan.config.stripes ≤ most_stripes },
+    ghost hands: { (1 ≤ plan.hands) × (plan.hands ≤ most_hands) },
     ghost begun: { plan.start ≤ most_issue },
     ghost places: { (first_page ≡ pages_from plan) × (first_head ≡ heads_from plan) × (first_data ≡ data_from plan) },
     ghost counts: { (most ≡ most_of plan.table) × (words_a_page ≡ page_words plan.table) },

@@ -20,10 +20,10 @@ use Rattle.mc_words.specs.hand.Ready.{IsReady}
 use Rattle.mc_words.specs.item.Refs.{KeepsRemainingRefs, KeepsRefs}
 use Rattle.mc_items.specs.declared.refs.Ref.{Ref}
 use Rattle.mc_items.specs.ItemRefs.{RefersToEach, IsItemRef, item_chunk, refers_to}
-use Rattle.mc_items.specs.Keeping.{HoldsAsOften, HoldsLess, HoldsTheSame, HoldsToo, StaysItemRef, holding_by}
+use Rattle.mc_items.specs.Keeping.{HoldsLess, HoldsToo, KeepsHoldingCounts, KeepsHoldings, StaysItemRef, holding_by}
 use Rattle.mc_items.proofs.Rows as rows
 use Rattle.mc_items.proofs.Rows.{chunk_found}
-use Rattle.mc_items.proofs.Chains.{held_refs_keep_items, keeping_goes_on, kept_refs_keep_items, releasing_keeps_others}
+use Rattle.mc_items.proofs.Chains.{counts_kept, held_refs_keep_items, keeping_goes_on, kept_refs_keep_items, releasing_keeps_others}
 use Rattle.mc_workers.specs.Lines.{all_released}
 use Rattle.mc_workers.specs.Kept.{KeptReference, hold_of, kept_references}
 
@@ -39,11 +39,12 @@ holds_stay view now (item ∷ kept) keeps all =
     ap (λ (words : List ℕ). record { item = item; words = words } ∷ kept_references now kept) first ∙ ap (λ (l : List KeptReference). hold_of view item ∷ l) rest
 
 -- so a call that keeps references, and holds each chunk as often, leaves what is kept
-pub kept_stay : (view now : View) (kept : List Ref) → RefersToEach view kept → KeepsRefs view now → HoldsAsOften view now → RefersToEach now kept
-kept_stay view now kept are keeps often = record { items = refs_stay view now kept keeps are.items; counts = λ chunk. often chunk ∙ are.counts chunk }
+pub kept_stay : (view now : View) (kept : List Ref) → RefersToEach view kept → KeepsHoldingCounts view now → RefersToEach now kept
+kept_stay view now kept are keeps = record { items = refs_stay view now kept keeps.references are.items; counts = λ chunk. keeps.counts chunk ∙ are.counts chunk }
 
-pub as_often : (view now : View) → HoldsTheSame view now → HoldsAsOften view now
-as_often view now same = λ chunk. ap (count_of_holdings chunk) same
+-- and so does one that keeps the holdings
+pub kept_beside : (view now : View) (kept : List Ref) → RefersToEach view kept → KeepsHoldings view now → RefersToEach now kept
+kept_beside view now kept are keeps = kept_stay view now kept are (counts_kept view now keeps)
 
 -- one reference more
 pub kept_too : (view now : View) (kept : List Ref) (item : Ref) → RefersToEach view kept → KeepsRefs view now → HoldsToo (Some item) view now → IsItemRef now item → RefersToEach now (kept ++ item ∷ [])
@@ -61,12 +62,12 @@ holds_too view now kept item are keeps =
 pub gained : (view got : View) (found : Option Ref) (item : Ref) → found ≡ Some item → HoldsToo found view got → HoldsToo (Some item) view got
 gained view got found item is holds = subst (λ (o : Option Ref). HoldsToo o view got) is holds
 
-pub as_often_again : (view got next now : View) (item : Ref) → HoldsToo (Some item) view got → HoldsTheSame got next → HoldsLess item next now → HoldsAsOften view now
-as_often_again view got next now item gained same less = λ chunk.
-    ap (count_of_holdings chunk) (less ∙ ap (without_first (is_of_chunk (item_chunk item))) (same ∙ gained)) ∙ rows.as_often (item_chunk item) view.row.holdings (holding_by got item) refl chunk
-
-pub kept_again : (view got next now : View) (item : Ref) → KeepsRefs view got → KeepsRefs got next → HoldsToo (Some item) view got → HoldsTheSame got next → KeepsRemainingRefs next now → HoldsLess item next now → KeepsRefs view now
-kept_again view got next now item first second gained same held less = releasing_keeps_others view got next now item (keeping_goes_on view got next first second) gained same held less
+pub kept_again : (view got next now : View) (item : Ref) → KeepsRefs view got → HoldsToo (Some item) view got → KeepsHoldings got next → KeepsRemainingRefs next now → HoldsLess item next now → KeepsHoldingCounts view now
+kept_again view got next now item first gained keeps held less = record {
+  counts = λ chunk. ap (count_of_holdings chunk) (less ∙ ap (without_first (is_of_chunk (item_chunk item))) (keeps.same ∙ gained))
+      ∙ rows.as_often (item_chunk item) view.row.holdings (holding_by got item) refl chunk;
+  references = releasing_keeps_others view got next now item (keeping_goes_on view got next first keeps.references) gained keeps.same held less;
+}
 
 -- a reference in the middle counts beside the others
 pub count_middle : (p : Ref → Bool) (front back : List Ref) (item : Ref) → count_by p (front ++ item ∷ back) ≡ count_by p (front ++ back) + truth (p item)
@@ -175,19 +176,19 @@ idle_then view ready are = and_from _ _ ready.unlocked (ap (λ (row : List Holdi
 
 -- one of those that are kept was read and given back
 module _ (before seen now : View) (kept : List Ref) (place : ℕ) (item : Ref) (within : place < length kept) (at : item ≡ get_or kept place item)
-    (are : RefersToEach before kept) (keeps : KeepsRefs before seen) (same : HoldsTheSame before seen) (held : KeepsRemainingRefs seen now) (less : HoldsLess item seen now) where
+    (are : RefersToEach before kept) (keeps : KeepsHoldings before seen) (held : KeepsRemainingRefs seen now) (less : HoldsLess item seen now) where
   parts : kept ≡ take place kept ++ item ∷ drop (suc place) kept
   parts = split_at kept place item within ∙ ap (λ (x : Ref). take place kept ++ x ∷ drop (suc place) kept) (sym at)
 
   are_seen : RefersToEach seen (take place kept ++ item ∷ drop (suc place) kept)
-  are_seen = subst (RefersToEach seen) parts (kept_stay before seen kept are keeps (as_often before seen same))
+  are_seen = subst (RefersToEach seen) parts (kept_beside before seen kept are keeps)
 
   pub kept_without : RefersToEach now (take place kept ++ drop (suc place) kept)
   kept_without = kept_less seen now (take place kept) (drop (suc place) kept) item are_seen held less
 
   pub holds_without : kept_references now (take place kept ++ drop (suc place) kept) ≡ kept_references before (take place kept ++ drop (suc place) kept)
   holds_without = holds_less seen now (take place kept) (drop (suc place) kept) item are_seen held less
-      ∙ holds_stay before seen (take place kept ++ drop (suc place) kept) keeps (all_apart (IsItemRef before) (take place kept) (drop (suc place) kept) item (subst (All (IsItemRef before)) parts are.items))
+      ∙ holds_stay before seen (take place kept ++ drop (suc place) kept) keeps.references (all_apart (IsItemRef before) (take place kept) (drop (suc place) kept) item (subst (All (IsItemRef before)) parts are.items))
 
 -- the references of holds
 pub items_held : (view : View) (kept : List Ref) → map (λ (h : KeptReference). h.item) (kept_references view kept) ≡ kept

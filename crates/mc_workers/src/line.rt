@@ -2,11 +2,10 @@
 ghost use Rattle.std.specs.Prelude.{◌≡◌, IfOk, OnErr, true};
 ghost use Rattle.mc_script.specs.Command.{IsValid};
 ghost use Rattle.mc_words.specs.hand.Arenas.{setup_of, view};
-ghost use Rattle.mc_words.specs.item.Refs.{KeepsRefs};
-ghost use Rattle.mc_items.specs.Keeping.{HoldsAsOften};
+ghost use Rattle.mc_items.specs.Keeping.{KeepsHoldingCounts, KeepsHoldings};
 ghost use Rattle.mc_workers.specs.Asking.{is_workers};
 ghost use Rattle.mc_words.specs.hand.Ready.{IsReadyHandOf, StaysReady};
-ghost use Rattle.mc_workers.specs.Hands.{IsKeeping, StaysHolding, StaysKeeping};
+ghost use Rattle.mc_workers.specs.Hands.{IsKeeping, StaysKeeping};
 ghost use Rattle.mc_workers.specs.OnHands.{ServesBy};
 ghost use Rattle.mc_workers.specs.Serving.{AnswersDelete, AnswersGet, AnswersTouch};
 
@@ -67,8 +66,7 @@ fn get_words<R: Wait>(
     requires ready { IsReadyHandOf arena.now hand.old }
     ensures answers { IfOk result (λ reply. AnswersGet
         (setup_of arena.now) key reply hand.old hand.new) }
-    ensures holdings { HoldsAsOften (view hand.old) (view hand.new) }
-    ensures keeps { KeepsRefs (view hand.old) (view hand.new) }
+    ensures holdings { KeepsHoldingCounts (view hand.old) (view hand.new) }
     ensures hand { StaysReady arena.now hand.old hand.new }
 {
     let item = match get(rt, arena, hand, key) {
@@ -88,10 +86,10 @@ fn get_words<R: Wait>(
 // Deletes the key, and returns whether it had an item.
 fn delete_key<R: Wait>(rt: &R, arena: &Arena, hand: &mut Hand, key: u64) -> Result<Reply, Refused>
     requires ready { IsReadyHandOf arena.now hand.old }
-    ensures stays { StaysHolding arena.now hand.old hand.new }
     ensures answers { IfOk result (λ reply. AnswersDelete
         (setup_of arena.now) key reply hand.old hand.new) }
-    ensures keeps { KeepsRefs (view hand.old) (view hand.new) }
+    ensures holdings { KeepsHoldings (view hand.old) (view hand.new) }
+    ensures hand { StaysReady arena.now hand.old hand.new }
 {
     match delete(rt, arena, hand, key) {
         Ok(true) => Ok(Reply::Deleted),
@@ -105,8 +103,7 @@ fn touch_key<R: Wait>(rt: &R, arena: &Arena, hand: &mut Hand, key: u64) -> Resul
     requires ready { IsReadyHandOf arena.now hand.old }
     ensures answers { IfOk result (λ reply. AnswersTouch
         (setup_of arena.now) key reply hand.old hand.new) }
-    ensures holdings { HoldsAsOften (view hand.old) (view hand.new) }
-    ensures keeps { KeepsRefs (view hand.old) (view hand.new) }
+    ensures holdings { KeepsHoldingCounts (view hand.old) (view hand.new) }
     ensures hand { StaysReady arena.now hand.old hand.new }
 {
     match touch(rt, arena, hand, key) {

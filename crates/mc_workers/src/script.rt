@@ -1,5 +1,6 @@
 //! All lines of a script, by threads on an arena of its own.
 ghost use Rattle.std.specs.Prelude.{◌≡◌, ◌≤◌, [], All, Err, IfOk, None, OnOk};
+ghost use Rattle.mc_classes.specs.Limits.{most_hands, most_workers};
 ghost use Rattle.mc_classes.specs.Refusals.{config_refusal};
 ghost use Rattle.mc_script.specs.Command.{IsValid};
 ghost use Rattle.mc_words.specs.hand.Arenas.{view};
@@ -53,7 +54,7 @@ pub fn serve_script<R: Threads + Wait + Sync, G: Gate + Sync>(
 fn greatest_worker(commands: &[Command]) -> u64
     requires valid { All IsValid commands.now }
     ensures greatest { result ≡ greatest_worker commands.now }
-    ensures within_limit { result ≤ 63 }
+    ensures within_limit { result ≤ most_workers }
 {
     commands.iter().map(worker_of).max().unwrap_or(0)
 }
@@ -84,7 +85,7 @@ fn open_arena<R: Wait>(
     requires accepted { config_refusal config.now ≡ None }
     requires mode { mode ≤ 2 }
     requires some { 1 ≤ hands }
-    requires within_limit { hands ≤ 64 }
+    requires within_limit { hands ≤ most_hands }
     ensures opened { IfOk result (λ opened.
         IsOpened config.now mode hands opened.0 opened.1 opened.2.items) }
     ensures mover { IfOk result (λ opened. IsReadyHandOf opened.0 opened.1) }

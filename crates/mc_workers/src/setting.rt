@@ -2,9 +2,8 @@
 ghost use Rattle.std.specs.Prelude.{◌≡◌, ◌≤◌, IfOk, OnOk};
 ghost use Rattle.mc_serial_spec.specs.Item.{counting_words};
 ghost use Rattle.mc_words.specs.hand.Arenas.{view};
-ghost use Rattle.mc_words.specs.item.Refs.{KeepsRefs};
-ghost use Rattle.mc_words.specs.hand.Ready.{IsReadyHandOf};
-ghost use Rattle.mc_workers.specs.Hands.{StaysHolding};
+ghost use Rattle.mc_words.specs.hand.Ready.{IsReadyHandOf, StaysReady};
+ghost use Rattle.mc_items.specs.Keeping.{KeepsHoldings};
 ghost use Rattle.mc_workers.specs.Serving.{AnswersSet};
 
 use crate::reply::Reply;
@@ -26,10 +25,10 @@ pub(crate) fn set_words<R: Wait>(
 ) -> Result<Reply, Refused>
     requires ready { IsReadyHandOf arena.now hand.old }
     requires count { count ≤ 4096 }
-    ensures stays { StaysHolding arena.now hand.old hand.new }
     ensures answers { IfOk result (λ reply. AnswersSet key
         (counting_words base count) reply hand.old hand.new) }
-    ensures keeps { KeepsRefs (view hand.old) (view hand.new) }
+    ensures holdings { KeepsHoldings (view hand.old) (view hand.new) }
+    ensures hand { StaysReady arena.now hand.old hand.new }
 {
     let words = count_up(alloc, base, count)?;
     match set(rt, arena, hand, key, &words) {

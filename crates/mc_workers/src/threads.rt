@@ -1,5 +1,6 @@
 //! Workers in threads of their own, and the mover beside them.
 ghost use Rattle.std.specs.Prelude.{◌≡◌, ◌≢◌, ◌≤◌, ◌+◌, [], ◌∷◌, All, Err, IfOk, IfSome, None, Ok, OnOk, length, true, vec_len};
+ghost use Rattle.mc_classes.specs.Limits.{most_hands, most_workers};
 ghost use Rattle.std.specs.Thread.{IsSync};
 ghost use Rattle.mc_script.specs.Command.{IsValid};
 ghost use Rattle.mc_words.specs.hand.Arenas.{IsHandOf, view};
@@ -73,7 +74,7 @@ pub fn run_workers<R: Threads + Wait + Sync, G: Gate + Sync>(
     mover: Hand,
 ) -> Result<Joined, Ended>
     requires hands { AreHandsFrom arena.now worker hands.items }
-    requires within_limit { worker + vec_len hands ≤ 64 }
+    requires within_limit { worker + vec_len hands ≤ most_hands }
     requires ready { IsReadyHandOf arena.now mover }
     requires none { (view mover).row.holdings ≡ [] }
     requires valid { All IsValid commands.now }
@@ -92,7 +93,7 @@ pub fn run_workers<R: Threads + Wait + Sync, G: Gate + Sync>(
         |scope| -> Result<Joined, Ended>
             requires { IsSync R.row × IsSync G.row
                 × IsNewHand arena.now worker hand × AreHandsFrom arena.now (1 + worker) hands.items
-                × (worker + vec_len hands ≤ 63)
+                × (worker + vec_len hands ≤ most_workers)
                 × IsReadyHandOf arena.now mover × ((view mover).row.holdings ≡ [])
                 × All IsValid commands.now }
             ensures { EndsJoined (G.LetsOn gate.entry.now) (G.Stops gate.entry.now) arena.entry.now

@@ -3,6 +3,7 @@ ghost use Rattle.std.specs.Prelude.{◌≡◌, IfErr, IfOk, is_err, is_some};
 ghost use Rattle.mc_script.specs.Script.{script_of};
 
 use crate::fault::Fault;
+use mc_classes::MOST_WORKERS;
 use mc_map::{ScriptError, read_script};
 use mc_script::line::words;
 use mc_script::number::number;
@@ -45,7 +46,7 @@ fn reassign_reason(words: &[&[u8]]) -> &'static str {
 
 /// What is wrong with what a worker does.
 fn worker_reason(worker: &[u8], verb: &[u8], words: &[&[u8]]) -> &'static str {
-    if !is_between(1, 63, worker) {
+    if !is_between(1, MOST_WORKERS, worker) {
         return "a worker is 1 to 63";
     }
     match words {

@@ -1,5 +1,6 @@
 -- Hands, their numbers, their locks and their stamps.
 use Rattle.std.specs.Prelude.{◌≡◌, ◌⊎◌, ℕ, ◌+◌, ◌*◌, ◌/◌, ◌^◌, ◌<◌, ◌≤◌, ◌==◌, true, ◌&&◌, nat_le, List, [], ◌∷◌, length, count_by, slice_index_or, is_some, Option, Some, None, All}
+use Rattle.mc_classes.specs.Limits.{most_hands}
 use Rattle.mc_pages.specs.Accounted.{truth}
 use Rattle.mc_core.specs.declared.holding.Holding.{Holding}
 use Rattle.mc_core.specs.declared.ids.Ids.{Ids}
@@ -19,12 +20,12 @@ stamps_given ids hand = (slice_index_or ids hand no_ids).stamps
 abbrev pub IsFreeOrHeld : List Ids → ℕ → Type 0
 IsFreeOrHeld ids word = (word ≡ 0) ⊎ ((hand : ℕ) × (is_held_by word (number_in ids hand) ≡ true))
 
--- hands: numbers below 64, apart; each lock free or of one of them; a hand that is gone has nothing
+-- hands: numbers within the limit, apart; each lock free or of one of them; a hand that is gone has nothing
 pub record AreHands (ids : List Ids) (slabs_lock : ℕ) (locks : List ℕ) (holdings : List (List Holding)) (looks : List (List Look)) : Type 0 where
-  pub count : (1 ≤ length ids) × (length ids ≤ 64)
+  pub count : (1 ≤ length ids) × (length ids ≤ most_hands)
   pub holding_rows : length holdings ≡ length ids
   pub look_rows : length looks ≡ length ids
-  pub numbers : (hand number : ℕ) → number_in ids hand ≡ Some number → number < 64
+  pub numbers : (hand number : ℕ) → number_in ids hand ≡ Some number → number < most_hands
   pub apart : (a b number : ℕ) → number_in ids a ≡ Some number → number_in ids b ≡ Some number → a ≡ b
   pub stamps : (hand : ℕ) → stamps_given ids hand < 2 ^ 48
   pub slabs : IsFreeOrHeld ids slabs_lock

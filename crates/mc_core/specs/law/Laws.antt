@@ -1,5 +1,6 @@
 -- What the laws state: each change and each step that is allowed in a lawful moment keeps each clause.
 use Rattle.std.specs.Prelude.{◌≡◌, ⊤, ℕ, ◌≤◌, true, List, [], ◌∷◌, Ok}
+use Rattle.mc_classes.specs.Limits.{most_hands}
 use Rattle.mc_classes.specs.Classes.{Classes, IsSound}
 use Rattle.mc_pages.specs.declared.ids.ChunkId.{ChunkId}
 use Rattle.mc_pages.specs.SlabState.{class_of_page}
@@ -45,7 +46,7 @@ EventsKeep Clause = (moment : Moment) (event : Event) → IsLawful moment → is
 
 -- the clause holds before anything was done, of each arena that can be made, from each issue number on
 abbrev pub HoldsAtFirst : (Moment → Type 0) → Type 0
-HoldsAtFirst Clause = (table : Classes) (stripes hands start : ℕ) → IsSound table → 1 ≤ stripes → 1 ≤ hands → hands ≤ 64 → start ≤ most_issue →
+HoldsAtFirst Clause = (table : Classes) (stripes hands start : ℕ) → IsSound table → 1 ≤ stripes → 1 ≤ hands → hands ≤ most_hands → start ≤ most_issue →
     Clause (first_moment table stripes hands start)
 
 -- the clause holds at first, and is kept by each change, each step and each event
@@ -72,6 +73,6 @@ ArePlayed events = (moment : Moment) (state : State) → state_after_all moment.
 -- every moment of a run is lawful; and what is played to the end from the beginning ends in a lawful moment
 pub record AreLawful : Type 0 where
   pub runs : (moment : Moment) (events : List Event) → IsLawful moment → IsRun moment events → IsLawful (moment_at_end moment events)
-  pub from_first : (table : Classes) (stripes hands start : ℕ) (events : List Event) (state : State) → IsSound table → 1 ≤ stripes → 1 ≤ hands → hands ≤ 64 → start ≤ most_issue →
+  pub from_first : (table : Classes) (stripes hands start : ℕ) (events : List Event) (state : State) → IsSound table → 1 ≤ stripes → 1 ≤ hands → hands ≤ most_hands → start ≤ most_issue →
       state_after_all (new_state table stripes hands start) events ≡ Ok state →
       ((moment_at_end (first_moment table stripes hands start) events).state ≡ state) × IsLawful (moment_at_end (first_moment table stripes hands start) events)

@@ -1,5 +1,6 @@
 -- Tests of events that need not be made, since the law answers them.
 use Rattle.std.specs.Prelude.{◌≡◌, ℕ, ◌+◌, ◌*◌, ◌≤◌, true, ◌||◌, Some}
+use Rattle.mc_classes.specs.Limits.{most_hands}
 use Rattle.mc_pages.specs.Pages.{is_on_the_move}
 use Rattle.mc_pages.specs.declared.ids.ChunkId.{ChunkId}
 use Rattle.mc_core.specs.declared.head.Tag.TheVariants.{Out, Free, Unlinked, Linked}
@@ -15,9 +16,9 @@ use Rattle.mc_core.specs.model.Codes.{FitsBits}
 use Rattle.mc_core.specs.past.Past.{Moment}
 use Rattle.mc_core.specs.law.Lawful.{IsLawful}
 
--- the most that a header counts: the link, and all holdings of 64 hands
+-- the most that a header counts: the link, and all holdings of the most hands
 abbrev pub most_count : ℕ
-most_count = 1 + 64 * most_holdings
+most_count = 1 + most_hands * most_holdings
 
 -- what the law proves of headers that events find
 pub record AreNeedless (m : Moment) : Type 0 where

@@ -1,5 +1,6 @@
 //! The state in which every run begins.
 ghost use Rattle.std.specs.Prelude.{◌≡◌, ◌*◌, ◌≤◌, [], map, replicate, IfOk, Some};
+ghost use Rattle.mc_classes.specs.Limits.{most_hands, most_stripes};
 ghost use Rattle.std.specs.List.{range_with_len};
 ghost use Rattle.mc_stripe.specs.StripeState.{new_stripe};
 ghost use Rattle.mc_classes.specs.Classes.{arena_pages_of};
@@ -30,8 +31,8 @@ impl State {
         hands: u64,
         start: u64,
     ) -> Result<State, Refused>
-        requires stripes { (1 ≤ stripes) × (stripes ≤ 64) }
-        requires hands { (1 ≤ hands) × (hands ≤ 64) }
+        requires stripes { (1 ≤ stripes) × (stripes ≤ most_stripes) }
+        requires hands { (1 ≤ hands) × (hands ≤ most_hands) }
         requires start { start ≤ most_issue }
         ensures { IfOk result (λ state. state ≡ new_state table stripes hands start) }
     {

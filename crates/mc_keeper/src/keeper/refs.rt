@@ -1,5 +1,6 @@
 //! What workers do with items that are there: they read, hold, give back and touch them.
 ghost use Rattle.std.specs.Prelude.{◌≡◌, ◌<◌, true, false, IfOk, IfSome, OnErr, OnOk, Some, length, position, reverse, slice_index_or};
+ghost use Rattle.mc_classes.specs.Limits.{most_hands};
 ghost use Rattle.std.specs.Borrow.{sem};
 ghost use Rattle.std.specs.Option.{is_some, option_copied, option_map};
 ghost use Rattle.mc_pages.specs.declared.ids.ChunkId.{ChunkId};
@@ -32,7 +33,7 @@ impl Keeper {
     /// The words of the key's item, 8 bytes each, lent. None where the key has no item. A worker with `MOST_REFS` holds is refused
     /// (own, as a reader of the arena holds what it reads). It takes no memory. (items.c's `do_item_get`, without its count)
     pub fn get(&self, worker: u64, key: u64) -> Result<Option<&[u64]>, TooManyRefs>
-        requires { worker < 64 }
+        requires { worker < most_hands }
         ensures words { IfOk result (λ words. option_copied words
             ≡ item_words_of_key self.now key) }
         ensures free { OnOk result (is_full self.now.holds worker ≡ false) }
@@ -53,7 +54,7 @@ impl Keeper {
     ///
     /// Where it is refused, all is as before; memory can run out only where there is an item.
     pub fn hold(&mut self, worker: u64, key: u64) -> Result<bool, HoldError>
-        requires { worker < 64 }
+        requires { worker < most_hands }
         ensures answer { MayHold (hold_answer self.old worker key) result }
         ensures after { OnOk result (self.new ≡ (hold_outcome self.old worker key).machine) }
         ensures refused { OnErr result (self.new ≡ self.old) }
@@ -74,7 +75,7 @@ impl Keeper {
     /// its holds of items of this key; the key may lead to another item by now. None where it holds none. It takes no memory.
     /// (own)
     pub fn held_words(&self, worker: u64, key: u64) -> Option<&[u64]>
-        requires { worker < 64 }
+        requires { worker < most_hands }
         ensures words { option_copied result ≡ words_of_last_hold self.now worker key }
     {
         let (chunk, _) = self.last_hold(worker, key)?;
@@ -86,7 +87,7 @@ impl Keeper {
     /// item's chunk back once nobody holds it and no key leads to it. It takes no memory. (items.c's `do_item_remove`; the sweep
     /// is own.)
     pub fn drop(&mut self, worker: u64, key: u64) -> Option<&[u64]>
-        requires { worker < 64 }
+        requires { worker < most_hands }
         ensures* after { sem 𝓛 (EndsAs self.entry
             (release_outcome self.old worker key (last_hold self.old worker key)).machine) }
         ensures words { option_copied result ≡ words_of_last_hold self.old worker key }
@@ -116,7 +117,7 @@ impl Keeper {
     /// The worker gives back its hold of a chunk, which is at this place among its holds. `is_linked` is whether a key leads to
     /// the chunk's item.
     pub(super) fn give_back(&mut self, worker: u64, chunk: ChunkId, place: usize, is_linked: bool)
-        requires worker { worker < 64 }
+        requires worker { worker < most_hands }
         requires first { position (λ c. is_chunk c chunk) (held_by self.old.holds worker)
             ≡ Some place }
         requires item { option_map (λ item. item.linked) (item_in_chunk self.old.items chunk)
@@ -144,7 +145,7 @@ impl Keeper {
 
     /// The chunk of the worker's hold of an item of the key that it took last, and the place of that among the worker's holds.
     pub(super) fn last_hold(&self, worker: u64, key: u64) -> Option<(ChunkId, usize)>
-        requires { worker < 64 }
+        requires { worker < most_hands }
         ensures hold { option_map (λ hold. hold.0) result ≡ last_hold self.now worker key }
         ensures first { IfSome result (λ hold. position (λ c.
             is_chunk c hold.0) (held_by self.now.holds worker) ≡ Some hold.1) }
@@ -158,7 +159,7 @@ impl Keeper {
     /// The place, among the worker's holds, of its hold of an item of the key that it took last: of all holds the one taken last
     /// is at 0.
     fn place_held(&self, worker: u64, key: u64) -> Option<usize>
-        requires { worker < 64 }
+        requires { worker < most_hands }
         ensures place { result ≡ position (has_key self.now.items key)
             (held_by self.now.holds worker) }
     {

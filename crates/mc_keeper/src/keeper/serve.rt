@@ -1,5 +1,6 @@
 //! Commands, one after another: each is done by its typed call, and the bytes of its reply are put together.
 ghost use Rattle.std.specs.Prelude.{◌≡◌, ◌≤◌, ◌<◌, ◌++◌, codes, None, Some, Err, OnErr, OnOk, Contains};
+ghost use Rattle.mc_classes.specs.Limits.{most_hands};
 ghost use Rattle.std.specs.Io.{StartsWith};
 ghost use Rattle.mc_classes.specs.Classes.{class_of};
 ghost use Rattle.mc_pages.specs.Answer.{answer_of};
@@ -130,7 +131,7 @@ impl Keeper {
 
     /// Writes the words of the key's item.
     fn serve_get(&self, worker: u64, key: u64, text: &mut Vec<u8>) -> Result<(), Refused>
-        requires { worker < 64 }
+        requires { worker < most_hands }
         ensures reply { OnOk result (text.new.items ≡ text.old.items
             ++ (lookup_outcome self.now worker key).reply) }
         ensures kept { StartsWith text.new.items text.old.items }
@@ -144,7 +145,7 @@ impl Keeper {
 
     /// The worker holds the key's item, once there is room for the reply.
     fn serve_hold(&mut self, worker: u64, key: u64, text: &mut Vec<u8>) -> Result<(), Refused>
-        requires { worker < 64 }
+        requires { worker < most_hands }
         ensures reply { OnOk result (text.new.items ≡ text.old.items
             ++ (hold_outcome self.old worker key).reply) }
         ensures after { OnOk result (self.new ≡ (hold_outcome self.old worker key).machine) }
@@ -164,7 +165,7 @@ impl Keeper {
 
     /// Writes the words of the item that the worker's last hold of the key is of, and the worker gives it back.
     fn serve_drop(&mut self, worker: u64, key: u64, text: &mut Vec<u8>) -> Result<(), Refused>
-        requires { worker < 64 }
+        requires { worker < most_hands }
         ensures reply { OnOk result (text.new.items ≡ text.old.items
             ++ (release_outcome self.old worker key (last_hold self.old worker key)).reply) }
         ensures after { OnOk result (self.new

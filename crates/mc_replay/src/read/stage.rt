@@ -6,7 +6,7 @@ use super::events::event;
 use super::word::is;
 use crate::fault::Refusal;
 use crate::list::{Accepted, List};
-use mc_classes::{ClassTable, Config, ConfigError};
+use mc_classes::{ClassTable, Config, ConfigError, MOST_HANDS};
 use mc_memory::push;
 use mc_script::line::words;
 use mc_script::number::number;
@@ -124,7 +124,7 @@ fn begun<'a>(
     let Some(hands) = hands(&words) else {
         return Err(Refusal::Form);
     };
-    if !(1..=64).contains(&hands) {
+    if !(1..=MOST_HANDS).contains(&hands) {
         return Err(Refusal::Hands);
     }
     Ok(Stage::Begun(List {

@@ -1,5 +1,6 @@
 -- Which locks a hand has.
 use Rattle.std.specs.Prelude.{◌≡◌, ℕ, zero, suc, ◌<◌, ◌==◌, Bool, true, false, nat_lt, List, [], ◌∷◌, length, map, is_some, if◌then◌else◌, Some}
+use Rattle.mc_classes.specs.Limits.{most_hands}
 use Rattle.std.specs.List.{range_with_len}
 use Rattle.mc_words.specs.declared.lock.slot.Slot.{Slot}
 use Rattle.mc_words.specs.declared.lock.locks.Locks.{Locks}
@@ -53,7 +54,7 @@ HasLocks view locks =
 -- a hand's notes are right: its number, how many chunks it holds, and its locks
 abbrev pub IsNoted : Sits → ℕ → ℕ → Locks → Type 0
 IsNoted me number chunks locks =
-    (me.0.row.ids.number ≡ Some number) × (number < 64) × (chunks ≡ length me.0.row.holdings) × (slots_out me.1 ≡ slots_in locks) × HasLocks me.0 locks
+    (me.0.row.ids.number ≡ Some number) × (number < most_hands) × (chunks ≡ length me.0.row.holdings) × (slots_out me.1 ≡ slots_in locks) × HasLocks me.0 locks
 
 -- the locks after the slabs lock was taken, as the last one, unless it was among them
 abbrev pub locks_with_slabs : Locks → Locks

@@ -1,5 +1,6 @@
 -- Why no arena is made.
 use Rattle.std.specs.Prelude.{ℕ, nat_le, not, if◌then◌else◌, Option, Some, None}
+use Rattle.mc_classes.specs.Limits.{most_hands}
 use Rattle.mc_classes.specs.declared.config.Config.{Config}
 use Rattle.mc_classes.specs.declared.config.ConfigError.{ConfigError}
 use Rattle.mc_classes.specs.Refusals as classes
@@ -16,7 +17,7 @@ or_refused None others = others
 abbrev pub arena_refusal : Config → ℕ → ℕ → Option NewError
 arena_refusal config hands start =
     or_refused (classes.config_refusal config)
-    (if not (classes.is_between 1 64 hands) then Some refused.Hands
+    (if not (classes.is_between 1 most_hands hands) then Some refused.Hands
     else if not (nat_le start most_issue) then Some refused.Issue
     else None)
 

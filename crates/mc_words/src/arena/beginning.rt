@@ -1,5 +1,6 @@
 //! The first words and slots of an arena's table, and its first hand.
 ghost use Rattle.std.specs.Prelude.{◌≡◌, ◌+◌, ◌*◌, ◌^◌, ◌<◌, ◌≤◌, ◌∷◌, ◌++◌, replicate, IfOk, OnOk};
+ghost use Rattle.mc_classes.specs.Limits.{most_hands, most_stripes};
 ghost use Rattle.mc_classes.specs.Classes.{IsSound};
 ghost use Rattle.mc_core.specs.run.Chunks.{most_issue};
 ghost use Rattle.mc_words.specs.hand.Arenas.{IsHandOf, setup_of, view};
@@ -89,8 +90,8 @@ impl Plan {
         ensures places { ArePlaces self.now result }
         ensures small { word_count self.now < 2 ^ 63 }
         ensures sound { IsSound self.now.table }
-        ensures stripes { (1 ≤ self.now.config.stripes) × (self.now.config.stripes ≤ 64) }
-        ensures hands { (1 ≤ self.now.hands) × (self.now.hands ≤ 64) }
+        ensures stripes { (1 ≤ self.now.config.stripes) × (self.now.config.stripes ≤ most_stripes) }
+        ensures hands { (1 ≤ self.now.hands) × (self.now.hands ≤ most_hands) }
         ensures start { self.now.start ≤ most_issue }
     {
         let classes = self.classes();

@@ -16,7 +16,7 @@ use crate::hand::Hand;
 use crate::lock::locks::Locks;
 use crate::rule::HandView;
 use atomic_table::Split;
-use mc_classes::{ClassTable, Config, ConfigError};
+use mc_classes::{ClassTable, Config, ConfigError, MOST_HANDS};
 use mc_memory::{Refused, insert, with_capacity};
 use std::alloc::Global;
 
@@ -120,7 +120,7 @@ fn test(config: &Config, hands: u64, start: u64) -> Result<(), NewError>
     if let Err(error) = config.test() {
         return Err(NewError::Config(error));
     }
-    if hands < 1 || hands > 64 {
+    if hands < 1 || hands > MOST_HANDS {
         return Err(NewError::Hands);
     }
     if start > MOST_ISSUE {

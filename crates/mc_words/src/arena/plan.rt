@@ -1,5 +1,6 @@
 //! What an arena is made with: its configuration, its classes, the number of hands and the first issue number.
 ghost use Rattle.std.specs.Prelude.{◌≡◌, ◌≤◌};
+ghost use Rattle.mc_classes.specs.Limits.{most_hands, most_stripes};
 ghost use Rattle.mc_core.specs.run.Chunks.{most_issue};
 
 use mc_classes::{ClassTable, Config};
@@ -16,6 +17,7 @@ pub(crate) struct Plan {
 
 impl Model for Plan {
     ghost use Rattle.std.specs.Prelude.{◌≤◌};
+    ghost use Rattle.mc_classes.specs.Limits.{most_hands, most_stripes};
     ghost use Rattle.mc_core.specs.run.Chunks.{most_issue};
     ghost use Rattle.mc_words.specs.hand.View.{Setup};
 
@@ -23,13 +25,13 @@ impl Model for Plan {
 
     ghost view = { λ p. record { config = p.config; table = p.classes; hands = p.hands; start = p.start } };
 
-    ghost invariant = { λ p. (1 ≤ p.config.stripes) × (p.config.stripes ≤ 64) × (1 ≤ p.hands) × (p.hands ≤ 64) × (p.start ≤ most_issue) };
+    ghost invariant = { λ p. (1 ≤ p.config.stripes) × (p.config.stripes ≤ most_stripes) × (1 ≤ p.hands) × (p.hands ≤ most_hands) × (p.start ≤ most_issue) };
 }
 
 impl Plan {
     pub(crate) fn new(config: Config, classes: ClassTable, hands: u64, start: u64) -> Plan
-        requires stripes { (1 ≤ config.stripes) × (config.stripes ≤ 64) }
-        requires hands { (1 ≤ hands) × (hands ≤ 64) }
+        requires stripes { (1 ≤ config.stripes) × (config.stripes ≤ most_stripes) }
+        requires hands { (1 ≤ hands) × (hands ≤ most_hands) }
         requires start { start ≤ most_issue }
         ensures plan { result
             ≡ record { config = config; table = classes; hands = hands; start = start } }
@@ -45,7 +47,7 @@ impl Plan {
     /// How many hands the arena has.
     pub(crate) fn hands(&self) -> u64
         ensures hands { result ≡ self.now.hands }
-        ensures within_limit { (1 ≤ result) × (result ≤ 64) }
+        ensures within_limit { (1 ≤ result) × (result ≤ most_hands) }
     {
         self.hands
     }
@@ -61,8 +63,8 @@ impl Plan {
     /// The configuration of the arena.
     pub(crate) fn config(&self) -> &Config
         ensures config { result.now ≡ self.now.config }
-        ensures stripes { (1 ≤ self.now.config.stripes) × (self.now.config.stripes ≤ 64) }
-        ensures hands { (1 ≤ self.now.hands) × (self.now.hands ≤ 64) }
+        ensures stripes { (1 ≤ self.now.config.stripes) × (self.now.config.stripes ≤ most_stripes) }
+        ensures hands { (1 ≤ self.now.hands) × (self.now.hands ≤ most_hands) }
         ensures start { self.now.start ≤ most_issue }
     {
         &self.config

@@ -1,5 +1,6 @@
 //! Locks that are taken and given: one construction of a word and a slot for all of them.
 ghost use Rattle.std.specs.Prelude.{◌≡◌, ◌≢◌, ℕ, ◌+◌, ◌<◌, ◌∷◌, [], true, List, Some, None, IfSome};
+ghost use Rattle.mc_classes.specs.Limits.{most_hands};
 ghost use Rattle.mc_words.specs.declared.lock.locks.Lock.{Lock};
 ghost use Rattle.mc_words.specs.declared.lock.slot.Slot.{Slot};
 ghost use Rattle.mc_words.specs.hand.Arenas.{IsOfArena, setup_of};
@@ -24,7 +25,7 @@ impl Arena {
         requires is { told ≡ lock }
         requires in_range { IsLockOf (setup_of self.now) told }
         requires seat { IsOfArena self.now seat.old.table_id seat.old.me.0 }
-        requires number { (seat.old.me.0.row.ids.number ≡ Some number) × (number < 64) }
+        requires number { (seat.old.me.0.row.ids.number ≡ Some number) × (number < most_hands) }
         ensures seat { IsOfArena self.now seat.new.table_id seat.new.me.0 }
         ensures hand { IsOneHand seat.old.me.0 seat.new.me.0 }
         ensures value { IfSome result (λ slot. HasValue seat.new.me.0 told slot) }

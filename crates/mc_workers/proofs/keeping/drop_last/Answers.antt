@@ -22,7 +22,7 @@ returns-clause-stays c =
       number = c.release.ensures.hand.number ∙ c.in-Ok.ensures.hand.number;
       keeps = subst (RefersToEach (view c.release.new.hand)) (sym c.remove-item.ensures.items)
           (kept_without (view c.args.hand.now) (view c.read.new.hand) (view c.release.new.hand) c.args.kept.now.items c.in-Some.place c.remove-item.result there.there c.remove-item.ensures.value
-          c.requires.keeping.keeps c.in-Ok.ensures.keeps c.in-Ok.ensures.holdings c.release.ensures.keeps c.release.ensures.holdings);
+          c.requires.keeping.keeps c.in-Ok.ensures.holdings c.release.ensures.keeps c.release.ensures.holdings);
     }
 
 pub returns-clause-answers : goal.returns-clause-answers
@@ -34,7 +34,7 @@ returns-clause-answers c =
     let index : c.index.result.now ≡ item = c.index.ensures ∙ (get_or_default kept c.in-Some.place c.index.result.now item there.there ∙ sym c.remove-item.ensures.value) in
     let left = ap (kept_references (view c.release.new.hand)) c.remove-item.ensures.items
     ∙ holds_without before (view c.read.new.hand) (view c.release.new.hand) kept c.in-Some.place item there.there c.remove-item.ensures.value
-    c.requires.keeping.keeps c.in-Ok.ensures.keeps c.in-Ok.ensures.holdings c.release.ensures.keeps c.release.ensures.holdings in
+    c.requires.keeping.keeps c.in-Ok.ensures.holdings c.release.ensures.keeps c.release.ensures.holdings in
     record {
       last = hold_of before item;
       is = subst (IsLastOf c.args.key (kept_references before kept) (hold_of before item)) (sym left)

@@ -5,7 +5,7 @@ use Rattle.mc_items.specs.ItemRefs.{RefersToEach, IsItemRef, item_key}
 use Rattle.mc_items.specs.Keeping.{HoldsToo}
 use Rattle.mc_workers.specs.Kept.{kept_references}
 use Rattle.mc_workers.specs.Serving.{FindsForLine}
-use Rattle.mc_workers.proofs.KeptRefs.{as_often, holds_stay, holds_too, kept_stay, kept_too}
+use Rattle.mc_workers.proofs.KeptRefs.{holds_stay, holds_too, kept_beside, kept_too}
 use Rattle.mc_workers.proofs.keeping.hold.Goals as goal
 
 -- one more is kept
@@ -44,7 +44,7 @@ returns-in-Ok-None-clause-stays g c =
     record {
       hand_is = (c.get.ensures.hand.arena, c.get.ensures.hand.ready);
       number = c.get.ensures.hand.number;
-      keeps = subst (RefersToEach now) (sym c.reserve.ensures.items) (kept_stay before now c.args.kept.now.items c.requires.keeping.keeps c.get.ensures.keeps (as_often before now same));
+      keeps = subst (RefersToEach now) (sym c.reserve.ensures.items) (kept_beside before now c.args.kept.now.items c.requires.keeping.keeps (record { same = same; references = c.get.ensures.keeps }));
     }
 
 pub returns-in-Ok-None-clause-answers : goal.returns-in-Ok-None-clause-answers
@@ -62,5 +62,5 @@ returns-in-Err-NoMemory-clause-stays g c =
     record {
       hand_is = (c.get.ensures.hand.arena, c.get.ensures.hand.ready);
       number = c.get.ensures.hand.number;
-      keeps = subst (RefersToEach now) (sym c.reserve.ensures.items) (kept_stay before now c.args.kept.now.items c.requires.keeping.keeps c.get.ensures.keeps (as_often before now c.in-Err-NoMemory.ensures.no_more));
+      keeps = subst (RefersToEach now) (sym c.reserve.ensures.items) (kept_beside before now c.args.kept.now.items c.requires.keeping.keeps (record { same = c.in-Err-NoMemory.ensures.no_more; references = c.get.ensures.keeps }));
     }

@@ -4,7 +4,7 @@ use Rattle.mc_words.specs.hand.Views.{chunk_released}
 use Rattle.mc_items.specs.declared.refs.Ref.{Ref}
 use Rattle.mc_items.specs.ItemRefs.{item_chunk}
 use Rattle.mc_workers.specs.Serving.{FindsForLine}
-use Rattle.mc_workers.proofs.KeptRefs.{as_often_again, gained, kept_again}
+use Rattle.mc_workers.proofs.KeptRefs.{gained, kept_again}
 use Rattle.mc_workers.proofs.line.get_words.Goals as goal
 
 -- what was got was read and released
@@ -18,18 +18,10 @@ returns-in-Ok-clause-answers g c = record {
 }
 
 pub returns-in-Ok-clause-holdings : goal.returns-in-Ok-clause-holdings
-returns-in-Ok-clause-holdings g c = as_often_again (view c.args.hand.now) (view c.get.new.hand) (view c.read-words.new.hand) (view c.release.new.hand) c.in-Ok-Some.item
-    (gained (view c.args.hand.now) (view c.get.new.hand) c.in-Ok-Some.field-0 c.in-Ok-Some.item c.in-Ok-Some.field-0-is c.in-Ok-Some.ensures.holdings) c.read-words.ensures.holdings c.release.ensures.holdings
-
-pub returns-in-Ok-clause-keeps : goal.returns-in-Ok-clause-keeps
-returns-in-Ok-clause-keeps g c = kept_again (view c.args.hand.now) (view c.get.new.hand) (view c.read-words.new.hand) (view c.release.new.hand) c.in-Ok-Some.item
-    c.get.ensures.keeps c.read-words.ensures.keeps (gained (view c.args.hand.now) (view c.get.new.hand) c.in-Ok-Some.field-0 c.in-Ok-Some.item c.in-Ok-Some.field-0-is c.in-Ok-Some.ensures.holdings) c.read-words.ensures.holdings c.release.ensures.keeps c.release.ensures.holdings
+returns-in-Ok-clause-holdings g c = kept_again (view c.args.hand.now) (view c.get.new.hand) (view c.read-words.new.hand) (view c.release.new.hand) c.in-Ok-Some.item c.get.ensures.keeps
+    (gained (view c.args.hand.now) (view c.get.new.hand) c.in-Ok-Some.field-0 c.in-Ok-Some.item c.in-Ok-Some.field-0-is c.in-Ok-Some.ensures.holdings) c.read-words.ensures.holdings c.release.ensures.keeps c.release.ensures.holdings
 
 -- it was released after a read that failed, too
 pub returns-in-Err-clause-holdings : goal.returns-in-Err-clause-holdings
-returns-in-Err-clause-holdings g c = as_often_again (view c.args.hand.now) (view c.get.new.hand) (view c.read-words.new.hand) (view c.release.new.hand) c.in-Ok-Some.item
-    (gained (view c.args.hand.now) (view c.get.new.hand) c.in-Ok-Some.field-0 c.in-Ok-Some.item c.in-Ok-Some.field-0-is c.in-Ok-Some.ensures.holdings) c.read-words.ensures.holdings c.release.ensures.holdings
-
-pub returns-in-Err-clause-keeps : goal.returns-in-Err-clause-keeps
-returns-in-Err-clause-keeps g c = kept_again (view c.args.hand.now) (view c.get.new.hand) (view c.read-words.new.hand) (view c.release.new.hand) c.in-Ok-Some.item
-    c.get.ensures.keeps c.read-words.ensures.keeps (gained (view c.args.hand.now) (view c.get.new.hand) c.in-Ok-Some.field-0 c.in-Ok-Some.item c.in-Ok-Some.field-0-is c.in-Ok-Some.ensures.holdings) c.read-words.ensures.holdings c.release.ensures.keeps c.release.ensures.holdings
+returns-in-Err-clause-holdings g c = kept_again (view c.args.hand.now) (view c.get.new.hand) (view c.read-words.new.hand) (view c.release.new.hand) c.in-Ok-Some.item c.get.ensures.keeps
+    (gained (view c.args.hand.now) (view c.get.new.hand) c.in-Ok-Some.field-0 c.in-Ok-Some.item c.in-Ok-Some.field-0-is c.in-Ok-Some.ensures.holdings) c.read-words.ensures.holdings c.release.ensures.keeps c.release.ensures.holdings
