@@ -9,7 +9,7 @@ use Rattle.mc_pages.specs.declared.ids.ChunkId.{ChunkId}
 use Rattle.mc_core.specs.declared.holding.Holding.{Holding}
 use Rattle.mc_core.specs.declared.holding.Kind.{Kind}
 use Rattle.mc_core.specs.declared.holding.Kind.TheVariants.{Fresh, Reference}
-use Rattle.mc_core.specs.model.Columns.{Each, head_in}
+use Rattle.mc_core.specs.model.Columns.{Each, count_of_holdings, head_in}
 use Rattle.mc_core.specs.model.Holdings.{has_fresh, holding_of, is_fresh, is_fresh_kind, is_of_chunk, item_of, item_of_kind, key_of, length_of_item, without_first, stamp_in_words}
 use Rattle.mc_core.specs.law.Knowing.{WasStored}
 use Rattle.mc_core.specs.past.Past.{KnownItem, StoredItem, known_by}
@@ -31,7 +31,7 @@ use Rattle.mc_words.proofs.Hands.HandNumbers.{number_stays}
 use Rattle.mc_words.proofs.Locks.Unlocked.{unlocked_from}
 use Rattle.mc_items.specs.declared.refs.Ref.{Ref}
 use Rattle.mc_items.specs.ItemRefs.{IsItemRef, item_chunk, item_stamp, item_words}
-use Rattle.mc_items.specs.Keeping.{WordsWereStored, HeldRefsKeepItems, HasStoredWords, KeepingGoesOn, KeptRefsKeepItems, ReleasingKeepsOthers, StaysItemRef, holding_by}
+use Rattle.mc_items.specs.Keeping.{WordsWereStored, HeldRefsKeepItems, HasStoredWords, KeepingGoesOn, KeepingHoldingsGoesOn, KeepsHoldingCounts, KeepsHoldings, KeptRefsKeepItems, ReleasingKeepsOthers, StaysItemRef, holding_by}
 use Rattle.mc_words.specs.item.Items.{item_with}
 use Rattle.mc_items.proofs.Rows.{chunk_found, found_among, fresh_more, left_among, none_fresh, still_found}
 
@@ -84,6 +84,17 @@ refs_kept view now more same known = record {
 
 pub refs_stay : (view now : View) → now.row.holdings ≡ view.row.holdings → now.row.knows.known ≡ view.row.knows.known → KeepsRefs view now
 refs_stay view now same known = refs_kept view now [] same (known ∙ sym (append-nil view.row.knows.known))
+
+-- and so does each holding
+pub holdings_kept : (view now : View) (more : List KnownItem) → now.row.holdings ≡ view.row.holdings → now.row.knows.known ≡ view.row.knows.known ++ more → KeepsHoldings view now
+holdings_kept view now more same known = record { same = same; references = refs_kept view now more same known }
+
+pub holdings_stay : (view now : View) → now.row.holdings ≡ view.row.holdings → now.row.knows.known ≡ view.row.knows.known → KeepsHoldings view now
+holdings_stay view now same known = record { same = same; references = refs_stay view now same known }
+
+-- what stays is held as often
+pub counts_kept : (view now : View) → KeepsHoldings view now → KeepsHoldingCounts view now
+counts_kept view now keeps = record { counts = λ chunk. ap (count_of_holdings chunk) keeps.same; references = keeps.references }
 
 -- one more at the end changes none of the others
 pub refs_and_more : (view now : View) (one : Holding) (more : List KnownItem) → now.row.holdings ≡ view.row.holdings ++ one ∷ [] → now.row.knows.known ≡ view.row.knows.known ++ more → KeepsRefs view now
@@ -152,6 +163,12 @@ pub keeping_goes_on : KeepingGoesOn
 keeping_goes_on view next now first second = record {
   refers = λ chunk room ref. second.refers chunk room (first.refers chunk room ref);
   same = λ chunk room ref. second.same chunk room (first.refers chunk room ref) ∙ first.same chunk room ref;
+}
+
+pub keeping_holdings_goes_on : KeepingHoldingsGoesOn
+keeping_holdings_goes_on view next now first second = record {
+  same = second.same ∙ first.same;
+  references = keeping_goes_on view next now first.references second.references;
 }
 
 -- what was got and released leaves what was there before

@@ -139,6 +139,12 @@ module _ (chunk : ChunkId) where
           ap (λ (test : Bool). cond (is_of_chunk chunk (turn test)) (Some (turn test)) more) is
           ∙ (ap (λ (test : Bool). cond test (Some first) more) is ∙ later found)
 
+  -- the chunk has the issue number that it had
+  pub issue_filled : (item : List ℕ) (view now : View) → IsOwnItem view chunk → now ≡ item_filled chunk item view → issue_in now chunk ≡ issue_in view chunk
+  issue_filled item view now own is =
+      ap (λ (v : View). option_map_or (λ (h : Holding). h.issue) (holding_of chunk v.row.holdings) 0) is
+      ∙ ap (λ (o : Option Holding). option_map_or (λ (h : Holding). h.issue) o 0) (found_with item view.row.holdings (own_item chunk (issue_in view chunk) (known_words_in view chunk)) own)
+
   -- so the chunk has a whole item of the hand's own
   module _ (key stamp : ℕ) (item : List ℕ) (view now : View) (own : IsOwnItem view chunk) (long : 3 + length item ≤ length (known_words_in view chunk)) (is : now ≡ item_filled chunk (item_with key stamp item) view) where
     abbrev words : Words

@@ -4,12 +4,12 @@ use Rattle.mc_pages.specs.declared.ids.ChunkId.{ChunkId}
 use Rattle.mc_core.specs.model.Holdings.{has_fresh, is_of_chunk, without_first}
 use Rattle.mc_words.specs.hand.View.{View}
 use Rattle.mc_words.specs.hand.Views.{slabs_missed}
-use Rattle.mc_words.specs.item.Refs.{KeepsRefs}
 use Rattle.mc_words.specs.lock.Wait.{MissesSlabs, MissesSlabsEachTime}
 use Rattle.mc_words.proofs.Locks.Waited.{misses_keep}
+use Rattle.mc_items.specs.Keeping.{KeepsHoldings}
 use Rattle.mc_items.specs.Storing.{IsOwnItem, item_filled}
 use Rattle.mc_items.specs.Within.{LeavesUnlinked}
-use Rattle.mc_items.proofs.Chains.{refs_stay}
+use Rattle.mc_items.proofs.Chains.{holdings_stay}
 use Rattle.mc_items.proofs.Left.{Kept, kept_of}
 use Rattle.mc_items.proofs.Made.{Gains, Tells, TellsTuple, told_of}
 use Rattle.mc_items.proofs.StoredRows.{lost_again}
@@ -40,11 +40,11 @@ module _ (chunk : ChunkId) (item : List ℕ) (view between : View) (none : has_f
   missed_is : kept_of dead.missed ≡ kept_of (item_filled chunk item between)
   missed_is = misses_keep kept_of stripe (λ word v. refl) dead.misses.words (item_filled chunk item between) dead.missed dead.misses.misses
 
-  pub unlinked_holds : now.row.holdings ≡ view.row.holdings
+  unlinked_holds : now.row.holdings ≡ view.row.holdings
   unlinked_holds = ap (λ (v : View). v.row.holdings) dead.dropped ∙ (ap (λ (k : Kept). without_first (is_of_chunk chunk) k.0) missed_is ∙ lost_again chunk item view between none gains own)
 
   unlinked_knows : now.row.knows.known ≡ between.row.knows.known
   unlinked_knows = ap (λ (v : View). v.row.knows.known) dead.dropped ∙ ap (λ (k : Kept). k.1) missed_is
 
-  pub unlinked_keeps : between.row.knows.known ≡ view.row.knows.known → KeepsRefs view now
-  unlinked_keeps same = refs_stay view now unlinked_holds (unlinked_knows ∙ same)
+  pub unlinked_keeps : between.row.knows.known ≡ view.row.knows.known → KeepsHoldings view now
+  unlinked_keeps same = holdings_stay view now unlinked_holds (unlinked_knows ∙ same)

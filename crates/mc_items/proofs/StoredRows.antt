@@ -11,9 +11,9 @@ use Rattle.mc_words.specs.hand.View.{View}
 use Rattle.mc_words.specs.item.Items.{issue_in, known_words_in}
 use Rattle.mc_words.specs.item.Links.{own_item}
 use Rattle.mc_words.specs.item.References.{reference_to}
-use Rattle.mc_words.specs.item.Refs.{KeepsRefs}
+use Rattle.mc_items.specs.Keeping.{KeepsHoldings}
 use Rattle.mc_items.specs.Storing.{IsOwnItem, LeavesDead, StoresItem, holding_with, item_filled}
-use Rattle.mc_items.proofs.Chains.{refs_kept, refs_stay}
+use Rattle.mc_items.proofs.Chains.{holdings_kept, holdings_stay}
 use Rattle.mc_items.proofs.Left.{Kept, kept_of, only_keeps, waited}
 use Rattle.mc_items.proofs.Made.{Gains}
 use Rattle.mc_items.proofs.Rows.{change_last, last_passes, lose_last}
@@ -60,7 +60,7 @@ module _ (chunk : ChunkId) (item : List ℕ) (view between : View) (none : has_f
         ∙ (ap (λ (v : View). v.row.holdings) stored.stores.done.does.0
         ∙ (ap (λ (k : Kept). without_first (is_of_chunk chunk) k.0 ++ linked ∷ []) taken_is ∙ ap (λ (hs : List Holding). hs ++ linked ∷ []) lost_again))
 
-    pub stored_holds : now.row.holdings ≡ view.row.holdings
+    stored_holds : now.row.holdings ≡ view.row.holdings
     stored_holds =
         ap (λ (v : View). v.row.holdings) stored.dropped
         ∙ (ap (without_first (is_of_chunk chunk)) linked_holds ∙ lose_last chunk view.row.holdings linked before (last_passes chunk linked refl))
@@ -79,20 +79,20 @@ module _ (chunk : ChunkId) (item : List ℕ) (view between : View) (none : has_f
         ∙ (ap (λ (v : View). v.row.ids) stored.stores.done.does.0
         ∙ ap (λ (k : Kept). ids_after_stamp k.3) taken_is))
 
-    -- so each reference stays
-    pub stored_keeps : between.row.knows.known ≡ view.row.knows.known → KeepsRefs view now
-    stored_keeps same = refs_kept view now (known_by room linked ∷ []) stored_holds (stored_knows ∙ ap (λ (l : List KnownItem). l ++ known_by room linked ∷ []) same)
+    -- so each holding stays
+    pub stored_keeps : between.row.knows.known ≡ view.row.knows.known → KeepsHoldings view now
+    stored_keeps same = holdings_kept view now (known_by room linked ∷ []) stored_holds (stored_knows ∙ ap (λ (l : List KnownItem). l ++ known_by room linked ∷ []) same)
 
   -- left dead, it is given up, too
   module _ (stripe : ℕ) (now : View) (dead : LeavesDead stripe chunk filled now) where
     given_is : kept_of dead.given ≡ kept_of filled
     given_is = only_keeps stripe filled dead.given dead.waits
 
-    pub dead_holds : now.row.holdings ≡ view.row.holdings
+    dead_holds : now.row.holdings ≡ view.row.holdings
     dead_holds = ap (λ (v : View). v.row.holdings) dead.dropped ∙ (ap (λ (k : Kept). without_first (is_of_chunk chunk) k.0) given_is ∙ lost_again)
 
     dead_knows : now.row.knows.known ≡ between.row.knows.known
     dead_knows = ap (λ (v : View). v.row.knows.known) dead.dropped ∙ ap (λ (k : Kept). k.1) given_is
 
-    pub dead_keeps : between.row.knows.known ≡ view.row.knows.known → KeepsRefs view now
-    dead_keeps same = refs_stay view now dead_holds (dead_knows ∙ same)
+    pub dead_keeps : between.row.knows.known ≡ view.row.knows.known → KeepsHoldings view now
+    dead_keeps same = holdings_stay view now dead_holds (dead_knows ∙ same)

@@ -7,9 +7,9 @@ use Rattle.mc_core.specs.model.Holdings.{has_fresh, is_of_chunk, without_first}
 use Rattle.mc_core.specs.past.Past.{known_by}
 use Rattle.mc_words.specs.hand.View.{View}
 use Rattle.mc_words.specs.item.References.{reference_to}
-use Rattle.mc_words.specs.item.Refs.{KeepsRefs}
 use Rattle.mc_words.specs.rule.Happens.{LawfulView}
 use Rattle.mc_items.specs.Calls.{Touches}
+use Rattle.mc_items.specs.Keeping.{KeepsHoldingCounts}
 use Rattle.mc_items.proofs.Chains.{kept_past, refs_and_more, refs_less}
 use Rattle.mc_items.proofs.Left.{GotOne, Kept, bumped_keeps, finds_one, kept_of}
 use Rattle.mc_items.proofs.Rows.{as_many, as_often, fresh_less, fresh_more}
@@ -36,7 +36,7 @@ module _ (number stripe key : ℕ) (view now : View) (touches : Touches number s
   lost = ap (λ (k : Kept). k.0) left
 
   -- each chunk is held as often as before
-  pub touch_holds_as_often : (chunk : ChunkId) → count_of_holdings chunk now.row.holdings ≡ count_of_holdings chunk view.row.holdings
+  touch_holds_as_often : (chunk : ChunkId) → count_of_holdings chunk now.row.holdings ≡ count_of_holdings chunk view.row.holdings
   touch_holds_as_often chunk = ap (count_of_holdings chunk) (lost ∙ ap (without_first (is_of_chunk chunk_of)) gained) ∙ as_often chunk_of view.row.holdings one refl chunk
 
   pub touch_holds_no_more : length now.row.holdings ≤ length view.row.holdings
@@ -58,8 +58,8 @@ module _ (number stripe key : ℕ) (view now : View) (touches : Touches number s
     pub touch_fills_none : has_fresh now.row.holdings ≡ false
     touch_fills_none = ap has_fresh lost ∙ fresh_less (is_of_chunk chunk_of) touches.got.row.holdings got_unfilled
 
-    pub touch_keeps_refs : LawfulView touches.got → KeepsRefs view now
-    touch_keeps_refs lawful =
+    pub touch_keeps_counts : LawfulView touches.got → KeepsHoldingCounts view now
+    touch_keeps_counts lawful =
         let more = refs_and_more view touches.got one (known_by touches.reference.room one ∷ []) gained (ap (λ (k : Kept). k.1) got_one.kept) in
         let less = refs_less touches.got now lawful got_unfilled chunk_of lost (ap (λ (k : Kept). k.1) left) in
-        kept_past view touches.got now one chunk_of refl more gained less lost
+        record { counts = touch_holds_as_often; references = kept_past view touches.got now one chunk_of refl more gained less lost }

@@ -216,6 +216,6 @@ first_among (first ∷ chunks) chunk is =
     ap (λ (b : Bool). b || is_among chunks chunk) (ap (λ (c : ChunkId). is_chunk c chunk) same ∙ is_chunk-same chunk)
 
 -- visits that ended, by why they did
-module _ (number class : ℕ) (visits : List Visit) (view : View) (slabs : SlabState) (now : View) (left : SlabState) (each : VisitsEach number class visits view slabs now left) (few : length visits ≤ room_tries) (evicted freed : ℕ) (evicted_is : evicted_count visits ≡ evicted) (freed_is : freed_count visits ≡ freed) (few_evicted : evicted ≤ room_items) where
+module _ (number class : ℕ) (visits : List Visit) (view : View) (slabs : SlabState) (now : View) (left : SlabState) (each : VisitsEach number class visits view slabs now left) (within_limit : length visits ≤ room_tries) (evicted freed : ℕ) (evicted_is : evicted_count visits ≡ evicted) (freed_is : freed_count visits ≡ freed) (evictions_within_limit : evicted ≤ room_items) where
   pub ended : EndsVisits class visits left → VisitsOldest number class evicted freed view slabs now left
-  ended ends = record { visits = visits; each = each; few = few; few_evicted = subst (λ n. n ≤ room_items) (sym evicted_is) few_evicted; ends = ends; evicted_is = evicted_is; freed_is = freed_is }
+  ended ends = record { visits = visits; each = each; within_limit = within_limit; evictions_within_limit = subst (λ n. n ≤ room_items) (sym evicted_is) evictions_within_limit; ends = ends; evicted_is = evicted_is; freed_is = freed_is }

@@ -4,12 +4,13 @@ use Rattle.mc_core.specs.model.State.{room_in}
 use Rattle.mc_words.specs.declared.hand.Hand.{Hand}
 use Rattle.mc_words.specs.declared.hand.held.Fresh.{Fresh}
 use Rattle.mc_words.specs.declared.hand.held.StripeHeld.{StripeHeld}
+use Rattle.mc_words.specs.declared.item.refs.Hint.{Hint}
 use Rattle.mc_words.specs.declared.item.refs.Ref as words
 use Rattle.mc_words.specs.hand.Arenas.{view}
 use Rattle.mc_words.specs.item.Fresh.{IsFreshOf}
 use Rattle.mc_words.specs.item.Items.{issue_in, item_with, known_words_in}
 use Rattle.mc_words.specs.item.Links.{IsItemFilled}
-use Rattle.mc_words.specs.hand.Observers.{fresh_chunk, fresh_room, ref_chunk, ref_issue, ref_room, stripe_lent, stripe_number}
+use Rattle.mc_words.specs.hand.Observers.{fresh_chunk, fresh_room, hint_chunk, hint_issue, ref_chunk, ref_issue, ref_room, stripe_lent, stripe_number}
 use Rattle.mc_words.specs.hand.View.{Setup, View}
 use Rattle.mc_words.specs.hand.Views.{chunk_discarded, stripe_given}
 use Rattle.mc_items.specs.OnKeys.{stripe_of_key}
@@ -38,6 +39,10 @@ LosesFresh setup key fresh filled now = LeavesDead (stripe_of_key setup key) (fr
 -- the reference is to this chunk, as the hand got and filled it
 abbrev pub IsRefInto : View → Fresh → words.Ref → Type 0
 IsRefInto view fresh r = (ref_chunk r ≡ fresh_chunk fresh) × (ref_issue r ≡ issue_in view (fresh_chunk fresh)) × (ref_room r ≡ fresh_room fresh)
+
+-- the hint is of this chunk, as the hand got it
+abbrev pub IsHintInto : View → Fresh → Hint → Type 0
+IsHintInto view fresh hint = (hint_chunk hint ≡ fresh_chunk fresh) × (hint_issue hint ≡ issue_in view (fresh_chunk fresh))
 
 -- the stripe's lock was given back, and the chunk given up
 abbrev pub GivesBackBoth : Hand → StripeHeld → Fresh → Hand → Type 0

@@ -22,6 +22,16 @@ HoldsTheSame view now = now.row.holdings ≡ view.row.holdings
 abbrev pub HoldsAsOften : View → View → Type 0
 HoldsAsOften view now = (chunk : ChunkId) → count_of_holdings chunk now.row.holdings ≡ count_of_holdings chunk view.row.holdings
 
+-- the hand holds what it held before, and refers to what it referred to, by the same holdings
+pub record KeepsHoldings (view now : View) : Type 0 where
+  pub same : HoldsTheSame view now
+  pub references : KeepsRefs view now
+
+-- the hand holds each chunk as often as it did, and refers to what it referred to, by the same holdings
+pub record KeepsHoldingCounts (view now : View) : Type 0 where
+  pub counts : HoldsAsOften view now
+  pub references : KeepsRefs view now
+
 -- the holding that a reference to an item is
 abbrev pub holding_by : View → Ref → Holding
 holding_by view item = reference_to (item_chunk item) (item_issue item) (held_item view (item_chunk item))
@@ -68,6 +78,10 @@ HeldRefsKeepItems = (view now : View) (item : Ref) → KeepsRemainingRefs view n
 -- *calls that keep references, one after another, keep them*
 abbrev pub KeepingGoesOn : Type 0
 KeepingGoesOn = (view next now : View) → KeepsRefs view next → KeepsRefs next now → KeepsRefs view now
+
+-- *calls that keep holdings, one after another, keep them*
+abbrev pub KeepingHoldingsGoesOn : Type 0
+KeepingHoldingsGoesOn = (view next now : View) → KeepsHoldings view next → KeepsHoldings next now → KeepsHoldings view now
 
 -- *what a hand got and released leaves it what it referred to before*, whatever calls came between that keep references
 abbrev pub ReleasingKeepsOthers : Type 0

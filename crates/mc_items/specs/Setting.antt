@@ -3,8 +3,10 @@ use Rattle.std.specs.Prelude.{◌≡◌, ◌⊎◌, ℕ, ◌+◌, ◌*◌, List,
 use Rattle.mc_classes.specs.Classes.{class_of}
 use Rattle.mc_pages.specs.declared.ids.ChunkId.{ChunkId}
 use Rattle.mc_stripe.specs.declared.history.Call.TheVariants as call
+use Rattle.mc_words.specs.declared.item.refs.Hint.{Hint}
 use Rattle.mc_words.specs.lock.Doing.{HoldsSlabs}
-use Rattle.mc_words.specs.item.Items.{item_with}
+use Rattle.mc_words.specs.hand.Observers.{hint_chunk, hint_issue}
+use Rattle.mc_words.specs.item.Items.{issue_in, item_with}
 use Rattle.mc_words.specs.hand.View.{View}
 use Rattle.mc_words.specs.hand.Tallies.{next_stamp}
 use Rattle.mc_items.specs.Calls.{RecordsCall}
@@ -12,6 +14,7 @@ use Rattle.mc_items.specs.OnKeys.{stripe_of_key}
 use Rattle.mc_items.specs.Evicting.{RecordsEviction}
 use Rattle.mc_items.specs.Sources.{SuppliesChunk, SuppliesNone}
 use Rattle.mc_items.specs.Storing.{LeavesDead, StoresItem, item_filled}
+use Rattle.mc_items.specs.declared.setting.NewItem.{NewItem}
 use Rattle.mc_items.specs.declared.setting.SetError.{SetError}
 use Rattle.mc_items.specs.declared.setting.SetError.TheVariants.{TooLarge, NoRoom, WornOut, NoMemory}
 
@@ -30,6 +33,15 @@ pub record SetsItem (number key stamp : ℕ) (words : List ℕ) (view now : View
   pub between : View
   pub supplies : HoldsSlabs (SuppliesChunk number class chunk) view between
   pub stores : StoresItem number (stripe_of_key view.setup key) key stamp chunk room (item_filled chunk (item_with key stamp words) between) now
+
+-- the hint has the chunk that the set got, and the issue number with which the chunk was handed out
+abbrev pub IsHintOfSet : (number key stamp : ℕ) (words : List ℕ) (view now : View) → SetsItem number key stamp words view now → Hint → Type 0
+IsHintOfSet number key stamp words view now sets hint = (hint_chunk hint ≡ sets.chunk) × (hint_issue hint ≡ issue_in sets.between sets.chunk)
+
+-- the item was stored with this stamp, and has this hint
+abbrev pub SetsWithHint : ℕ → ℕ → NewItem → List ℕ → View → View → Type 0
+SetsWithHint number key stored words view now =
+    (sets : SetsItem number key stored.stamp words view now) × IsHintOfSet number key stored.stamp words view now sets stored.hint
 
 -- under one hold of the slabs lock no chunk of the words' class was got
 pub record FindsNoChunk (number : ℕ) (words : List ℕ) (error : SetError) (view now : View) : Type 0 where

@@ -178,8 +178,8 @@ EndsVisits class visits left =
 pub record VisitsOldest (number class evicted freed : ℕ) (view : View) (slabs : SlabState) (now : View) (left : SlabState) : Type 0 where
   pub visits : List Visit
   pub each : VisitsEach number class visits view slabs now left
-  pub few : length visits ≤ room_tries
-  pub few_evicted : evicted_count visits ≤ room_items
+  pub within_limit : length visits ≤ room_tries
+  pub evictions_within_limit : evicted_count visits ≤ room_items
   pub ends : EndsVisits class visits left
   pub evicted_is : evicted_count visits ≡ evicted
   pub freed_is : freed_count visits ≡ freed

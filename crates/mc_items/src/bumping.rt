@@ -4,11 +4,11 @@ ghost use Rattle.mc_words.specs.hand.Arenas.{IsHandOf, view};
 ghost use Rattle.mc_words.specs.hand.Idle.{is_unlocked};
 ghost use Rattle.mc_words.specs.hand.Observers.{locks_of, hand_number, ref_chunk, ref_room};
 ghost use Rattle.mc_words.specs.hand.Ready.{IsReady, StaysReady};
-ghost use Rattle.mc_words.specs.item.Refs.{IsRefOf, KeepsRefs};
+ghost use Rattle.mc_words.specs.item.Refs.{IsRefOf};
 ghost use Rattle.mc_words.specs.lock.Doing.{HoldsSlabs};
 ghost use Rattle.mc_items.specs.Calls.{Bumps, RecordsNoCall};
 ghost use Rattle.mc_items.specs.ItemRefs.{IsItemRef, item_chunk, item_words};
-ghost use Rattle.mc_items.specs.Keeping.{HoldsTheSame, StoresNothing};
+ghost use Rattle.mc_items.specs.Keeping.{KeepsHoldings, StoresNothing};
 
 use crate::refs::Ref;
 use mc_words::{Arena, Hand};
@@ -24,10 +24,9 @@ pub fn bump<R: Wait>(rt: &R, arena: &Arena, hand: &mut Hand, item: &Ref)
     ensures bumps { HoldsSlabs (Bumps (hand_number hand.old) (item_chunk item.now)) (view hand.old)
         (view hand.new) }
     ensures words { item_words (view hand.new) item.now ≡ item_words (view hand.old) item.now }
-    ensures holdings { HoldsTheSame (view hand.old) (view hand.new) }
-    ensures keeps { KeepsRefs (view hand.old) (view hand.new) }
     ensures calls { RecordsNoCall (view hand.old) (view hand.new) }
     ensures stores_nothing { StoresNothing (view hand.old) (view hand.new) }
+    ensures holdings { KeepsHoldings (view hand.old) (view hand.new) }
     ensures hand { StaysReady arena.now hand.old hand.new }
 {
     bump_chunk(rt, arena, hand, &item.reference);

@@ -6,9 +6,8 @@ ghost use Rattle.mc_words.specs.lock.Lent.{IsLentStripe};
 ghost use Rattle.mc_words.specs.hand.Observers.{locks_of, stripe_lent, stripe_number};
 ghost use Rattle.mc_words.specs.lock.Out.{without_stripe};
 ghost use Rattle.mc_words.specs.hand.Ready.{IsReady, StaysReady};
-ghost use Rattle.mc_words.specs.item.Refs.{KeepsRefs};
 ghost use Rattle.mc_items.specs.Calls.{Deletes, RecordsNoCall, IsFull};
-ghost use Rattle.mc_items.specs.Keeping.{HoldsTheSame, StoresNothing};
+ghost use Rattle.mc_items.specs.Keeping.{KeepsHoldings, StoresNothing};
 ghost use Rattle.mc_items.specs.OnKeys.{ActsOn, DoesOn, FindsNoRoomFor, GivesBack, RecordsOn, stripe_of_key};
 ghost use Rattle.mc_stripe.specs.declared.history.Call.TheVariants as call;
 
@@ -27,9 +26,8 @@ pub fn delete<R: Wait>(rt: &R, arena: &Arena, hand: &mut Hand, key: u64) -> Resu
         call.Delete number key there) hand.old hand.new) }
     ensures refused { OnErr result (RecordsNoCall (view hand.old) (view hand.new)) }
     ensures no_memory { OnErr result (FindsNoRoomFor (setup_of arena.now) key hand.old hand.new) }
-    ensures holdings { HoldsTheSame (view hand.old) (view hand.new) }
-    ensures keeps { KeepsRefs (view hand.old) (view hand.new) }
     ensures stores_nothing { StoresNothing (view hand.old) (view hand.new) }
+    ensures holdings { KeepsHoldings (view hand.old) (view hand.new) }
     ensures hand { StaysReady arena.now hand.old hand.new }
 {
     let stripe = key % arena.config().stripes;

@@ -1,5 +1,5 @@
 //! Laws of references to items over several calls, each the contract of a function with nothing to do.
-ghost use Rattle.mc_items.specs.Keeping.{HeldRefsKeepItems, KeepingGoesOn, KeptRefsKeepItems, ReleasingKeepsOthers};
+ghost use Rattle.mc_items.specs.Keeping.{HeldRefsKeepItems, KeepingGoesOn, KeepingHoldingsGoesOn, KeptRefsKeepItems, ReleasingKeepsOthers};
 
 /// After a call that keeps the hand's references each reference to an item is one still, and the item's words are the same.
 pub fn kept_refs_keep_items()
@@ -14,6 +14,11 @@ pub fn held_refs_keep_items()
 /// Two calls that keep the hand's references keep them one after the other.
 pub fn keeping_goes_on()
     ensures { KeepingGoesOn }
+{}
+
+/// Two calls that keep the hand's holdings keep them one after the other.
+pub fn keeping_holdings_goes_on()
+    ensures { KeepingHoldingsGoesOn }
 {}
 
 /// A reference that was got and released again leaves the hand the references that it had before, whatever it is to.

@@ -54,7 +54,7 @@ pub use making_room::{Room, make_room};
 pub use marks::{Marks, NoMarks};
 pub use reading::{read, release, word};
 pub use refs::Ref;
-pub use setting::{SetError, set};
+pub use setting::{NewItem, SetError, set, set_hinted};
 pub use touching::touch;
 pub use visiting::{ROOM_ITEMS, ROOM_TRIES, Visit};
 pub use within::{SetWithinError, set_within};

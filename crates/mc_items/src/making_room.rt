@@ -8,8 +8,7 @@ ghost use Rattle.mc_words.specs.hand.Arenas.{IsHandOf, setup_of, view};
 ghost use Rattle.mc_words.specs.hand.Idle.{has_no_stripes};
 ghost use Rattle.mc_words.specs.hand.Observers.{HasSlabs, hand_number, locks_of, slabs_lent};
 ghost use Rattle.mc_words.specs.hand.Ready.{IsReady, StaysReady};
-ghost use Rattle.mc_words.specs.item.Refs.{KeepsRefs};
-ghost use Rattle.mc_items.specs.Keeping.{HoldsTheSame, StoresNothing};
+ghost use Rattle.mc_items.specs.Keeping.{KeepsHoldings, StoresNothing};
 ghost use Rattle.mc_items.specs.MakingRoom.{EvictsOldestFor, LacksRoomMemory, MakesRoom, RecordsSomeDeletes, evicted_for, room_by, supply_by};
 ghost use Rattle.mc_items.specs.OnKeys.{Acts, ActsOnce, SeesMore};
 ghost use Rattle.mc_items.specs.Supplying.{SweepsEmpty};
@@ -52,7 +51,6 @@ pub fn make_room<R: Wait, M: Marks>(
     requires arena { IsHandOf arena.now hand.old }
     requires ready { IsReady (view hand.old) }
     requires class { is_class (setup_of arena.now).table class ≡ true }
-    ensures hand { StaysReady arena.now hand.old hand.new }
     ensures makes { IfOk result (λ room. ActsOnce (MakesRoom (hand_number hand.old) class room)
         hand.old hand.new) }
     ensures calls { IfOk result (λ room.
@@ -61,9 +59,9 @@ pub fn make_room<R: Wait, M: Marks>(
         hand.old hand.new) }
     ensures refused_calls { OnErr result (RecordsSomeDeletes (hand_number hand.old)
         (view hand.old) (view hand.new)) }
-    ensures holdings { HoldsTheSame (view hand.old) (view hand.new) }
-    ensures keeps { KeepsRefs (view hand.old) (view hand.new) }
     ensures stores_nothing { StoresNothing (view hand.old) (view hand.new) }
+    ensures holdings { KeepsHoldings (view hand.old) (view hand.new) }
+    ensures hand { StaysReady arena.now hand.old hand.new }
 {
     let mut slabs = arena.lock_slabs(rt, hand);
     let made = make_room_held(arena, hand, &mut slabs, class, marks);

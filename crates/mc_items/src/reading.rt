@@ -4,10 +4,10 @@ ghost use Rattle.mc_words.specs.hand.Arenas.{IsHandOf, view};
 ghost use Rattle.mc_words.specs.rule.Happens.{Happens};
 ghost use Rattle.mc_words.specs.item.Items.{item_with};
 ghost use Rattle.mc_words.specs.hand.Ready.{IsReady, StaysReady};
-ghost use Rattle.mc_words.specs.item.Refs.{KeepsRemainingRefs, KeepsRefs};
+ghost use Rattle.mc_words.specs.item.Refs.{KeepsRemainingRefs};
 ghost use Rattle.mc_words.specs.hand.Views.{chunk_released, word_seen};
 ghost use Rattle.mc_items.specs.ItemRefs.{IsItemRef, item_chunk, item_key, item_len, item_stamp, item_words};
-ghost use Rattle.mc_items.specs.Keeping.{WordsWereStored, HoldsLess, HoldsTheSame, StoresNothing};
+ghost use Rattle.mc_items.specs.Keeping.{HoldsLess, KeepsHoldings, StoresNothing, WordsWereStored};
 ghost use Rattle.mc_items.specs.Reading.{words_seen};
 ghost use Rattle.mc_core.specs.declared.event.Step.TheVariants as step;
 
@@ -29,9 +29,8 @@ pub fn read(alloc: Global, arena: &Arena, hand: &mut Hand, item: &Ref) -> Result
     ensures stores_words { IfOk result (λ words.
         WordsWereStored (view hand.new) (item_stamp item.now)
         (item_with (item_key item.now) (item_stamp item.now) words.items)) }
-    ensures holdings { HoldsTheSame (view hand.old) (view hand.new) }
-    ensures keeps { KeepsRefs (view hand.old) (view hand.new) }
     ensures stores_nothing { StoresNothing (view hand.old) (view hand.new) }
+    ensures holdings { KeepsHoldings (view hand.old) (view hand.new) }
     ensures hand { StaysReady arena.now hand.old hand.new }
 {
     let mut words = with_capacity(alloc, item.len as usize)?;
@@ -58,9 +57,8 @@ pub fn word(arena: &Arena, hand: &mut Hand, item: &Ref, place: u64) -> u64
     ensures stores_words { WordsWereStored (view hand.new) (item_stamp item.now)
         (item_with (item_key item.now) (item_stamp item.now)
         (item_words (view hand.old) item.now)) }
-    ensures holdings { HoldsTheSame (view hand.old) (view hand.new) }
-    ensures keeps { KeepsRefs (view hand.old) (view hand.new) }
     ensures stores_nothing { StoresNothing (view hand.old) (view hand.new) }
+    ensures holdings { KeepsHoldings (view hand.old) (view hand.new) }
     ensures hand { StaysReady arena.now hand.old hand.new }
 {
     arena.word(hand, &item.reference, 3 + place)

@@ -8,12 +8,11 @@ ghost use Rattle.mc_words.specs.hand.Idle.{is_unlocked};
 ghost use Rattle.mc_words.specs.item.Items.{item_with};
 ghost use Rattle.mc_words.specs.hand.Observers.{fresh_chunk, locks_of, hand_number};
 ghost use Rattle.mc_words.specs.hand.Ready.{IsReady, StaysReady};
-ghost use Rattle.mc_words.specs.item.Refs.{KeepsRefs};
 ghost use Rattle.mc_items.specs.Evicting.{RecordsEviction};
 ghost use Rattle.mc_items.specs.FreshChunks.{IsFreshFor};
-ghost use Rattle.mc_items.specs.Keeping.{HoldsTheSame, StoresWithStamp, StoresNothing};
+ghost use Rattle.mc_items.specs.Keeping.{KeepsHoldings, StoresWithStamp, StoresNothing};
 ghost use Rattle.mc_items.specs.OnKeys.{ActsOnce};
-ghost use Rattle.mc_items.specs.Setting.{RefusesSet, SetsItem, RecordsSet};
+ghost use Rattle.mc_items.specs.Setting.{RefusesSet, SetsItem, SetsWithHint, RecordsSet};
 ghost use Rattle.mc_items.specs.Sources.{SuppliesChunk, SuppliesNone};
 ghost use Rattle.mc_items.specs.Storing.{IsOwnItem};
 
@@ -22,7 +21,7 @@ use crate::supplying::supply_chunk;
 use mc_classes::ClassId;
 use mc_memory::Refused;
 use mc_stripe::Stamp;
-use mc_words::{Arena, Fresh, Hand};
+use mc_words::{Arena, Fresh, Hand, Hint};
 use std::sync::Wait;
 use thiserror::Error;
 
@@ -41,6 +40,15 @@ pub enum SetError {
     /// A page's room or the room for a call on the key was refused; the chunk that was got for the item may be dead.
     #[error("out of memory")]
     NoMemory(Refused),
+}
+
+/// What a set stored.
+#[derive(Clone, Copy, PartialEq, Eq)]
+pub struct NewItem {
+    /// The item's stamp.
+    pub stamp: Stamp,
+    /// A hint of the item.
+    pub hint: Hint,
 }
 
 /// Stores an item of these words under the key, in place of the one that it had, and returns its stamp. Its chunk is a free one
@@ -68,8 +76,39 @@ pub fn set<R: Wait>(
         (view hand.new)) }
     ensures stores_nothing { OnErr result (StoresNothing (view hand.old) (view hand.new)) }
     ensures stamps { OnErr result ((view hand.new).row.ids ≡ (view hand.old).row.ids) }
-    ensures holdings { HoldsTheSame (view hand.old) (view hand.new) }
-    ensures keeps { KeepsRefs (view hand.old) (view hand.new) }
+    ensures holdings { KeepsHoldings (view hand.old) (view hand.new) }
+    ensures hand { StaysReady arena.now hand.old hand.new }
+{
+    match set_hinted(rt, arena, hand, key, words) {
+        Ok(stored) => Ok(stored.stamp),
+        Err(error) => Err(error),
+    }
+}
+
+/// The same as [`set`]; and it returns a hint of the item too, by which [`again`](crate::again) gets it without a lock. (own)
+pub fn set_hinted<R: Wait>(
+    rt: &R,
+    arena: &Arena,
+    hand: &mut Hand,
+    key: u64,
+    words: &[u64],
+) -> Result<NewItem, SetError>
+    requires arena { IsHandOf arena.now hand.old }
+    requires ready { IsReady (view hand.old) }
+    ensures sets { IfOk result (λ stored. SetsWithHint (hand_number hand.old) key stored words.now
+        (view hand.old) (view hand.new)) }
+    ensures calls { IfOk result (λ stored. RecordsSet (hand_number hand.old) key stored.stamp
+        (view hand.old) (view hand.new)) }
+    ensures stores_words { IfOk result (λ stored.
+        StoresWithStamp (item_with key stored.stamp words.now) stored.stamp (view hand.old)
+        (view hand.new)) }
+    ensures refused { IfErr result (λ error. RefusesSet (hand_number hand.old) key words.now error
+        (view hand.old) (view hand.new)) }
+    ensures evicts { OnErr result (RecordsEviction (hand_number hand.old) (view hand.old)
+        (view hand.new)) }
+    ensures stores_nothing { OnErr result (StoresNothing (view hand.old) (view hand.new)) }
+    ensures stamps { OnErr result ((view hand.new).row.ids ≡ (view hand.old).row.ids) }
+    ensures holdings { KeepsHoldings (view hand.old) (view hand.new) }
     ensures hand { StaysReady arena.now hand.old hand.new }
 {
     let Some(class) = arena.classes().class_for(24 + 8 * words.len() as u64) else {
@@ -83,7 +122,7 @@ pub fn set<R: Wait>(
         Err(error) => return Err(error),
     };
     match store_words(rt, arena, hand, fresh, key, stamp, words) {
-        Ok(()) => Ok(stamp),
+        Ok(hint) => Ok(NewItem { stamp, hint }),
         Err(refused) => Err(SetError::NoMemory(refused)),
     }
 }

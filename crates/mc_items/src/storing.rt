@@ -12,7 +12,7 @@ ghost use Rattle.mc_words.specs.lock.Out.{without_stripe};
 ghost use Rattle.mc_words.specs.item.Refs.{IsRefOf};
 ghost use Rattle.mc_words.specs.hand.Tallies.{next_stamp};
 ghost use Rattle.mc_items.specs.Calls.{RecordsNoCall, IsFullToStore};
-ghost use Rattle.mc_items.specs.FreshChunks.{GivesBackBoth, IsFilledWith, IsRefInto, LosesFresh, StoresFresh, filled_with};
+ghost use Rattle.mc_items.specs.FreshChunks.{GivesBackBoth, IsFilledWith, IsHintInto, IsRefInto, LosesFresh, StoresFresh, filled_with};
 ghost use Rattle.mc_items.specs.Keeping.{StoresWithStamp};
 ghost use Rattle.mc_items.specs.OnKeys.{StoresOn, RecordsOn, stripe_of_key};
 ghost use Rattle.mc_items.specs.Storing.{IsOwnItem, Stores, key_put_aside, stripe_lifted};
@@ -20,10 +20,10 @@ ghost use Rattle.mc_stripe.specs.declared.history.Call.TheVariants as call;
 
 use crate::filling::fill_item;
 use mc_stripe::NoMemory;
-use mc_words::{Arena, Fresh, Hand, StripeHeld};
+use mc_words::{Arena, Fresh, Hand, Hint, StripeHeld};
 use std::sync::Wait;
 
-// Writes an item into the fresh chunk, and stores it under its key. No reference is left. At want of memory the key is as before,
+// Writes an item into the fresh chunk, stores it under its key, and returns a hint of it. No reference is left. At want of memory the key is as before,
 // and the chunk is dead. (items.c's `do_item_alloc` from the chunk on, and then `do_store_item` of a set)
 pub(crate) fn store_words<R: Wait>(
     rt: &R,
@@ -33,7 +33,7 @@ pub(crate) fn store_words<R: Wait>(
     key: u64,
     stamp: u64,
     words: &[u64],
-) -> Result<(), NoMemory>
+) -> Result<Hint, NoMemory>
     requires arena { IsHandOf arena.now hand.old }
     requires unlocked { is_unlocked (view hand.old) ≡ true }
     requires fresh { IsFreshOf (view hand.old) (fresh_chunk fresh) (fresh_room fresh) }
@@ -52,6 +52,7 @@ pub(crate) fn store_words<R: Wait>(
     ensures no_memory { OnErr result (LosesFresh (setup_of arena.now) key fresh
         (filled_with fresh key stamp words.now (view hand.old)) (view hand.new)) }
     ensures refused { OnErr result (RecordsNoCall (view hand.old) (view hand.new)) }
+    ensures hint { IfOk result (IsHintInto (view hand.old) fresh) }
 {
     let mut fresh = fresh;
     fill_item(arena, hand, &mut fresh, key, stamp, words);
@@ -59,15 +60,15 @@ pub(crate) fn store_words<R: Wait>(
 }
 
 // Stores the item that the hand filled the chunk with under its key, and waits for the lock of the key's stripe. The item that the
-// key had is unlinked. No reference is left. At want of memory the key is as before, and the chunk is dead. (items.c's
-// `item_replace`, or `do_item_link`, and then `do_item_remove`)
+// key had is unlinked. No reference is left, and a hint of the item is returned. At want of memory the key is as before, and the
+// chunk is dead. (items.c's `item_replace`, or `do_item_link`, and then `do_item_remove`)
 fn store<R: Wait>(
     rt: &R,
     arena: &Arena,
     hand: &mut Hand,
     fresh: Fresh,
     key: u64,
-) -> Result<(), NoMemory>
+) -> Result<Hint, NoMemory>
     requires arena { IsHandOf arena.now hand.old }
     requires unlocked { is_unlocked (view hand.old) ≡ true }
     requires fresh { IsFreshOf (view hand.old) (fresh_chunk fresh) (fresh_room fresh) }
@@ -86,13 +87,15 @@ fn store<R: Wait>(
     ensures no_memory { OnErr result (LosesFresh (setup_of arena.now) key fresh (view hand.old)
         (view hand.new)) }
     ensures refused { OnErr result (RecordsNoCall (view hand.old) (view hand.new)) }
+    ensures hint { IfOk result (IsHintInto (view hand.old) fresh) }
 {
     let stripe = key % arena.config().stripes;
     let held = arena.lock_stripe(rt, hand, stripe);
     match store_at(arena, hand, held, fresh, key) {
         Ok(reference) => {
+            let hint = reference.hint();
             arena.release(hand, reference);
-            Ok(())
+            Ok(hint)
         }
         Err(error) => Err(error),
     }

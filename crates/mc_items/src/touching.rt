@@ -3,9 +3,8 @@ ghost use Rattle.std.specs.Prelude.{◌≡◌, IfOk, Ok, OnErr, false, true};
 ghost use Rattle.mc_words.specs.hand.Arenas.{IsHandOf, setup_of, view};
 ghost use Rattle.mc_words.specs.hand.Observers.{hand_number};
 ghost use Rattle.mc_words.specs.hand.Ready.{IsReady, StaysReady};
-ghost use Rattle.mc_words.specs.item.Refs.{KeepsRefs};
 ghost use Rattle.mc_items.specs.Calls.{FindsNone, RecordsNoCall, Touches};
-ghost use Rattle.mc_items.specs.Keeping.{HoldsAsOften, StoresNothing};
+ghost use Rattle.mc_items.specs.Keeping.{KeepsHoldingCounts, StoresNothing};
 ghost use Rattle.mc_items.specs.OnKeys.{ActsOn, FindsNoRoomFor, RecordsGet, stripe_of_key};
 
 use crate::bumping::bump_chunk;
@@ -29,9 +28,8 @@ pub fn touch<R: Wait>(rt: &R, arena: &Arena, hand: &mut Hand, key: u64) -> Resul
         (setup_of arena.now) key there hand.old hand.new) }
     ensures refused { OnErr result (RecordsNoCall (view hand.old) (view hand.new)) }
     ensures no_memory { OnErr result (FindsNoRoomFor (setup_of arena.now) key hand.old hand.new) }
-    ensures holdings { HoldsAsOften (view hand.old) (view hand.new) }
-    ensures keeps { KeepsRefs (view hand.old) (view hand.new) }
     ensures stores_nothing { StoresNothing (view hand.old) (view hand.new) }
+    ensures holdings { KeepsHoldingCounts (view hand.old) (view hand.new) }
     ensures hand { StaysReady arena.now hand.old hand.new }
 {
     let stripe = key % arena.config().stripes;

@@ -51,8 +51,8 @@ pub(crate) struct Tally {
 impl Tally {
     // The tally with one more visit.
     fn with(self, visit: Visit) -> Tally
-        requires few { self.evicted ≤ room_tries }
-        requires few_freed { self.freed ≤ room_tries }
+        requires within_limit { self.evicted ≤ room_tries }
+        requires freed_within_limit { self.freed ≤ room_tries }
         ensures evicted { result.evicted ≡ self.evicted + evicted_by visit }
         ensures freed { result.freed ≡ self.freed + freed_by visit }
     {

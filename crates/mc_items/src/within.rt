@@ -10,12 +10,11 @@ ghost use Rattle.mc_words.specs.hand.Ready.{IsReady, StaysReady};
 ghost use Rattle.mc_words.specs.hand.Tallies.{next_stamp};
 ghost use Rattle.mc_words.specs.item.Fresh.{IsFreshOf};
 ghost use Rattle.mc_words.specs.item.Items.{item_with, known_words_in};
-ghost use Rattle.mc_words.specs.item.Refs.{KeepsRefs};
 ghost use Rattle.mc_words.specs.lock.Wait.{MissesSlabsEachTime};
 ghost use Rattle.mc_items.specs.Calls.{RecordsNoCall};
 ghost use Rattle.mc_items.specs.Evicting.{RecordsEviction};
 ghost use Rattle.mc_items.specs.FreshChunks.{IsFilledWith, IsFreshFor, LosesFresh, StoresFresh, filled_with};
-ghost use Rattle.mc_items.specs.Keeping.{HoldsTheSame, StoresWithStamp, StoresNothing};
+ghost use Rattle.mc_items.specs.Keeping.{KeepsHoldings, StoresWithStamp, StoresNothing};
 ghost use Rattle.mc_items.specs.OnKeys.{ActsOnce, RecordsOn};
 ghost use Rattle.mc_items.specs.Setting.{SetsItem, RecordsSet};
 ghost use Rattle.mc_items.specs.Sources.{SuppliesChunk, SuppliesNone};
@@ -68,8 +67,7 @@ pub fn set_within(
         (view hand.new)) }
     ensures stores_nothing { OnErr result (StoresNothing (view hand.old) (view hand.new)) }
     ensures stamps { OnErr result ((view hand.new).row.ids ≡ (view hand.old).row.ids) }
-    ensures holdings { HoldsTheSame (view hand.old) (view hand.new) }
-    ensures keeps { KeepsRefs (view hand.old) (view hand.new) }
+    ensures holdings { KeepsHoldings (view hand.old) (view hand.new) }
     ensures hand { StaysReady arena.now hand.old hand.new }
 {
     let Some(class) = arena.classes().class_for(24 + 8 * words.len() as u64) else {

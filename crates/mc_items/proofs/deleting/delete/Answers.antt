@@ -9,7 +9,7 @@ use Rattle.mc_words.specs.hand.Views.{stripe_given}
 use Rattle.mc_words.specs.lock.Wait.{WaitsForStripe}
 use Rattle.mc_stripe.specs.declared.history.Call.TheVariants.{Delete}
 use Rattle.mc_items.specs.Calls.{CallsOn, Deletes, OnlyWaits, RecordsCall, RecordsNoCall, IsFull}
-use Rattle.mc_items.proofs.Chains.{hand_still, refs_stay}
+use Rattle.mc_items.proofs.Chains.{hand_still, holdings_stay}
 use Rattle.mc_items.proofs.Left.{Kept}
 use Rattle.mc_items.proofs.GetLeaves.{delete_kept}
 use Rattle.mc_items.proofs.Deletes.{ok_map, err_map}
@@ -81,7 +81,7 @@ returns-clause-holdings g c =
     let hand = c.args.hand.now in
     let now = c.delete_at.new.hand in
     let kept = delete_kept c.delete_at.result hand.number (c.args.key % c.args.arena.now.table.shared.key.config.stripes) c.args.key hand.seat.me.0 now.seat.me.0 (returns-clause-deletes g c) (returns-clause-no_memory g c) in
-    ap (λ (k : Kept). k.0) kept
+    holdings_stay hand.seat.me.0 now.seat.me.0 (ap (λ (k : Kept). k.0) kept) (ap (λ (k : Kept). k.1) kept)
 
 pub returns-clause-hand : goal.returns-clause-hand
 returns-clause-hand g c =
@@ -89,14 +89,7 @@ returns-clause-hand g c =
     let now = c.delete_at.new.hand in
     let kept = delete_kept c.delete_at.result hand.number (c.args.key % c.args.arena.now.table.shared.key.config.stripes) c.args.key hand.seat.me.0 now.seat.me.0 (returns-clause-deletes g c) (returns-clause-no_memory g c) in
     let locks = c.delete_at.ensures.locks ∙ (ap without_stripe c.lock_stripe-held.ensures.locks ∙ locks_back hand (c.args.key % c.config.result.now.stripes) c.requires.ready.unlocked) in
-    hand_still c.args.arena.now hand now c.delete_at.ensures.arena locks (returns-clause-holdings g c) (ap (λ (k : Kept). k.3) kept) c.requires.ready
-
-pub returns-clause-keeps : goal.returns-clause-keeps
-returns-clause-keeps g c =
-    let hand = c.args.hand.now in
-    let now = c.delete_at.new.hand in
-    let kept = delete_kept c.delete_at.result hand.number (c.args.key % c.args.arena.now.table.shared.key.config.stripes) c.args.key hand.seat.me.0 now.seat.me.0 (returns-clause-deletes g c) (returns-clause-no_memory g c) in
-    refs_stay hand.seat.me.0 now.seat.me.0 (ap (λ (k : Kept). k.0) kept) (ap (λ (k : Kept). k.1) kept)
+    hand_still c.args.arena.now hand now c.delete_at.ensures.arena locks (returns-clause-holdings g c).same (ap (λ (k : Kept). k.3) kept) c.requires.ready
 
 pub returns-clause-stores_nothing : goal.returns-clause-stores_nothing
 returns-clause-stores_nothing g c =

@@ -8,7 +8,7 @@ use Rattle.mc_words.proofs.Locks.Unlocked.{no_stripes_there}
 use Rattle.mc_items.specs.declared.making_room.Room.{Room}
 use Rattle.mc_items.specs.MakingRoom.{LacksRoomMemory, MakesRoom, evicted_for}
 use Rattle.mc_items.specs.Visiting.{RecordsDeletes}
-use Rattle.mc_items.proofs.Chains.{ready_still, refs_stay}
+use Rattle.mc_items.proofs.Chains.{holdings_stay, ready_still}
 use Rattle.mc_items.proofs.Deletes.{ok_map}
 use Rattle.mc_items.proofs.Locks.{slabs_back, waits_slabs_keep}
 use Rattle.mc_items.proofs.Made.{holds_so}
@@ -72,14 +72,8 @@ pub returns-clause-holdings : goal.returns-clause-holdings
 returns-clause-holdings g c =
     let hand = c.args.hand.now in
     let now : View = c.give_slabs.new.hand.seat.me.0 in
-    (some_deletes hand.number c.args.class hand.seat.me.0 now c.make_room_held-made.result (returns-clause-makes g c) (returns-clause-refused g c)).1.holdings
-
-pub returns-clause-keeps : goal.returns-clause-keeps
-returns-clause-keeps g c =
-    let hand = c.args.hand.now in
-    let now : View = c.give_slabs.new.hand.seat.me.0 in
     let deletions = (some_deletes hand.number c.args.class hand.seat.me.0 now c.make_room_held-made.result (returns-clause-makes g c) (returns-clause-refused g c)).1 in
-    refs_stay hand.seat.me.0 now deletions.holdings deletions.known
+    holdings_stay hand.seat.me.0 now deletions.holdings deletions.known
 
 pub returns-clause-stores_nothing : goal.returns-clause-stores_nothing
 returns-clause-stores_nothing g c =

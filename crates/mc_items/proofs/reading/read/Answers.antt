@@ -5,7 +5,7 @@ use Rattle.mc_words.specs.item.Items.{held_item, item_with}
 use Rattle.mc_words.specs.hand.Views.{word_seen}
 use Rattle.mc_items.specs.Reading.{words_seen}
 use Rattle.mc_items.specs.Keeping.{WordsWereStored}
-use Rattle.mc_items.proofs.Chains.{kept_refs_keep_items, refs_stay, words_said}
+use Rattle.mc_items.proofs.Chains.{holdings_stay, kept_refs_keep_items, words_said}
 use Rattle.mc_items.proofs.Freed.{no_value}
 use Rattle.mc_items.proofs.Words.{one_more, one_read, all_read}
 use Rattle.mc_items.proofs.reading.read.Goals as goal
@@ -57,18 +57,18 @@ returns-clause-words c =
     let past = c.loop-place-test.false in
     words ∙ all_read (held_item c.args.hand.now.seat.me.0 chunk) c.loop-place.place (omega arith)
 
-pub returns-clause-keeps : goal.returns-clause-keeps
-returns-clause-keeps c =
+pub returns-clause-holdings : goal.returns-clause-holdings
+returns-clause-holdings c =
     let (arena, locks, same, room, words) = c.loop-place.invariant in
-    refs_stay c.args.hand.now.seat.me.0 c.loop-place.hand.seat.me.0 (ap (λ (v : View). v.row.holdings) same) (ap (λ (v : View). v.row.knows.known) same)
+    holdings_stay c.args.hand.now.seat.me.0 c.loop-place.hand.seat.me.0 (ap (λ (v : View). v.row.holdings) same) (ap (λ (v : View). v.row.knows.known) same)
 
 pub returns-clause-stores_words : goal.returns-clause-stores_words
 returns-clause-stores_words c =
     let item = c.args.item.now in
     let now : View = c.loop-place.hand.seat.me.0 in
     let (arena, locks, same, room, words) = c.loop-place.invariant in
-    let stays = kept_refs_keep_items c.args.hand.now.seat.me.0 now item (returns-clause-keeps c) c.requires.item in
+    let stays = kept_refs_keep_items c.args.hand.now.seat.me.0 now item (returns-clause-holdings c).references c.requires.item in
     subst (λ (l : List ℕ). WordsWereStored now item.stamp (item_with item.key item.stamp l)) (stays.words ∙ sym (returns-clause-words c)) (words_said now arena.lawful item stays.refers)
 
 pub returns-clause-item : goal.returns-clause-item
-returns-clause-item c = (kept_refs_keep_items c.args.hand.now.seat.me.0 c.loop-place.hand.seat.me.0 c.args.item.now (returns-clause-keeps c) c.requires.item).refers
+returns-clause-item c = (kept_refs_keep_items c.args.hand.now.seat.me.0 c.loop-place.hand.seat.me.0 c.args.item.now (returns-clause-holdings c).references c.requires.item).refers

@@ -4,7 +4,7 @@ use Rattle.mc_words.specs.hand.View.{View}
 use Rattle.mc_words.specs.item.Items.{held_item}
 use Rattle.mc_items.specs.Keeping.{WordsWereStored}
 use Rattle.mc_words.specs.item.Items.{item_with}
-use Rattle.mc_items.proofs.Chains.{kept_refs_keep_items, refs_stay, words_said}
+use Rattle.mc_items.proofs.Chains.{holdings_stay, kept_refs_keep_items, words_said}
 use Rattle.mc_items.proofs.Words.{place_small}
 use Rattle.mc_items.proofs.reading.word.Goals as goal
 
@@ -17,16 +17,16 @@ word-requires-clause-in_range c = let len = c.requires.item.len in omega (arith,
 pub returns-clause-word : goal.returns-clause-word
 returns-clause-word c = c.word.ensures.word ∙ sym (get_or-drop 3 (held_item c.args.hand.now.seat.me.0 c.args.item.now.reference.chunk) c.args.place 0)
 
-pub returns-clause-keeps : goal.returns-clause-keeps
-returns-clause-keeps c =
+pub returns-clause-holdings : goal.returns-clause-holdings
+returns-clause-holdings c =
     let same = c.word.ensures.view in
-    refs_stay c.args.hand.now.seat.me.0 c.word.new.hand.seat.me.0 (ap (λ (v : View). v.row.holdings) same) (ap (λ (v : View). v.row.knows.known) same)
+    holdings_stay c.args.hand.now.seat.me.0 c.word.new.hand.seat.me.0 (ap (λ (v : View). v.row.holdings) same) (ap (λ (v : View). v.row.knows.known) same)
 
 pub returns-clause-item : goal.returns-clause-item
-returns-clause-item c = (kept_refs_keep_items c.args.hand.now.seat.me.0 c.word.new.hand.seat.me.0 c.args.item.now (returns-clause-keeps c) c.requires.item).refers
+returns-clause-item c = (kept_refs_keep_items c.args.hand.now.seat.me.0 c.word.new.hand.seat.me.0 c.args.item.now (returns-clause-holdings c).references c.requires.item).refers
 
 pub returns-clause-words : goal.returns-clause-words
-returns-clause-words c = (kept_refs_keep_items c.args.hand.now.seat.me.0 c.word.new.hand.seat.me.0 c.args.item.now (returns-clause-keeps c) c.requires.item).words
+returns-clause-words c = (kept_refs_keep_items c.args.hand.now.seat.me.0 c.word.new.hand.seat.me.0 c.args.item.now (returns-clause-holdings c).references c.requires.item).words
 
 pub returns-clause-stores_words : goal.returns-clause-stores_words
 returns-clause-stores_words c =

@@ -14,8 +14,7 @@ use Rattle.mc_items.specs.Calls.{Finds, FindsNone, LooksUp}
 use Rattle.std.specs.Option.{option_map}
 use Rattle.mc_stripe.specs.declared.history.Call.TheVariants.{Get}
 use Rattle.mc_stripe.specs.StripeState.{stamp_of_key as stripe_stamp}
-use Rattle.mc_core.specs.model.Columns.{count_of_holdings}
-use Rattle.mc_items.proofs.Chains.{hand_still, ready_less, refs_stay}
+use Rattle.mc_items.proofs.Chains.{counts_kept, hand_still, holdings_stay, ready_less}
 use Rattle.mc_items.proofs.Left.{Kept, finds_one, none_keeps, only_keeps}
 use Rattle.mc_items.proofs.Gets.{called_on, only_waits}
 use Rattle.mc_items.proofs.Tells.{looked_tells, told_none, told_on}
@@ -25,7 +24,7 @@ use Rattle.mc_words.specs.item.Refs.{IsRefIn}
 use Rattle.mc_words.specs.lock.Doing.{HoldsSlabs}
 use Rattle.mc_items.specs.Calls.{Bumps}
 use Rattle.mc_items.proofs.Left.{bumped_keeps, bumped_tells}
-use Rattle.mc_items.proofs.Touched.{touch_fills_none, touch_holds_as_often, touch_holds_no_more, touch_keeps_ids, touch_keeps_refs, touch_says_nothing}
+use Rattle.mc_items.proofs.Touched.{touch_fills_none, touch_holds_no_more, touch_keeps_counts, touch_keeps_ids, touch_says_nothing}
 use Rattle.mc_items.proofs.touching.touch.Goals as goal
 
 pub refer_at-requires-clause-within_limit : goal.refer_at-requires-clause-within_limit
@@ -68,7 +67,7 @@ returns-in-Ok-None-clause-holdings g c =
     let hand = c.args.hand.now in
     let now = c.refer_at.new.hand in
     let kept = none_keeps hand.number (c.args.key % c.args.arena.now.table.shared.key.config.stripes) c.args.key hand.seat.me.0 now.seat.me.0 (returns-in-Ok-None-clause-none g c refl) in
-    λ chunk. ap (λ (k : Kept). count_of_holdings chunk k.0) kept
+    counts_kept hand.seat.me.0 now.seat.me.0 (holdings_stay hand.seat.me.0 now.seat.me.0 (ap (λ (k : Kept). k.0) kept) (ap (λ (k : Kept). k.1) kept))
 
 pub returns-in-Ok-None-clause-hand : goal.returns-in-Ok-None-clause-hand
 returns-in-Ok-None-clause-hand g c =
@@ -77,13 +76,6 @@ returns-in-Ok-None-clause-hand g c =
     let kept = none_keeps hand.number (c.args.key % c.args.arena.now.table.shared.key.config.stripes) c.args.key hand.seat.me.0 now.seat.me.0 (returns-in-Ok-None-clause-none g c refl) in
     let locks = c.refer_at.ensures.locks ∙ (ap without_stripe c.lock_stripe-held.ensures.locks ∙ locks_back hand (c.args.key % c.config.result.now.stripes) c.requires.ready.unlocked) in
     hand_still c.args.arena.now hand now c.refer_at.ensures.arena locks (ap (λ (k : Kept). k.0) kept) (ap (λ (k : Kept). k.3) kept) c.requires.ready
-
-pub returns-in-Ok-None-clause-keeps : goal.returns-in-Ok-None-clause-keeps
-returns-in-Ok-None-clause-keeps g c =
-    let hand = c.args.hand.now in
-    let now = c.refer_at.new.hand in
-    let kept = none_keeps hand.number (c.args.key % c.args.arena.now.table.shared.key.config.stripes) c.args.key hand.seat.me.0 now.seat.me.0 (returns-in-Ok-None-clause-none g c refl) in
-    refs_stay hand.seat.me.0 now.seat.me.0 (ap (λ (k : Kept). k.0) kept) (ap (λ (k : Kept). k.1) kept)
 
 pub returns-in-Ok-None-clause-stores_nothing : goal.returns-in-Ok-None-clause-stores_nothing
 returns-in-Ok-None-clause-stores_nothing g c =
@@ -112,7 +104,7 @@ returns-in-Err-clause-holdings g c =
     let hand = c.args.hand.now in
     let now = c.refer_at.new.hand in
     let kept = only_keeps (c.args.key % c.args.arena.now.table.shared.key.config.stripes) hand.seat.me.0 now.seat.me.0 (returns-in-Err-clause-no_memory g c) in
-    λ chunk. ap (λ (k : Kept). count_of_holdings chunk k.0) kept
+    counts_kept hand.seat.me.0 now.seat.me.0 (holdings_stay hand.seat.me.0 now.seat.me.0 (ap (λ (k : Kept). k.0) kept) (ap (λ (k : Kept). k.1) kept))
 
 pub returns-in-Err-clause-hand : goal.returns-in-Err-clause-hand
 returns-in-Err-clause-hand g c =
@@ -121,13 +113,6 @@ returns-in-Err-clause-hand g c =
     let kept = only_keeps (c.args.key % c.args.arena.now.table.shared.key.config.stripes) hand.seat.me.0 now.seat.me.0 (returns-in-Err-clause-no_memory g c) in
     let locks = c.refer_at.ensures.locks ∙ (ap without_stripe c.lock_stripe-held.ensures.locks ∙ locks_back hand (c.args.key % c.config.result.now.stripes) c.requires.ready.unlocked) in
     hand_still c.args.arena.now hand now c.refer_at.ensures.arena locks (ap (λ (k : Kept). k.0) kept) (ap (λ (k : Kept). k.3) kept) c.requires.ready
-
-pub returns-in-Err-clause-keeps : goal.returns-in-Err-clause-keeps
-returns-in-Err-clause-keeps g c =
-    let hand = c.args.hand.now in
-    let now = c.refer_at.new.hand in
-    let kept = only_keeps (c.args.key % c.args.arena.now.table.shared.key.config.stripes) hand.seat.me.0 now.seat.me.0 (returns-in-Err-clause-no_memory g c) in
-    refs_stay hand.seat.me.0 now.seat.me.0 (ap (λ (k : Kept). k.0) kept) (ap (λ (k : Kept). k.1) kept)
 
 pub returns-in-Err-clause-stores_nothing : goal.returns-in-Err-clause-stores_nothing
 returns-in-Err-clause-stores_nothing g c =
@@ -191,15 +176,12 @@ returns-clause-calls g c =
     let there = c.in-Ok-Some.ensures.stamp ∙ ap (option_map (λ (x : Ref). stamp_in_words (held_item got x.chunk))) c.in-Ok-Some.field-0-is in
     (stamp, ap is_some there, ap (λ (v : View). v.row.knows.mine) c.release.ensures.dropped ∙ (bumped_tells _ _ _ _ c.bump_chunk.ensures.bumps ∙ tells))
 
-pub returns-clause-holdings : goal.returns-clause-holdings
-returns-clause-holdings g c = touch_holds_as_often _ _ _ _ _ (returns-clause-touches g c refl)
-
 pub returns-clause-stores_nothing : goal.returns-clause-stores_nothing
 returns-clause-stores_nothing g c = touch_says_nothing _ _ _ _ _ (returns-clause-touches g c refl)
 
-pub returns-clause-keeps : goal.returns-clause-keeps
+pub returns-clause-holdings : goal.returns-clause-holdings
 unfolding returns-clause-touches
-returns-clause-keeps g c = touch_keeps_refs _ _ _ _ _ (returns-clause-touches g c refl) c.requires.ready.unfilled c.refer_at.ensures.arena.lawful
+returns-clause-holdings g c = touch_keeps_counts _ _ _ _ _ (returns-clause-touches g c refl) c.requires.ready.unfilled c.refer_at.ensures.arena.lawful
 
 pub returns-clause-hand : goal.returns-clause-hand
 returns-clause-hand g c =

@@ -49,6 +49,6 @@ loop-preserved g c =
       each = (now.seat.me.0, c.loop.slabs.shared, inv.each, subst (λ n. VisitsFirst n class visit now.seat.me.0 c.loop.slabs.shared next.hand.seat.me.0 next.slabs.shared) number visits);
       evicted_is = ap (λ n. n + evicted_by visit) inv.evicted_is ∙ sym evicted;
       freed_is = ap (λ n. n + freed_by visit) inv.freed_is ∙ sym freed;
-      few_evicted = let one = evicts_one visit in let test = c.if-tally-eq-ROOM_ITEMS.false in let few = inv.few_evicted in omega arith;
-      few_freed = let one = frees_one visit in let few = inv.few_freed in omega arith;
+      evictions_within_limit = let one = evicts_one visit in let test = c.if-tally-eq-ROOM_ITEMS.false in let few = inv.evictions_within_limit in omega arith;
+      freed_within_limit = let one = frees_one visit in let few = inv.freed_within_limit in omega arith;
     }

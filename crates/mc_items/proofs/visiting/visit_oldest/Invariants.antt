@@ -15,6 +15,6 @@ invariant-loop g l = record {
   each : VisitsEach l.fn.hand.number l.fn.class visits (view l.fn.hand) l.fn.slabs.shared (view l.hand) l.slabs.shared;
   evicted_is : evicted_count visits ≡ l.tally.evicted;
   freed_is : freed_count visits ≡ l.tally.freed;
-  few_evicted : l.tally.evicted ≤ room_items;
-  few_freed : l.tally.freed ≤ l.counter;
+  evictions_within_limit : l.tally.evicted ≤ room_items;
+  freed_within_limit : l.tally.freed ≤ l.counter;
 }

@@ -17,13 +17,13 @@ use Rattle.mc_words.proofs.Hands.HandNumbers.{number_stays}
 use Rattle.mc_words.specs.item.Items.{item_with}
 use Rattle.mc_core.specs.declared.ids.Ids.{Ids}
 use Rattle.mc_core.specs.run.Items.{ids_after_stamp}
-use Rattle.mc_items.proofs.Chains.{hand_still, number_kept, ready_still, refs_stay}
-use Rattle.mc_items.proofs.StoredRows.{dead_holds, dead_keeps, stored_holds, stored_ids, stored_keeps}
+use Rattle.mc_items.proofs.Chains.{hand_still, holdings_stay, number_kept, ready_still}
+use Rattle.mc_items.proofs.StoredRows.{dead_keeps, stored_ids, stored_keeps}
 use Rattle.mc_items.proofs.Locks.{still_unlocked}
 use Rattle.mc_items.proofs.Made.{Tells, refused_tells, supplied_tells, tells_before, refused_holds, supplied_gains}
 use Rattle.mc_items.proofs.Sets.{class_there, dead_tells, refuses_so, words_fit}
 use Rattle.mc_items.specs.Within.{LeavesUnlinked}
-use Rattle.mc_items.proofs.Missed.{missed_holds, missed_tells, unlinked_holds, unlinked_keeps, unlinked_tells}
+use Rattle.mc_items.proofs.Missed.{missed_holds, missed_tells, unlinked_keeps, unlinked_tells}
 use Rattle.mc_items.proofs.within.set_within.Goals as goal
 
 -- what an answer within an answer says
@@ -150,35 +150,18 @@ returns-in-Ok-Err-store_words_within-clause-stamps c =
 
 pub returns-in-Ok-Err-clause-holdings : goal.returns-in-Ok-Err-clause-holdings
 returns-in-Ok-Err-clause-holdings c =
-    refused_holds c.args.hand.now.number c.in-Some.class c.in-Ok-Err.error c.args.hand.now.seat.me.0 c.chunk_within.new.hand.seat.me.0 (err_of (λ (error : SetError). HoldsSlabs (SuppliesNone c.args.hand.now.number c.in-Some.class error) c.args.hand.now.seat.me.0 c.chunk_within.new.hand.seat.me.0) c.in-Ok-Err.field-0 c.in-Ok-Err.error c.in-Ok-Err.field-0-is c.in-Ok-Err.ensures.none)
-
-pub returns-in-Ok-Err-clause-keeps : goal.returns-in-Ok-Err-clause-keeps
-returns-in-Ok-Err-clause-keeps c =
     let hand = c.args.hand.now in
     let now = c.chunk_within.new.hand in
     let none = (err_of (λ (error : SetError). HoldsSlabs (SuppliesNone c.args.hand.now.number c.in-Some.class error) c.args.hand.now.seat.me.0 c.chunk_within.new.hand.seat.me.0) c.in-Ok-Err.field-0 c.in-Ok-Err.error c.in-Ok-Err.field-0-is c.in-Ok-Err.ensures.none) in
     let told = refused_tells hand.number c.in-Some.class c.in-Ok-Err.error hand.seat.me.0 now.seat.me.0 none in
-    refs_stay hand.seat.me.0 now.seat.me.0 (returns-in-Ok-Err-clause-holdings c) told.known
+    holdings_stay hand.seat.me.0 now.seat.me.0 (refused_holds hand.number c.in-Some.class c.in-Ok-Err.error hand.seat.me.0 now.seat.me.0 none) told.known
 
 pub returns-in-Ok-Err-clause-hand : goal.returns-in-Ok-Err-clause-hand
 returns-in-Ok-Err-clause-hand c =
-    hand_still c.args.arena.now c.args.hand.now c.chunk_within.new.hand c.chunk_within.ensures.arena c.chunk_within.ensures.locks (returns-in-Ok-Err-clause-holdings c) (returns-in-Ok-Err-clause-stamps c) c.requires.ready
+    hand_still c.args.arena.now c.args.hand.now c.chunk_within.new.hand c.chunk_within.ensures.arena c.chunk_within.ensures.locks (returns-in-Ok-Err-clause-holdings c).same (returns-in-Ok-Err-clause-stamps c) c.requires.ready
 
 pub returns-in-Ok-Ok-store_words_within-clause-holdings : goal.returns-in-Ok-Ok-store_words_within-clause-holdings
 returns-in-Ok-Ok-store_words_within-clause-holdings c =
-    let hand = c.args.hand.now in
-    let view : View = hand.seat.me.0 in
-    let between : View = c.chunk_within.new.hand.seat.me.0 in
-    let now = c.store_words_within.new.hand in
-    let fresh = c.in-Ok-Ok.fresh in
-    let stamp = c.in-Some-next_stamp.stamp in
-    let words = item_with c.args.key stamp c.args.words.now in
-    let gains = supplied_gains hand.number c.in-Some.class fresh.chunk view between (ok_of (λ (fresh : Fresh). HoldsSlabs (SuppliesChunk c.args.hand.now.number c.in-Some.class fresh.chunk) c.args.hand.now.seat.me.0 c.chunk_within.new.hand.seat.me.0) c.in-Ok-Ok.field-0 c.in-Ok-Ok.fresh c.in-Ok-Ok.field-0-is c.in-Ok-Ok.ensures.supplies) in
-    let told = supplied_tells hand.number c.in-Some.class fresh.chunk view between (ok_of (λ (fresh : Fresh). HoldsSlabs (SuppliesChunk c.args.hand.now.number c.in-Some.class fresh.chunk) c.args.hand.now.seat.me.0 c.chunk_within.new.hand.seat.me.0) c.in-Ok-Ok.field-0 c.in-Ok-Ok.fresh c.in-Ok-Ok.field-0-is c.in-Ok-Ok.ensures.supplies) in
-    stored_holds fresh.chunk words view between c.requires.ready.unfilled gains (ok_of (λ (fresh : Fresh). IsOwnItem c.chunk_within.new.hand.seat.me.0 fresh.chunk) c.in-Ok-Ok.field-0 c.in-Ok-Ok.fresh c.in-Ok-Ok.field-0-is c.in-Ok-Ok.ensures.own) c.chunk_within.new.hand.number _ c.args.key stamp fresh.room now.seat.me.0 (on_ok (StoresItem c.chunk_within.new.hand.number (c.args.key % c.args.arena.now.table.shared.key.config.stripes) c.args.key c.in-Some-next_stamp.stamp c.in-Ok-Ok.fresh.chunk c.in-Ok-Ok.fresh.room (item_filled c.in-Ok-Ok.fresh.chunk (item_with c.args.key c.in-Some-next_stamp.stamp c.args.words.now) c.chunk_within.new.hand.seat.me.0) c.store_words_within.new.hand.seat.me.0) c.in-Ok-Ok-store_words_within.field-0 _ c.in-Ok-Ok-store_words_within.field-0-is c.in-Ok-Ok-store_words_within.ensures.stores)
-
-pub returns-in-Ok-Ok-store_words_within-clause-keeps : goal.returns-in-Ok-Ok-store_words_within-clause-keeps
-returns-in-Ok-Ok-store_words_within-clause-keeps c =
     let hand = c.args.hand.now in
     let view : View = hand.seat.me.0 in
     let between : View = c.chunk_within.new.hand.seat.me.0 in
@@ -202,7 +185,7 @@ returns-in-Ok-Ok-store_words_within-clause-hand c =
     let gains = supplied_gains hand.number c.in-Some.class fresh.chunk view between (ok_of (λ (fresh : Fresh). HoldsSlabs (SuppliesChunk c.args.hand.now.number c.in-Some.class fresh.chunk) c.args.hand.now.seat.me.0 c.chunk_within.new.hand.seat.me.0) c.in-Ok-Ok.field-0 c.in-Ok-Ok.fresh c.in-Ok-Ok.field-0-is c.in-Ok-Ok.ensures.supplies) in
     let told = supplied_tells hand.number c.in-Some.class fresh.chunk view between (ok_of (λ (fresh : Fresh). HoldsSlabs (SuppliesChunk c.args.hand.now.number c.in-Some.class fresh.chunk) c.args.hand.now.seat.me.0 c.chunk_within.new.hand.seat.me.0) c.in-Ok-Ok.field-0 c.in-Ok-Ok.fresh c.in-Ok-Ok.field-0-is c.in-Ok-Ok.ensures.supplies) in record {
       arena = c.store_words_within.ensures.arena;
-      ready = ready_still hand now (c.store_words_within.ensures.locks ∙ c.chunk_within.ensures.locks) (returns-in-Ok-Ok-store_words_within-clause-holdings c) c.requires.ready;
+      ready = ready_still hand now (c.store_words_within.ensures.locks ∙ c.chunk_within.ensures.locks) (returns-in-Ok-Ok-store_words_within-clause-holdings c).same c.requires.ready;
       locks = c.store_words_within.ensures.locks ∙ c.chunk_within.ensures.locks;
       number = number_kept hand now (ap (λ (i : Ids). i.number) (stored_ids fresh.chunk words view between c.requires.ready.unfilled gains (ok_of (λ (fresh : Fresh). IsOwnItem c.chunk_within.new.hand.seat.me.0 fresh.chunk) c.in-Ok-Ok.field-0 c.in-Ok-Ok.fresh c.in-Ok-Ok.field-0-is c.in-Ok-Ok.ensures.own) c.chunk_within.new.hand.number _ c.args.key stamp fresh.room now.seat.me.0 (on_ok (StoresItem c.chunk_within.new.hand.number (c.args.key % c.args.arena.now.table.shared.key.config.stripes) c.args.key c.in-Some-next_stamp.stamp c.in-Ok-Ok.fresh.chunk c.in-Ok-Ok.fresh.room (item_filled c.in-Ok-Ok.fresh.chunk (item_with c.args.key c.in-Some-next_stamp.stamp c.args.words.now) c.chunk_within.new.hand.seat.me.0) c.store_words_within.new.hand.seat.me.0) c.in-Ok-Ok-store_words_within.field-0 _ c.in-Ok-Ok-store_words_within.field-0-is c.in-Ok-Ok-store_words_within.ensures.stores) ∙ ap ids_after_stamp told.ids));
     }
@@ -218,24 +201,11 @@ returns-in-Ok-Err-store_words_within-clause-holdings c =
     let words = item_with c.args.key stamp c.args.words.now in
     let gains = supplied_gains hand.number c.in-Some.class fresh.chunk view between (ok_of (λ (fresh : Fresh). HoldsSlabs (SuppliesChunk c.args.hand.now.number c.in-Some.class fresh.chunk) c.args.hand.now.seat.me.0 c.chunk_within.new.hand.seat.me.0) c.in-Ok-Ok.field-0 c.in-Ok-Ok.fresh c.in-Ok-Ok.field-0-is c.in-Ok-Ok.ensures.supplies) in
     let told = supplied_tells hand.number c.in-Some.class fresh.chunk view between (ok_of (λ (fresh : Fresh). HoldsSlabs (SuppliesChunk c.args.hand.now.number c.in-Some.class fresh.chunk) c.args.hand.now.seat.me.0 c.chunk_within.new.hand.seat.me.0) c.in-Ok-Ok.field-0 c.in-Ok-Ok.fresh c.in-Ok-Ok.field-0-is c.in-Ok-Ok.ensures.supplies) in
-    dead_holds fresh.chunk words view between c.requires.ready.unfilled gains (ok_of (λ (fresh : Fresh). IsOwnItem c.chunk_within.new.hand.seat.me.0 fresh.chunk) c.in-Ok-Ok.field-0 c.in-Ok-Ok.fresh c.in-Ok-Ok.field-0-is c.in-Ok-Ok.ensures.own) _ now.seat.me.0 (on_err (LeavesDead (c.args.key % c.args.arena.now.table.shared.key.config.stripes) c.in-Ok-Ok.fresh.chunk (item_filled c.in-Ok-Ok.fresh.chunk (item_with c.args.key c.in-Some-next_stamp.stamp c.args.words.now) c.chunk_within.new.hand.seat.me.0) c.store_words_within.new.hand.seat.me.0) c.in-Ok-Err-store_words_within.field-0 _ c.in-Ok-Err-store_words_within.field-0-is c.in-Ok-Err-store_words_within.ensures.no_memory)
-
-pub returns-in-Ok-Err-store_words_within-clause-keeps : goal.returns-in-Ok-Err-store_words_within-clause-keeps
-returns-in-Ok-Err-store_words_within-clause-keeps c =
-    let hand = c.args.hand.now in
-    let view : View = hand.seat.me.0 in
-    let between : View = c.chunk_within.new.hand.seat.me.0 in
-    let now = c.store_words_within.new.hand in
-    let fresh = c.in-Ok-Ok.fresh in
-    let stamp = c.in-Some-next_stamp.stamp in
-    let words = item_with c.args.key stamp c.args.words.now in
-    let gains = supplied_gains hand.number c.in-Some.class fresh.chunk view between (ok_of (λ (fresh : Fresh). HoldsSlabs (SuppliesChunk c.args.hand.now.number c.in-Some.class fresh.chunk) c.args.hand.now.seat.me.0 c.chunk_within.new.hand.seat.me.0) c.in-Ok-Ok.field-0 c.in-Ok-Ok.fresh c.in-Ok-Ok.field-0-is c.in-Ok-Ok.ensures.supplies) in
-    let told = supplied_tells hand.number c.in-Some.class fresh.chunk view between (ok_of (λ (fresh : Fresh). HoldsSlabs (SuppliesChunk c.args.hand.now.number c.in-Some.class fresh.chunk) c.args.hand.now.seat.me.0 c.chunk_within.new.hand.seat.me.0) c.in-Ok-Ok.field-0 c.in-Ok-Ok.fresh c.in-Ok-Ok.field-0-is c.in-Ok-Ok.ensures.supplies) in
     dead_keeps fresh.chunk words view between c.requires.ready.unfilled gains (ok_of (λ (fresh : Fresh). IsOwnItem c.chunk_within.new.hand.seat.me.0 fresh.chunk) c.in-Ok-Ok.field-0 c.in-Ok-Ok.fresh c.in-Ok-Ok.field-0-is c.in-Ok-Ok.ensures.own) _ now.seat.me.0 (on_err (LeavesDead (c.args.key % c.args.arena.now.table.shared.key.config.stripes) c.in-Ok-Ok.fresh.chunk (item_filled c.in-Ok-Ok.fresh.chunk (item_with c.args.key c.in-Some-next_stamp.stamp c.args.words.now) c.chunk_within.new.hand.seat.me.0) c.store_words_within.new.hand.seat.me.0) c.in-Ok-Err-store_words_within.field-0 _ c.in-Ok-Err-store_words_within.field-0-is c.in-Ok-Err-store_words_within.ensures.no_memory) told.known
 
 pub returns-in-Ok-Err-store_words_within-clause-hand : goal.returns-in-Ok-Err-store_words_within-clause-hand
 returns-in-Ok-Err-store_words_within-clause-hand c =
-    hand_still c.args.arena.now c.args.hand.now c.store_words_within.new.hand c.store_words_within.ensures.arena (c.store_words_within.ensures.locks ∙ c.chunk_within.ensures.locks) (returns-in-Ok-Err-store_words_within-clause-holdings c) (returns-in-Ok-Err-store_words_within-clause-stamps c) c.requires.ready
+    hand_still c.args.arena.now c.args.hand.now c.store_words_within.new.hand c.store_words_within.ensures.arena (c.store_words_within.ensures.locks ∙ c.chunk_within.ensures.locks) (returns-in-Ok-Err-store_words_within-clause-holdings c).same (returns-in-Ok-Err-store_words_within-clause-stamps c) c.requires.ready
 
 -- each try for the lock of the slabs missed
 pub returns-in-Err-clause-evicts : goal.returns-in-Err-clause-evicts
@@ -248,15 +218,12 @@ pub returns-in-Err-clause-stamps : goal.returns-in-Err-clause-stamps
 returns-in-Err-clause-stamps c = (missed_tells c.args.hand.now.number c.args.tries c.args.hand.now.seat.me.0 c.chunk_within.new.hand.seat.me.0 c.in-Err.ensures.missed).ids
 
 pub returns-in-Err-clause-holdings : goal.returns-in-Err-clause-holdings
-returns-in-Err-clause-holdings c = missed_holds c.args.tries c.args.hand.now.seat.me.0 c.chunk_within.new.hand.seat.me.0 c.in-Err.ensures.missed
-
-pub returns-in-Err-clause-keeps : goal.returns-in-Err-clause-keeps
-returns-in-Err-clause-keeps c =
-    refs_stay c.args.hand.now.seat.me.0 c.chunk_within.new.hand.seat.me.0 (returns-in-Err-clause-holdings c) (missed_tells c.args.hand.now.number c.args.tries c.args.hand.now.seat.me.0 c.chunk_within.new.hand.seat.me.0 c.in-Err.ensures.missed).known
+returns-in-Err-clause-holdings c =
+    holdings_stay c.args.hand.now.seat.me.0 c.chunk_within.new.hand.seat.me.0 (missed_holds c.args.tries c.args.hand.now.seat.me.0 c.chunk_within.new.hand.seat.me.0 c.in-Err.ensures.missed) (missed_tells c.args.hand.now.number c.args.tries c.args.hand.now.seat.me.0 c.chunk_within.new.hand.seat.me.0 c.in-Err.ensures.missed).known
 
 pub returns-in-Err-clause-hand : goal.returns-in-Err-clause-hand
 returns-in-Err-clause-hand c =
-    hand_still c.args.arena.now c.args.hand.now c.chunk_within.new.hand c.chunk_within.ensures.arena c.chunk_within.ensures.locks (returns-in-Err-clause-holdings c) (returns-in-Err-clause-stamps c) c.requires.ready
+    hand_still c.args.arena.now c.args.hand.now c.chunk_within.new.hand c.chunk_within.ensures.arena c.chunk_within.ensures.locks (returns-in-Err-clause-holdings c).same (returns-in-Err-clause-stamps c) c.requires.ready
 
 -- each try for that of the stripe missed
 pub returns-in-Err-store_words_within-clause-refused : goal.returns-in-Err-store_words_within-clause-refused
@@ -299,18 +266,9 @@ returns-in-Err-store_words_within-clause-holdings c =
     let fresh = c.in-Ok-Ok.fresh in
     let words = item_with c.args.key c.in-Some-next_stamp.stamp c.args.words.now in
     let gains = supplied_gains c.args.hand.now.number c.in-Some.class fresh.chunk view between (ok_of (λ (fresh : Fresh). HoldsSlabs (SuppliesChunk c.args.hand.now.number c.in-Some.class fresh.chunk) c.args.hand.now.seat.me.0 c.chunk_within.new.hand.seat.me.0) c.in-Ok-Ok.field-0 c.in-Ok-Ok.fresh c.in-Ok-Ok.field-0-is c.in-Ok-Ok.ensures.supplies) in
-    unlinked_holds fresh.chunk words view between c.requires.ready.unfilled gains (ok_of (λ (fresh : Fresh). IsOwnItem c.chunk_within.new.hand.seat.me.0 fresh.chunk) c.in-Ok-Ok.field-0 c.in-Ok-Ok.fresh c.in-Ok-Ok.field-0-is c.in-Ok-Ok.ensures.own) c.args.tries _ c.store_words_within.new.hand.seat.me.0 c.in-Err-store_words_within.ensures.missed
-
-pub returns-in-Err-store_words_within-clause-keeps : goal.returns-in-Err-store_words_within-clause-keeps
-returns-in-Err-store_words_within-clause-keeps c =
-    let view : View = c.args.hand.now.seat.me.0 in
-    let between : View = c.chunk_within.new.hand.seat.me.0 in
-    let fresh = c.in-Ok-Ok.fresh in
-    let words = item_with c.args.key c.in-Some-next_stamp.stamp c.args.words.now in
-    let gains = supplied_gains c.args.hand.now.number c.in-Some.class fresh.chunk view between (ok_of (λ (fresh : Fresh). HoldsSlabs (SuppliesChunk c.args.hand.now.number c.in-Some.class fresh.chunk) c.args.hand.now.seat.me.0 c.chunk_within.new.hand.seat.me.0) c.in-Ok-Ok.field-0 c.in-Ok-Ok.fresh c.in-Ok-Ok.field-0-is c.in-Ok-Ok.ensures.supplies) in
     let told = supplied_tells c.args.hand.now.number c.in-Some.class fresh.chunk view between (ok_of (λ (fresh : Fresh). HoldsSlabs (SuppliesChunk c.args.hand.now.number c.in-Some.class fresh.chunk) c.args.hand.now.seat.me.0 c.chunk_within.new.hand.seat.me.0) c.in-Ok-Ok.field-0 c.in-Ok-Ok.fresh c.in-Ok-Ok.field-0-is c.in-Ok-Ok.ensures.supplies) in
     unlinked_keeps fresh.chunk words view between c.requires.ready.unfilled gains (ok_of (λ (fresh : Fresh). IsOwnItem c.chunk_within.new.hand.seat.me.0 fresh.chunk) c.in-Ok-Ok.field-0 c.in-Ok-Ok.fresh c.in-Ok-Ok.field-0-is c.in-Ok-Ok.ensures.own) c.args.tries _ c.store_words_within.new.hand.seat.me.0 c.in-Err-store_words_within.ensures.missed told.known
 
 pub returns-in-Err-store_words_within-clause-hand : goal.returns-in-Err-store_words_within-clause-hand
 returns-in-Err-store_words_within-clause-hand c =
-    hand_still c.args.arena.now c.args.hand.now c.store_words_within.new.hand c.store_words_within.ensures.arena (c.store_words_within.ensures.locks ∙ c.chunk_within.ensures.locks) (returns-in-Err-store_words_within-clause-holdings c) (returns-in-Err-store_words_within-clause-stamps c) c.requires.ready
+    hand_still c.args.arena.now c.args.hand.now c.store_words_within.new.hand c.store_words_within.ensures.arena (c.store_words_within.ensures.locks ∙ c.chunk_within.ensures.locks) (returns-in-Err-store_words_within-clause-holdings c).same (returns-in-Err-store_words_within-clause-stamps c) c.requires.ready
