@@ -1,4 +1,4 @@
-//! A cache of bytes in a program: four clients get keys that Zipf's law draws, and store what they miss, while a tender moves pages. In
+//! A cache of bytes in a program: eight clients get keys that Zipf's law draws, and store what they miss, while a tender moves pages. In
 //! the first half of the rounds most wanted values have less than 500 bytes, in the second half more: so pages have to go to the classes
 //! of greater chunks. `example_cache` plays few rounds, and prints what is so under every schedule. `example_cache show` plays more, and
 //! prints each.
@@ -33,7 +33,7 @@ const CACHE: CacheConfig = CacheConfig {
         bulk: 64,
     },
     shards: 64,
-    workers: 4,
+    workers: 8,
 };
 
 /// A program for use draws these, as nobody who picks keys is to know them.
@@ -44,8 +44,12 @@ const HASH_KEY: HashKey = HashKey {
 
 /// Makes the cache, plays the rounds, and gives what was found in all.
 fn play<R: AllocGlobal + Print + Threads + Wait + Sync>(rt: &R, plan: Plan) -> io::Result<Tally> {
-    let Ok((cache, workers, mut tender)) = Cache::new(rt, rt.alloc(), &CACHE, HASH_KEY) else {
-        return Err(io::ErrorKind::OutOfMemory.into());
+    let (cache, workers, mut tender) = match Cache::new(rt, rt.alloc(), &CACHE, HASH_KEY) {
+        Ok(made) => made,
+        Err(error) => {
+            println!(rt; "no cache was made: {error}")?;
+            return Err(io::ErrorKind::Other.into());
+        }
     };
     let mut clients = make_clients(rt.alloc(), &cache, workers);
     let played = play_rounds(rt, &cache, plan, &mut tender, clients.as_mut_slice());
@@ -60,7 +64,7 @@ fn play<R: AllocGlobal + Print + Threads + Wait + Sync>(rt: &R, plan: Plan) -> i
 /// What `example_cache` plays.
 const FEW: Plan = Plan {
     rounds: 4,
-    gets: 4000,
+    gets: 31_250,
     shows: false,
 };
 

@@ -60,3 +60,12 @@ one_surveyed count hands hands_now surveys survey hand now in_range is shows h =
   };
   left = λ k a from. get_or-set_other hands_now count k now a (λ (same : k ≡ count). omega arith) ∙ h.left k a (omega arith);
 }
+
+-- at the shard at which a survey was refused, those before it had theirs
+pub surveyed_before : (count : ℕ) (hands hands_now : List Hand) (surveys : List Survey) (now : Hand) → AreSurveyed count hands hands_now surveys → SurveysFirst count hands (set hands_now count now) surveys
+surveyed_before count hands hands_now surveys now h = record {
+  surveyed = h.first.surveyed;
+  each = λ k s a b less.
+      let e3 : get_or (set hands_now count now) k b ≡ get_or hands_now k b = get_or-set_other hands_now count k now b (λ (same : k ≡ count). omega arith) in
+      rw e3 (h.first.each k s a b less);
+}

@@ -1,6 +1,7 @@
 -- The smallest cache of a size is accepted.
 use Rattle.std.proofs.Common.{Bool, Option, Some, None, cond, not, leb, ltb, ◌≡◌, ◌*◌, ◌/◌, ◌<◌, ◌≤◌, ◌∙◌, ℕ, true, ap, arith, refl, subst, sym, ◌⊎◌, ⊎_elim}
 use Rattle.std.proofs.Math.Nat.{div-le_of_le-mul, div-le_self, le-max_right, max-le}
+use Rattle.std.proofs.lemmas.Nat.{le-div}
 use Rattle.std.proofs.lemmas.Bool.{and_from, cond-false, cond-true, le-leb, le-ltb, lt-ltb, cases_lt}
 use Rattle.std.specs.Option.{option_map}
 use Rattle.mc_classes.specs.declared.config.Config.{Config}
@@ -8,9 +9,8 @@ use Rattle.mc_classes.specs.declared.config.ConfigError.{ConfigError}
 use Rattle.mc_classes.specs.Refusals.{config_refusal, first_size, is_below_max, is_between, rounded_up}
 use Rattle.mc_cache.specs.declared.opening.CacheConfig.{CacheConfig}
 use Rattle.mc_cache.specs.declared.opening.NewError.TheVariants as refused
-use Rattle.mc_cache.specs.Bytes.{cache_bytes}
 use Rattle.mc_cache.specs.Opening.{cache_refusal}
-use Rattle.mc_cache.specs.Sizing.{FillsBytes, IsSized, doubled_factor, sized_arena, sized_cache, sized_first, usual_page_chunks}
+use Rattle.mc_cache.specs.Sizing.{FillsBytes, IsSized, doubled_factor, filled_bytes, sized_arena, sized_cache, sized_chunks, sized_first, sized_stripes, usual_page_chunks}
 
 -- a test that is passed leaves the others
 passes : {E : Type 0} (test : Bool) (error : E) (rest : Option E) → test ≡ true → rest ≡ None → cond (not test) (Some error) rest ≡ None
@@ -53,6 +53,15 @@ first_within item =
     let whole : size ≤ 16384 = div-le_self 16384 (usual_page_chunks item) in
     (le-max_right (size / 8 * 8) 64, max-le (omega (arith, whole)) (omega arith))
 
+-- the arena with one page of a size has one stripe
+stripes_within : (item : ℕ) → (1 ≤ sized_stripes (sized_chunks item (16384 * 1))) × (sized_stripes (sized_chunks item (16384 * 1)) ≤ 64)
+stripes_within item =
+    let range = first_within item in
+    let chunks : ℕ = 16384 / sized_first item in
+    let some : 1 ≤ chunks = le-div 1 16384 (sized_first item) (omega (arith, range.0)) (omega (arith, range.1)) in
+    let few : chunks ≤ 256 = div-le_of_le-mul (sized_first item) (omega (arith, range.0)) in
+    (omega (arith, some), omega (arith, few))
+
 -- the arena with one page of a size is accepted
 arena_passes : (item : ℕ) → config_refusal (sized_arena item (16384 * 1)) ≡ None
 arena_passes item =
@@ -63,7 +72,8 @@ arena_passes item =
     passes _ _ _ (between 24 16384 (sized_first item) (omega (arith, range.0)) range.1)
     (passes _ _ _ (and_from (ltb 2 num) (leb num 65535) (lt-ltb 2 num (omega (arith, factor.0))) (le-leb num 65535 (omega (arith, factor.1))))
     (passes _ _ _ (between (sized_first item) 16384 16384 range.1 (omega arith))
-    (passes _ _ _ (le-leb (16384 / first_size arena) 256 (chunks_within arena refl refl range.0)) refl)))
+    (passes _ _ _ (between 1 64 (sized_stripes (sized_chunks item (16384 * 1))) (stripes_within item).0 (stripes_within item).1)
+    (passes _ _ _ (le-leb (16384 / first_size arena) 256 (chunks_within arena refl refl range.0)) refl))))
 
 -- the smallest cache of a size is accepted
 pub least_passes : (item workers : ℕ) → 1 ≤ workers → workers ≤ 63 → cache_refusal (sized_cache item workers 1) ≡ None
@@ -74,7 +84,7 @@ least_passes item workers some few =
     unmap refusal none = ap (option_map (λ error. refused.Config error)) none
 
 -- a configuration of a size, with more shards
-pub sized_by : (bytes item workers pages : ℕ) (config result : CacheConfig) → config ≡ sized_cache item workers pages → cache_refusal result ≡ None → cache_bytes result ≤ bytes → FillsBytes bytes result → result.workers ≡ config.workers → result.arena ≡ config.arena
+pub sized_by : (bytes item workers pages : ℕ) (config result : CacheConfig) → config ≡ sized_cache item workers pages → cache_refusal result ≡ None → filled_bytes result ≤ bytes → FillsBytes bytes result → result.workers ≡ config.workers → result.arena ≡ config.arena
     → IsSized bytes item workers result
 sized_by bytes item workers pages config result is accepted fits full count arena =
     let of_size : result.arena ≡ sized_arena item (16384 * pages) = arena ∙ ap (λ (c : CacheConfig). c.arena) is in

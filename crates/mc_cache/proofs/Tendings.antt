@@ -77,3 +77,19 @@ still_unsaid hands hands_now count hand now len in_range is stores_nothing h = �
     ap (λ (x : Hand). (view x).row.knows.stored) e5 ∙ stores_nothing ∙ ap (λ (x : Hand). (view x).row.knows.stored) (sym was) ∙ h k a hand less)
     (λ (other : k ≡ count → ⊥). ap (λ (x : Hand). (view x).row.knows.stored) (get_or-set_other hands_now count k now b other) ∙ h k a b less)
     (cases_eq k count)
+
+-- at the shard at which a window was refused, those before it had theirs
+pub tended_before : (count : ℕ) (hands : List Hand) (deciders : List DeciderState) (hands_now : List Hand) (deciders_now : List DeciderState) (done : Tended) (now : Hand) (left : DeciderState) → (h : AreTended count hands deciders hands_now deciders_now done)
+    → TendsFirst count hands deciders (set hands_now count now) (set deciders_now count left) h.shares
+tended_before count hands deciders hands_now deciders_now done now left h = record {
+  shared = h.first.shared;
+  each = λ k sh a b d e less.
+      let apart : k ≡ count → ⊥ = λ same. omega arith in
+      let e4 : get_or (set deciders_now count left) k e ≡ get_or deciders_now k e = get_or-set_other deciders_now count k left e apart in
+      let e5 : get_or (set hands_now count now) k b ≡ get_or hands_now k b = get_or-set_other hands_now count k now b apart in
+      rw (e4, e5) (h.first.each k sh a b d e less);
+}
+
+-- and those behind it are as they were
+pub still_behind : {X : Type 0} (count : ℕ) (xs xs_now : List X) (now : X) → ((place : ℕ) (x : X) → count ≤ place → get_or xs_now place x ≡ get_or xs place x) → (place : ℕ) (x : X) → count < place → get_or (set xs_now count now) place x ≡ get_or xs place x
+still_behind count xs xs_now now left place x behind = get_or-set_other xs_now count place now x (λ (same : place ≡ count). omega arith) ∙ left place x (omega arith)

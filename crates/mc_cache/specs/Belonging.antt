@@ -20,6 +20,10 @@ HaveIdleHands arenas workers = All (λ worker. AreIdleHands arenas worker.hands.
 abbrev pub HaveUnusedHands : List Arena → List Worker → Type 0
 HaveUnusedHands arenas workers = All (λ worker. AreUnusedHands arenas worker.hands.items) workers
 
+-- the worker has an idle hand of each of the cache's arenas, and none of these hands did anything yet
+abbrev pub IsUnusedWorker : Cache → Worker → Type 0
+IsUnusedWorker cache worker = AreUnusedHands cache.arenas.items worker.hands.items
+
 -- the hash of a key, by which the cache finds its shard
 abbrev pub hash_in : Cache → List ℕ → ℕ
 hash_in cache key = hash_of cache.hashing key

@@ -1,5 +1,6 @@
 -- How many bytes a new cache takes of the allocator.
 use Rattle.std.specs.Prelude.{ℕ, zero, suc, ◌+◌, ◌*◌, ◌/◌, if◌then◌else◌, nat_le, max, List, [], ◌∷◌}
+use Rattle.mc_classes.specs.Limits.{most_classes}
 use Rattle.mc_classes.specs.declared.config.Config.{Config}
 use Rattle.mc_classes.specs.Refusals.{first_size, is_below_max, rounded_up}
 use Rattle.mc_words.specs.declared.arena.Arena.{Arena}
@@ -44,9 +45,9 @@ room_for count = max 4 count
 abbrev pub lock_bytes : ℕ → ℕ
 lock_bytes stripes = 128 * (1 + stripes) + 440 + 384 * stripes
 
--- the bytes of n classes: room for the sizes of 63, and for each class 56 of its numbers, 48 in the decider, and 20 for each of two lists
+-- the bytes of n classes: room for the sizes of the most classes, and for each class 56 of its numbers, 48 in the decider, and 20 for each of two lists
 abbrev pub class_bytes : ℕ → ℕ
-class_bytes classes = 8 * 63 + (56 + 48) * classes + 2 * 20 * room_for classes
+class_bytes classes = 8 * most_classes + (56 + 48) * classes + 2 * 20 * room_for classes
 
 -- the bytes of n pages beside their words: 24 of the owner, and 40 of what the ledger's entries leave
 abbrev pub page_list_bytes : ℕ → ℕ

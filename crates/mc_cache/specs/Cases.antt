@@ -3,7 +3,7 @@ use Rattle.std.specs.Prelude.{◌≡◌, None, Some, ◌∷◌, [], false, true}
 use Rattle.mc_mover.specs.declared.counts.Turn.TheVariants.{Finished, Went}
 use Rattle.mc_cache.specs.declared.opening.CacheConfig.{CacheConfig}
 use Rattle.mc_cache.specs.Bytes.{cache_bytes, config_table_bytes}
-use Rattle.mc_cache.specs.Sizing.{sized_first, sizing_refusal}
+use Rattle.mc_cache.specs.Sizing.{sized_chunks, sized_first, sized_stripes, sizing_refusal}
 use Rattle.mc_cache.specs.declared.sizing.SizingError.TheVariants.{TooFewBytes, Workers}
 use Rattle.mc_cache.specs.Tending.{tended_in_all}
 use Rattle.mc_cache.specs.Windows.{turns_tended}
@@ -22,10 +22,12 @@ LargeCache = cache_bytes (record { arena = record { page = 16384; limit = 104857
 abbrev pub UsualSizes : Type 0
 UsualSizes =
     (sized_first 72 ≡ 120)
+    × (sized_stripes (sized_chunks 72 16384) ≡ 1)
+    × (sized_stripes (sized_chunks 72 1048576) ≡ 11)
     × (sized_first 1032 ≡ 1088)
     × (sizing_refusal 1000000 72 0 ≡ Some Workers)
-    × (sizing_refusal 135847 72 1 ≡ Some TooFewBytes)
-    × (sizing_refusal 135848 72 1 ≡ None)
+    × (sizing_refusal 165175 72 1 ≡ Some TooFewBytes)
+    × (sizing_refusal 165176 72 1 ≡ None)
 
 -- a turn that went on and one that finished: one move that ended, and what both did
 abbrev pub TwoTurns : Type 0

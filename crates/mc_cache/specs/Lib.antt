@@ -6,6 +6,7 @@ pub mod Shards
 pub mod Observers
 pub mod Opening
 pub mod Belonging
+pub mod Newest
 pub mod Bytes
 pub mod Sizing
 pub mod Windows

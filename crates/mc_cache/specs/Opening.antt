@@ -1,5 +1,6 @@
 -- Which caches are refused, and what the arenas of a new one are.
 use Rattle.std.specs.Prelude.{◌≡◌, ◌+◌, not, if◌then◌else◌, List, All, Option, None, Some}
+use Rattle.mc_classes.specs.Limits.{most_workers}
 use Rattle.std.specs.List.{range_with_len}
 use Rattle.std.specs.Option.{option_map}
 use Rattle.mc_classes.specs.Refusals.{is_between, config_refusal}
@@ -18,7 +19,7 @@ use Rattle.mc_cache.specs.declared.opening.NewError.TheVariants.{Shards, Workers
 abbrev pub cache_refusal : CacheConfig → Option NewError
 cache_refusal config =
     if not (is_between 1 4096 config.shards) then Some Shards
-    else if not (is_between 1 63 config.workers) then Some Workers
+    else if not (is_between 1 most_workers config.workers) then Some Workers
     else option_map (λ error. Config error) (config_refusal config.arena)
 
 -- the first thing that the arena's first hand did was to forget the history of each stripe

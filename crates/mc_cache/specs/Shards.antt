@@ -10,7 +10,7 @@ use Rattle.mc_items.specs.Keeping.{StoresWithStamp, StoresNothing}
 use Rattle.mc_items.specs.declared.setting.SetError.{SetError}
 use Rattle.mc_cache.specs.shard.Finding.{DeletesKey, FindsFull, FindsKey, FindsLockTaken, FindsOtherKey, FindsValue, TouchesKey}
 use Rattle.mc_cache.specs.shard.Hands.{IsIdleHandOf, IsUnusedHandOf}
-use Rattle.mc_cache.specs.shard.Reading.{LeavesSlabs}
+use Rattle.mc_cache.specs.shard.Reading.{LeavesSlabs, TakesSlabsOnce}
 use Rattle.mc_cache.specs.shard.Recording.{RecordsDeleteAtMost, RecordsGetAtMost}
 use Rattle.mc_cache.specs.shard.Setting.{RecordsEvictionsAlone, RecordsSetBehindRoom, RefusesBytes, SetsBehindRoom}
 use Rattle.mc_cache.specs.Pairs.{ArePaired}
@@ -83,6 +83,10 @@ LooksInVain hash arena hand now = StoresNothing (view hand) (view now) × ((betw
 -- the hand touched nothing: it didn't take the slabs lock
 abbrev pub TouchesNothing : Arena → Hand → Hand → Type 0
 TouchesNothing arena hand now = LeavesSlabs (view hand) (view now)
+
+-- the hand took the slabs lock once
+abbrev pub TouchesOnce : Arena → Hand → Hand → Type 0
+TouchesOnce arena hand now = TakesSlabsOnce (view hand) (view now)
 
 -- the hand found the lock of the hash's stripe with another hand, perhaps after a hint led to nothing
 abbrev pub FindsStripeLocked : ℕ → Arena → Hand → Hand → Type 0

@@ -69,6 +69,14 @@ pub record CountsCache (cache : Cache) (stats : CacheStats) (before now : Tender
   pub surveyed : SurveysFirst (shard_count cache) (tender_hands before) (tender_hands now) surveys
   pub sums : SumsSurveys surveys stats
 
+-- memory was refused on some shard: each shard before it was surveyed once, and the hands of those behind it are as they were
+pub record CountsUpToRefusal (cache : Cache) (before now : Tender) : Type 0 where
+  pub count : ℕ
+  pub in_range : count < shard_count cache
+  pub surveys : List Survey
+  pub surveyed : SurveysFirst count (tender_hands before) (tender_hands now) surveys
+  pub left : (shard : ℕ) (hand : Hand) → count < shard → slice_index_or (tender_hands now) shard hand ≡ slice_index_or (tender_hands before) shard hand
+
 -- the hand set the mode of its shard's automover, and nothing else
 abbrev pub SetsShardsMode : ℕ → Hand → Hand → Type 0
 SetsShardsMode mode before now = ActsOnceByNumber (λ number. SetsMode number mode) before now

@@ -54,6 +54,15 @@ pub record TendsCache (cache : Cache) (done : Tended) (before now : Tender) : Ty
   pub tends : TendsFirst (shard_count cache) (tender_hands before) (deciders_of before) (tender_hands now) (deciders_of now) shares
   pub counted : done ≡ tended_in_all shares
 
+-- memory was refused on some shard: each shard before it did a window, and the hands and deciders of those behind it are as they were
+pub record TendsUpToRefusal (cache : Cache) (before now : Tender) : Type 0 where
+  pub count : ℕ
+  pub in_range : count < shard_count cache
+  pub shares : List Tended
+  pub tends : TendsFirst count (tender_hands before) (deciders_of before) (tender_hands now) (deciders_of now) shares
+  pub hands_left : (shard : ℕ) (hand : Hand) → count < shard → slice_index_or (tender_hands now) shard hand ≡ slice_index_or (tender_hands before) shard hand
+  pub deciders_left : (shard : ℕ) (decider : DeciderState) → count < shard → slice_index_or (deciders_of now) shard decider ≡ slice_index_or (deciders_of before) shard decider
+
 -- none of the hands stored anything
 abbrev pub SayNothing : List Hand → List Hand → Type 0
 SayNothing before now = (shard : ℕ) (hand after : Hand) → shard < length before → StoresNothing (view (slice_index_or before shard hand)) (view (slice_index_or now shard after))

@@ -1,5 +1,6 @@
 //! How many bytes a new cache takes of the allocator: of each vector the room that it asks for, and of each box what is in it.
 ghost use Rattle.std.specs.Prelude.{◌≡◌, ◌≤◌, ◌*◌, ◌+◌, ◌/◌, ◌^◌, IfErr, IfOk, None, OnOk, Some};
+ghost use Rattle.mc_classes.specs.Limits.{most_classes, most_stripes};
 ghost use Rattle.mc_classes.specs.Refusals.{first_size, config_refusal};
 ghost use Rattle.mc_cache.specs.Bytes.{arena_bytes, cache_bytes, class_bytes, class_count, hint_place_count, lock_bytes, page_list_bytes, pages_in_all, room_for, row_bytes, shard_bytes, words_a_page, words_an_arena};
 ghost use Rattle.mc_cache.specs.Cases.{LargeCache, SmallCaches};
@@ -7,7 +8,7 @@ ghost use Rattle.mc_cache.specs.Opening.{cache_refusal};
 
 use crate::cache::{Cache, Worker};
 use crate::opening::{CacheConfig, NewError, test};
-use mc_classes::Config;
+use mc_classes::{Config, MOST_CLASSES};
 use mc_pages::{BasePage, Owner, Slabs};
 use mc_stripe::Stripe;
 use mc_watch::Decider;
@@ -15,9 +16,6 @@ use mc_words::{Arena, Hand};
 
 // The distance in words from one lock's word to the next.
 const WORDS_APART: u64 = 16;
-
-// The most classes that there are.
-const MOST_CLASSES: u64 = 63;
 
 // The numbers of a configuration, which the table has.
 const CONFIG_WORDS: u64 = 8;
@@ -98,7 +96,7 @@ fn first_size(config: &Config) -> u64
 fn class_count(config: &Config) -> u64
     requires accepted { config_refusal config.now ≡ None }
     ensures count { result ≡ class_count config.now }
-    ensures within_limit { result ≤ 63 }
+    ensures within_limit { result ≤ most_classes }
 {
     let mut count = 1;
     let mut raw = config.first;
@@ -146,7 +144,7 @@ fn room_for(count: u64) -> u64
 
 // The bytes of what is behind an arena's locks.
 fn lock_bytes(stripes: u64) -> u64
-    requires { stripes ≤ 64 }
+    requires { stripes ≤ most_stripes }
     ensures bytes { result ≡ lock_bytes stripes }
 {
     VALUES_APART * (1 + stripes) + SLABS + STRIPE * stripes
@@ -154,7 +152,7 @@ fn lock_bytes(stripes: u64) -> u64
 
 // The bytes of n classes.
 fn class_bytes(classes: u64) -> u64
-    requires { classes ≤ 63 }
+    requires { classes ≤ most_classes }
     ensures bytes { result ≡ class_bytes classes }
     ensures within_limit { result ≤ 2 ^ 14 }
 {
@@ -232,6 +230,7 @@ fn hint_place_count(config: &CacheConfig) -> u64
 pub(crate) fn bytes_of(config: &CacheConfig) -> u64
     requires accepted { cache_refusal config.now ≡ None }
     ensures bytes { result ≡ cache_bytes config.now }
+    ensures within_limit { result ≤ 2 ^ 44 }
 {
     let shards = config.shards * shard_bytes(config);
     let workers = WORKER * (config.workers + 1);

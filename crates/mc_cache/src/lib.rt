@@ -27,6 +27,7 @@
 mod bytes;
 mod cache;
 mod hashing;
+mod laws;
 mod opening;
 mod place;
 pub mod shard;
@@ -40,6 +41,7 @@ mod working;
 pub use bytes::worked_bytes;
 pub use cache::{Cache, Worker};
 pub use hashing::HashKey;
+pub use laws::own_values_are_newest;
 pub use opening::{CacheConfig, NewError};
 pub use sizing::{SizingError, worked_sizes};
 pub use stats::{CacheStats, ClassStats, worked_stats};

@@ -16,7 +16,7 @@ use crate::cache::{Cache, Worker};
 use crate::hashing::{HashKey, KeyedHasher};
 use crate::shard::HintTable;
 use crate::tending::Tender;
-use mc_classes::{Config, ConfigError};
+use mc_classes::{Config, ConfigError, MOST_WORKERS};
 use mc_memory::{Refused, push, with_capacity};
 use mc_mover::forget;
 use mc_watch::Decider;
@@ -61,7 +61,7 @@ pub(crate) fn test(config: &CacheConfig) -> Result<(), NewError>
     if config.shards < 1 || config.shards > 4096 {
         return Err(NewError::Shards);
     }
-    if config.workers < 1 || config.workers > 63 {
+    if config.workers < 1 || config.workers > MOST_WORKERS {
         return Err(NewError::Workers);
     }
     match config.arena.test() {

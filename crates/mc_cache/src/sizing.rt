@@ -1,24 +1,26 @@
 //! The configuration of a cache that takes at most so many bytes.
 ghost use Rattle.std.specs.Prelude.{◌≡◌, ◌⊎◌, ◌<◌, ◌≤◌, IfErr, IfOk, None, OnOk, Some, false, true};
-ghost use Rattle.mc_cache.specs.Bytes.{cache_bytes};
+ghost use Rattle.mc_classes.specs.Limits.{most_pages, most_workers};
 ghost use Rattle.mc_cache.specs.Cases.{UsualSizes};
 ghost use Rattle.mc_cache.specs.Opening.{cache_refusal};
-ghost use Rattle.mc_cache.specs.Sizing.{FillsBytes, IsSized, doubled_factor, sized_arena, sized_cache, sized_first, sizing_refusal, with_shards};
+ghost use Rattle.mc_cache.specs.Sizing.{FillsBytes, IsSized, doubled_factor, filled_bytes, sized_arena, sized_cache, sized_first, sizing_refusal, with_shards};
 
 use crate::bytes::bytes_of;
 use crate::opening::{CacheConfig, test};
-use mc_classes::Config;
+use mc_classes::{Config, MOST_PAGE_BYTES, MOST_WORKERS};
 use thiserror::Error;
-
-// The bytes of a page, which are the most that there may be. (own)
-const PAGE: u64 = 16_384;
 
 // The bytes of an item beside those of its key and its value: the header, and two lengths.
 const ITEM_BYTES: u64 = 40;
 
-// The stripes of an arena, and the chunks that the mover looks at in a turn. (own)
-const STRIPES: u64 = 8;
+// How many chunks of the first class have a stripe among them. The index of a stripe has 1,024 places until it has more than 896 items.
+// So 800 leave room for hashes that lie unevenly. (own)
+const STRIPE_CHUNKS: u64 = 800;
 
+// The bytes of an index of 1,024 places.
+const INDEX: u64 = 33 * 1024 + 16;
+
+// The chunks that the mover looks at in a turn. (own)
 const BULK: u64 = 64;
 
 /// Why no configuration is made. The tests are made in this order.
@@ -27,18 +29,19 @@ pub enum SizingError {
     /// The workers are none, or more than 63.
     #[error("the number of workers must be from 1 to 63")]
     Workers,
-    /// A cache of one shard with one page takes more than the bytes.
+    /// A cache of one shard with one page takes more than the bytes, with its indexes.
     #[error("the bytes must have room for a shard with one page")]
     TooFewBytes,
 }
 
 impl CacheConfig {
-    /// The configuration of a cache that takes at most so many bytes of the allocator when it is made, by `Cache::bytes`. The first class has room for
+    /// The configuration of a cache that takes at most so many bytes of the allocator: those of `Cache::bytes`, and those of the indexes of items,
+    /// once each has 1,024 places. An index with more than 896 items takes more, which is seldom. The first class has room for
     /// items with `usual_item` bytes of key and value, and of all the chunks that a page has as many of, its chunks are the largest. Classes grow by
     /// a factor of 3, or of 1.5 where a page has one or two such chunks. An item may have up to 16,344 bytes of words for key and value. Pages have 16,384
     /// bytes, and a shard up to 64 of them. Of the numbers of pages a shard, it takes the one with which most pages fit in all. (own)
     pub fn for_bytes(bytes: u64, usual_item: u64, workers: u64) -> Result<CacheConfig, SizingError>
-        ensures fits { IfOk result (λ config. cache_bytes config ≤ bytes) }
+        ensures fits { IfOk result (λ config. filled_bytes config ≤ bytes) }
         ensures full { IfOk result (λ config. FillsBytes bytes config) }
         ensures accepted { IfOk result (λ config. cache_refusal config ≡ None) }
         ensures workers { IfOk result (λ config. config.workers ≡ workers) }
@@ -48,11 +51,11 @@ impl CacheConfig {
         ensures refused { IfErr result (λ error. sizing_refusal bytes usual_item workers
             ≡ Some error) }
     {
-        if workers < 1 || workers > 63 {
+        if workers < 1 || workers > MOST_WORKERS {
             return Err(SizingError::Workers);
         }
         let least = least_size(usual_item, workers);
-        if bytes_of(&least) > bytes {
+        if filled_bytes(&least) > bytes {
             return Err(SizingError::TooFewBytes);
         }
         let most = with_most_shards(least, bytes);
@@ -64,9 +67,9 @@ impl CacheConfig {
 fn sized_first(usual_item: u64) -> u64
     ensures size { result ≡ sized_first usual_item }
 {
-    let chunk = ITEM_BYTES + (usual_item.min(PAGE) + 14) / 8 * 8;
-    let chunks = (PAGE / chunk).max(1);
-    (PAGE / chunks / 8 * 8).max(64)
+    let chunk = ITEM_BYTES + (usual_item.min(MOST_PAGE_BYTES) + 14) / 8 * 8;
+    let chunks = (MOST_PAGE_BYTES / chunk).max(1);
+    (MOST_PAGE_BYTES / chunks / 8 * 8).max(64)
 }
 
 // Twice the factor from class to class.
@@ -78,19 +81,20 @@ fn doubled_factor(first: u64) -> u64
 
 // A cache of one shard with n pages.
 fn sized(usual_item: u64, workers: u64, pages: u64) -> CacheConfig
-    requires { pages ≤ 64 }
+    requires { pages ≤ most_pages }
     ensures config { result ≡ sized_cache usual_item workers pages }
     ensures one { result.shards ≡ 1 }
 {
     let first = sized_first(usual_item);
+    let chunks = pages * (MOST_PAGE_BYTES / first);
     let arena = Config {
-        page: PAGE,
-        limit: PAGE * pages,
+        page: MOST_PAGE_BYTES,
+        limit: MOST_PAGE_BYTES * pages,
         first,
         num: doubled_factor(first),
         den: 2,
-        max: PAGE,
-        stripes: STRIPES,
+        max: MOST_PAGE_BYTES,
+        stripes: chunks.div_ceil(STRIPE_CHUNKS),
         bulk: BULK,
     };
     CacheConfig {
@@ -103,7 +107,7 @@ fn sized(usual_item: u64, workers: u64, pages: u64) -> CacheConfig
 // The smallest cache of a size, which has one page.
 fn least_size(usual_item: u64, workers: u64) -> CacheConfig
     requires some { 1 ≤ workers }
-    requires few { workers ≤ 63 }
+    requires workers { workers ≤ most_workers }
     ensures config { result ≡ sized_cache usual_item workers 1 }
     ensures one { result.shards ≡ 1 }
     ensures accepted { cache_refusal result ≡ None }
@@ -111,16 +115,24 @@ fn least_size(usual_item: u64, workers: u64) -> CacheConfig
     sized(usual_item, workers, 1)
 }
 
-// Whether the configuration is accepted, and the cache takes at most these bytes.
+// The bytes of a cache with its indexes.
+fn filled_bytes(config: &CacheConfig) -> u64
+    requires accepted { cache_refusal config.now ≡ None }
+    ensures bytes { result ≡ filled_bytes config.now }
+{
+    bytes_of(config) + config.shards * config.arena.stripes * INDEX
+}
+
+// Whether the configuration is accepted, and the cache takes at most these bytes with its indexes.
 fn fits(config: &CacheConfig, bytes: u64) -> bool
     ensures fits { result ≡ true → (cache_refusal config.now ≡ None)
-        × (cache_bytes config.now ≤ bytes) }
-    ensures few { result ≡ true → config.now.shards ≤ 4096 }
+        × (filled_bytes config.now ≤ bytes) }
+    ensures within_limit { result ≡ true → config.now.shards ≤ 4096 }
     ensures over { result ≡ false → cache_refusal config.now ≡ None →
-        bytes < cache_bytes config.now }
+        bytes < filled_bytes config.now }
 {
     match test(config) {
-        Ok(()) => bytes_of(config) <= bytes,
+        Ok(()) => filled_bytes(config) <= bytes,
         Err(_) => false,
     }
 }
@@ -135,10 +147,10 @@ fn with_shards(shards: u64, config: CacheConfig) -> CacheConfig
 // The cache with as many shards as fit, where these do.
 fn with_most_shards(config: CacheConfig, bytes: u64) -> CacheConfig
     requires accepted { cache_refusal config ≡ None }
-    requires fits { cache_bytes config ≤ bytes }
-    requires few { config.shards ≤ 4096 }
+    requires fits { filled_bytes config ≤ bytes }
+    requires within_limit { config.shards ≤ 4096 }
     ensures accepted { cache_refusal result ≡ None }
-    ensures fits { cache_bytes result ≤ bytes }
+    ensures fits { filled_bytes result ≤ bytes }
     ensures full { FillsBytes bytes result }
     ensures workers { result.workers ≡ config.workers }
     ensures arena { result.arena ≡ config.arena }
@@ -152,7 +164,9 @@ fn with_most_shards(config: CacheConfig, bytes: u64) -> CacheConfig
 
 // How many pages the limits of all shards have room for.
 fn page_count(config: &CacheConfig) -> u64 {
-    config.shards.saturating_mul(config.arena.limit / PAGE)
+    config
+        .shards
+        .saturating_mul(config.arena.limit / MOST_PAGE_BYTES)
 }
 
 // The one of two configurations that has more pages, and the second where both have as many.
@@ -174,7 +188,7 @@ fn roomier_with(
     pages: u64,
     best: CacheConfig,
 ) -> CacheConfig
-    requires pages { pages ≤ 64 }
+    requires pages { pages ≤ most_pages }
     requires sized { IsSized bytes usual_item workers best }
     ensures sized { IsSized bytes usual_item workers result }
 {
@@ -198,8 +212,8 @@ fn roomiest(bytes: u64, usual_item: u64, workers: u64, least: CacheConfig) -> Ca
 }
 
 /// Worked cases. Items of 72 bytes of key and value have chunks of 120 bytes in the first class, 136 a page. Those of 1,032 bytes have chunks of
-/// 1,080, of which a page has 15, and 1,088 bytes have as much room. The smallest cache for one worker and the first
-/// items takes 135,848 bytes.
+/// 1,080, of which a page has 15, and 1,088 bytes have as much room. For the first items, a page wants 1 stripe, and 64 pages want 11. The
+/// smallest cache for one worker and these items takes 165,176 bytes with its index.
 pub fn worked_sizes()
     ensures { UsualSizes }
 {}

@@ -20,9 +20,9 @@ pub struct Tender {
 }
 
 impl Tender {
-    ghost use Rattle.std.specs.Prelude.{◌≡◌, ◌≤◌, IfOk};
-    ghost use Rattle.mc_cache.specs.Stats.{CountsCache, SetsModes};
-    ghost use Rattle.mc_cache.specs.Tending.{IsTenderOf, SayNothing, TendsCache, deciders_of, tender_hands};
+    ghost use Rattle.std.specs.Prelude.{◌≡◌, ◌≤◌, IfOk, OnErr};
+    ghost use Rattle.mc_cache.specs.Stats.{CountsCache, CountsUpToRefusal, SetsModes};
+    ghost use Rattle.mc_cache.specs.Tending.{IsTenderOf, SayNothing, TendsCache, TendsUpToRefusal, deciders_of, tender_hands};
 
     /// A window of each shard, to be called about once a second. The dead of all classes are put back, the shard's decider is fed
     /// what its classes have then, and the move that it decides on begins. Up to 16 turns of the shard's mover are done, until
@@ -34,6 +34,7 @@ impl Tender {
         ensures belongs { IsTenderOf cache.now self.new }
         ensures stores_nothing { SayNothing (tender_hands self.old) (tender_hands self.new) }
         ensures tends { IfOk result (λ done. TendsCache cache.now done self.old self.new) }
+        ensures refused { OnErr result (TendsUpToRefusal cache.now self.old self.new) }
     {
         let alloc = self.alloc;
         let mut done = Tended::new();
@@ -56,6 +57,7 @@ impl Tender {
         ensures stores_nothing { SayNothing (tender_hands self.old) (tender_hands self.new) }
         ensures deciders { deciders_of self.new ≡ deciders_of self.old }
         ensures counts { IfOk result (λ stats. CountsCache cache.now stats self.old self.new) }
+        ensures refused { OnErr result (CountsUpToRefusal cache.now self.old self.new) }
     {
         let alloc = self.alloc;
         let mut stats = CacheStats::new(alloc);

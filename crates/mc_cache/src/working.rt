@@ -2,6 +2,7 @@
 use crate::cache::{Cache, Worker};
 use crate::shard;
 use crate::shard::Label;
+use mc_classes::MOST_PAGE_BYTES;
 use mc_memory::Refused;
 use std::sync::Wait;
 use thiserror::Error;
@@ -46,13 +47,14 @@ pub enum TryGetError {
 }
 
 /// The most bytes of a value: as many as the largest chunk has. (own)
-const MOST_VALUE_BYTES: usize = 16_384;
+const MOST_VALUE_BYTES: usize = MOST_PAGE_BYTES as usize;
 
 impl Worker {
     ghost use Rattle.std.specs.Prelude.{◌≡◌, ◌<◌, ◌↔◌, ◌⊎◌, Err, Ok, OnErr, OnOk, false, length, true};
+    ghost use Rattle.mc_classes.specs.Limits.{most_page_bytes};
     ghost use Rattle.mc_items.specs.declared.setting.SetError as items;
     ghost use Rattle.mc_cache.specs.Belonging.{ActsOnKey, BelongsTo, DeletesNoneOf, GivesValueOf, KeepsHands, RefusesValueOf, hash_in};
-    ghost use Rattle.mc_cache.specs.Shards.{DeletesAtMost, DeletesThere, FindsStripeLocked, FindsKeyInShard, GetsAtMost, IsKey, LooksInVain, ReadsOther, StoresNoMore, StoresValue, TouchesNothing, TouchesThere};
+    ghost use Rattle.mc_cache.specs.Shards.{DeletesAtMost, DeletesThere, FindsStripeLocked, FindsKeyInShard, GetsAtMost, IsKey, LooksInVain, ReadsOther, StoresNoMore, StoresValue, TouchesNothing, TouchesOnce, TouchesThere};
     ghost use Rattle.mc_cache.specs.declared.working.CallError.TheVariants as call_error;
     ghost use Rattle.mc_cache.specs.declared.working.SetError.TheVariants as set_error;
     ghost use Rattle.mc_cache.specs.declared.working.TryGetError.TheVariants as try_error;
@@ -70,8 +72,9 @@ impl Worker {
         ensures belongs { BelongsTo cache.now self.new }
         ensures key { (result ≡ Err set_error.KeyLength) ↔ ¬ IsKey key.now }
         ensures value { (result ≡ Err set_error.ValueLength) ↔ IsKey key.now
-            × (16384 < length value.now) }
-        ensures same { ¬ IsKey key.now ⊎ (16384 < length value.now) → KeepsHands self.old self.new }
+            × (most_page_bytes < length value.now) }
+        ensures same { ¬ IsKey key.now ⊎ (most_page_bytes < length value.now) →
+            KeepsHands self.old self.new }
         ensures stores { OnOk result (ActsOnKey cache.now key.now
             (StoresValue (hash_in cache.now key.now) key.now value.now) self.old self.new) }
         ensures refused { (error : items.SetError) → result ≡ Err (set_error.Item error) →
@@ -254,6 +257,8 @@ impl Worker {
         ensures calls { IsKey key.now →
             ActsOnKey cache.now key.now (DeletesAtMost (hash_in cache.now key.now)) self.old
             self.new }
+        ensures untouched { IsKey key.now →
+            ActsOnKey cache.now key.now TouchesNothing self.old self.new }
     {
         let Some(at) = cache.place_of(key) else {
             return Err(CallError::KeyLength);
@@ -280,6 +285,10 @@ impl Worker {
         ensures refused { OnErr result (IsKey key.now →
             ActsOnKey cache.now key.now (LooksInVain (hash_in cache.now key.now)) self.old
             self.new) }
+        ensures once { result ≡ Ok true →
+            ActsOnKey cache.now key.now TouchesOnce self.old self.new }
+        ensures untouched { (result ≡ Ok true → ⊥) → IsKey key.now →
+            ActsOnKey cache.now key.now TouchesNothing self.old self.new }
         ensures calls { IsKey key.now →
             ActsOnKey cache.now key.now (GetsAtMost (hash_in cache.now key.now)) self.old self.new }
     {

@@ -1,5 +1,5 @@
 -- Which calls leave the lock of the slabs alone.
-use Rattle.std.proofs.Common.{◌≡◌, ◌∙◌, ◌⊎◌, ℕ, Err, Option, Result, Some, None, ap, inl, inr, refl}
+use Rattle.std.proofs.Common.{◌≡◌, ◌∙◌, ◌⊎◌, ℕ, ◌+◌, Bool, true, false, List, [], ◌∷◌, Ok, IfOk, OnErr, Err, Option, Result, Some, None, ap, inl, inr, refl}
 use Rattle.std.specs.Option.{option_map}
 use Rattle.mc_pages.specs.declared.ids.ChunkId.{ChunkId}
 use Rattle.mc_core.specs.declared.head.Head.{Head}
@@ -11,17 +11,18 @@ use Rattle.mc_words.specs.item.Again.{FindsContended, FindsGone, FindsOther}
 use Rattle.mc_words.specs.hand.Arenas.{view}
 use Rattle.mc_words.specs.hand.Observers.{hand_number}
 use Rattle.mc_words.specs.hand.View.{Setup, View}
-use Rattle.mc_words.specs.hand.Views.{chunk_released, word_seen}
-use Rattle.mc_words.specs.lock.Wait.{WaitsForStripe}
+use Rattle.mc_words.specs.hand.Views.{chunk_released, slabs_missed, word_seen}
+use Rattle.mc_words.specs.lock.Doing.{HoldsSlabs}
+use Rattle.mc_words.specs.lock.Wait.{MissesSlabs, WaitsForStripe}
 use Rattle.mc_stripe.specs.StripeState.{ReadyStripe}
 use Rattle.mc_items.specs.declared.refs.Ref.{Ref}
-use Rattle.mc_items.specs.Calls.{CallsOn, LooksUp}
+use Rattle.mc_items.specs.Calls.{Bumps, CallsOn, Deletes, LooksUp}
 use Rattle.mc_items.specs.ItemRefs.{item_chunk, item_reference}
 use Rattle.mc_cache.specs.shard.Finding.{FollowsInVain}
-use Rattle.mc_items.specs.OnKeys.{FindsNoRoomFor, FindsStripeHeld, Gets, GetsByHint, stripe_of_key}
+use Rattle.mc_items.specs.OnKeys.{ActsOn, FindsNoRoomFor, FindsStripeHeld, Gets, GetsByHint, stripe_of_key}
 use Rattle.mc_items.specs.Reading.{AndReads}
 use Rattle.mc_items.proofs.Locks.{waits_keep}
-use Rattle.mc_cache.specs.shard.Reading.{LeavesSlabs}
+use Rattle.mc_cache.specs.shard.Reading.{LeavesSlabs, TakesSlabsOnce}
 
 -- how often the hand took that lock
 abbrev count_of : View → ℕ
@@ -83,3 +84,21 @@ pub missed_in_vain : (e : Again) (hash : ℕ) (hint : Hint) (before now : View) 
 missed_in_vain Gone hash hint before now gone contended at_limit = inr (hint, inl (gone refl))
 missed_in_vain Contended hash hint before now gone contended at_limit = inr (hint, inr (inl (contended refl)))
 missed_in_vain TooManyRefs hash hint before now gone contended at_limit = inl (at_limit refl)
+
+-- a delete
+deleted_leaves : (setup : Setup) (hash : ℕ) (there : Bool) (before now : Hand) → ActsOn setup hash (λ number stripe. Deletes number stripe hash there) before now → LeavesSlabs (view before) (view now)
+deleted_leaves setup hash true before now on = ap count_of on.done.given ∙ (ap count_of on.done.does.1 ∙ waited (stripe_of_key setup hash) (view before) on.value on.taken on.waits)
+deleted_leaves setup hash false before now on = ap count_of on.done.given ∙ (ap count_of on.done.does.1 ∙ waited (stripe_of_key setup hash) (view before) on.value on.taken on.waits)
+
+-- a delete that came or was refused
+pub delete_leaves : {E : Type 0} (result : Result Bool E) (setup : Setup) (hash : ℕ) (before now : Hand) → IfOk result (λ there. ActsOn setup hash (λ number stripe. Deletes number stripe hash there) before now) → OnErr result (FindsNoRoomFor setup hash before now) → LeavesSlabs (view before) (view now)
+delete_leaves (Ok there) setup hash before now done none = deleted_leaves setup hash there before now done
+delete_leaves (Err error) setup hash before now done none = no_room_leaves setup hash before now none
+
+misses_leave : (words : List ℕ) (before now : View) → MissesSlabs words before now → count_of now ≡ count_of before
+misses_leave [] before now is = ap count_of is
+misses_leave (word ∷ words) before now (busy, happens, rest) = misses_leave words (slabs_missed word before) now rest
+
+-- an item that was made the newest: the lock was taken once
+pub bumped_once : (number : ℕ) (chunk : ChunkId) (before now : View) → HoldsSlabs (Bumps number chunk) before now → TakesSlabsOnce before now
+bumped_once number chunk before now holds = ap count_of holds.given ∙ (ap count_of holds.does.1 ∙ (ap count_of holds.waits.is ∙ ap (λ (n : ℕ). n + 1) (misses_leave holds.waits.words before holds.waits.before holds.waits.misses)))

@@ -1,5 +1,5 @@
 -- A set behind the room that was made for it.
-use Rattle.std.proofs.Common.{◌≡◌, ℕ, List, [], Err, IfErr, IfOk, Ok, OnErr, Result, inl, inr, refl, subst}
+use Rattle.std.proofs.Common.{◌≡◌, ℕ, List, [], inl, inr, refl, subst}
 use Rattle.mc_words.specs.declared.hand.Hand.{Hand}
 use Rattle.mc_words.specs.hand.Arenas.{view}
 use Rattle.mc_words.specs.hand.View.{View}
@@ -22,26 +22,22 @@ module _ (number own hash : ℕ) (same : own ≡ number) (first second words : L
   made : MakesRoomFor first before between → MakesRoomFor words before between
   made makes = subst (λ (ws : List ℕ). MakesRoomFor ws before between) is_first makes
 
-  pub sets_behind : {E : Type 0} (result : Result ℕ E) → MakesRoomFor first before between → IfOk result (λ stamp. SetsItem own hash stamp second (view between) (view now)) → IfOk result (λ stamp. SetsBehindRoom number hash stamp words before now)
-  sets_behind (Ok stamp) makes sets = record {
+  pub sets_behind : (stamp : ℕ) → MakesRoomFor first before between → SetsItem own hash stamp second (view between) (view now) → SetsBehindRoom number hash stamp words before now
+  sets_behind stamp makes sets = record {
     between = between;
     makes = made makes;
     sets = subst (λ (ws : List ℕ). SetsItem number hash stamp ws (view between) (view now)) is_second (subst (λ (n : ℕ). SetsItem n hash stamp second (view between) (view now)) same sets);
   }
-  sets_behind (Err error) makes sets = tt
 
-  pub calls_behind : {E : Type 0} (result : Result ℕ E) → RecordsSomeDeletes number (view before) (view between) → IfOk result (λ stamp. RecordsSet own hash stamp (view between) (view now)) → IfOk result (λ stamp. RecordsSetBehindRoom number hash stamp before now)
-  calls_behind (Ok stamp) deletes sets = record { between = between; deletes = deletes; sets = subst (λ (n : ℕ). RecordsSet n hash stamp (view between) (view now)) same sets }
-  calls_behind (Err error) deletes sets = tt
+  pub calls_behind : (stamp : ℕ) → RecordsSomeDeletes number (view before) (view between) → RecordsSet own hash stamp (view between) (view now) → RecordsSetBehindRoom number hash stamp before now
+  calls_behind stamp deletes sets = record { between = between; deletes = deletes; sets = subst (λ (n : ℕ). RecordsSet n hash stamp (view between) (view now)) same sets }
 
-  pub refuses_behind : (result : Result ℕ SetError) → MakesRoomFor first before between → IfErr result (λ error. RefusesSet own hash second error (view between) (view now)) → IfErr result (λ error. RefusesBytes number hash words error before now)
-  refuses_behind (Ok stamp) makes refuses = tt
-  refuses_behind (Err error) makes refuses = inr (record {
+  pub refuses_behind : (error : SetError) → MakesRoomFor first before between → RefusesSet own hash second error (view between) (view now) → RefusesBytes number hash words error before now
+  refuses_behind error makes refuses = inr (record {
     between = between;
     makes = made makes;
     refuses = subst (λ (ws : List ℕ). RefusesSet number hash ws error (view between) (view now)) is_second (subst (λ (n : ℕ). RefusesSet n hash second error (view between) (view now)) same refuses);
   })
 
-  pub evicts_behind : {E : Type 0} (result : Result ℕ E) → RecordsSomeDeletes number (view before) (view between) → OnErr result (RecordsEviction own (view between) (view now)) → OnErr result (RecordsEvictionsAlone number before now)
-  evicts_behind (Ok stamp) deletes evicts = tt
-  evicts_behind (Err error) deletes evicts = record { between = between; deletes = deletes; evicts = subst (λ (n : ℕ). RecordsEviction n (view between) (view now)) same evicts }
+  pub evicts_behind : RecordsSomeDeletes number (view before) (view between) → RecordsEviction own (view between) (view now) → RecordsEvictionsAlone number before now
+  evicts_behind deletes evicts = record { between = between; deletes = deletes; evicts = subst (λ (n : ℕ). RecordsEviction n (view between) (view now)) same evicts }

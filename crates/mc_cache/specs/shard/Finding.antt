@@ -1,5 +1,5 @@
 -- What is found under a hash: the words of an item, and whether they are a packing of a key.
-use Rattle.std.specs.Prelude.{◌≡◌, ◌≢◌, ◌⊎◌, ℕ, Bool, false, true, List, [], ◌∷◌, ◌++◌, Option, None, Some, IfSome}
+use Rattle.std.specs.Prelude.{◌≡◌, ◌≢◌, ◌⊎◌, ℕ, Bool, false, List, [], ◌∷◌, ◌++◌, Option, None, Some, IfSome}
 use Rattle.std.specs.Option.{option_map}
 use Rattle.mc_packing.specs.Packing.{IsPackingOf, packed_item}
 use Rattle.mc_words.specs.declared.arena.Arena.{Arena}
@@ -14,11 +14,12 @@ use Rattle.mc_words.specs.hand.Views.{chunk_released}
 use Rattle.mc_words.specs.lock.Doing.{HoldsSlabs}
 use Rattle.mc_items.specs.declared.refs.Ref.{Ref}
 use Rattle.mc_items.specs.Current.{GetsCurrent}
-use Rattle.mc_items.specs.ItemRefs.{item_chunk, item_key, item_words}
+use Rattle.mc_items.specs.ItemRefs.{item_chunk, item_key, item_stamp, item_words}
 use Rattle.mc_items.specs.OnKeys.{ActsOn, FindsNoRoomFor, FindsStripeHeld, Gets}
 use Rattle.mc_items.specs.Calls.{Bumps, Deletes}
 use Rattle.mc_items.specs.Keeping.{holding_by}
 use Rattle.mc_cache.specs.shard.Hands.{WereStored, items_stored_by}
+use Rattle.mc_cache.specs.shard.Newest.{IsNewestOwn}
 use Rattle.mc_cache.specs.shard.Reading.{RefersTo}
 
 -- the hand got the item of this hash by a hint, with no lock. It was the hash's current item at the exchange by which the hand got it
@@ -42,8 +43,8 @@ pub record TriesHint (hash : ℕ) (before tried : Hand) : Type 0 where
   pub number : hand_number tried ≡ hand_number before
   pub did : (view tried ≡ view before) ⊎ ((hint : Hint) × FollowsInVain hint hash (view before) (view tried))
 
--- the hand got the item under the hash, perhaps after a hint led to nothing, and these are its words, which some hand stored; or there was
--- none
+-- the hand got the item under the hash, perhaps after a hint led to nothing, and these are its words, which some hand stored with its
+-- stamp; or there was none. An item of the hand's own is the newest that the hand stored under the hash
 pub record FindsWords (setup : Setup) (hash : ℕ) (before : Hand) (words : Option (List ℕ)) : Type 0 where
   pub tried : Hand
   pub tries : TriesHint hash before tried
@@ -51,7 +52,8 @@ pub record FindsWords (setup : Setup) (hash : ℕ) (before : Hand) (words : Opti
   pub item : Option Ref
   pub gets : GetsUnder setup hash item tried got
   pub words_are : words ≡ option_map (item_words (view got)) item
-  pub stored : IfSome words (λ words. (stamp : ℕ) × WereStored setup (items_stored_by before) stamp (item_with hash stamp words))
+  pub stored : IfSome item (λ item. IfSome words (λ words. WereStored setup (items_stored_by before) (item_stamp item) (item_with hash (item_stamp item) words)))
+  pub newest : IfSome item (λ item. IsNewestOwn setup hash (item_stamp item) (view before).row.knows.mine)
 
 -- some item was under the hash
 abbrev pub FindsSome : Setup → ℕ → Hand → Type 0

@@ -1,5 +1,5 @@
 -- Words of an item that a hand reads in place.
-use Rattle.std.specs.Prelude.{◌≡◌}
+use Rattle.std.specs.Prelude.{◌≡◌, ◌+◌}
 use Rattle.mc_words.specs.declared.arena.Arena.{Arena}
 use Rattle.mc_words.specs.declared.hand.Hand.{Hand}
 use Rattle.mc_words.specs.hand.Arenas.{IsHandOf, view}
@@ -20,6 +20,10 @@ pub record RefersTo (arena : Arena) (item : Ref) (hand : Hand) : Type 0 where
 -- the hand took the lock of the slabs no more often than it had, so it made no item newer or older in its class
 abbrev pub LeavesSlabs : View → View → Type 0
 LeavesSlabs before now = now.row.knows.hold.count ≡ before.row.knows.hold.count
+
+-- the hand took the lock of the slabs once more than it had
+abbrev pub TakesSlabsOnce : View → View → Type 0
+TakesSlabsOnce before now = now.row.knows.hold.count ≡ before.row.knows.hold.count + 1
 
 -- the hand read words of the item, or none, and did nothing else
 pub record OnlyReads (arena : Arena) (item : Ref) (before now : Hand) : Type 0 where

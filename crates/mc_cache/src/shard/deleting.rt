@@ -6,6 +6,7 @@ ghost use Rattle.mc_words.specs.hand.Observers.{hand_number};
 ghost use Rattle.mc_items.specs.Keeping.{StoresNothing};
 ghost use Rattle.mc_cache.specs.shard.Finding.{DeletesKey, DeletesNone, FindsFull};
 ghost use Rattle.mc_cache.specs.shard.Hands.{IsIdleHandOf};
+ghost use Rattle.mc_cache.specs.shard.Reading.{LeavesSlabs};
 ghost use Rattle.mc_cache.specs.shard.Recording.{RecordsDeleteAtMost};
 
 use crate::shard::hints::HintTable;
@@ -35,6 +36,7 @@ pub fn delete<R: Wait>(
         × FindsFull (setup_of arena.now) at.entry.hash between hand.new) }
     ensures calls { RecordsDeleteAtMost (setup_of arena.now) at.entry.hash hand.old hand.new }
     ensures stores_nothing { StoresNothing (view hand.old) (view hand.new) }
+    ensures slabs { LeavesSlabs (view hand.old) (view hand.new) }
 {
     match contains(rt, arena, hints, hand, at) {
         Ok(true) => mc_items::delete(rt, arena, hand, at.hash),

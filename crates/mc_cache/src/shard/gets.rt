@@ -8,7 +8,7 @@ ghost use Rattle.mc_items.specs.ItemRefs.{item_words};
 ghost use Rattle.mc_items.specs.Keeping.{StoresNothing, holding_by};
 ghost use Rattle.mc_cache.specs.shard.Finding.{BumpsItem, FindsFull, FindsOtherKey, FindsSome, ReturnsValue, TouchesKey};
 ghost use Rattle.mc_cache.specs.shard.Hands.{IsIdleHandOf};
-ghost use Rattle.mc_cache.specs.shard.Reading.{LeavesSlabs, RefersTo};
+ghost use Rattle.mc_cache.specs.shard.Reading.{LeavesSlabs, RefersTo, TakesSlabsOnce};
 ghost use Rattle.mc_cache.specs.shard.Recording.{RecordsGetAtMost};
 
 use crate::shard::hints::HintTable;
@@ -100,6 +100,8 @@ pub fn touch<R: Wait>(
     ensures none { result ≡ Ok false →
         FindsOtherKey (setup_of arena.now) at.entry.hash at.entry.key.now hand.old }
     ensures full { OnErr result (FindsFull (setup_of arena.now) at.entry.hash hand.old hand.new) }
+    ensures once { result ≡ Ok true → TakesSlabsOnce (view hand.old) (view hand.new) }
+    ensures slabs { (result ≡ Ok true → ⊥) → LeavesSlabs (view hand.old) (view hand.new) }
     ensures calls { RecordsGetAtMost (setup_of arena.now) at.entry.hash hand.old hand.new }
     ensures stores_nothing { StoresNothing (view hand.old) (view hand.new) }
     ensures number { hand_number hand.new ≡ hand_number hand.old }
@@ -117,6 +119,8 @@ fn touch_own<R: Wait>(rt: &R, arena: &Arena, hand: &mut Hand, item: Ref, key: &[
     requires alone { (view hand.old).row.holdings ≡ holding_by (view hand.old) item ∷ [] }
     ensures own { result ≡ true → IsPackingOf key.now (item_words (view hand.old) item) }
     ensures bumps { result ≡ true → BumpsItem (hand_number hand.old) item hand.new }
+    ensures once { result ≡ true → TakesSlabsOnce (view hand.old) (view hand.new) }
+    ensures slabs { result ≡ false → LeavesSlabs (view hand.old) (view hand.new) }
     ensures other { result ≡ false → ¬ IsPackingOf key.now (item_words (view hand.old) item) }
     ensures calls { RecordsNoCall (view hand.old) (view hand.new) }
     ensures stores_nothing { StoresNothing (view hand.old) (view hand.new) }
@@ -133,6 +137,8 @@ fn let_go<R: Wait>(rt: &R, arena: &Arena, hand: &mut Hand, item: Ref, touches: b
     requires item { RefersTo arena.now item hand.old }
     requires alone { (view hand.old).row.holdings ≡ holding_by (view hand.old) item ∷ [] }
     ensures bumps { touches ≡ true → BumpsItem (hand_number hand.old) item hand.new }
+    ensures once { touches ≡ true → TakesSlabsOnce (view hand.old) (view hand.new) }
+    ensures slabs { touches ≡ false → LeavesSlabs (view hand.old) (view hand.new) }
     ensures calls { RecordsNoCall (view hand.old) (view hand.new) }
     ensures stores_nothing { StoresNothing (view hand.old) (view hand.new) }
     ensures number { hand_number hand.new ≡ hand_number hand.old }

@@ -11,7 +11,7 @@ ghost use Rattle.mc_cache.specs.shard.Setting.{LacksRoomFor, MakesRoomFor, Recor
 
 use crate::shard::hints::HintTable;
 use crate::shard::label::Label;
-use mc_items::{Marks, SetError, make_room};
+use mc_items::{Marks, SetError, make_room, set_hinted};
 use mc_memory::Refused;
 use mc_packing::pack;
 use mc_stripe::Stamp;
@@ -27,16 +27,16 @@ const MOST_CHANCES: u64 = 12;
 struct Chances<'a> {
     hints: &'a HintTable,
     /// How many items it let stay.
-    given: Cell<u64>,
+    count: Cell<u64>,
 }
 
 impl Marks for Chances<'_> {
     fn take(&self, key: u64) -> bool {
-        let given = self.given.get();
-        if given >= MOST_CHANCES || !self.hints.take_mark(key) {
+        let count = self.count.get();
+        if count >= MOST_CHANCES || !self.hints.take_mark(key) {
             return false;
         }
-        self.given.set(given.wrapping_add(1));
+        self.count.set(count.wrapping_add(1));
         true
     }
 }
@@ -44,8 +44,8 @@ impl Marks for Chances<'_> {
 /// Stores an item of this key and this value under its hash, in place of what was there, and returns its stamp. The item is
 /// packed into `words`, which takes memory only where it has too little; what was in it is gone. A packing of `n` words goes to
 /// the lowest class with chunks of `24 + 8 n` bytes. Where that class has no free chunk and no page is left for it, some of its
-/// oldest items that aren't marked are evicted first. It waits for the locks of the slabs and of the hash's stripe. (memcached's
-/// `process_update_command`)
+/// oldest items that aren't marked are evicted first. It waits for the locks of the slabs and of the hash's stripe, and notes a hint of
+/// the item, so that the next get takes no lock. (memcached's `process_update_command`)
 pub fn set<R: Wait>(
     rt: &R,
     arena: &Arena,
@@ -77,7 +77,13 @@ pub fn set<R: Wait>(
     if let Err(refused) = make_room_for(rt, arena, hints, hand, words) {
         return Err(SetError::NoMemory(refused));
     }
-    mc_items::set(rt, arena, hand, at.hash, words)
+    match set_hinted(rt, arena, hand, at.hash, words) {
+        Ok(item) => {
+            hints.note(at.hash, item.hint);
+            Ok(item.stamp)
+        }
+        Err(error) => Err(error),
+    }
 }
 
 // Makes room in the class of these words, if it has none. Where no class has such chunks, nothing is done.
@@ -99,8 +105,8 @@ fn make_room_for<R: Wait>(
     let Some(class) = arena.classes().class_for(24 + 8 * words.len() as u64) else {
         return Ok(());
     };
-    let given = Cell::new(0);
-    let chances = Chances { hints, given };
+    let count = Cell::new(0);
+    let chances = Chances { hints, count };
     match make_room(rt, arena, hand, class, &chances) {
         Ok(_room) => Ok(()),
         Err(refused) => Err(refused),

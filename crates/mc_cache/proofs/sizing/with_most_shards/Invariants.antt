@@ -1,15 +1,14 @@
 use Rattle.std.proofs.Common.{◌≡◌, ◌-◌, ◌≤◌, None}
-use Rattle.mc_cache.specs.Bytes.{cache_bytes}
 use Rattle.mc_cache.specs.Opening.{cache_refusal}
-use Rattle.mc_cache.specs.Sizing.{with_shards}
+use Rattle.mc_cache.specs.Sizing.{filled_bytes, with_shards}
 use Rattle.mc_cache.proofs.sizing.with_most_shards.Given as goal
 
 abbrev pub invariant-loop-shards : goal.invariant-loop-shards
 invariant-loop-shards l =
     record {
       accepted : cache_refusal (with_shards l.shards l.config) ≡ None;
-      fits : cache_bytes (with_shards l.shards l.config) ≤ l.bytes;
-      few : l.shards ≤ 4096;
+      fits : filled_bytes (with_shards l.shards l.config) ≤ l.bytes;
+      within_limit : l.shards ≤ 4096;
     }
 
 abbrev pub decreases-loop-shards : goal.decreases-loop-shards

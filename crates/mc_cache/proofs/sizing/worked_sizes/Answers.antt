@@ -4,4 +4,4 @@ use Rattle.mc_cache.proofs.sizing.worked_sizes.Goals as goal
 
 pub returns : goal.returns
 unfolding classes_from count_after_doubling
-returns c = (refl, refl, refl, refl, refl)
+returns c = (refl, refl, refl, refl, refl, refl, refl)

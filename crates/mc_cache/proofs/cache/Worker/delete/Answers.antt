@@ -1,5 +1,5 @@
 use Rattle.std.proofs.Common.{false, inl, inr, true, ℕ, ⊎_elim}
-use Rattle.mc_cache.specs.Shards.{DeletesAtMost, DeletesThere, LooksInVain, ReadsOther}
+use Rattle.mc_cache.specs.Shards.{DeletesAtMost, DeletesThere, LooksInVain, ReadsOther, TouchesNothing}
 use Rattle.mc_cache.proofs.Acts.{acted, idle_after, refused_so, same_answer}
 use Rattle.mc_cache.proofs.cache.Worker.delete.Goals as goal
 
@@ -17,3 +17,6 @@ returns-clause-refused g c = refused_so _ _ c.delete.result c.map_err.result c.m
 
 pub returns-clause-calls : goal.returns-clause-calls
 returns-clause-calls g c = λ is_key. acted c.args.cache.now c.args.key.now c.args.self.now.hands.items c.in-Some.at c.index-arena.result.now c.index_mut-hand.result.now c.delete.new.hand (λ (hash : ℕ). DeletesAtMost hash) c.requires c.in-Some.ensures.hash c.in-Some.ensures.shard c.in-Some.ensures.in_range c.index-arena.ensures c.index_mut-hand.ensures.value (c.delete.ensures.number, c.delete.ensures.calls)
+
+pub returns-clause-untouched : goal.returns-clause-untouched
+returns-clause-untouched g c = λ is_key. acted c.args.cache.now c.args.key.now c.args.self.now.hands.items c.in-Some.at c.index-arena.result.now c.index_mut-hand.result.now c.delete.new.hand (λ (hash : ℕ). TouchesNothing) c.requires c.in-Some.ensures.hash c.in-Some.ensures.shard c.in-Some.ensures.in_range c.index-arena.ensures c.index_mut-hand.ensures.value c.delete.ensures.slabs

@@ -1,6 +1,6 @@
 use Rattle.std.proofs.Common.{false, true, ℕ}
-use Rattle.mc_cache.specs.Shards.{GetsAtMost, LooksInVain, ReadsOther, TouchesThere}
-use Rattle.mc_cache.proofs.Acts.{acted, idle_after, refused_so, same_answer}
+use Rattle.mc_cache.specs.Shards.{GetsAtMost, LooksInVain, ReadsOther, TouchesNothing, TouchesOnce, TouchesThere}
+use Rattle.mc_cache.proofs.Acts.{acted, answer_stays, idle_after, refused_so, same_answer}
 use Rattle.mc_cache.proofs.cache.Worker.touch.Goals as goal
 
 pub returns-clause-belongs : goal.returns-clause-belongs
@@ -17,3 +17,9 @@ returns-clause-refused g c = refused_so _ _ c.touch.result c.map_err.result c.ma
 
 pub returns-clause-calls : goal.returns-clause-calls
 returns-clause-calls g c = λ is_key. acted c.args.cache.now c.args.key.now c.args.self.now.hands.items c.in-Some.at c.index-arena.result.now c.index_mut-hand.result.now c.touch.new.hand (λ (hash : ℕ). GetsAtMost hash) c.requires c.in-Some.ensures.hash c.in-Some.ensures.shard c.in-Some.ensures.in_range c.index-arena.ensures c.index_mut-hand.ensures.value (c.touch.ensures.number, c.touch.ensures.calls)
+
+pub returns-clause-once : goal.returns-clause-once
+returns-clause-once g c = λ is. acted c.args.cache.now c.args.key.now c.args.self.now.hands.items c.in-Some.at c.index-arena.result.now c.index_mut-hand.result.now c.touch.new.hand (λ (hash : ℕ). TouchesOnce) c.requires c.in-Some.ensures.hash c.in-Some.ensures.shard c.in-Some.ensures.in_range c.index-arena.ensures c.index_mut-hand.ensures.value (c.touch.ensures.once (same_answer _ c.touch.result c.map_err.result true c.map_err.ensures.cases c.map_err.ensures.variant is))
+
+pub returns-clause-untouched : goal.returns-clause-untouched
+returns-clause-untouched g c = λ isnt is_key. acted c.args.cache.now c.args.key.now c.args.self.now.hands.items c.in-Some.at c.index-arena.result.now c.index_mut-hand.result.now c.touch.new.hand (λ (hash : ℕ). TouchesNothing) c.requires c.in-Some.ensures.hash c.in-Some.ensures.shard c.in-Some.ensures.in_range c.index-arena.ensures c.index_mut-hand.ensures.value (c.touch.ensures.slabs (λ is. isnt (answer_stays _ c.touch.result c.map_err.result true c.map_err.ensures.cases is)))

@@ -1,7 +1,8 @@
 use Rattle.std.proofs.Common.{ap, false, inr, Ok, true}
-use Rattle.mc_words.specs.hand.Arenas.{setup_of}
+use Rattle.mc_words.specs.hand.Arenas.{setup_of, view}
 use Rattle.mc_cache.proofs.Shards.Found.{deletes_key, refused_full}
 use Rattle.mc_cache.proofs.Shards.Recorded.{delete_or_none}
+use Rattle.mc_cache.proofs.Shards.Slabs.{delete_leaves, still_left}
 use Rattle.mc_cache.proofs.shard.deleting.delete.Goals as goal
 
 pub returns-in-Ok-true-clause-deletes : goal.returns-in-Ok-true-clause-deletes
@@ -15,3 +16,8 @@ returns-in-Ok-true-clause-full g c = refused_full c.delete.result (setup_of c.ar
 
 pub returns-in-Ok-true-clause-calls : goal.returns-in-Ok-true-clause-calls
 returns-in-Ok-true-clause-calls g c = delete_or_none (setup_of c.args.arena.now) c.args.at.hash c.delete.result c.args.hand.now c.contains.new.hand c.delete.new.hand c.contains.ensures.calls c.delete.ensures.calls c.delete.ensures.refused
+
+pub returns-in-Ok-true-clause-slabs : goal.returns-in-Ok-true-clause-slabs
+returns-in-Ok-true-clause-slabs g c =
+    still_left (view c.args.hand.now) (view c.contains.new.hand) (view c.delete.new.hand) c.contains.ensures.slabs
+    (delete_leaves c.delete.result (setup_of c.args.arena.now) c.args.at.hash c.contains.new.hand c.delete.new.hand c.delete.ensures.deletes c.delete.ensures.no_memory)

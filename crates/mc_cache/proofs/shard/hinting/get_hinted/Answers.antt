@@ -8,7 +8,7 @@ use Rattle.mc_cache.proofs.shard.hinting.get_hinted.Goals as goal
 pub returns-then-key-hash-clause-item : goal.returns-then-key-hash-clause-item
 returns-then-key-hash-clause-item c =
     let key = sym c.key.ensures.key ∙ c.if-key-hash.true in
-    found_item c.args.arena.now c.args.hash c.args.hand.now c.args.hand.now c.again.new.hand (Some c.in-Ok.item) (no_hint c.args.hash c.args.hand.now) c.again.ensures.hand.arena c.again.ensures.hand.ready c.in-Ok.ensures.stores_nothing
+    found_item c.args.arena.now c.args.hash c.args.hand.now c.args.hand.now c.again.new.hand (Some c.in-Ok.item) (no_hint c.args.hash c.args.hand.now) refl c.again.ensures.hand.arena c.again.ensures.hand.ready c.in-Ok.ensures.stores_nothing
     (inr (c.in_ok-hint.hint, c.in-Ok.ensures.current, key)) (c.in-Ok.ensures.item, key) c.requires.none c.in-Ok.ensures.holdings
 
 pub returns-else-key-hash-clause-none : goal.returns-else-key-hash-clause-none

@@ -10,7 +10,7 @@ use Rattle.mc_cache.proofs.shard.lookup.get_item.Goals as goal
 pub returns-in-Ok-Some-clause-item : goal.returns-in-Ok-Some-clause-item
 returns-in-Ok-Some-clause-item g c =
     the_item c.args.arena.now c.args.hash c.args.hand.now c.get.new.hand _ c.in-Ok-Some.item c.in-Ok-Some.field-0-is
-    (found_item c.args.arena.now c.args.hash c.args.hand.now c.get_hinted.new.hand c.get.new.hand _ (c.in_default.ensures.tries refl) c.get.ensures.hand.arena c.get.ensures.hand.ready (c.get.ensures.stores_nothing ∙ c.get_hinted.ensures.stores_nothing)
+    (found_item c.args.arena.now c.args.hash c.args.hand.now c.get_hinted.new.hand c.get.new.hand _ (c.in_default.ensures.tries refl) c.get_hinted.ensures.calls c.get.ensures.hand.arena c.get.ensures.hand.ready (c.get.ensures.stores_nothing ∙ c.get_hinted.ensures.stores_nothing)
     (inl c.in-Ok-Some.ensures.gets) c.in-Ok-Some.ensures.item (c.in_default.ensures.none refl).none c.in-Ok-Some.ensures.holdings)
 
 pub returns-in-Ok-Some-clause-slabs : goal.returns-in-Ok-Some-clause-slabs

@@ -15,22 +15,22 @@ returns-in-Err-make_room_for-clause-refused g c = inl (refl, inr (subst (λ (ws 
 pub returns-in-Err-make_room_for-clause-evicts : goal.returns-in-Err-make_room_for-clause-evicts
 returns-in-Err-make_room_for-clause-evicts g c = room_alone (hand_number c.args.hand.now) c.args.hand.now c.make_room_for.new.hand c.make_room_for.ensures.calls
 
-pub returns-clause-sets : goal.returns-clause-sets
-returns-clause-sets g c =
+pub returns-in-Ok-clause-sets : goal.returns-in-Ok-clause-sets
+returns-in-Ok-clause-sets g c =
     sets_behind (hand_number c.args.hand.now) (hand_number c.make_room_for.new.hand) c.args.at.hash c.make_room_for.ensures.number c.deref.result.now c.deref-2.result.now (packed_item c.args.at.key.now c.args.value.now) (c.deref.ensures.value ∙ c.in_default.ensures.packed) (c.deref-2.ensures.value ∙ c.in_default.ensures.packed)
-    c.args.hand.now c.make_room_for.new.hand c.set.new.hand c.set.result c.in_default-make_room_for.ensures.makes c.set.ensures.sets
+    c.args.hand.now c.make_room_for.new.hand c.set_hinted.new.hand c.in-Ok.item.stamp c.in_default-make_room_for.ensures.makes c.in-Ok.ensures.sets.0
 
-pub returns-clause-calls : goal.returns-clause-calls
-returns-clause-calls g c =
+pub returns-in-Ok-clause-calls : goal.returns-in-Ok-clause-calls
+returns-in-Ok-clause-calls g c =
     calls_behind (hand_number c.args.hand.now) (hand_number c.make_room_for.new.hand) c.args.at.hash c.make_room_for.ensures.number c.deref.result.now c.deref-2.result.now (packed_item c.args.at.key.now c.args.value.now) (c.deref.ensures.value ∙ c.in_default.ensures.packed) (c.deref-2.ensures.value ∙ c.in_default.ensures.packed)
-    c.args.hand.now c.make_room_for.new.hand c.set.new.hand c.set.result c.make_room_for.ensures.calls c.set.ensures.calls
+    c.args.hand.now c.make_room_for.new.hand c.set_hinted.new.hand c.in-Ok.item.stamp c.make_room_for.ensures.calls c.in-Ok.ensures.calls
 
-pub returns-clause-refused : goal.returns-clause-refused
-returns-clause-refused g c =
+pub returns-in-Err-set_hinted-clause-refused : goal.returns-in-Err-set_hinted-clause-refused
+returns-in-Err-set_hinted-clause-refused g c =
     refuses_behind (hand_number c.args.hand.now) (hand_number c.make_room_for.new.hand) c.args.at.hash c.make_room_for.ensures.number c.deref.result.now c.deref-2.result.now (packed_item c.args.at.key.now c.args.value.now) (c.deref.ensures.value ∙ c.in_default.ensures.packed) (c.deref-2.ensures.value ∙ c.in_default.ensures.packed)
-    c.args.hand.now c.make_room_for.new.hand c.set.new.hand c.set.result c.in_default-make_room_for.ensures.makes c.set.ensures.refused
+    c.args.hand.now c.make_room_for.new.hand c.set_hinted.new.hand c.in-Err-set_hinted.error c.in_default-make_room_for.ensures.makes c.in-Err-set_hinted.ensures.refused
 
-pub returns-clause-evicts : goal.returns-clause-evicts
-returns-clause-evicts g c =
+pub returns-in-Err-set_hinted-clause-evicts : goal.returns-in-Err-set_hinted-clause-evicts
+returns-in-Err-set_hinted-clause-evicts g c =
     evicts_behind (hand_number c.args.hand.now) (hand_number c.make_room_for.new.hand) c.args.at.hash c.make_room_for.ensures.number c.deref.result.now c.deref-2.result.now (packed_item c.args.at.key.now c.args.value.now) (c.deref.ensures.value ∙ c.in_default.ensures.packed) (c.deref-2.ensures.value ∙ c.in_default.ensures.packed)
-    c.args.hand.now c.make_room_for.new.hand c.set.new.hand c.set.result c.make_room_for.ensures.calls c.set.ensures.evicts
+    c.args.hand.now c.make_room_for.new.hand c.set_hinted.new.hand c.make_room_for.ensures.calls c.in-Err-set_hinted.ensures.evicts

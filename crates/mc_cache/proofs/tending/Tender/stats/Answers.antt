@@ -1,9 +1,9 @@
 use Rattle.std.proofs.Common.{◌<◌, ◌++◌, ◌∷◌, [], arith, length}
 use Rattle.std.proofs.lemmas.List.{length-set}
 use Rattle.mc_cache.specs.Tending.{tender_hands}
-use Rattle.mc_cache.proofs.Acts.{idle_after}
-use Rattle.mc_cache.proofs.EachShard.{one_surveyed}
-use Rattle.mc_cache.proofs.Tendings.{still_unsaid}
+use Rattle.mc_cache.proofs.Acts.{idle_after, on_refusal}
+use Rattle.mc_cache.proofs.EachShard.{one_surveyed, surveyed_before}
+use Rattle.mc_cache.proofs.Tendings.{still_behind, still_unsaid}
 use Rattle.mc_cache.proofs.tending.Tender.stats.Goals as goal
 
 pub returns-in_err-count_shard-clause-belongs : goal.returns-in_err-count_shard-clause-belongs
@@ -39,3 +39,13 @@ loop-shard-preserved g c =
         counts.adds inv.done.0 inv.done.2,
       );
     }
+
+pub returns-in_err-count_shard-clause-refused : goal.returns-in_err-count_shard-clause-refused
+returns-in_err-count_shard-clause-refused g c =
+    let done = c.loop-shard.invariant.done in on_refusal c.from_residual.result (record {
+      count = c.loop-shard.shard;
+      in_range = omega (arith, c.loop-shard-test.true);
+      surveys = done.0;
+      surveyed = surveyed_before c.loop-shard.shard (tender_hands c.args.self.now) c.loop-shard.self.worker.hands.items done.0 c.count_shard.new.hand done.1;
+      left = still_behind c.loop-shard.shard (tender_hands c.args.self.now) c.loop-shard.self.worker.hands.items c.count_shard.new.hand done.1.left;
+    })

@@ -1,8 +1,8 @@
 use Rattle.std.proofs.Common.{◌<◌, ◌∙◌, arith, length, refl}
 use Rattle.std.proofs.lemmas.List.{length-set}
 use Rattle.mc_cache.specs.Tending.{deciders_of, tender_hands}
-use Rattle.mc_cache.proofs.Acts.{idle_after}
-use Rattle.mc_cache.proofs.Tendings.{none_said, none_tended, one_tended, still_unsaid}
+use Rattle.mc_cache.proofs.Acts.{idle_after, on_refusal}
+use Rattle.mc_cache.proofs.Tendings.{none_said, none_tended, one_tended, still_behind, still_unsaid, tended_before}
 use Rattle.mc_cache.proofs.tending.Tender.tend.Goals as goal
 
 pub loop-shard-init : goal.loop-shard-init
@@ -42,3 +42,14 @@ loop-shard-preserved g c =
       done = one_tended c.loop-shard.shard (tender_hands c.args.self.now) (deciders_of c.args.self.now) c.loop-shard.self.worker.hands.items c.loop-shard.self.deciders.items c.loop-shard.done c.add.new.self c.in_ok-share.share c.index_mut-hand.result.now c.tend_shard.new.hand c.index_mut-decider.result.now c.tend_shard.new.decider
           near_hand near_decider c.index_mut-hand.ensures.value c.index_mut-decider.ensures.value c.in_ok-share.ensures.tends c.add.ensures.added inv.done;
     }
+
+pub returns-in_err-share-clause-refused : goal.returns-in_err-share-clause-refused
+returns-in_err-share-clause-refused g c =
+    let done = c.loop-shard.invariant.done in on_refusal c.from_residual.result (record {
+      count = c.loop-shard.shard;
+      in_range = omega (arith, c.loop-shard-test.true);
+      shares = done.shares;
+      tends = tended_before c.loop-shard.shard (tender_hands c.args.self.now) (deciders_of c.args.self.now) c.loop-shard.self.worker.hands.items c.loop-shard.self.deciders.items c.loop-shard.done c.tend_shard.new.hand c.tend_shard.new.decider done;
+      hands_left = still_behind c.loop-shard.shard (tender_hands c.args.self.now) c.loop-shard.self.worker.hands.items c.tend_shard.new.hand done.hands_left;
+      deciders_left = still_behind c.loop-shard.shard (deciders_of c.args.self.now) c.loop-shard.self.deciders.items c.tend_shard.new.decider done.deciders_left;
+    })
