@@ -4,3 +4,4 @@ pub mod Granted
 pub mod Popped
 pub mod Rising
 pub mod Misses
+pub mod Outcomes

@@ -2,3 +2,5 @@ pub mod Hands
 pub mod Preparing
 pub mod Closed
 pub mod Bounded
+pub mod Roomy
+pub mod Cached

@@ -4,7 +4,7 @@ ghost use Rattle.mc_stripe.specs.StripeState.{stamp_of_key};
 ghost use Rattle.mc_words.specs.hand.Arenas.{view};
 ghost use Rattle.mc_words.specs.hand.Ready.{IsReady, IsReadyHandOf, StaysReady};
 ghost use Rattle.mc_words.specs.hand.Seats.{IsSeatedAt};
-ghost use Rattle.mc_words.specs.item.Refs.{KeepsRefs};
+ghost use Rattle.mc_items.specs.Keeping.{KeepsHoldings};
 ghost use Rattle.example_calls.specs.Bounded.{FindsStamp, GivesNoStamp, IsNextStamp, Makes, MakesAtMost, StoresKeyAndWords, SetsOwn, granted_as_given};
 
 use mc_items::{SetWithinError, set_within};
@@ -72,7 +72,7 @@ pub fn set_at_second_try(
     ensures stamp { IfOk result (IsNextStamp hand.old) }
     ensures stores_words { IfOk result (StoresKeyAndWords key words.now hand.old hand.new) }
     ensures unused { OnErr result (GivesNoStamp hand.old hand.new) }
-    ensures keeps { KeepsRefs (view hand.old) (view hand.new) }
+    ensures holdings { KeepsHoldings (view hand.old) (view hand.new) }
 {
     match set_within(arena, hand, key, words, 1) {
         Err(SetWithinError::Held) => set_within(arena, hand, key, words, tries),

@@ -1,11 +1,17 @@
 //! Callers of a cache of bytes: how a server would use it.
 
 mod chained;
+mod newest;
+mod opened;
 mod remembered;
 mod shared;
+mod unused;
 mod watched;
 
 pub use chained::call_twice;
+pub use newest::{RefusedStep, set_twice_and_get};
+pub use opened::{OpenError, Opened, open_within};
 pub use remembered::{Answer, remember};
 pub use shared::share;
+pub use unused::get_from_new;
 pub use watched::tend_and_tell;

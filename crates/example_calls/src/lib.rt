@@ -9,6 +9,7 @@ mod closed;
 mod first;
 mod held;
 mod own;
+mod roomy;
 mod trimmed;
 
 pub use bounded::{granted_within, recall_and_set, set_at_second_try, stamp_within};
@@ -17,4 +18,5 @@ pub use closed::set_and_close;
 pub use first::{first_header, header_from, pop_worn, worn_out};
 pub use held::{read_after_all, read_after_trims};
 pub use own::{RefusedCall, set_and_read};
+pub use roomy::make_room_and_set;
 pub use trimmed::{entries_behind_a_trim, join_behind_a_trim, page_behind_a_trim};

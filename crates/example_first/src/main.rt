@@ -26,8 +26,9 @@ const CACHE: CacheConfig = CacheConfig {
 fn main(rt: HostRuntime) -> io::Result<()> {
     let (first, second) = (17, 42); // a program for use draws both
     let made = Cache::new(&rt, rt.alloc(), &CACHE, HashKey { first, second });
-    let Ok((cache, mut workers, _tender)) = made else {
-        return Err(io::ErrorKind::OutOfMemory.into());
+    let (cache, mut workers, _tender) = match made {
+        Ok(made) => made,
+        Err(error) => return println!(rt; "no cache was made: {error}"),
     };
     let (mut one, mut two) = (workers.remove(0), workers.remove(0));
     let mut city = || -> bool

@@ -16,23 +16,21 @@ use Rattle.mc_words.specs.hand.View.{View}
 use Rattle.mc_words.specs.item.Refs.{KeepsRemainingRefs, KeepsRefs}
 use Rattle.mc_items.specs.declared.refs.Ref.{Ref}
 use Rattle.mc_items.specs.ItemRefs.{RefersToEach, IsItemRef, item_chunk, refers_to}
-use Rattle.mc_items.specs.Keeping.{HoldsAsOften, HoldsLess, HoldsTheSame, HoldsToo, holding_by}
+use Rattle.mc_items.specs.Keeping.{HoldsLess, HoldsToo, KeepsHoldingCounts, KeepsHoldings, holding_by}
 use Rattle.mc_items.proofs.Rows.{chunk_found}
-use Rattle.mc_items.proofs.Chains.{held_refs_keep_items, kept_refs_keep_items}
+use Rattle.mc_items.proofs.Chains.{counts_kept, held_refs_keep_items, kept_refs_keep_items}
 
 -- each is a reference still
 refs_stay : (view now : View) (kept : List Ref) → KeepsRefs view now → All (IsItemRef view) kept → All (IsItemRef now) kept
 refs_stay view now kept keeps all = λ k d below. (kept_refs_keep_items view now (slice_index_or kept k d) keeps (all k d below)).refers
 
 -- so a call that keeps references, and holds each chunk as often, leaves what is kept
-pub kept_stay : (view now : View) (kept : List Ref) → RefersToEach view kept → KeepsRefs view now → HoldsAsOften view now → RefersToEach now kept
-kept_stay view now kept are keeps often = record { items = refs_stay view now kept keeps are.items; counts = λ chunk. often chunk ∙ are.counts chunk }
+pub kept_stay : (view now : View) (kept : List Ref) → RefersToEach view kept → KeepsHoldingCounts view now → RefersToEach now kept
+kept_stay view now kept are keeps = record { items = refs_stay view now kept keeps.references are.items; counts = λ chunk. keeps.counts chunk ∙ are.counts chunk }
 
-pub as_often : (view now : View) → HoldsTheSame view now → HoldsAsOften view now
-as_often view now same = λ chunk. ap (count_of_holdings chunk) same
-
-pub kept_beside : (view now : View) (kept : List Ref) → RefersToEach view kept → KeepsRefs view now → HoldsTheSame view now → RefersToEach now kept
-kept_beside view now kept are keeps same = kept_stay view now kept are keeps (as_often view now same)
+-- and so does one that keeps the holdings
+pub kept_beside : (view now : View) (kept : List Ref) → RefersToEach view kept → KeepsHoldings view now → RefersToEach now kept
+kept_beside view now kept are keeps = kept_stay view now kept are (counts_kept view now keeps)
 
 -- one reference more
 pub kept_too : (view now : View) (kept : List Ref) (item : Ref) → RefersToEach view kept → KeepsRefs view now → HoldsToo (Some item) view now → IsItemRef now item → RefersToEach now (kept ++ item ∷ [])

@@ -1,5 +1,6 @@
 //! A cache of bytes, two workers and a tender. Each of these three may be in a thread of its own.
-ghost use Rattle.std.specs.Prelude.{◌≡◌};
+ghost use Rattle.std.specs.Prelude.{◌≡◌, IfOk};
+ghost use Rattle.example_calls.specs.Cached.{AreFoundIn, city_key};
 
 use mc_cache::{Cache, CacheConfig, HashKey, NewError};
 use std::alloc::Global;
@@ -13,6 +14,7 @@ pub fn share<R: Wait>(
     hashing: HashKey,
 ) -> Result<Vec<u8>, NewError>
     requires { config.now.workers ≡ 2 }
+    ensures found { IfOk result (λ bytes. AreFoundIn city_key bytes.items) }
 {
     let (cache, mut workers, mut tender) = Cache::new(rt, alloc, config, hashing)?;
     let (mut writer, mut reader) = (workers.remove(0), workers.remove(0));

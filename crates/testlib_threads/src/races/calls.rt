@@ -1,7 +1,6 @@
 //! Calls of hands that may make any, and which refs they keep.
 ghost use Rattle.mc_words.specs.hand.Arenas.{view};
-ghost use Rattle.mc_words.specs.item.Refs.{KeepsRefs};
-ghost use Rattle.mc_items.specs.Keeping.{HoldsAsOften, HoldsTheSame};
+ghost use Rattle.mc_items.specs.Keeping.{KeepsHoldingCounts, KeepsHoldings};
 ghost use Rattle.mc_words.specs.hand.Ready.{IsReadyHandOf};
 
 use crate::races::words::words_of;
@@ -15,8 +14,7 @@ use std::sync::Wait;
 pub fn set_key<R: Wait>(rt: &R, alloc: Global, arena: &Arena, hand: &mut Hand, key: Key) -> bool
     requires arena { IsReadyHandOf arena.now hand.old }
     ensures arena { IsReadyHandOf arena.now hand.new }
-    ensures holdings { HoldsTheSame (view hand.old) (view hand.new) }
-    ensures keeps { KeepsRefs (view hand.old) (view hand.new) }
+    ensures holdings { KeepsHoldings (view hand.old) (view hand.new) }
 {
     let stamp = hand.next_stamp().unwrap_or(0);
     match words_of(alloc, key, stamp) {
@@ -29,8 +27,7 @@ pub fn set_key<R: Wait>(rt: &R, alloc: Global, arena: &Arena, hand: &mut Hand, k
 pub fn delete_key<R: Wait>(rt: &R, arena: &Arena, hand: &mut Hand, key: Key) -> bool
     requires arena { IsReadyHandOf arena.now hand.old }
     ensures arena { IsReadyHandOf arena.now hand.new }
-    ensures holdings { HoldsTheSame (view hand.old) (view hand.new) }
-    ensures keeps { KeepsRefs (view hand.old) (view hand.new) }
+    ensures holdings { KeepsHoldings (view hand.old) (view hand.new) }
 {
     delete(rt, arena, hand, key).is_ok()
 }
@@ -39,8 +36,7 @@ pub fn delete_key<R: Wait>(rt: &R, arena: &Arena, hand: &mut Hand, key: Key) -> 
 pub fn touch_key<R: Wait>(rt: &R, arena: &Arena, hand: &mut Hand, key: Key) -> bool
     requires arena { IsReadyHandOf arena.now hand.old }
     ensures arena { IsReadyHandOf arena.now hand.new }
-    ensures holdings { HoldsAsOften (view hand.old) (view hand.new) }
-    ensures keeps { KeepsRefs (view hand.old) (view hand.new) }
+    ensures holdings { KeepsHoldingCounts (view hand.old) (view hand.new) }
 {
     touch(rt, arena, hand, key).is_ok()
 }

@@ -19,4 +19,4 @@ pub returns-in-Err : goal.returns-in-Err
 returns-in-Err c =
     let before = view c.args.hand.now in
     let now = view c.again.new.hand in
-    record { keeper = ((c.again.ensures.hand.arena, c.again.ensures.hand.ready), subst (RefersToEach now) (sym c.reserve.ensures.items) (kept_beside before now c.args.kept.now.items c.requires.keeper.1 c.again.ensures.keeps c.in-Err.ensures.no_more)) }
+    record { keeper = ((c.again.ensures.hand.arena, c.again.ensures.hand.ready), subst (RefersToEach now) (sym c.reserve.ensures.items) (kept_beside before now c.args.kept.now.items c.requires.keeper.1 (record { same = c.in-Err.ensures.no_more; references = c.again.ensures.keeps }))) }
