@@ -4,7 +4,7 @@ ghost use Rattle.mc_stripe.specs.StripeState.{stamp_of_key};
 ghost use Rattle.mc_words.specs.hand.Arenas.{view};
 ghost use Rattle.mc_words.specs.hand.Ready.{IsReady, IsReadyHandOf, StaysReady};
 ghost use Rattle.mc_words.specs.hand.Seats.{IsSeatedAt};
-ghost use Rattle.mc_items.specs.Keeping.{KeepsHoldings};
+ghost use Rattle.mc_words.specs.item.Refs.{KeepsHoldings};
 ghost use Rattle.example_calls.specs.Bounded.{FindsStamp, GivesNoStamp, IsNextStamp, Makes, MakesAtMost, StoresKeyAndWords, SetsOwn, granted_as_given};
 
 use mc_items::{SetWithinError, set_within};

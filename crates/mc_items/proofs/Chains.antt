@@ -25,13 +25,13 @@ use Rattle.mc_words.specs.rule.Happens.{LawfulView}
 use Rattle.mc_words.specs.item.Items.{held_item}
 use Rattle.mc_words.specs.lock.Out.{is_neither}
 use Rattle.mc_words.specs.hand.Ready.{IsReady, StaysReady}
-use Rattle.mc_words.specs.item.Refs.{IsRefOf, KeepsRemainingRefs, KeepsRefs}
+use Rattle.mc_words.specs.item.Refs.{IsRefOf, KeepsHoldings, KeepsRefs, KeepsRemainingRefs}
 use Rattle.mc_words.proofs.Pages.Owners.{holdings_here}
 use Rattle.mc_words.proofs.Hands.HandNumbers.{number_stays}
 use Rattle.mc_words.proofs.Locks.Unlocked.{unlocked_from}
 use Rattle.mc_items.specs.declared.refs.Ref.{Ref}
 use Rattle.mc_items.specs.ItemRefs.{IsItemRef, item_chunk, item_stamp, item_words}
-use Rattle.mc_items.specs.Keeping.{WordsWereStored, HeldRefsKeepItems, HasStoredWords, KeepingGoesOn, KeepingHoldingsGoesOn, KeepsHoldingCounts, KeepsHoldings, KeptRefsKeepItems, ReleasingKeepsOthers, StaysItemRef, holding_by}
+use Rattle.mc_items.specs.Keeping.{WordsWereStored, HeldRefsKeepItems, HasStoredWords, KeepingGoesOn, KeepingHoldingsGoesOn, KeepsHoldingCounts, KeptRefsKeepItems, ReleasingKeepsOthers, StaysItemRef, holding_by}
 use Rattle.mc_words.specs.item.Items.{item_with}
 use Rattle.mc_items.proofs.Rows.{chunk_found, found_among, fresh_more, left_among, none_fresh, still_found}
 

@@ -6,7 +6,7 @@ use Rattle.mc_words.specs.hand.View.{View}
 use Rattle.mc_words.specs.hand.Views.{slabs_missed}
 use Rattle.mc_words.specs.lock.Wait.{MissesSlabs, MissesSlabsEachTime}
 use Rattle.mc_words.proofs.Locks.Waited.{misses_keep}
-use Rattle.mc_items.specs.Keeping.{KeepsHoldings}
+use Rattle.mc_words.specs.item.Refs.{KeepsHoldings}
 use Rattle.mc_items.specs.Storing.{IsOwnItem, item_filled}
 use Rattle.mc_items.specs.Within.{LeavesUnlinked}
 use Rattle.mc_items.proofs.Chains.{holdings_stay}

@@ -11,7 +11,7 @@ use Rattle.mc_words.specs.hand.View.{View}
 use Rattle.mc_words.specs.item.Items.{issue_in, known_words_in}
 use Rattle.mc_words.specs.item.Links.{own_item}
 use Rattle.mc_words.specs.item.References.{reference_to}
-use Rattle.mc_items.specs.Keeping.{KeepsHoldings}
+use Rattle.mc_words.specs.item.Refs.{KeepsHoldings}
 use Rattle.mc_items.specs.Storing.{IsOwnItem, LeavesDead, StoresItem, holding_with, item_filled}
 use Rattle.mc_items.proofs.Chains.{holdings_kept, holdings_stay}
 use Rattle.mc_items.proofs.Left.{Kept, kept_of, only_keeps, waited}

@@ -4,9 +4,9 @@ use Rattle.mc_pages.specs.declared.ids.ChunkId.{ChunkId}
 use Rattle.mc_pages.specs.ClassState.{is_chunk}
 use Rattle.mc_core.specs.model.Columns.{count_of_holdings}
 use Rattle.mc_core.specs.model.Holdings.{key_of, stamp_in_words}
-use Rattle.mc_words.specs.hand.View.{View}
+use Rattle.mc_words.specs.hand.View.{Setup, View}
 use Rattle.mc_words.specs.item.Items.{held_item}
-use Rattle.mc_words.specs.item.Refs.{IsIssueOf, IsRefOf}
+use Rattle.mc_words.specs.item.Refs.{IsIssueOf, IsRefOf, first_place}
 use Rattle.mc_words.specs.declared.item.refs.Ref as words
 use Rattle.mc_items.specs.declared.refs.Ref.{Ref}
 use Rattle.mc_words.specs.hand.Observers.{ref_chunk, ref_issue, ref_room}
@@ -38,6 +38,10 @@ item_len item = item.len
 -- the words behind key, stamp and length, as the hand knows them
 abbrev pub item_words : View → Ref → List ℕ
 item_words view item = drop 3 (held_item view (item_chunk item))
+
+-- the place in the arena's table where the item begins
+abbrev pub item_place : Setup → Ref → ℕ
+item_place setup item = first_place setup (item_reference item)
 
 -- the hand refers to an item of this key, stamp and length
 pub record IsItemRef (view : View) (item : Ref) : Type 0 where

@@ -10,22 +10,13 @@ use Rattle.mc_words.specs.hand.View.{View}
 use Rattle.mc_words.specs.rule.Happens.{LawfulView}
 use Rattle.mc_words.specs.item.Items.{held_item}
 use Rattle.mc_words.specs.item.References.{reference_to}
-use Rattle.mc_words.specs.item.Refs.{KeepsRemainingRefs, KeepsRefs}
+use Rattle.mc_words.specs.item.Refs.{HoldsTheSame, KeepsHoldings, KeepsRefs, KeepsRemainingRefs}
 use Rattle.mc_items.specs.declared.refs.Ref.{Ref}
 use Rattle.mc_items.specs.ItemRefs.{IsItemRef, item_chunk, item_issue, item_stamp, item_words}
-
--- the hand holds what it held before
-abbrev pub HoldsTheSame : View → View → Type 0
-HoldsTheSame view now = now.row.holdings ≡ view.row.holdings
 
 -- the hand holds each chunk as often as it did
 abbrev pub HoldsAsOften : View → View → Type 0
 HoldsAsOften view now = (chunk : ChunkId) → count_of_holdings chunk now.row.holdings ≡ count_of_holdings chunk view.row.holdings
-
--- the hand holds what it held before, and refers to what it referred to, by the same holdings
-pub record KeepsHoldings (view now : View) : Type 0 where
-  pub same : HoldsTheSame view now
-  pub references : KeepsRefs view now
 
 -- the hand holds each chunk as often as it did, and refers to what it referred to, by the same holdings
 pub record KeepsHoldingCounts (view now : View) : Type 0 where

@@ -4,11 +4,11 @@ ghost use Rattle.mc_words.specs.hand.Arenas.{IsHandOf, view};
 ghost use Rattle.mc_words.specs.hand.Idle.{is_unlocked};
 ghost use Rattle.mc_words.specs.hand.Observers.{locks_of, hand_number, ref_chunk, ref_room};
 ghost use Rattle.mc_words.specs.hand.Ready.{IsReady, StaysReady};
-ghost use Rattle.mc_words.specs.item.Refs.{IsRefOf};
+ghost use Rattle.mc_words.specs.item.Refs.{IsRefOf, KeepsHoldings};
 ghost use Rattle.mc_words.specs.lock.Doing.{HoldsSlabs};
 ghost use Rattle.mc_items.specs.Calls.{Bumps, RecordsNoCall};
 ghost use Rattle.mc_items.specs.ItemRefs.{IsItemRef, item_chunk, item_words};
-ghost use Rattle.mc_items.specs.Keeping.{KeepsHoldings, StoresNothing};
+ghost use Rattle.mc_items.specs.Keeping.{StoresNothing};
 
 use crate::refs::Ref;
 use mc_words::{Arena, Hand};

@@ -7,7 +7,8 @@ ghost use Rattle.mc_words.specs.hand.Observers.{locks_of, stripe_lent, stripe_nu
 ghost use Rattle.mc_words.specs.lock.Out.{without_stripe};
 ghost use Rattle.mc_words.specs.hand.Ready.{IsReady, StaysReady};
 ghost use Rattle.mc_items.specs.Calls.{Deletes, RecordsNoCall, IsFull};
-ghost use Rattle.mc_items.specs.Keeping.{KeepsHoldings, StoresNothing};
+ghost use Rattle.mc_words.specs.item.Refs.{KeepsHoldings};
+ghost use Rattle.mc_items.specs.Keeping.{StoresNothing};
 ghost use Rattle.mc_items.specs.OnKeys.{ActsOn, DoesOn, FindsNoRoomFor, GivesBack, RecordsOn, stripe_of_key};
 ghost use Rattle.mc_stripe.specs.declared.history.Call.TheVariants as call;
 

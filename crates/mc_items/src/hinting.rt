@@ -7,9 +7,9 @@ ghost use Rattle.mc_words.specs.item.Again.{FindsContended, FindsGone};
 ghost use Rattle.mc_words.specs.item.Items.{held_item};
 ghost use Rattle.mc_words.specs.hand.Observers.{hint_chunk, hint_issue};
 ghost use Rattle.mc_words.specs.hand.Ready.{IsReady, StaysReady};
-ghost use Rattle.mc_words.specs.item.Refs.{KeepsRefs};
+ghost use Rattle.mc_words.specs.item.Refs.{HoldsTheSame, KeepsRefs};
 ghost use Rattle.mc_items.specs.ItemRefs.{IsItemRef, item_chunk, item_issue};
-ghost use Rattle.mc_items.specs.Keeping.{HoldsTheSame, HoldsToo, HasStoredWords, StoresNothing};
+ghost use Rattle.mc_items.specs.Keeping.{HoldsToo, HasStoredWords, StoresNothing};
 ghost use Rattle.mc_items.specs.OnKeys.{GetsByHint, IsAsKnown};
 ghost use Rattle.mc_items.specs.Current.{GetsCurrent};
 

@@ -5,7 +5,7 @@
 //!
 //! - [`set`] stores an item of n words under a key, and returns its stamp. [`set_within`] gives up after n tries for each lock.
 //! - [`get`] returns a [`Ref`] to the key's item, and [`try_get`] does so without waiting. [`read`] and [`word`] read the item's
-//!   words, and [`release`] gives the reference back.
+//!   words, [`word_from`] one of several, and [`release`] gives the reference back.
 //! - [`hint`] makes a hint of a reference, and [`again`] gets the item by the hint with no lock, if it is there still.
 //! - [`make_room`] makes room in a class without a sweep: it evicts some of its oldest items, but those that [`Marks`] spare.
 //! - [`touch`] and [`bump`] make an item the one of its class that is evicted last, and [`delete`] deletes a key.
@@ -52,7 +52,7 @@ pub use getting::{GetError, TryGetError, get, try_get};
 pub use hinting::{again, hint};
 pub use making_room::{Room, make_room};
 pub use marks::{Marks, NoMarks};
-pub use reading::{read, release, word};
+pub use reading::{first_place, read, release, word, word_from};
 pub use refs::Ref;
 pub use setting::{NewItem, SetError, set, set_hinted};
 pub use touching::touch;

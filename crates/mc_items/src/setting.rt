@@ -10,7 +10,8 @@ ghost use Rattle.mc_words.specs.hand.Observers.{fresh_chunk, locks_of, hand_numb
 ghost use Rattle.mc_words.specs.hand.Ready.{IsReady, StaysReady};
 ghost use Rattle.mc_items.specs.Evicting.{RecordsEviction};
 ghost use Rattle.mc_items.specs.FreshChunks.{IsFreshFor};
-ghost use Rattle.mc_items.specs.Keeping.{KeepsHoldings, StoresWithStamp, StoresNothing};
+ghost use Rattle.mc_words.specs.item.Refs.{KeepsHoldings};
+ghost use Rattle.mc_items.specs.Keeping.{StoresWithStamp, StoresNothing};
 ghost use Rattle.mc_items.specs.OnKeys.{ActsOnce};
 ghost use Rattle.mc_items.specs.Setting.{RefusesSet, SetsItem, SetsWithHint, RecordsSet};
 ghost use Rattle.mc_items.specs.Sources.{SuppliesChunk, SuppliesNone};

@@ -3,7 +3,7 @@ ghost use Rattle.std.specs.Prelude.{◌≡◌, ◌≤◌};
 ghost use Rattle.mc_words.specs.hand.Arenas.{IsHandOf, view};
 ghost use Rattle.mc_words.specs.hand.Ready.{IsReady, StaysReady};
 ghost use Rattle.mc_words.specs.page.Moves.{Reassigns};
-ghost use Rattle.mc_words.specs.item.Refs.{KeepsRefs};
+ghost use Rattle.mc_words.specs.item.Refs.{KeepsHoldings};
 ghost use Rattle.mc_mover.specs.Acting.{ActsOnceByNumber};
 ghost use Rattle.mc_mover.specs.Reassigning.{SetsMode};
 
@@ -31,10 +31,9 @@ pub fn reassign<R: Wait>(
     requires ready { IsReady (view hand.old) }
     ensures reassigns { ActsOnceByNumber (λ number.
         Reassigns number src dst result) hand.old hand.new }
-    ensures holdings { (view hand.new).row.holdings ≡ (view hand.old).row.holdings }
-    ensures keeps { KeepsRefs (view hand.old) (view hand.new) }
     ensures stores_nothing { (view hand.new).row.knows.stored ≡ (view hand.old).row.knows.stored }
     ensures records_nothing { (view hand.new).row.knows.mine ≡ (view hand.old).row.knows.mine }
+    ensures holdings { KeepsHoldings (view hand.old) (view hand.new) }
     ensures hand { StaysReady arena.now hand.old hand.new }
 {
     let mut held = arena.lock_slabs(rt, hand);
@@ -50,10 +49,9 @@ pub fn set_mode<R: Wait>(rt: &R, arena: &Arena, hand: &mut Hand, mode: u64)
     requires ready { IsReady (view hand.old) }
     requires mode { mode ≤ 2 }
     ensures sets { ActsOnceByNumber (λ number. SetsMode number mode) hand.old hand.new }
-    ensures holdings { (view hand.new).row.holdings ≡ (view hand.old).row.holdings }
-    ensures keeps { KeepsRefs (view hand.old) (view hand.new) }
     ensures stores_nothing { (view hand.new).row.knows.stored ≡ (view hand.old).row.knows.stored }
     ensures records_nothing { (view hand.new).row.knows.mine ≡ (view hand.old).row.knows.mine }
+    ensures holdings { KeepsHoldings (view hand.old) (view hand.new) }
     ensures hand { StaysReady arena.now hand.old hand.new }
 {
     let mut held = arena.lock_slabs(rt, hand);

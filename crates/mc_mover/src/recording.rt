@@ -6,7 +6,7 @@ ghost use Rattle.mc_words.specs.hand.Arenas.{IsHandOf, setup_of, view};
 ghost use Rattle.mc_words.specs.lock.Doing.{HoldsStripe};
 ghost use Rattle.mc_words.specs.hand.Observers.{hand_number};
 ghost use Rattle.mc_words.specs.hand.Ready.{IsReady, StaysReady};
-ghost use Rattle.mc_words.specs.item.Refs.{KeepsRefs};
+ghost use Rattle.mc_words.specs.item.Refs.{KeepsHoldings};
 ghost use Rattle.mc_mover.specs.Acting.{ActsOnceByNumber};
 ghost use Rattle.mc_mover.specs.Recording.{Changes, ChangesEach, FindsStripeFull, FindsNotFull, GivesBackChanged, GivesBackUpToOne, Leaves, StopsTrimming, TakesNotFull, TrimsAll, TrimsLedger};
 
@@ -33,10 +33,9 @@ pub fn trim<R: Wait>(rt: &R, arena: &Arena, hand: &mut Hand) -> Result<(), Trim>
         StopsTrimming (hand_number hand.old) FindsStripeFull (view hand.old) (view hand.new) }
     ensures first { result ≡ Err (Trim.NoMemory tt)
         → StopsTrimming (hand_number hand.old) FindsNotFull (view hand.old) (view hand.new) }
-    ensures holdings { (view hand.new).row.holdings ≡ (view hand.old).row.holdings }
-    ensures keeps { KeepsRefs (view hand.old) (view hand.new) }
     ensures stores_nothing { (view hand.new).row.knows.stored ≡ (view hand.old).row.knows.stored }
     ensures records_nothing { (view hand.new).row.knows.mine ≡ (view hand.old).row.knows.mine }
+    ensures holdings { KeepsHoldings (view hand.old) (view hand.new) }
     ensures hand { StaysReady arena.now hand.old hand.new }
 {
     trim_stripes(rt, arena, hand)?;
@@ -50,10 +49,9 @@ pub fn trim_ledger<R: Wait>(rt: &R, arena: &Arena, hand: &mut Hand)
     requires arena { IsHandOf arena.now hand.old }
     requires ready { IsReady (view hand.old) }
     ensures trims { ActsOnceByNumber TrimsLedger hand.old hand.new }
-    ensures holdings { (view hand.new).row.holdings ≡ (view hand.old).row.holdings }
-    ensures keeps { KeepsRefs (view hand.old) (view hand.new) }
     ensures stores_nothing { (view hand.new).row.knows.stored ≡ (view hand.old).row.knows.stored }
     ensures records_nothing { (view hand.new).row.knows.mine ≡ (view hand.old).row.knows.mine }
+    ensures holdings { KeepsHoldings (view hand.old) (view hand.new) }
     ensures hand { StaysReady arena.now hand.old hand.new }
 {
     let mut held = arena.lock_slabs(rt, hand);
@@ -71,10 +69,9 @@ pub fn forget<R: Wait>(rt: &R, arena: &Arena, hand: &mut Hand)
         (range_with_len 0 (setup_of arena.now).config.stripes) (view hand.old) (view hand.new) }
     ensures given { (stripe : ℕ) → stripe < (setup_of arena.now).config.stripes →
         GivesBackChanged Forget (view hand.new) stripe }
-    ensures holdings { (view hand.new).row.holdings ≡ (view hand.old).row.holdings }
-    ensures keeps { KeepsRefs (view hand.old) (view hand.new) }
     ensures stores_nothing { (view hand.new).row.knows.stored ≡ (view hand.old).row.knows.stored }
     ensures records_nothing { (view hand.new).row.knows.mine ≡ (view hand.old).row.knows.mine }
+    ensures holdings { KeepsHoldings (view hand.old) (view hand.new) }
     ensures hand { StaysReady arena.now hand.old hand.new }
 {
     for stripe in 0..arena.config().stripes {
@@ -96,10 +93,9 @@ fn trim_stripes<R: Wait>(rt: &R, arena: &Arena, hand: &mut Hand) -> Result<(), T
         StopsTrimming (hand_number hand.old) FindsStripeFull (view hand.old) (view hand.new) }
     ensures first { result ≡ Err (Trim.NoMemory tt)
         → StopsTrimming (hand_number hand.old) FindsNotFull (view hand.old) (view hand.new) }
-    ensures holdings { (view hand.new).row.holdings ≡ (view hand.old).row.holdings }
-    ensures keeps { KeepsRefs (view hand.old) (view hand.new) }
     ensures stores_nothing { (view hand.new).row.knows.stored ≡ (view hand.old).row.knows.stored }
     ensures records_nothing { (view hand.new).row.knows.mine ≡ (view hand.old).row.knows.mine }
+    ensures holdings { KeepsHoldings (view hand.old) (view hand.new) }
     ensures hand { StaysReady arena.now hand.old hand.new }
 {
     for stripe in 0..arena.config().stripes {

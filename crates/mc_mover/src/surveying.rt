@@ -4,7 +4,7 @@ ghost use Rattle.mc_pages.specs.ClassState.{numbers_of};
 ghost use Rattle.mc_words.specs.hand.Arenas.{IsHandOf, view};
 ghost use Rattle.mc_words.specs.hand.Observers.{HasSlabs, locks_of, slabs_lent};
 ghost use Rattle.mc_words.specs.hand.Ready.{IsReady, StaysReady};
-ghost use Rattle.mc_words.specs.item.Refs.{KeepsRefs};
+ghost use Rattle.mc_words.specs.item.Refs.{KeepsHoldings};
 ghost use Rattle.mc_words.specs.chunk.Sweeps.{with_seen};
 ghost use Rattle.mc_mover.specs.Acting.{ActsByNumber, ActsOnceByNumber};
 ghost use Rattle.mc_mover.specs.Surveying.{IsSurvey, Surveys, SweepsClasses, classes_swept};
@@ -32,10 +32,9 @@ pub fn survey<R: Wait>(
     ensures surveys { IfOk result (λ survey. ActsOnceByNumber (λ number.
         Surveys sweep survey) hand.old hand.new) }
     ensures no_memory { OnErr result (view hand.new ≡ view hand.old) }
-    ensures holdings { (view hand.new).row.holdings ≡ (view hand.old).row.holdings }
-    ensures keeps { KeepsRefs (view hand.old) (view hand.new) }
     ensures stores_nothing { (view hand.new).row.knows.stored ≡ (view hand.old).row.knows.stored }
     ensures records_nothing { (view hand.new).row.knows.mine ≡ (view hand.old).row.knows.mine }
+    ensures holdings { KeepsHoldings (view hand.old) (view hand.new) }
     ensures hand { StaysReady arena.now hand.old hand.new }
 {
     let count = arena.classes().count();

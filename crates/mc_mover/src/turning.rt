@@ -6,7 +6,7 @@ ghost use Rattle.mc_words.specs.hand.Arenas.{IsHandOf, view};
 ghost use Rattle.mc_words.specs.hand.Idle.{has_no_stripes};
 ghost use Rattle.mc_words.specs.hand.Observers.{HasSlabs, locks_of, slabs_lent};
 ghost use Rattle.mc_words.specs.hand.Ready.{IsReady, StaysReady};
-ghost use Rattle.mc_words.specs.item.Refs.{KeepsRefs};
+ghost use Rattle.mc_words.specs.item.Refs.{KeepsHoldings};
 ghost use Rattle.mc_mover.specs.Acting.{ActsByNumber, ActsOnceByNumber, FindsSlabsHeld, RecordsTurn, RecordsUntilStopped};
 ghost use Rattle.mc_mover.specs.Answering.{AnswersMove, IsAnswerOf};
 ghost use Rattle.mc_mover.specs.Turning.{TurnLacksMemory, Turns};
@@ -44,9 +44,8 @@ pub fn turn<R: Wait>(rt: &R, arena: &Arena, hand: &mut Hand) -> Result<Turn, NoM
     ensures answers { IfOk result (AnswersMove (view hand.new)) }
     ensures records { IfOk result (RecordsTurn hand.old hand.new) }
     ensures told_before { OnErr result (RecordsUntilStopped hand.old hand.new) }
-    ensures holdings { (view hand.new).row.holdings ≡ (view hand.old).row.holdings }
-    ensures keeps { KeepsRefs (view hand.old) (view hand.new) }
     ensures stores_nothing { (view hand.new).row.knows.stored ≡ (view hand.old).row.knows.stored }
+    ensures holdings { KeepsHoldings (view hand.old) (view hand.new) }
     ensures hand { StaysReady arena.now hand.old hand.new }
 {
     arena.rest(rt, arena.config().bulk);
@@ -69,9 +68,8 @@ pub fn try_turn(arena: &Arena, hand: &mut Hand) -> Result<Turn, TryTurn>
     ensures records { IfOk result (RecordsTurn hand.old hand.new) }
     ensures told_before { result ≡ Err (TryTurn.NoMemory tt) →
         RecordsUntilStopped hand.old hand.new }
-    ensures holdings { (view hand.new).row.holdings ≡ (view hand.old).row.holdings }
-    ensures keeps { KeepsRefs (view hand.old) (view hand.new) }
     ensures stores_nothing { (view hand.new).row.knows.stored ≡ (view hand.old).row.knows.stored }
+    ensures holdings { KeepsHoldings (view hand.old) (view hand.new) }
     ensures hand { StaysReady arena.now hand.old hand.new }
 {
     let Ok(mut held) = arena.try_slabs(hand) else {

@@ -17,10 +17,10 @@ use Rattle.mc_words.specs.hand.View.{View}
 use Rattle.mc_words.specs.hand.Views.{chunk_released}
 use Rattle.mc_words.specs.hand.Idle.{is_idle}
 use Rattle.mc_words.specs.hand.Ready.{IsReady}
-use Rattle.mc_words.specs.item.Refs.{KeepsRemainingRefs, KeepsRefs}
+use Rattle.mc_words.specs.item.Refs.{KeepsHoldings, KeepsRefs, KeepsRemainingRefs}
 use Rattle.mc_items.specs.declared.refs.Ref.{Ref}
 use Rattle.mc_items.specs.ItemRefs.{RefersToEach, IsItemRef, item_chunk, refers_to}
-use Rattle.mc_items.specs.Keeping.{HoldsLess, HoldsToo, KeepsHoldingCounts, KeepsHoldings, StaysItemRef, holding_by}
+use Rattle.mc_items.specs.Keeping.{HoldsLess, HoldsToo, KeepsHoldingCounts, StaysItemRef, holding_by}
 use Rattle.mc_items.proofs.Rows as rows
 use Rattle.mc_items.proofs.Rows.{chunk_found}
 use Rattle.mc_items.proofs.Chains.{counts_kept, held_refs_keep_items, keeping_goes_on, kept_refs_keep_items, releasing_keeps_others}

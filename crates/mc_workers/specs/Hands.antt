@@ -7,7 +7,7 @@ use Rattle.mc_words.specs.hand.Observers.{hand_number}
 use Rattle.mc_words.specs.hand.Ready.{IsReadyHandOf}
 use Rattle.mc_items.specs.declared.refs.Ref.{Ref}
 use Rattle.mc_items.specs.ItemRefs.{RefersToEach}
-use Rattle.mc_items.specs.Keeping.{HoldsTheSame}
+use Rattle.mc_words.specs.item.Refs.{HoldsTheSame}
 
 -- the worker's hand is one of the arena's, may make any call, and holds what these references are to
 pub record IsKeeping (arena : Arena) (hand : Hand) (kept : List Ref) : Type 0 where

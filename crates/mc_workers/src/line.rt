@@ -2,7 +2,8 @@
 ghost use Rattle.std.specs.Prelude.{◌≡◌, IfOk, OnErr, true};
 ghost use Rattle.mc_script.specs.Command.{IsValid};
 ghost use Rattle.mc_words.specs.hand.Arenas.{setup_of, view};
-ghost use Rattle.mc_items.specs.Keeping.{KeepsHoldingCounts, KeepsHoldings};
+ghost use Rattle.mc_words.specs.item.Refs.{KeepsHoldings};
+ghost use Rattle.mc_items.specs.Keeping.{KeepsHoldingCounts};
 ghost use Rattle.mc_workers.specs.Asking.{is_workers};
 ghost use Rattle.mc_words.specs.hand.Ready.{IsReadyHandOf, StaysReady};
 ghost use Rattle.mc_workers.specs.Hands.{IsKeeping, StaysKeeping};

@@ -3,7 +3,7 @@ ghost use Rattle.std.specs.Prelude.{◌≡◌, ◌≤◌, IfOk, OnOk};
 ghost use Rattle.mc_serial_spec.specs.Item.{counting_words};
 ghost use Rattle.mc_words.specs.hand.Arenas.{view};
 ghost use Rattle.mc_words.specs.hand.Ready.{IsReadyHandOf, StaysReady};
-ghost use Rattle.mc_items.specs.Keeping.{KeepsHoldings};
+ghost use Rattle.mc_words.specs.item.Refs.{KeepsHoldings};
 ghost use Rattle.mc_workers.specs.Serving.{AnswersSet};
 
 use crate::reply::Reply;

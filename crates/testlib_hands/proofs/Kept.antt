@@ -14,7 +14,8 @@ use Rattle.mc_words.specs.hand.Hands.{AreHandsFrom, AreNewHands}
 use Rattle.mc_words.specs.hand.Ready.{IsReady}
 use Rattle.mc_items.specs.declared.refs.Ref.{Ref}
 use Rattle.mc_items.specs.ItemRefs.{item_chunk}
-use Rattle.mc_items.specs.Keeping.{HoldsLess, HoldsTheSame, HoldsToo, holding_by}
+use Rattle.mc_words.specs.item.Refs.{HoldsTheSame}
+use Rattle.mc_items.specs.Keeping.{HoldsLess, HoldsToo, holding_by}
 use Rattle.testlib_hands.specs.Hands.{AreEmptyHandsOf, HoldsNothing}
 
 hands_from : (arena : Arena) (number : ℕ) (hands : List Hand) → AreHandsFrom arena number hands → AreEmptyHandsOf arena hands

@@ -3,7 +3,8 @@ ghost use Rattle.std.specs.Prelude.{◌≡◌, true, IfSome};
 ghost use Rattle.mc_core.specs.model.State.{has_chunk};
 ghost use Rattle.mc_words.specs.hand.Arenas.{setup_of, view};
 ghost use Rattle.mc_items.specs.ItemRefs.{IsItemRef, item_chunk};
-ghost use Rattle.mc_items.specs.Keeping.{HoldsTheSame, HoldsToo};
+ghost use Rattle.mc_words.specs.item.Refs.{HoldsTheSame};
+ghost use Rattle.mc_items.specs.Keeping.{HoldsToo};
 ghost use Rattle.mc_words.specs.hand.Ready.{IsReadyHandOf};
 
 use crate::words::words_from;

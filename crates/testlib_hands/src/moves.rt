@@ -1,6 +1,6 @@
 //! Calls of the mover, of hands that may make any.
 ghost use Rattle.mc_words.specs.hand.Arenas.{view};
-ghost use Rattle.mc_items.specs.Keeping.{HoldsTheSame};
+ghost use Rattle.mc_words.specs.item.Refs.{HoldsTheSame};
 ghost use Rattle.mc_words.specs.hand.Ready.{IsReadyHandOf};
 
 use mc_mover::{Turn, set_mode, turn};

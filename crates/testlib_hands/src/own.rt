@@ -1,7 +1,8 @@
 //! Items whose words show their key and their stamp, so that a word of another item would be seen.
 ghost use Rattle.mc_words.specs.hand.Arenas.{view};
 ghost use Rattle.mc_items.specs.ItemRefs.{IsItemRef};
-ghost use Rattle.mc_items.specs.Keeping.{HoldsLess, HoldsTheSame};
+ghost use Rattle.mc_words.specs.item.Refs.{HoldsTheSame};
+ghost use Rattle.mc_items.specs.Keeping.{HoldsLess};
 ghost use Rattle.mc_words.specs.hand.Ready.{IsReadyHandOf};
 
 use crate::words::{are_from, words_from};

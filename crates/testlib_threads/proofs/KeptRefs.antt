@@ -13,10 +13,10 @@ use Rattle.mc_core.specs.model.Columns.{count_of_holdings}
 use Rattle.mc_core.specs.model.Holdings.{holding_of, is_of_chunk, without_first}
 use Rattle.mc_core.proofs.Counts.Holders.{holds-cons, holds-lose, holds-push}
 use Rattle.mc_words.specs.hand.View.{View}
-use Rattle.mc_words.specs.item.Refs.{KeepsRemainingRefs, KeepsRefs}
+use Rattle.mc_words.specs.item.Refs.{KeepsHoldings, KeepsRefs, KeepsRemainingRefs}
 use Rattle.mc_items.specs.declared.refs.Ref.{Ref}
 use Rattle.mc_items.specs.ItemRefs.{RefersToEach, IsItemRef, item_chunk, refers_to}
-use Rattle.mc_items.specs.Keeping.{HoldsLess, HoldsToo, KeepsHoldingCounts, KeepsHoldings, holding_by}
+use Rattle.mc_items.specs.Keeping.{HoldsLess, HoldsToo, KeepsHoldingCounts, holding_by}
 use Rattle.mc_items.proofs.Rows.{chunk_found}
 use Rattle.mc_items.proofs.Chains.{counts_kept, held_refs_keep_items, kept_refs_keep_items}
 

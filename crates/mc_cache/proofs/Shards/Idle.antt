@@ -10,7 +10,8 @@ use Rattle.mc_pages.proofs.Chunks.{is_chunk-same}
 use Rattle.mc_words.specs.hand.View.{View}
 use Rattle.mc_items.specs.declared.refs.Ref.{Ref}
 use Rattle.mc_items.specs.ItemRefs.{item_chunk}
-use Rattle.mc_items.specs.Keeping.{HoldsAsOften, HoldsLess, HoldsTheSame, HoldsToo, holding_by}
+use Rattle.mc_words.specs.item.Refs.{HoldsTheSame}
+use Rattle.mc_items.specs.Keeping.{HoldsAsOften, HoldsLess, HoldsToo, holding_by}
 
 -- of a hand that held nothing, the item that it got is all that it holds
 pub alone : (before got : View) (item : Ref) → before.row.holdings ≡ [] → HoldsToo (Some item) before got → got.row.holdings ≡ holding_by got item ∷ []

@@ -9,7 +9,8 @@ use Rattle.mc_words.specs.hand.View.{View}
 use Rattle.mc_items.specs.declared.refs.Ref.{Ref}
 use Rattle.mc_items.specs.Calls.{RecordsNoCall}
 use Rattle.mc_items.specs.ItemRefs.{IsItemRef, item_words}
-use Rattle.mc_items.specs.Keeping.{HoldsTheSame, StoresNothing}
+use Rattle.mc_words.specs.item.Refs.{HoldsTheSame}
+use Rattle.mc_items.specs.Keeping.{StoresNothing}
 
 -- the hand is one of the arena's, may make any call, and refers to the item
 pub record RefersTo (arena : Arena) (item : Ref) (hand : Hand) : Type 0 where

@@ -8,7 +8,7 @@ ghost use Rattle.mc_core.specs.declared.event.Step.TheVariants as step;
 ghost use Rattle.mc_words.specs.hand.Arenas.{IsHandOf, setup_of, view};
 ghost use Rattle.mc_words.specs.rule.Happens.{Happens, LawfulView};
 ghost use Rattle.mc_words.specs.item.Items.{IsWordOfItem, held_item, word_read};
-ghost use Rattle.mc_words.specs.item.Refs.{IsRefOf};
+ghost use Rattle.mc_words.specs.item.Refs.{IsRefOf, first_place};
 ghost use Rattle.mc_words.specs.hand.Views.{fields_seen, held_word_seen, word_seen};
 ghost use Rattle.mc_words.specs.rule.Layout.{data_word};
 
@@ -44,8 +44,37 @@ impl Arena {
         ensures view { view hand.new ≡ word_seen reference.now.chunk place (view hand.old) }
         ensures reference { IsRefOf (view hand.new) reference.now.chunk reference.now.room }
     {
-        let at = self.data_word(reference.room, reference.chunk, place);
-        self.word_at(hand, reference, place, at)
+        let first = self.first_place(hand, reference);
+        self.word_from(hand, reference, first, place)
+    }
+
+    /// The place in the arena's table where the item's words begin. A caller that reads several words of an item asks for it once,
+    /// and reads each word by `word_from`. It reads nothing. (own)
+    #[inline(always)]
+    pub fn first_place(&self, hand: &Hand, reference: &Ref) -> usize
+        requires arena { IsHandOf self.now hand.now }
+        requires reference { IsRefOf (view hand.now) reference.now.chunk reference.now.room }
+        ensures place { result ≡ first_place (setup_of self.now) reference.now }
+    {
+        self.data_word(reference.room, reference.chunk, 0)
+    }
+
+    /// The same as `word`, by the place where the item's words begin. (own)
+    #[inline(always)]
+    pub fn word_from(&self, hand: &mut Hand, reference: &Ref, first: usize, place: u64) -> u64
+        requires arena { IsHandOf self.now hand.old }
+        requires reference { IsRefOf (view hand.old) reference.now.chunk reference.now.room }
+        requires in_range { place < length (held_item (view hand.old) reference.now.chunk) }
+        requires first { first ≡ first_place (setup_of self.now) reference.now }
+        ensures arena { IsHandOf self.now hand.new }
+        ensures locks { hand.new.locks ≡ hand.old.locks }
+        ensures happens { Happens (view hand.old) [] (step.Word reference.now.chunk place)
+            (view hand.new) }
+        ensures word { result ≡ slice_index (held_item (view hand.old) reference.now.chunk) place }
+        ensures view { view hand.new ≡ word_seen reference.now.chunk place (view hand.old) }
+        ensures reference { IsRefOf (view hand.new) reference.now.chunk reference.now.room }
+    {
+        self.word_at(hand, reference, place, first + place as usize)
     }
 
     /// Key, stamp and length of the item: its first three words, one after another.
@@ -62,10 +91,10 @@ impl Arena {
         ensures len { length (held_item (view hand.old) reference.now.chunk) ≡ 3 + result.len }
         ensures reference { IsRefOf (view hand.new) reference.now.chunk reference.now.room }
     {
-        let at = self.data_word(reference.room, reference.chunk, 0);
-        let key = self.word_at(hand, reference, 0, at);
-        let stamp = self.word_at(hand, reference, 1, at + 1);
-        let len = self.word_at(hand, reference, 2, at + 2);
+        let first = self.first_place(hand, reference);
+        let key = self.word_from(hand, reference, first, 0);
+        let stamp = self.word_from(hand, reference, first, 1);
+        let len = self.word_from(hand, reference, first, 2);
         ItemFields { key, stamp, len }
     }
 

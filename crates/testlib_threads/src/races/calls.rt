@@ -1,6 +1,7 @@
 //! Calls of hands that may make any, and which refs they keep.
 ghost use Rattle.mc_words.specs.hand.Arenas.{view};
-ghost use Rattle.mc_items.specs.Keeping.{KeepsHoldingCounts, KeepsHoldings};
+ghost use Rattle.mc_words.specs.item.Refs.{KeepsHoldings};
+ghost use Rattle.mc_items.specs.Keeping.{KeepsHoldingCounts};
 ghost use Rattle.mc_words.specs.hand.Ready.{IsReadyHandOf};
 
 use crate::races::words::words_of;

@@ -2,9 +2,9 @@
 ghost use Rattle.std.specs.Prelude.{◌≡◌, IfOk, IfSome, OnErr, true};
 ghost use Rattle.mc_core.specs.model.State.{has_chunk};
 ghost use Rattle.mc_words.specs.hand.Arenas.{setup_of, view};
-ghost use Rattle.mc_words.specs.item.Refs.{KeepsRefs};
+ghost use Rattle.mc_words.specs.item.Refs.{HoldsTheSame, KeepsRefs};
 ghost use Rattle.mc_items.specs.ItemRefs.{IsItemRef, item_chunk};
-ghost use Rattle.mc_items.specs.Keeping.{HoldsTheSame, HoldsToo};
+ghost use Rattle.mc_items.specs.Keeping.{HoldsToo};
 ghost use Rattle.mc_words.specs.hand.Ready.{IsReadyHandOf};
 ghost use Rattle.testlib_hands.specs.Hands.{IsEmptyHandOf};
 ghost use Rattle.testlib_threads.specs.Keepers.{IsKeeperOf, IsNear};

@@ -10,7 +10,7 @@ returns-in-Ok-clause-hands g c =
     let all = new_hands_are_unused c.in-Ok.arena c.in-Ok.hands.items c.in-Ok.ensures.hands in
     let some : 0 < length c.in-Ok.hands.items = search rules in
     let first : IsUnusedHandOf c.in-Ok.arena c.index_mut.result.now = subst (IsUnusedHandOf c.in-Ok.arena) (sym c.index_mut.ensures.value) (all 0 c.index_mut.result.now some) in
-    each_set (IsUnusedHandOf c.in-Ok.arena) c.in-Ok.hands.items 0 c.forget.new.hand (stays_unused c.in-Ok.arena c.index_mut.result.now c.forget.new.hand first c.forget.ensures.hand.arena c.forget.ensures.hand.ready c.forget.ensures.holdings c.forget.ensures.stores_nothing c.forget.ensures.records_nothing) all
+    each_set (IsUnusedHandOf c.in-Ok.arena) c.in-Ok.hands.items 0 c.forget.new.hand (stays_unused c.in-Ok.arena c.index_mut.result.now c.forget.new.hand first c.forget.ensures.hand.arena c.forget.ensures.hand.ready c.forget.ensures.holdings.same c.forget.ensures.stores_nothing c.forget.ensures.records_nothing) all
 
 pub returns-in-Ok-clause-history : goal.returns-in-Ok-clause-history
 returns-in-Ok-clause-history g c =

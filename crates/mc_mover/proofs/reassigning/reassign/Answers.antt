@@ -28,9 +28,13 @@ returns-clause-holdings g c =
     let begun = c.begin_move-answer in
     let last : View = begun.new.hand.seat.me.0 in
     let e = begun.ensures in
-    held_holdings c.args.hand.now.seat.me.0 taken last c.give_slabs.new.hand.seat.me.0 held.result.shared begun.new.held.shared held.ensures.waits
-    (reassigns_holdings held.new.hand.number c.args.src c.args.dst taken last held.result.shared begun.new.held.shared begun.result
-    (reassigns_from held.new.hand.number c.args.src c.args.dst taken last held.result.shared begun.new.held.shared begun.result e.answer e.began e.happens e.view e.refused)) c.give_slabs.ensures.left
+    let left = begun.new.held.shared in
+    let does = reassigns_from held.new.hand.number c.args.src c.args.dst taken last held.result.shared left begun.result e.answer e.began e.happens e.view e.refused in
+    let same = held_holdings c.args.hand.now.seat.me.0 taken last c.give_slabs.new.hand.seat.me.0 held.result.shared begun.new.held.shared held.ensures.waits
+      (reassigns_holdings held.new.hand.number c.args.src c.args.dst taken last held.result.shared begun.new.held.shared begun.result
+      (reassigns_from held.new.hand.number c.args.src c.args.dst taken last held.result.shared begun.new.held.shared begun.result e.answer e.began e.happens e.view e.refused)) c.give_slabs.ensures.left in
+    record { same = same; references = refs_stay c.args.hand.now.seat.me.0 c.give_slabs.new.hand.seat.me.0 same
+      (held_known_same c.args.hand.now.seat.me.0 taken last c.give_slabs.new.hand.seat.me.0 held.result.shared left held.ensures.waits c.give_slabs.ensures.left (reassigns_keep (λ (v : View). v.row.knows.known) (λ slabs one word v. refl) held.new.hand.number c.args.src c.args.dst taken last held.result.shared left begun.result does)) }
 
 pub returns-clause-hand : goal.returns-clause-hand
 returns-clause-hand g c =
@@ -42,19 +46,7 @@ returns-clause-hand g c =
     let e = begun.ensures in
     let does = reassigns_from held.new.hand.number c.args.src c.args.dst taken last held.result.shared left begun.result e.answer e.began e.happens e.view e.refused in
     let locks = c.give_slabs.ensures.locks ∙ (ap without_slabs (c.begin_move-answer.ensures.locks ∙ c.lock_slabs-held.ensures.locks) ∙ lock_back c.args.hand.now c.requires.ready.unlocked) in
-    hand_still c.args.arena.now c.args.hand.now c.give_slabs.new.hand c.give_slabs.ensures.arena locks (returns-clause-holdings g c) (held_ids c.args.hand.now.seat.me.0 taken last c.give_slabs.new.hand.seat.me.0 held.result.shared left held.ensures.waits c.give_slabs.ensures.left (reassigns_keep (λ (v : View). v.row.ids) (λ slabs one word v. refl) held.new.hand.number c.args.src c.args.dst taken last held.result.shared left begun.result does)) c.requires.ready
-
-pub returns-clause-keeps : goal.returns-clause-keeps
-returns-clause-keeps g c =
-    let held = c.lock_slabs-held in
-    let taken : View = held.new.hand.seat.me.0 in
-    let begun = c.begin_move-answer in
-    let last : View = begun.new.hand.seat.me.0 in
-    let left = begun.new.held.shared in
-    let e = begun.ensures in
-    let does = reassigns_from held.new.hand.number c.args.src c.args.dst taken last held.result.shared left begun.result e.answer e.began e.happens e.view e.refused in
-    refs_stay c.args.hand.now.seat.me.0 c.give_slabs.new.hand.seat.me.0 (returns-clause-holdings g c)
-    (held_known_same c.args.hand.now.seat.me.0 taken last c.give_slabs.new.hand.seat.me.0 held.result.shared left held.ensures.waits c.give_slabs.ensures.left (reassigns_keep (λ (v : View). v.row.knows.known) (λ slabs one word v. refl) held.new.hand.number c.args.src c.args.dst taken last held.result.shared left begun.result does))
+    hand_still c.args.arena.now c.args.hand.now c.give_slabs.new.hand c.give_slabs.ensures.arena locks (returns-clause-holdings g c).same (held_ids c.args.hand.now.seat.me.0 taken last c.give_slabs.new.hand.seat.me.0 held.result.shared left held.ensures.waits c.give_slabs.ensures.left (reassigns_keep (λ (v : View). v.row.ids) (λ slabs one word v. refl) held.new.hand.number c.args.src c.args.dst taken last held.result.shared left begun.result does)) c.requires.ready
 
 pub returns-clause-stores_nothing : goal.returns-clause-stores_nothing
 returns-clause-stores_nothing g c =

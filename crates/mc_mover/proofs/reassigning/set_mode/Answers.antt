@@ -22,8 +22,13 @@ pub returns-clause-holdings : goal.returns-clause-holdings
 returns-clause-holdings g c =
     let held = c.lock_slabs-held in
     let set = c.set_automove in
-    held_holdings c.args.hand.now.seat.me.0 held.new.hand.seat.me.0 set.new.hand.seat.me.0 c.give_slabs.new.hand.seat.me.0 held.result.shared set.new.held.shared held.ensures.waits
-    (ap (λ (v : View). v.row.holdings) set.ensures.view) c.give_slabs.ensures.left
+    let taken : View = held.new.hand.seat.me.0 in
+    let last : View = set.new.hand.seat.me.0 in
+    let left = set.new.held.shared in
+    let same = held_holdings c.args.hand.now.seat.me.0 held.new.hand.seat.me.0 set.new.hand.seat.me.0 c.give_slabs.new.hand.seat.me.0 held.result.shared set.new.held.shared held.ensures.waits
+      (ap (λ (v : View). v.row.holdings) set.ensures.view) c.give_slabs.ensures.left in
+    record { same = same; references = refs_stay c.args.hand.now.seat.me.0 c.give_slabs.new.hand.seat.me.0 same
+      (held_known_same c.args.hand.now.seat.me.0 taken last c.give_slabs.new.hand.seat.me.0 held.result.shared left held.ensures.waits c.give_slabs.ensures.left (ap (λ (v : View). v.row.knows.known) set.ensures.view)) }
 
 pub returns-clause-hand : goal.returns-clause-hand
 returns-clause-hand g c =
@@ -33,17 +38,7 @@ returns-clause-hand g c =
     let last : View = set.new.hand.seat.me.0 in
     let left = set.new.held.shared in
     let locks = c.give_slabs.ensures.locks ∙ (ap without_slabs (c.set_automove.ensures.locks ∙ c.lock_slabs-held.ensures.locks) ∙ lock_back c.args.hand.now c.requires.ready.unlocked) in
-    hand_still c.args.arena.now c.args.hand.now c.give_slabs.new.hand c.give_slabs.ensures.arena locks (returns-clause-holdings g c) (held_ids c.args.hand.now.seat.me.0 taken last c.give_slabs.new.hand.seat.me.0 held.result.shared left held.ensures.waits c.give_slabs.ensures.left (ap (λ (v : View). v.row.ids) set.ensures.view)) c.requires.ready
-
-pub returns-clause-keeps : goal.returns-clause-keeps
-returns-clause-keeps g c =
-    let held = c.lock_slabs-held in
-    let taken : View = held.new.hand.seat.me.0 in
-    let set = c.set_automove in
-    let last : View = set.new.hand.seat.me.0 in
-    let left = set.new.held.shared in
-    refs_stay c.args.hand.now.seat.me.0 c.give_slabs.new.hand.seat.me.0 (returns-clause-holdings g c)
-    (held_known_same c.args.hand.now.seat.me.0 taken last c.give_slabs.new.hand.seat.me.0 held.result.shared left held.ensures.waits c.give_slabs.ensures.left (ap (λ (v : View). v.row.knows.known) set.ensures.view))
+    hand_still c.args.arena.now c.args.hand.now c.give_slabs.new.hand c.give_slabs.ensures.arena locks (returns-clause-holdings g c).same (held_ids c.args.hand.now.seat.me.0 taken last c.give_slabs.new.hand.seat.me.0 held.result.shared left held.ensures.waits c.give_slabs.ensures.left (ap (λ (v : View). v.row.ids) set.ensures.view)) c.requires.ready
 
 pub returns-clause-stores_nothing : goal.returns-clause-stores_nothing
 returns-clause-stores_nothing g c =

@@ -28,10 +28,9 @@ loop-stripe-preserved g c =
     }
 
 pub returns-clause-holdings : goal.returns-clause-holdings
-returns-clause-holdings g c = holdings_kept c.args.hand.now c.loop-stripe.hand (each_keeps Forget c.args.hand.now.number (range_with_len 0 c.loop-stripe.stripe) c.args.hand.now.seat.me.0 c.loop-stripe.hand.seat.me.0 c.loop-stripe.invariant.so_far)
-
-pub returns-clause-keeps : goal.returns-clause-keeps
-returns-clause-keeps g c = refs_kept c.args.hand.now c.loop-stripe.hand (each_keeps Forget c.args.hand.now.number (range_with_len 0 c.loop-stripe.stripe) c.args.hand.now.seat.me.0 c.loop-stripe.hand.seat.me.0 c.loop-stripe.invariant.so_far)
+returns-clause-holdings g c =
+    let same = holdings_kept c.args.hand.now c.loop-stripe.hand (each_keeps Forget c.args.hand.now.number (range_with_len 0 c.loop-stripe.stripe) c.args.hand.now.seat.me.0 c.loop-stripe.hand.seat.me.0 c.loop-stripe.invariant.so_far) in
+    record { same = same; references = refs_kept c.args.hand.now c.loop-stripe.hand (each_keeps Forget c.args.hand.now.number (range_with_len 0 c.loop-stripe.stripe) c.args.hand.now.seat.me.0 c.loop-stripe.hand.seat.me.0 c.loop-stripe.invariant.so_far) }
 
 pub returns-clause-stores_nothing : goal.returns-clause-stores_nothing
 returns-clause-stores_nothing g c = said_kept c.args.hand.now c.loop-stripe.hand (each_keeps Forget c.args.hand.now.number (range_with_len 0 c.loop-stripe.stripe) c.args.hand.now.seat.me.0 c.loop-stripe.hand.seat.me.0 c.loop-stripe.invariant.so_far)

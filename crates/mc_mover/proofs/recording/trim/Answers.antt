@@ -2,18 +2,18 @@ use Rattle.std.proofs.Common.{◌∙◌}
 use Rattle.mc_core.specs.declared.event.StripeChange.TheVariants.{Trim}
 use Rattle.mc_words.specs.hand.Arenas.{view}
 use Rattle.mc_mover.proofs.GivenBack.{given_behind, given_up_to, on_err}
-use Rattle.mc_mover.proofs.Recorded.{each_keeps, ledger_keeps, refs_kept}
+use Rattle.mc_mover.proofs.Recorded.{each_keeps, holdings_kept, ledger_keeps, refs_kept}
 use Rattle.mc_mover.proofs.Refusals.{as_error, no_ok}
 use Rattle.mc_mover.proofs.recording.trim.Goals as goal
 
-pub returns-clause-keeps : goal.returns-clause-keeps
-returns-clause-keeps g c =
+pub returns-clause-holdings : goal.returns-clause-holdings
+returns-clause-holdings g c =
     let before = c.args.hand.now in
     let between = c.trim_stripes.new.hand in
     let now = c.trim_ledger.new.hand in
-    refs_kept before now
-    (ledger_keeps between.number (view between) (view now) c.trim_ledger.ensures.trims
-    ∙ each_keeps Trim before.number _ (view before) (view between) c.in_ok-trim_stripes.ensures.trims)
+    let kept = ledger_keeps between.number (view between) (view now) c.trim_ledger.ensures.trims
+    ∙ each_keeps Trim before.number _ (view before) (view between) c.in_ok-trim_stripes.ensures.trims in
+    record { same = holdings_kept before now kept; references = refs_kept before now kept }
 
 pub returns-clause-given : goal.returns-clause-given
 returns-clause-given g c =

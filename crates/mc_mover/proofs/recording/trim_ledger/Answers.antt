@@ -19,15 +19,14 @@ returns-clause-trims g c =
     (subst (λ n. TrimsLedger n taken held.result.shared last trim.new.held.shared) number ((trim.ensures.happens, trim.ensures.view), trim.ensures.trimmed)) c.give_slabs.ensures.left
 
 pub returns-clause-holdings : goal.returns-clause-holdings
-returns-clause-holdings g c = holdings_kept c.args.hand.now c.give_slabs.new.hand (ledger_keeps c.args.hand.now.number c.args.hand.now.seat.me.0 c.give_slabs.new.hand.seat.me.0 (returns-clause-trims g c))
+returns-clause-holdings g c =
+    let same = holdings_kept c.args.hand.now c.give_slabs.new.hand (ledger_keeps c.args.hand.now.number c.args.hand.now.seat.me.0 c.give_slabs.new.hand.seat.me.0 (returns-clause-trims g c)) in
+    record { same = same; references = refs_kept c.args.hand.now c.give_slabs.new.hand (ledger_keeps c.args.hand.now.number c.args.hand.now.seat.me.0 c.give_slabs.new.hand.seat.me.0 (returns-clause-trims g c)) }
 
 pub returns-clause-hand : goal.returns-clause-hand
 returns-clause-hand g c =
     let locks = c.give_slabs.ensures.locks ∙ (ap without_slabs (c.trim_ledger.ensures.locks ∙ c.lock_slabs-held.ensures.locks) ∙ lock_back c.args.hand.now c.requires.ready.unlocked) in
     hand_kept c.args.hand.now c.give_slabs.new.hand (ledger_keeps c.args.hand.now.number c.args.hand.now.seat.me.0 c.give_slabs.new.hand.seat.me.0 (returns-clause-trims g c)) c.args.arena.now c.give_slabs.ensures.arena locks c.requires.ready
-
-pub returns-clause-keeps : goal.returns-clause-keeps
-returns-clause-keeps g c = refs_kept c.args.hand.now c.give_slabs.new.hand (ledger_keeps c.args.hand.now.number c.args.hand.now.seat.me.0 c.give_slabs.new.hand.seat.me.0 (returns-clause-trims g c))
 
 pub returns-clause-stores_nothing : goal.returns-clause-stores_nothing
 returns-clause-stores_nothing g c = said_kept c.args.hand.now c.give_slabs.new.hand (ledger_keeps c.args.hand.now.number c.args.hand.now.seat.me.0 c.give_slabs.new.hand.seat.me.0 (returns-clause-trims g c))

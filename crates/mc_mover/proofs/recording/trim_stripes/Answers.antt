@@ -23,14 +23,13 @@ pub returns-in_err-trim_stripe-clause-trims : goal.returns-in_err-trim_stripe-cl
 returns-in_err-trim_stripe-clause-trims g c = no_ok _ c.from_residual.result c.from_residual.ensures.0
 
 pub returns-in_err-trim_stripe-clause-holdings : goal.returns-in_err-trim_stripe-clause-holdings
-returns-in_err-trim_stripe-clause-holdings g c = holdings_kept c.args.hand.now c.trim_stripe.new.hand
-    (hold_keeps Leaves leaves_quiet c.loop-stripe.stripe c.loop-stripe.hand.seat.me.0 c.trim_stripe.new.hand.seat.me.0 c.in_err-trim_stripe.ensures.leaves
-    ∙ each_keeps Trim c.args.hand.now.number (range_with_len 0 c.loop-stripe.stripe) c.args.hand.now.seat.me.0 c.loop-stripe.hand.seat.me.0 c.loop-stripe.invariant.so_far)
-
-pub returns-in_err-trim_stripe-clause-keeps : goal.returns-in_err-trim_stripe-clause-keeps
-returns-in_err-trim_stripe-clause-keeps g c = refs_kept c.args.hand.now c.trim_stripe.new.hand
-    (hold_keeps Leaves leaves_quiet c.loop-stripe.stripe c.loop-stripe.hand.seat.me.0 c.trim_stripe.new.hand.seat.me.0 c.in_err-trim_stripe.ensures.leaves
-    ∙ each_keeps Trim c.args.hand.now.number (range_with_len 0 c.loop-stripe.stripe) c.args.hand.now.seat.me.0 c.loop-stripe.hand.seat.me.0 c.loop-stripe.invariant.so_far)
+returns-in_err-trim_stripe-clause-holdings g c =
+    let same = holdings_kept c.args.hand.now c.trim_stripe.new.hand
+      (hold_keeps Leaves leaves_quiet c.loop-stripe.stripe c.loop-stripe.hand.seat.me.0 c.trim_stripe.new.hand.seat.me.0 c.in_err-trim_stripe.ensures.leaves
+      ∙ each_keeps Trim c.args.hand.now.number (range_with_len 0 c.loop-stripe.stripe) c.args.hand.now.seat.me.0 c.loop-stripe.hand.seat.me.0 c.loop-stripe.invariant.so_far) in
+    record { same = same; references = refs_kept c.args.hand.now c.trim_stripe.new.hand
+      (hold_keeps Leaves leaves_quiet c.loop-stripe.stripe c.loop-stripe.hand.seat.me.0 c.trim_stripe.new.hand.seat.me.0 c.in_err-trim_stripe.ensures.leaves
+      ∙ each_keeps Trim c.args.hand.now.number (range_with_len 0 c.loop-stripe.stripe) c.args.hand.now.seat.me.0 c.loop-stripe.hand.seat.me.0 c.loop-stripe.invariant.so_far) }
 
 pub returns-in_err-trim_stripe-clause-stores_nothing : goal.returns-in_err-trim_stripe-clause-stores_nothing
 returns-in_err-trim_stripe-clause-stores_nothing g c = said_kept c.args.hand.now c.trim_stripe.new.hand
@@ -62,10 +61,9 @@ loop-stripe-preserved g c =
     }
 
 pub returns-clause-holdings : goal.returns-clause-holdings
-returns-clause-holdings g c = holdings_kept c.args.hand.now c.loop-stripe.hand (each_keeps Trim c.args.hand.now.number (range_with_len 0 c.loop-stripe.stripe) c.args.hand.now.seat.me.0 c.loop-stripe.hand.seat.me.0 c.loop-stripe.invariant.so_far)
-
-pub returns-clause-keeps : goal.returns-clause-keeps
-returns-clause-keeps g c = refs_kept c.args.hand.now c.loop-stripe.hand (each_keeps Trim c.args.hand.now.number (range_with_len 0 c.loop-stripe.stripe) c.args.hand.now.seat.me.0 c.loop-stripe.hand.seat.me.0 c.loop-stripe.invariant.so_far)
+returns-clause-holdings g c =
+    let same = holdings_kept c.args.hand.now c.loop-stripe.hand (each_keeps Trim c.args.hand.now.number (range_with_len 0 c.loop-stripe.stripe) c.args.hand.now.seat.me.0 c.loop-stripe.hand.seat.me.0 c.loop-stripe.invariant.so_far) in
+    record { same = same; references = refs_kept c.args.hand.now c.loop-stripe.hand (each_keeps Trim c.args.hand.now.number (range_with_len 0 c.loop-stripe.stripe) c.args.hand.now.seat.me.0 c.loop-stripe.hand.seat.me.0 c.loop-stripe.invariant.so_far) }
 
 pub returns-clause-stores_nothing : goal.returns-clause-stores_nothing
 returns-clause-stores_nothing g c = said_kept c.args.hand.now c.loop-stripe.hand (each_keeps Trim c.args.hand.now.number (range_with_len 0 c.loop-stripe.stripe) c.args.hand.now.seat.me.0 c.loop-stripe.hand.seat.me.0 c.loop-stripe.invariant.so_far)

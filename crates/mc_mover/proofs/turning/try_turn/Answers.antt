@@ -46,21 +46,18 @@ returns-in-Err-clause-told_before c is =
 
 pub returns-in-Ok-answer-clause-holdings : goal.returns-in-Ok-answer-clause-holdings
 returns-in-Ok-answer-clause-holdings c =
-    ap (λ (v : View). v.row.holdings) c.give_slabs.ensures.left ∙ (c.turn_held-answer.ensures.holdings ∙ ap (λ (v : View). v.row.holdings) c.in-Ok.ensures.lent)
+    let hand = c.args.hand.now in
+    let now = c.give_slabs.new.hand in
+    let leaves = (turn_leaves hand.number c.in-Ok-answer.turn hand.seat.me.0 now.seat.me.0 (returns-in-Ok-answer-clause-turns c)) in
+    let same = ap (λ (v : View). v.row.holdings) c.give_slabs.ensures.left ∙ (c.turn_held-answer.ensures.holdings ∙ ap (λ (v : View). v.row.holdings) c.in-Ok.ensures.lent) in
+    record { same = same; references = refs_kept hand.seat.me.0 now.seat.me.0 leaves.more same leaves.known }
 
 pub returns-in-Ok-answer-clause-hand : goal.returns-in-Ok-answer-clause-hand
 returns-in-Ok-answer-clause-hand c =
     let hand = c.args.hand.now in
     let now = c.give_slabs.new.hand in
     let locks = c.give_slabs.ensures.locks ∙ (ap without_slabs (c.turn_held-answer.ensures.locks ∙ c.in-Ok.ensures.locks) ∙ lock_back c.args.hand.now c.requires.ready.unlocked) in
-    hand_still c.args.arena.now hand now c.give_slabs.ensures.arena locks (returns-in-Ok-answer-clause-holdings c) (turn_leaves hand.number c.in-Ok-answer.turn hand.seat.me.0 now.seat.me.0 (returns-in-Ok-answer-clause-turns c)).ids c.requires.ready
-
-pub returns-in-Ok-answer-clause-keeps : goal.returns-in-Ok-answer-clause-keeps
-returns-in-Ok-answer-clause-keeps c =
-    let hand = c.args.hand.now in
-    let now = c.give_slabs.new.hand in
-    let leaves = (turn_leaves hand.number c.in-Ok-answer.turn hand.seat.me.0 now.seat.me.0 (returns-in-Ok-answer-clause-turns c)) in
-    refs_kept hand.seat.me.0 now.seat.me.0 leaves.more (returns-in-Ok-answer-clause-holdings c) leaves.known
+    hand_still c.args.arena.now hand now c.give_slabs.ensures.arena locks (returns-in-Ok-answer-clause-holdings c).same (turn_leaves hand.number c.in-Ok-answer.turn hand.seat.me.0 now.seat.me.0 (returns-in-Ok-answer-clause-turns c)).ids c.requires.ready
 
 pub returns-in-Ok-answer-clause-stores_nothing : goal.returns-in-Ok-answer-clause-stores_nothing
 returns-in-Ok-answer-clause-stores_nothing c =
@@ -70,21 +67,18 @@ returns-in-Ok-answer-clause-stores_nothing c =
 
 pub returns-in-Err-clause-holdings : goal.returns-in-Err-clause-holdings
 returns-in-Err-clause-holdings c =
-    ap (λ (v : View). v.row.holdings) c.give_slabs.ensures.left ∙ (c.turn_held-answer.ensures.holdings ∙ ap (λ (v : View). v.row.holdings) c.in-Ok.ensures.lent)
+    let hand = c.args.hand.now in
+    let now = c.give_slabs.new.hand in
+    let leaves = (lacks_leaves hand.number hand.seat.me.0 now.seat.me.0 (returns-in-Err-clause-lacks c refl)) in
+    let same = ap (λ (v : View). v.row.holdings) c.give_slabs.ensures.left ∙ (c.turn_held-answer.ensures.holdings ∙ ap (λ (v : View). v.row.holdings) c.in-Ok.ensures.lent) in
+    record { same = same; references = refs_kept hand.seat.me.0 now.seat.me.0 leaves.more same leaves.known }
 
 pub returns-in-Err-clause-hand : goal.returns-in-Err-clause-hand
 returns-in-Err-clause-hand c =
     let hand = c.args.hand.now in
     let now = c.give_slabs.new.hand in
     let locks = c.give_slabs.ensures.locks ∙ (ap without_slabs (c.turn_held-answer.ensures.locks ∙ c.in-Ok.ensures.locks) ∙ lock_back c.args.hand.now c.requires.ready.unlocked) in
-    hand_still c.args.arena.now hand now c.give_slabs.ensures.arena locks (returns-in-Err-clause-holdings c) (lacks_leaves hand.number hand.seat.me.0 now.seat.me.0 (returns-in-Err-clause-lacks c refl)).ids c.requires.ready
-
-pub returns-in-Err-clause-keeps : goal.returns-in-Err-clause-keeps
-returns-in-Err-clause-keeps c =
-    let hand = c.args.hand.now in
-    let now = c.give_slabs.new.hand in
-    let leaves = (lacks_leaves hand.number hand.seat.me.0 now.seat.me.0 (returns-in-Err-clause-lacks c refl)) in
-    refs_kept hand.seat.me.0 now.seat.me.0 leaves.more (returns-in-Err-clause-holdings c) leaves.known
+    hand_still c.args.arena.now hand now c.give_slabs.ensures.arena locks (returns-in-Err-clause-holdings c).same (lacks_leaves hand.number hand.seat.me.0 now.seat.me.0 (returns-in-Err-clause-lacks c refl)).ids c.requires.ready
 
 pub returns-in-Err-clause-stores_nothing : goal.returns-in-Err-clause-stores_nothing
 returns-in-Err-clause-stores_nothing c =

@@ -79,15 +79,20 @@ returns-clause-told_before g c =
 pub returns-clause-holdings : goal.returns-clause-holdings
 returns-clause-holdings g c =
     let held = c.lock_slabs-held in
-    held_holdings c.args.hand.now.seat.me.0 held.new.hand.seat.me.0 c.turn_held-answer.new.hand.seat.me.0 c.give_slabs.new.hand.seat.me.0 held.result.shared c.turn_held-answer.new.held.shared
-    held.ensures.waits c.turn_held-answer.ensures.holdings c.give_slabs.ensures.left
+    let hand = c.args.hand.now in
+    let view : View = hand.seat.me.0 in
+    let now : View = c.give_slabs.new.hand.seat.me.0 in
+    let leaves = answer_leaves hand.number c.turn_held-answer.result view now (returns-clause-turns g c) (returns-clause-lacks g c) in
+    let same = held_holdings c.args.hand.now.seat.me.0 held.new.hand.seat.me.0 c.turn_held-answer.new.hand.seat.me.0 c.give_slabs.new.hand.seat.me.0 held.result.shared c.turn_held-answer.new.held.shared
+      held.ensures.waits c.turn_held-answer.ensures.holdings c.give_slabs.ensures.left in
+    record { same = same; references = refs_kept view now leaves.more same leaves.known }
 
 pub returns-clause-hand : goal.returns-clause-hand
 returns-clause-hand g c =
     let hand = c.args.hand.now in
     let now = c.give_slabs.new.hand in
     let locks = c.give_slabs.ensures.locks ∙ (ap without_slabs (c.turn_held-answer.ensures.locks ∙ c.lock_slabs-held.ensures.locks) ∙ lock_back c.args.hand.now c.requires.ready.unlocked) in
-    hand_still c.args.arena.now hand now c.give_slabs.ensures.arena locks (returns-clause-holdings g c) (answer_leaves hand.number c.turn_held-answer.result hand.seat.me.0 now.seat.me.0 (returns-clause-turns g c) (returns-clause-lacks g c)).ids c.requires.ready
+    hand_still c.args.arena.now hand now c.give_slabs.ensures.arena locks (returns-clause-holdings g c).same (answer_leaves hand.number c.turn_held-answer.result hand.seat.me.0 now.seat.me.0 (returns-clause-turns g c) (returns-clause-lacks g c)).ids c.requires.ready
 
 pub returns-clause-answers : goal.returns-clause-answers
 returns-clause-answers g c =
@@ -101,14 +106,6 @@ returns-clause-answers g c =
     if_ok (λ (turn : Turn). Turns held.new.hand.number turn taken found last left × IsAnswerOf turn found.moving left.moving) (λ (turn : Turn). AnswersMove now turn) c.turn_held-answer.result
     (λ turn does. held_answer hand.seat.me.0 taken last now found left held.ensures.waits c.give_slabs.ensures.left turn (turns_grow held.new.hand.number turn taken found last left does.0) does.1)
     (both_ok _ _ c.turn_held-answer.result c.turn_held-answer.ensures.turns c.turn_held-answer.ensures.answers)
-
-pub returns-clause-keeps : goal.returns-clause-keeps
-returns-clause-keeps g c =
-    let hand = c.args.hand.now in
-    let view : View = hand.seat.me.0 in
-    let now : View = c.give_slabs.new.hand.seat.me.0 in
-    let leaves = answer_leaves hand.number c.turn_held-answer.result view now (returns-clause-turns g c) (returns-clause-lacks g c) in
-    refs_kept view now leaves.more (returns-clause-holdings g c) leaves.known
 
 pub returns-clause-stores_nothing : goal.returns-clause-stores_nothing
 returns-clause-stores_nothing g c =

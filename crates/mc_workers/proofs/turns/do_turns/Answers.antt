@@ -43,7 +43,7 @@ loop-preserved g c =
       arena = c.turn.ensures.hand.arena;
       ready = c.turn.ensures.hand.ready;
       number = c.turn.ensures.hand.number ∙ inv.number;
-      holdings = c.turn.ensures.holdings ∙ inv.holdings;
+      holdings = c.turn.ensures.holdings.same ∙ inv.holdings;
       gone = gone_more c.args.asked c.loop.counter c.loop.counts c.add_counts.new.counts turn c.args.mover.now c.args.hand.now c.loop.mover c.loop.hand left c.turn.new.hand
           inv.gone c.if-mover-ge-MAX_TURNS.false refl (c.in-Ok.ensures.turns, c.in-Ok.ensures.records) c.add_counts.ensures.added (sym c.ending_of-ending.ensures.ending ∙ went);
       went = λ some. went;

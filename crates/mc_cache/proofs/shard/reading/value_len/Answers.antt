@@ -8,7 +8,7 @@ use Rattle.mc_cache.proofs.shard.reading.value_len.Goals as goal
 pub returns-then-len-begin-clause-other : goal.returns-then-len-begin-clause-other
 returns-then-len-begin-clause-other c = λ is.
     let ws : List ℕ = item_words (view c.args.hand.now) c.args.item.now in
-    let short : length ws < 2 + word_count_for (length c.args.key.now) = omega (arith, words_len (view c.args.hand.now) c.args.item.now c.requires.refers, c.len.ensures.len, c.value_place-begin.ensures.place, c.if-len-begin.true) in
+    let short : length ws < 2 + word_count_for (length c.args.key.now) = omega (arith, words_len (view c.args.hand.now) c.args.item.now c.requires.item.refers, c.len.ensures.len, c.value_place-begin.ensures.place, c.if-len-begin.true) in
     not_long c.args.key.now ws short
 
 pub returns-then-key_len-key-clause-other : goal.returns-then-key_len-key-clause-other

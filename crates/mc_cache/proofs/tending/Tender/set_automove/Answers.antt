@@ -16,7 +16,7 @@ loop-shard-preserved g c =
     let near_hand : c.loop-shard.shard < length c.loop-shard.self.worker.hands.items = omega (arith, in_range, inv.tender.hands.count) in
     let was = idle_at c.args.cache.now.arenas.items c.loop-shard.self.worker.hands.items c.loop-shard.shard c.index-arena.result.now c.index_mut-hand.result.now inv.tender.hands in_range in
     let idle : IsIdleHandOf c.index-arena.result.now c.index_mut-hand.result.now = rw (c.index-arena.ensures, c.index_mut-hand.ensures.value) was in
-    let now : IsIdleHandOf c.index-arena.result.now c.set_mode.new.hand = stays_idle c.index-arena.result.now c.index_mut-hand.result.now c.set_mode.new.hand idle c.set_mode.ensures.hand.arena c.set_mode.ensures.hand.ready c.set_mode.ensures.holdings in
+    let now : IsIdleHandOf c.index-arena.result.now c.set_mode.new.hand = stays_idle c.index-arena.result.now c.index_mut-hand.result.now c.set_mode.new.hand idle c.set_mode.ensures.hand.arena c.set_mode.ensures.hand.ready c.set_mode.ensures.holdings.same in
     record {
       tender = record {
         hands = idle_after c.args.cache.now.arenas.items c.loop-shard.self.worker.hands.items c.loop-shard.shard c.index-arena.result.now c.set_mode.new.hand in_range c.index-arena.ensures now inv.tender.hands;
