@@ -26,14 +26,33 @@ pub(crate) fn stamp_of(found: Option<(ChunkId, Stamp)>) -> Option<Stamp>
     found.map(|place| place.1)
 }
 
-/// Makes room for one more key.
+/// Makes room for one more key. Where keys that went used the room up, the map ends as large as it was. (own)
 pub(crate) fn reserve_one(index: &mut Index) -> Result<(), Refused>
     ensures entries { by_key index.new.entries ≡ by_key index.old.entries }
     ensures room { OnOk result (0 < spare index.new) }
     ensures kept { spare index.old ≤ spare index.new }
     ensures succeeds { 0 < spare index.old → IsOk result }
 {
-    reserve_entries(index, 1)
+    if index.len() < index.capacity() {
+        return Ok(());
+    }
+    if let Err(refused) = reserve_entries(index, 1) {
+        return Err(refused);
+    }
+    give_half_back(index);
+    Ok(())
+}
+
+// Gives half of the map's room back, where its keys leave a sixteenth of the other half free. The kit's map loses places as keys go, and
+// doubles where it has none left. (own)
+fn give_half_back(index: &mut Index)
+    ensures entries { by_key index.new.entries ≡ by_key index.old.entries }
+    ensures room { 0 < spare index.old → 0 < spare index.new }
+{
+    let half = index.capacity() / 2;
+    if index.len() < half - half / 16 {
+        index.shrink_to(half);
+    }
 }
 
 /// The key leads to this place now. There is room for it.
