@@ -11,5 +11,4 @@ pub mod Deciders
 pub mod EachShard
 pub mod Counted
 pub mod Accepts
-pub mod Doubling
 pub mod Sized

@@ -20,16 +20,16 @@ between : (low high n : ℕ) → low ≤ n → n ≤ high → is_between low hig
 between low high n above below = and_from (leb low n) (leb n high) (le-leb low n above) (le-leb n high below)
 
 -- the factor is above 1, and small
-factor_within : (first : ℕ) → (3 ≤ doubled_factor first) × (doubled_factor first ≤ 6)
+factor_within : (first : ℕ) → (3 ≤ doubled_factor first) × (doubled_factor first ≤ 8)
 factor_within first =
     ⊎_elim
-    (λ (below : first < 8192).
-    let same : doubled_factor first ≡ 6 = cond-true (ltb first 8192) 6 3 (lt-ltb first 8192 below) in
+    (λ (below : first < 4096).
+    let same : doubled_factor first ≡ 8 = cond-true (ltb first 4096) 8 3 (lt-ltb first 4096 below) in
     (omega (arith, same), omega (arith, same)))
-    (λ (above : 8192 ≤ first).
-    let same : doubled_factor first ≡ 3 = cond-false (ltb first 8192) 6 3 (le-ltb first 8192 above) in
+    (λ (above : 4096 ≤ first).
+    let same : doubled_factor first ≡ 3 = cond-false (ltb first 4096) 8 3 (le-ltb first 4096 above) in
     (omega (arith, same), omega (arith, same)))
-    (cases_lt first 8192)
+    (cases_lt first 4096)
 
 -- a page has no more than 256 chunks of the first class
 chunks_within : (config : Config) → config.page ≡ 16384 → config.max ≡ 16384 → 64 ≤ config.first → config.page / first_size config ≤ 256

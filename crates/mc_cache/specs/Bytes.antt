@@ -1,5 +1,5 @@
 -- How many bytes a new cache takes of the allocator.
-use Rattle.std.specs.Prelude.{ℕ, zero, suc, ◌+◌, ◌*◌, ◌/◌, if◌then◌else◌, nat_le, max, List, [], ◌∷◌}
+use Rattle.std.specs.Prelude.{ℕ, zero, suc, ◌+◌, ◌*◌, ◌/◌, if◌then◌else◌, max, List, [], ◌∷◌}
 use Rattle.mc_classes.specs.Limits.{most_classes}
 use Rattle.mc_classes.specs.declared.config.Config.{Config}
 use Rattle.mc_classes.specs.Refusals.{first_size, is_below_max, rounded_up}
@@ -72,14 +72,9 @@ shard_bytes config = arena_bytes config.arena + 656 + 72 + 48 * (config.workers 
 abbrev pub worker_bytes : CacheConfig → ℕ
 worker_bytes config = 48 * (config.workers + 1)
 
--- the count doubled as long as it is at most this many places, n times at most
-unfoldable pub count_after_doubling : ℕ → ℕ → ℕ → ℕ
-count_after_doubling zero count places = count
-count_after_doubling (suc more) count places = if nat_le count places then count_after_doubling more (count * 2) places else count
-
--- the places for hints of items: the least power of two above one for 128 bytes of the limits, and 2^24 at most
+-- the places for hints of items: one for each 128 bytes of the limits
 abbrev pub hint_place_count : CacheConfig → ℕ
-hint_place_count config = count_after_doubling 24 1 (config.shards * (config.arena.limit / 128))
+hint_place_count config = config.shards * (config.arena.limit / 128)
 
 -- the bytes that a new cache takes: those of its shards, of the workers and the tender, and of the hints
 abbrev pub cache_bytes : CacheConfig → ℕ

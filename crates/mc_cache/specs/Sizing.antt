@@ -21,25 +21,29 @@ usual_page_chunks item = max (most_page_bytes / usual_chunk item) 1
 abbrev pub sized_first : ℕ → ℕ
 sized_first item = max (most_page_bytes / usual_page_chunks item / 8 * 8) 64
 
--- twice the factor from class to class: of 3, and of 1.5 where a page has one or two chunks of the first class
+-- twice the factor from class to class: of 4, and of 1.5 where a page has four chunks of the first class or fewer
 abbrev pub doubled_factor : ℕ → ℕ
-doubled_factor first = if nat_lt first 8192 then 6 else 3
+doubled_factor first = if nat_lt first 4096 then 8 else 3
 
 -- the chunks that the pages within a limit have of the first class
 abbrev pub sized_chunks : ℕ → ℕ → ℕ
 sized_chunks item limit = limit / most_page_bytes * (most_page_bytes / sized_first item)
 
--- the stripes of an arena with n chunks of the first class: one for each 800 of them, so that seldom an index has more than 896 items
+-- the stripes of an arena with n chunks of the first class: one for each 436 of them, so that an index seldom has more than 540 items
 abbrev pub sized_stripes : ℕ → ℕ
-sized_stripes chunks = (chunks + 799) / 800
+sized_stripes chunks = (chunks + 435) / 436
 
--- the bytes that an index of items takes until it has more than 896 items: 33 for each of 1,024 places, and 16
+-- the bytes that an index with room for 576 items takes: 64 groups of 64 bytes, and 40 for each item
 abbrev pub index_bytes : ℕ
-index_bytes = 33 * 1024 + 16
+index_bytes = 64 * 64 + 40 * 576
 
--- the bytes that a new cache takes, and those of its indexes once they are in use
+-- the bytes that an index takes beside these while a worker makes it anew: 128 groups, and room for as many items again
+abbrev pub renewal_bytes : ℕ
+renewal_bytes = 64 * 128 + 40 * 576
+
+-- the bytes that a new cache takes, those of its indexes once they are in use, and those that each worker makes one anew with
 abbrev pub filled_bytes : CacheConfig → ℕ
-filled_bytes config = cache_bytes config + config.shards * config.arena.stripes * index_bytes
+filled_bytes config = cache_bytes config + config.shards * config.arena.stripes * index_bytes + config.workers * renewal_bytes
 
 -- an arena for usual items of n bytes of key and value, with this limit: pages of 16,384 bytes, and one class that is near the usual item
 abbrev pub sized_arena : ℕ → ℕ → Config

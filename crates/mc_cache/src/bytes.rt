@@ -74,10 +74,8 @@ const ROW: u64 = 12;
 // The words of the hints of dead chunks.
 const DEAD_HINTS: u64 = 508;
 
-// The limits have a place for hints for so many bytes, and two to the power of this many are made at most.
+// The limits have a place for hints for so many bytes. (own)
 const BYTES_A_HINT: u64 = 128;
-
-const MOST_HINT_BITS: u64 = 24;
 
 // The size of class 1.
 fn first_size(config: &Config) -> u64
@@ -210,20 +208,13 @@ fn shard_bytes(config: &CacheConfig) -> u64
     arena_bytes(&config.arena) + ARENA + DECIDER + HAND * (config.workers + 1)
 }
 
-// How many places for hints of items there are.
-fn hint_place_count(config: &CacheConfig) -> u64
+/// How many places for hints of items a cache has: one for each 128 bytes of the limits.
+pub(crate) fn hint_place_count(config: &CacheConfig) -> u64
     requires accepted { cache_refusal config.now ≡ None }
     ensures count { result ≡ hint_place_count config.now }
     ensures within_limit { result ≤ 2 ^ 40 }
 {
-    let places = config.shards * (config.arena.limit / BYTES_A_HINT);
-    let mut left = MOST_HINT_BITS;
-    let mut count = 1;
-    while left > 0 && count <= places {
-        count *= 2;
-        left -= 1;
-    }
-    count
+    config.shards * (config.arena.limit / BYTES_A_HINT)
 }
 
 // The bytes that a new cache takes, by a configuration that is accepted.
@@ -256,8 +247,8 @@ impl Cache {
 }
 
 /// Worked cases. With two pages of 64 bytes, and one more for each of five classes from 24 bytes on, with one stripe, an arena's table has 133
-/// words: 48 of locks, 11 a page, and 8. Three such shards and two workers take 27,272 bytes, of which 3,192 are those of
-/// the tables. Four shards of the largest limit, with chunks of 64 bytes at least, and two workers take 7,208,880 bytes.
+/// words: 48 of locks, 11 a page, and 8. Three such shards and two workers take 27,264 bytes, of which 3,192 are those of
+/// the tables. Four shards of the largest limit, with chunks of 64 bytes at least, and two workers take 6,946,736 bytes.
 pub fn worked_bytes()
     ensures small { SmallCaches }
     ensures large { LargeCache }

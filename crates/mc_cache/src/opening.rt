@@ -12,6 +12,7 @@ ghost use Rattle.mc_cache.specs.Tending.{IsFreshDecider, IsTenderOf, deciders_of
 ghost use Rattle.mc_cache.specs.Shards.{AreUnusedHands, AreUnusedHandsOf};
 ghost use Rattle.mc_cache.specs.declared.opening.NewError.TheVariants as refused;
 
+use crate::bytes::hint_place_count;
 use crate::cache::{Cache, Worker};
 use crate::hashing::{HashKey, KeyedHasher};
 use crate::shard::HintTable;
@@ -70,12 +71,6 @@ pub(crate) fn test(config: &CacheConfig) -> Result<(), NewError>
     }
 }
 
-// The number of places for hints, as a power of two: one for 64 to 128 bytes of the limits. (own)
-fn hint_bits(config: &CacheConfig) -> u64 {
-    let places = config.shards.saturating_mul(config.arena.limit / 128);
-    u64::from(64u32.saturating_sub(places.leading_zeros()))
-}
-
 impl Cache {
     /// A cache in which nothing is stored, its workers, and its tender. Its arenas keep no history. The configuration is refused by the first of its
     /// tests that it fails, before anything is allocated. It waits for locks that nobody has yet.
@@ -102,7 +97,8 @@ impl Cache {
         if let Err(error) = test(config) {
             return Err(error);
         }
-        let hints = HintTable::new(alloc, hint_bits(config)).map_err(NewError::NoMemory)?;
+        let places = hint_place_count(config);
+        let hints = HintTable::new(alloc, places).map_err(NewError::NoMemory)?;
         match open(rt, alloc, config) {
             Ok((arenas, workers, tender)) => {
                 let hashing = KeyedHasher::new(hashing);

@@ -13,12 +13,15 @@ use thiserror::Error;
 // The bytes of an item beside those of its key and its value: the header, and two lengths.
 const ITEM_BYTES: u64 = 40;
 
-// How many chunks of the first class have a stripe among them. The index of a stripe has 1,024 places until it has more than 896 items.
-// So 800 leave room for hashes that lie unevenly. (own)
-const STRIPE_CHUNKS: u64 = 800;
+// How many chunks of the first class have a stripe among them. The index of a stripe keeps its size up to 540 items. So 436 leave room for
+// hashes that lie unevenly. (own)
+const STRIPE_CHUNKS: u64 = 436;
 
-// The bytes of an index of 1,024 places.
-const INDEX: u64 = 33 * 1024 + 16;
+// The bytes of an index with room for 576 items.
+const INDEX: u64 = 64 * 64 + 40 * 576;
+
+// The bytes that an index takes beside these while a worker makes it anew, as items that went used its room up.
+const RENEWAL: u64 = 64 * 128 + 40 * 576;
 
 // The chunks that the mover looks at in a turn. (own)
 const BULK: u64 = 64;
@@ -35,10 +38,10 @@ pub enum SizingError {
 }
 
 impl CacheConfig {
-    /// The configuration of a cache that takes at most so many bytes of the allocator: those of `Cache::bytes`, and those of the indexes of items,
-    /// once each has 1,024 places. An index with more than 896 items takes more, which is seldom. The first class has room for
+    /// The configuration of a cache that takes at most so many bytes of the allocator: those of `Cache::bytes`, those of the indexes of items,
+    /// and those with which each worker makes an index anew. An index with more than 540 items may take more, which is seldom. The first class has room for
     /// items with `usual_item` bytes of key and value, and of all the chunks that a page has as many of, its chunks are the largest. Classes grow by
-    /// a factor of 3, or of 1.5 where a page has one or two such chunks. An item may have up to 16,344 bytes of words for key and value. Pages have 16,384
+    /// a factor of 4, or of 1.5 where a page has four such chunks or fewer. An item may have up to 16,344 bytes of words for key and value. Pages have 16,384
     /// bytes, and a shard up to 64 of them. Of the numbers of pages a shard, it takes the one with which most pages fit in all. (own)
     pub fn for_bytes(bytes: u64, usual_item: u64, workers: u64) -> Result<CacheConfig, SizingError>
         ensures fits { IfOk result (λ config. filled_bytes config ≤ bytes) }
@@ -76,7 +79,7 @@ fn sized_first(usual_item: u64) -> u64
 fn doubled_factor(first: u64) -> u64
     ensures factor { result ≡ doubled_factor first }
 {
-    if first < 8192 { 6 } else { 3 }
+    if first < 4096 { 8 } else { 3 }
 }
 
 // A cache of one shard with n pages.
@@ -120,7 +123,8 @@ fn filled_bytes(config: &CacheConfig) -> u64
     requires accepted { cache_refusal config.now ≡ None }
     ensures bytes { result ≡ filled_bytes config.now }
 {
-    bytes_of(config) + config.shards * config.arena.stripes * INDEX
+    let indexes = config.shards * config.arena.stripes * INDEX;
+    bytes_of(config) + indexes + config.workers * RENEWAL
 }
 
 // Whether the configuration is accepted, and the cache takes at most these bytes with its indexes.
@@ -212,8 +216,8 @@ fn roomiest(bytes: u64, usual_item: u64, workers: u64, least: CacheConfig) -> Ca
 }
 
 /// Worked cases. Items of 72 bytes of key and value have chunks of 120 bytes in the first class, 136 a page. Those of 1,032 bytes have chunks of
-/// 1,080, of which a page has 15, and 1,088 bytes have as much room. For the first items, a page wants 1 stripe, and 64 pages want 11. The
-/// smallest cache for one worker and these items takes 165,176 bytes with its index.
+/// 1,080, of which a page has 15, and 1,088 bytes have as much room. For the first items, a page wants 1 stripe, and 64 pages want 20. The
+/// smallest cache for one worker and these items takes 168,304 bytes with its index, as large as it ever gets.
 pub fn worked_sizes()
     ensures { UsualSizes }
 {}

@@ -2,7 +2,7 @@
 ghost use Rattle.std.specs.Prelude.{◌≡◌, ◌≤◌, All, IfOk, [], length};
 ghost use Rattle.mc_cache.specs.Belonging.{BelongsTo};
 ghost use Rattle.mc_cache.specs.Bytes.{cache_bytes};
-ghost use Rattle.mc_cache.specs.Observers.{arenas_of};
+ghost use Rattle.mc_cache.specs.Observers.{arenas_of, shard_count};
 ghost use Rattle.mc_cache.specs.Opening.{IsNewShard};
 ghost use Rattle.mc_cache.specs.Tending.{IsTenderOf};
 
@@ -43,6 +43,7 @@ pub fn open_within<R: Wait>(
     ensures taken { IfOk result (λ opened. opened.bytes ≡ cache_bytes opened.config) }
     ensures made { IfOk result (λ opened. All (IsNewShard opened.config)
         (arenas_of opened.cache)) }
+    ensures shards { IfOk result (λ opened. shard_count opened.cache ≡ opened.config.shards) }
     ensures workers { IfOk result (λ opened. length opened.workers.items ≡ workers) }
     ensures belongs { IfOk result (λ opened. All (BelongsTo opened.cache) opened.workers.items) }
     ensures tender { IfOk result (λ opened. IsTenderOf opened.cache opened.tender) }

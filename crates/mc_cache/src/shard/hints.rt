@@ -12,14 +12,11 @@ use std::alloc::Global;
 use std::sync::atomic::AtomicU64;
 use std::sync::atomic::Ordering::SeqCst;
 
-/// The most places that are made are two to the power of this. (own)
-const MOST_BITS: u64 = 24;
-
 /// How many places a hash may have. They lie side by side, in one line of the processor's cache. (own)
 const WAYS: usize = 4;
 
 /// A place holds the chunk in which an item was found last, and the issue number that the chunk had. A hash leads to a bucket of
-/// [`WAYS`] places by its lowest bits, so hashes share places.
+/// [`WAYS`] places by its lower half, so hashes share places.
 ///
 /// A word is `issue * 2^32 + part * 2^16 + used * 2^15 + page * 2^8 + index`. `part` is 16 bits of the hash: a get passes over most hints of
 /// other hashes by them, with no look at a header. `used` is 1 where the item was got since an eviction looked at it. An issue number of
@@ -27,8 +24,8 @@ const WAYS: usize = 4;
 #[derive(Drop)]
 pub struct HintTable {
     words: Vec<AtomicU64>,
-    /// One less than the number of buckets.
-    mask: u64,
+    /// The number of buckets.
+    buckets: u64,
 }
 
 /// The mark of an item that was got. (after memcached's `ITEM_ACTIVE`)
@@ -48,22 +45,21 @@ fn chunk_of(word: u64) -> ChunkId {
 }
 
 impl HintTable {
-    /// A table without hints, of `2^bits` places, and `2^24` at most. A place takes eight bytes.
-    pub fn new(alloc: Global, bits: u64) -> Result<HintTable, Refused> {
-        let bits = if bits < MOST_BITS { bits } else { MOST_BITS };
-        let count: u64 = 1 << bits;
+    /// A table without hints, of n places. A place takes eight bytes.
+    pub fn new(alloc: Global, count: u64) -> Result<HintTable, Refused> {
         let mut words = with_capacity(alloc, count as usize)?;
         for _ in 0..count {
             push(&mut words, AtomicU64::new(0))?;
         }
-        let mask = (count / WAYS as u64).wrapping_sub(1);
-        Ok(HintTable { words, mask })
+        let buckets = count / WAYS as u64;
+        Ok(HintTable { words, buckets })
     }
 
     // The places of a hash. A table of fewer than `WAYS` places has none.
     #[inline(always)]
     fn bucket(&self, hash: u64) -> &[AtomicU64] {
-        let first = ((hash & self.mask) as usize).wrapping_mul(WAYS);
+        let bucket = (hash & 0xffff_ffff).wrapping_mul(self.buckets) >> 32;
+        let first = (bucket as usize).wrapping_mul(WAYS);
         self.words
             .get(first..first.wrapping_add(WAYS))
             .unwrap_or(&[])

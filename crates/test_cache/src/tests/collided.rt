@@ -168,7 +168,7 @@ fn act_often<R: Wait>(
 fn other_keys_of_a_hash_are_missed(rt: HostRuntime) -> Result<(), Fail> {
     let (arena, mut hands) = Arena::new(rt.alloc(), &SMALL, 1)?;
     let mut hand = hands.remove(0);
-    let hints = HintTable::new(rt.alloc(), 1)?;
+    let hints = HintTable::new(rt.alloc(), 2)?;
     let right = act_often(&rt, rt.alloc(), &arena, &hints, &mut hand)?;
     assert!(rt; right, "a key of another was found, or its own wasn't");
     Ok(())

@@ -31,10 +31,13 @@ returns-clause-holdings g c =
     let left = begun.new.held.shared in
     let does = reassigns_from held.new.hand.number c.args.src c.args.dst taken last held.result.shared left begun.result e.answer e.began e.happens e.view e.refused in
     let same = held_holdings c.args.hand.now.seat.me.0 taken last c.give_slabs.new.hand.seat.me.0 held.result.shared begun.new.held.shared held.ensures.waits
-      (reassigns_holdings held.new.hand.number c.args.src c.args.dst taken last held.result.shared begun.new.held.shared begun.result
-      (reassigns_from held.new.hand.number c.args.src c.args.dst taken last held.result.shared begun.new.held.shared begun.result e.answer e.began e.happens e.view e.refused)) c.give_slabs.ensures.left in
-    record { same = same; references = refs_stay c.args.hand.now.seat.me.0 c.give_slabs.new.hand.seat.me.0 same
-      (held_known_same c.args.hand.now.seat.me.0 taken last c.give_slabs.new.hand.seat.me.0 held.result.shared left held.ensures.waits c.give_slabs.ensures.left (reassigns_keep (λ (v : View). v.row.knows.known) (λ slabs one word v. refl) held.new.hand.number c.args.src c.args.dst taken last held.result.shared left begun.result does)) }
+    (reassigns_holdings held.new.hand.number c.args.src c.args.dst taken last held.result.shared begun.new.held.shared begun.result
+    (reassigns_from held.new.hand.number c.args.src c.args.dst taken last held.result.shared begun.new.held.shared begun.result e.answer e.began e.happens e.view e.refused)) c.give_slabs.ensures.left in
+    record {
+      same = same;
+      references = refs_stay c.args.hand.now.seat.me.0 c.give_slabs.new.hand.seat.me.0 same
+          (held_known_same c.args.hand.now.seat.me.0 taken last c.give_slabs.new.hand.seat.me.0 held.result.shared left held.ensures.waits c.give_slabs.ensures.left (reassigns_keep (λ (v : View). v.row.knows.known) (λ slabs one word v. refl) held.new.hand.number c.args.src c.args.dst taken last held.result.shared left begun.result does));
+    }
 
 pub returns-clause-hand : goal.returns-clause-hand
 returns-clause-hand g c =

@@ -26,9 +26,12 @@ returns-clause-holdings g c =
     let last : View = set.new.hand.seat.me.0 in
     let left = set.new.held.shared in
     let same = held_holdings c.args.hand.now.seat.me.0 held.new.hand.seat.me.0 set.new.hand.seat.me.0 c.give_slabs.new.hand.seat.me.0 held.result.shared set.new.held.shared held.ensures.waits
-      (ap (λ (v : View). v.row.holdings) set.ensures.view) c.give_slabs.ensures.left in
-    record { same = same; references = refs_stay c.args.hand.now.seat.me.0 c.give_slabs.new.hand.seat.me.0 same
-      (held_known_same c.args.hand.now.seat.me.0 taken last c.give_slabs.new.hand.seat.me.0 held.result.shared left held.ensures.waits c.give_slabs.ensures.left (ap (λ (v : View). v.row.knows.known) set.ensures.view)) }
+    (ap (λ (v : View). v.row.holdings) set.ensures.view) c.give_slabs.ensures.left in
+    record {
+      same = same;
+      references = refs_stay c.args.hand.now.seat.me.0 c.give_slabs.new.hand.seat.me.0 same
+          (held_known_same c.args.hand.now.seat.me.0 taken last c.give_slabs.new.hand.seat.me.0 held.result.shared left held.ensures.waits c.give_slabs.ensures.left (ap (λ (v : View). v.row.knows.known) set.ensures.view));
+    }
 
 pub returns-clause-hand : goal.returns-clause-hand
 returns-clause-hand g c =

@@ -25,11 +25,14 @@ returns-in_err-trim_stripe-clause-trims g c = no_ok _ c.from_residual.result c.f
 pub returns-in_err-trim_stripe-clause-holdings : goal.returns-in_err-trim_stripe-clause-holdings
 returns-in_err-trim_stripe-clause-holdings g c =
     let same = holdings_kept c.args.hand.now c.trim_stripe.new.hand
-      (hold_keeps Leaves leaves_quiet c.loop-stripe.stripe c.loop-stripe.hand.seat.me.0 c.trim_stripe.new.hand.seat.me.0 c.in_err-trim_stripe.ensures.leaves
-      ∙ each_keeps Trim c.args.hand.now.number (range_with_len 0 c.loop-stripe.stripe) c.args.hand.now.seat.me.0 c.loop-stripe.hand.seat.me.0 c.loop-stripe.invariant.so_far) in
-    record { same = same; references = refs_kept c.args.hand.now c.trim_stripe.new.hand
-      (hold_keeps Leaves leaves_quiet c.loop-stripe.stripe c.loop-stripe.hand.seat.me.0 c.trim_stripe.new.hand.seat.me.0 c.in_err-trim_stripe.ensures.leaves
-      ∙ each_keeps Trim c.args.hand.now.number (range_with_len 0 c.loop-stripe.stripe) c.args.hand.now.seat.me.0 c.loop-stripe.hand.seat.me.0 c.loop-stripe.invariant.so_far) }
+    (hold_keeps Leaves leaves_quiet c.loop-stripe.stripe c.loop-stripe.hand.seat.me.0 c.trim_stripe.new.hand.seat.me.0 c.in_err-trim_stripe.ensures.leaves
+    ∙ each_keeps Trim c.args.hand.now.number (range_with_len 0 c.loop-stripe.stripe) c.args.hand.now.seat.me.0 c.loop-stripe.hand.seat.me.0 c.loop-stripe.invariant.so_far) in
+    record {
+      same = same;
+      references = refs_kept c.args.hand.now c.trim_stripe.new.hand
+          (hold_keeps Leaves leaves_quiet c.loop-stripe.stripe c.loop-stripe.hand.seat.me.0 c.trim_stripe.new.hand.seat.me.0 c.in_err-trim_stripe.ensures.leaves
+          ∙ each_keeps Trim c.args.hand.now.number (range_with_len 0 c.loop-stripe.stripe) c.args.hand.now.seat.me.0 c.loop-stripe.hand.seat.me.0 c.loop-stripe.invariant.so_far);
+    }
 
 pub returns-in_err-trim_stripe-clause-stores_nothing : goal.returns-in_err-trim_stripe-clause-stores_nothing
 returns-in_err-trim_stripe-clause-stores_nothing g c = said_kept c.args.hand.now c.trim_stripe.new.hand

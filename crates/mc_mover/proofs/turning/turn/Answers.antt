@@ -84,7 +84,7 @@ returns-clause-holdings g c =
     let now : View = c.give_slabs.new.hand.seat.me.0 in
     let leaves = answer_leaves hand.number c.turn_held-answer.result view now (returns-clause-turns g c) (returns-clause-lacks g c) in
     let same = held_holdings c.args.hand.now.seat.me.0 held.new.hand.seat.me.0 c.turn_held-answer.new.hand.seat.me.0 c.give_slabs.new.hand.seat.me.0 held.result.shared c.turn_held-answer.new.held.shared
-      held.ensures.waits c.turn_held-answer.ensures.holdings c.give_slabs.ensures.left in
+    held.ensures.waits c.turn_held-answer.ensures.holdings c.give_slabs.ensures.left in
     record { same = same; references = refs_kept view now leaves.more same leaves.known }
 
 pub returns-clause-hand : goal.returns-clause-hand
