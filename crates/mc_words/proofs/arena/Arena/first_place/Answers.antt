@@ -1,5 +1,5 @@
 use Rattle.std.proofs.Common.{ℕ, ◌<◌, ap, subst, length, arith}
-use Rattle.mc_words.specs.hand.View.{View, Setup}
+use Rattle.mc_words.specs.hand.View.{Setup}
 use Rattle.mc_words.specs.item.Items.{held_item}
 use Rattle.mc_words.specs.rule.Layout.{data_word, config_from}
 use Rattle.mc_words.proofs.Items.References.{ref_whole}
