@@ -123,8 +123,9 @@ fn filled_bytes(config: &CacheConfig) -> u64
     requires accepted { cache_refusal config.now ≡ None }
     ensures bytes { result ≡ filled_bytes config.now }
 {
+    let made = bytes_of(config);
     let indexes = config.shards * config.arena.stripes * INDEX;
-    bytes_of(config) + indexes + config.workers * RENEWAL
+    made + indexes + config.workers * RENEWAL
 }
 
 // Whether the configuration is accepted, and the cache takes at most these bytes with its indexes.

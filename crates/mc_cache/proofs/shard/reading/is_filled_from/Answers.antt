@@ -21,3 +21,6 @@ returns-clause-fills c = λ is.
       len = omega (arith, c.requires.in_range, c.len.ensures.len, c.words_for_bytes.ensures.words, c.if-len-place.false);
       zeros = λ some. subst (λ (w : ℕ). EndsInZeros (c.args.count % 8) w) last (c.ends_in_zeros.ensures.0 is);
     }
+
+pub returns-then-len-place-clause-other : goal.returns-then-len-place-clause-other
+returns-then-len-place-clause-other c = λ is fills. c.if-len-place.true (omega (arith, fills.len, words_len (view c.args.hand.now) c.args.item.now c.requires.item.refers, c.requires.in_range, c.len.ensures.len, c.words_for_bytes.ensures.words))
