@@ -77,11 +77,12 @@ impl HintTable {
         None
     }
 
-    // The place for a hint of the hash: the one with its part; else one without a mark; else one by bits of the hash.
+    // The place for a hint of the hash: the one with its part; else the first without a mark, as a look finds it soonest; else one
+    // by bits of the hash.
     fn place_for(&self, hash: u64) -> Option<&AtomicU64> {
         let bucket = self.bucket(hash);
         let mut spare = bucket.get((hash >> 32) as usize % WAYS);
-        for place in bucket {
+        for place in bucket.iter().rev() {
             let word = place.load(SeqCst);
             if word >> 16 & 0xffff == part_of(hash) {
                 return Some(place);
