@@ -104,8 +104,8 @@ fn bytes_are_told(rt: HostRuntime) -> Result<(), Fail> {
         + 12 * (64 + 16 * 20)
         + 508 * 8;
     let shard = table + lists + 656 + 72 + 48 * 3;
-    // two workers and the tender; and 192 times 128 bytes of limits have 256 places for hints
-    let wanted = 3 * shard + 3 * 48 + 256 * 8;
+    // two workers and the tender; and a place for a hint for each 128 bytes of the limits
+    let wanted = 3 * shard + 3 * 48 + 192 * 8;
     assert!(rt; bytes == Some(wanted), "three arenas");
     assert!(rt;
         Cache::bytes(&config_of(3, 64)).is_err(),
