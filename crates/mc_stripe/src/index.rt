@@ -43,13 +43,19 @@ pub(crate) fn reserve_one(index: &mut Index) -> Result<(), Refused>
     Ok(())
 }
 
+/// The room of the smallest map that is kept at its size. Smaller ones may double. (own)
+const LEAST_KEPT: usize = 576;
+
 // Gives half of the map's room back, where its keys leave a sixteenth of the other half free. The kit's map loses places as keys go, and
-// doubles where it has none left. (own)
+// doubles where it has none left. Where memory for the smaller map is refused, the larger one stays. (own)
 fn give_half_back(index: &mut Index)
     ensures entries { by_key index.new.entries ≡ by_key index.old.entries }
     ensures room { 0 < spare index.old → 0 < spare index.new }
 {
     let half = index.capacity() / 2;
+    if half < LEAST_KEPT {
+        return;
+    }
     if index.len() < half - half / 16 {
         index.shrink_to(half);
     }
