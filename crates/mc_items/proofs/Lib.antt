@@ -23,8 +23,8 @@ pub mod Left
 pub mod Chains
 pub mod StoredRows
 pub mod GetLeaves
+pub mod Missed
 pub mod Touched
 pub mod Currents
-pub mod Missed
 pub mod Visits
 pub mod Rooms

@@ -1,15 +1,19 @@
--- Sets that try for each of their two locks n times, and why they are refused.
-use Rattle.std.specs.Prelude.{◌≡◌, ◌⊎◌, ℕ, List, Some}
+-- Calls that try for each lock n times, and why they are refused.
+use Rattle.std.specs.Prelude.{◌≡◌, ◌⊎◌, ℕ, List, Some, true}
 use Rattle.mc_pages.specs.declared.ids.ChunkId.{ChunkId}
+use Rattle.mc_words.specs.declared.hand.Hand.{Hand}
 use Rattle.mc_words.specs.declared.hand.held.Fresh.{Fresh}
-use Rattle.mc_words.specs.hand.Observers.{fresh_chunk}
+use Rattle.mc_words.specs.declared.item.refs.Ref as words
+use Rattle.mc_words.specs.hand.Arenas.{view}
+use Rattle.mc_words.specs.hand.Observers.{fresh_chunk, hand_number, ref_chunk}
 use Rattle.mc_words.specs.hand.Tallies.{next_stamp}
 use Rattle.mc_words.specs.hand.View.{Setup, View}
-use Rattle.mc_words.specs.hand.Views.{chunk_discarded}
+use Rattle.mc_words.specs.hand.Views.{chunk_discarded, chunk_released}
 use Rattle.mc_words.specs.item.Items.{item_with}
 use Rattle.mc_words.specs.lock.Doing.{HoldsSlabs}
 use Rattle.mc_words.specs.lock.Wait.{MissesSlabsEachTime, MissesStripeEachTime}
-use Rattle.mc_items.specs.OnKeys.{stripe_of_key}
+use Rattle.mc_items.specs.Calls.{CallsOn, Finds, RecordsNoCall}
+use Rattle.mc_items.specs.OnKeys.{RecordsGet, stripe_of_key}
 use Rattle.mc_items.specs.Setting.{RefusesSet, class_for_words}
 use Rattle.mc_items.specs.Sources.{SuppliesChunk}
 use Rattle.mc_items.specs.Storing.{item_filled}
@@ -41,3 +45,27 @@ pub record StoresUnlinked (number tries key : ℕ) (words : List ℕ) (view now 
 abbrev pub RefusesWithin : ℕ → ℕ → ℕ → List ℕ → SetWithinError → View → View → Type 0
 RefusesWithin number tries key words (Refused error) view now = RefusesSet number key words error view now
 RefusesWithin number tries key words Held view now = MissesSlabsEachTime tries view now ⊎ StoresUnlinked number tries key words view now
+
+-- each try for the lock of the key's stripe missed, and nothing else was done
+abbrev pub MissesKeyEachTime : Setup → ℕ → ℕ → Hand → Hand → Type 0
+MissesKeyEachTime setup tries key before now = MissesStripeEachTime tries (stripe_of_key setup key) (view before) (view now)
+
+-- the key's item was got, as the stripe's history records; then each try for the slabs lock missed, and the reference was released: the item
+-- wasn't moved
+pub record LeavesUnmoved (number tries stripe key : ℕ) (view now : View) : Type 0 where
+  pub reference : words.Ref
+  pub got : View
+  pub gets : CallsOn number stripe (Finds number stripe key reference) view got
+  pub missed : View
+  pub misses : MissesSlabsEachTime tries got missed
+  pub released : now ≡ chunk_released (ref_chunk reference) missed
+
+-- why a touch within this many tries was held off: each try for the lock of the key's stripe missed, or the item was got and each try for the
+-- slabs lock missed
+abbrev pub MissesTouch : Setup → ℕ → ℕ → Hand → Hand → Type 0
+MissesTouch setup tries key before now =
+    MissesKeyEachTime setup tries key before now ⊎ LeavesUnmoved (hand_number before) tries (stripe_of_key setup key) key (view before) (view now)
+
+-- the hand's own calls got no call, or a get of the key, which found an item
+abbrev pub RecordsGetAtMost : Setup → ℕ → Hand → Hand → Type 0
+RecordsGetAtMost setup key before now = RecordsNoCall (view before) (view now) ⊎ RecordsGet setup key true before now

@@ -37,7 +37,12 @@ pub fn delete<R: Wait>(rt: &R, arena: &Arena, hand: &mut Hand, key: u64) -> Resu
 }
 
 // Deletes the key in its stripe, and gives the stripe's lock back.
-fn delete_at(arena: &Arena, hand: &mut Hand, held: StripeHeld, key: u64) -> Result<bool, NoMemory>
+pub(crate) fn delete_at(
+    arena: &Arena,
+    hand: &mut Hand,
+    held: StripeHeld,
+    key: u64,
+) -> Result<bool, NoMemory>
     requires arena { IsHandOf arena.now hand.old }
     requires lent { IsLentStripe (view hand.old) (stripe_number held) (stripe_lent held) }
     requires in_range { stripe_number held ≡ stripe_of_key (setup_of arena.now) key }

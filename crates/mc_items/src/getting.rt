@@ -135,7 +135,7 @@ pub fn try_get(arena: &Arena, hand: &mut Hand, key: u64) -> Result<Option<Ref>, 
 
 // Looks the key up in its stripe, gives the stripe's lock back, and reads key, stamp and length of the item.
 #[inline(always)]
-fn look_up(
+pub(crate) fn look_up(
     arena: &Arena,
     hand: &mut Hand,
     held: StripeHeld,

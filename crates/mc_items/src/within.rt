@@ -1,4 +1,5 @@
-//! Items that are set without a wait: a hand tries for each lock n times. A caller that can't wait uses these calls: a static library can't. (own)
+//! Items that are set without a wait, and below this module the other calls: a hand tries for each lock n times. A caller that can't wait
+//! uses these calls: a static library can't. (own)
 ghost use Rattle.std.specs.Prelude.{◌+◌, ◌≡◌, ◌≤◌, IfErr, IfOk, OnErr, OnOk, Some, false, length, true};
 ghost use Rattle.mc_classes.specs.Limits.{most_refs};
 ghost use Rattle.mc_core.specs.model.Holdings.{has_fresh, words_of_item, numbers_of_known};
@@ -22,6 +23,12 @@ ghost use Rattle.mc_items.specs.Sources.{SuppliesChunk, SuppliesNone};
 ghost use Rattle.mc_items.specs.Storing.{IsOwnItem};
 ghost use Rattle.mc_items.specs.Within.{MissesFor, RefusesWithin};
 ghost use Rattle.mc_stripe.specs.declared.history.Call.TheVariants as call;
+
+pub mod bumping;
+pub mod deleting;
+pub mod error;
+pub mod getting;
+pub mod touching;
 
 use crate::filling::fill_item;
 use crate::setting::SetError;
