@@ -16,7 +16,7 @@ use Rattle.mc_words.proofs.Locks.Unlocked.{unlocked_from}
 
 -- whatever misses and the take leave stays
 module _ {X : Type 0} (part : View → X) (missed : (word : ℕ) (v : View) → part (slabs_missed word v) ≡ part v) (took : (slabs : SlabState) (v : View) → part (slabs_taken slabs v) ≡ part v) where
-  misses_keep : (words : List ℕ) (before now : View) → MissesSlabs words before now → part now ≡ part before
+  pub misses_keep : (words : List ℕ) (before now : View) → MissesSlabs words before now → part now ≡ part before
   misses_keep [] before now is = ap part is
   misses_keep (word ∷ words) before now (busy, happens, rest) = misses_keep words (slabs_missed word before) now rest ∙ missed word before
 

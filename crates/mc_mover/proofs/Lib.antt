@@ -23,3 +23,4 @@ pub mod Chains
 pub mod Nobodys
 pub mod SameItems
 pub mod Recorded
+pub mod Missed

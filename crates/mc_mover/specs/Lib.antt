@@ -11,3 +11,5 @@ pub mod Surveying
 pub mod Telling
 pub mod Acting
 pub mod Recording
+pub mod Within
+pub mod RecordingWithin

@@ -9,6 +9,8 @@
 //!   page has come to its destination.
 //! - [`survey`] reads the numbers of all classes, a [`Survey`].
 //! - [`trim`], [`trim_ledger`] and [`forget`] take recorded calls and entries out of memory.
+//! - [`turn_within`], [`reassign_within`], [`set_mode_within`], [`survey_within`], [`trim_within`], [`trim_ledger_within`] and
+//!   [`forget_within`] do the same without a wait: the hand tries for each lock n times.
 //!
 //! ```rust
 //! fn move_page<R: Wait>(rt: &R, arena: &Arena, hand: &mut Hand) -> Option<Turn> {
@@ -33,16 +35,20 @@ mod linked;
 mod numbers;
 mod reassigning;
 mod recording;
+mod recording_within;
 mod saving;
 mod sections;
 mod surveying;
 mod sweep;
 mod turning;
 mod visiting;
+mod within;
 
 pub use counts::{Counts, TryTurn, Turn};
 pub use numbers::Survey;
 pub use reassigning::{reassign, set_mode};
 pub use recording::{forget, trim, trim_ledger};
+pub use recording_within::{TrimWithin, forget_within, trim_ledger_within, trim_within};
 pub use surveying::survey;
 pub use turning::{try_turn, turn};
+pub use within::{SurveyWithin, reassign_within, set_mode_within, survey_within, turn_within};

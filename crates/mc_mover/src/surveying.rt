@@ -1,7 +1,7 @@
 //! Surveys of the slab memory, for statistics and for the automover.
 ghost use Rattle.std.specs.Prelude.{◌≡◌, ◌≤◌, [], length, map, vec_capacity, IfOk, OnErr};
 ghost use Rattle.mc_pages.specs.ClassState.{numbers_of};
-ghost use Rattle.mc_words.specs.hand.Arenas.{IsHandOf, view};
+ghost use Rattle.mc_words.specs.hand.Arenas.{IsHandOf, setup_of, view};
 ghost use Rattle.mc_words.specs.hand.Observers.{HasSlabs, locks_of, slabs_lent};
 ghost use Rattle.mc_words.specs.hand.Ready.{IsReady, StaysReady};
 ghost use Rattle.mc_words.specs.item.Refs.{KeepsHoldings};
@@ -40,10 +40,33 @@ pub fn survey<R: Wait>(
     let count = arena.classes().count();
     let room = with_capacity(alloc, count as usize)?;
     let mut held = arena.lock_slabs(rt, hand);
-    sweep_classes(arena, hand, &mut held, sweep);
-    let numbers = read_slabs(held.slabs(), count, room);
+    let numbers = survey_held(arena, hand, &mut held, sweep, room);
     arena.give_slabs(hand, held);
     Ok(numbers)
+}
+
+// A survey, under one hold of the lock of the slabs. The room for the list of classes was made before.
+pub(crate) fn survey_held(
+    arena: &Arena,
+    hand: &mut Hand,
+    held: &mut SlabsHeld,
+    sweep: bool,
+    room: Vec<Numbers>,
+) -> Survey
+    requires arena { IsHandOf arena.now hand.old }
+    requires held { HasSlabs hand.old held.old }
+    requires empty { room.items ≡ [] }
+    requires room { length (setup_of arena.now).table.sizes ≤ vec_capacity room }
+    ensures arena { IsHandOf arena.now hand.new }
+    ensures locks { locks_of hand.new ≡ locks_of hand.old }
+    ensures held { HasSlabs hand.new held.new }
+    ensures surveys { ActsByNumber (λ number. Surveys sweep result) hand.old held.old hand.new
+        held.new }
+    ensures view { view hand.new ≡ with_seen (view hand.old) (view hand.new) }
+    ensures whole { (slabs_lent held.new).uncut ≡ (slabs_lent held.old).uncut }
+{
+    sweep_classes(arena, hand, held, sweep);
+    read_slabs(held.slabs(), arena.classes().count(), room)
 }
 
 // Puts the dead chunks of all classes back, if that is asked for.

@@ -84,7 +84,11 @@ pub fn try_turn(arena: &Arena, hand: &mut Hand) -> Result<Turn, TryTurn>
 }
 
 // A turn, under one hold of the lock of the slabs.
-fn turn_held(arena: &Arena, hand: &mut Hand, held: &mut SlabsHeld) -> Result<Turn, NoMemory>
+pub(crate) fn turn_held(
+    arena: &Arena,
+    hand: &mut Hand,
+    held: &mut SlabsHeld,
+) -> Result<Turn, NoMemory>
     requires arena { IsHandOf arena.now hand.old }
     requires held { HasSlabs hand.old held.old }
     requires whole { (slabs_lent held.old).uncut ≡ None }
