@@ -11,6 +11,7 @@ mod held;
 mod own;
 mod roomy;
 mod trimmed;
+mod within;
 
 pub use bounded::{granted_within, recall_and_set, set_at_second_try, stamp_within};
 pub use chained::call_twice;
@@ -20,3 +21,4 @@ pub use held::{read_after_all, read_after_trims};
 pub use own::{RefusedCall, set_and_read};
 pub use roomy::make_room_and_set;
 pub use trimmed::{entries_behind_a_trim, join_behind_a_trim, page_behind_a_trim};
+pub use within::{delete_at_second_try, read_within, touch_at_second_try};

@@ -8,6 +8,7 @@ mod orders;
 mod races;
 mod refusals;
 mod steps;
+mod within;
 
 /// How many words the greatest item has.
 const MOST_WORDS: u64 = 61;
