@@ -67,5 +67,5 @@ MissesTouch setup tries key before now =
     MissesKeyEachTime setup tries key before now ⊎ LeavesUnmoved (hand_number before) tries (stripe_of_key setup key) key (view before) (view now)
 
 -- the hand's own calls got no call, or a get of the key, which found an item
-abbrev pub RecordsGetAtMost : Setup → ℕ → Hand → Hand → Type 0
-RecordsGetAtMost setup key before now = RecordsNoCall (view before) (view now) ⊎ RecordsGet setup key true before now
+abbrev pub RecordsGetOrNone : Setup → ℕ → Hand → Hand → Type 0
+RecordsGetOrNone setup key before now = RecordsNoCall (view before) (view now) ⊎ RecordsGet setup key true before now

@@ -6,7 +6,7 @@ ghost use Rattle.mc_words.specs.hand.Ready.{IsReady, StaysReady};
 ghost use Rattle.mc_items.specs.Calls.{FindsNone, RecordsNoCall, Touches};
 ghost use Rattle.mc_items.specs.Keeping.{KeepsHoldingCounts, StoresNothing};
 ghost use Rattle.mc_items.specs.OnKeys.{ActsOn, FindsNoRoomFor, RecordsGet, stripe_of_key};
-ghost use Rattle.mc_items.specs.Within.{MissesTouch, RecordsGetAtMost};
+ghost use Rattle.mc_items.specs.Within.{MissesTouch, RecordsGetOrNone};
 
 use crate::getting::refer_at;
 use crate::within::bumping::bump_chunk_within;
@@ -37,7 +37,7 @@ pub fn touch_within(
     ensures held { result ≡ Err WithinError.Held →
         MissesTouch (setup_of arena.now) tries key hand.old hand.new }
     ensures held_calls { result ≡ Err WithinError.Held →
-        RecordsGetAtMost (setup_of arena.now) key hand.old hand.new }
+        RecordsGetOrNone (setup_of arena.now) key hand.old hand.new }
     ensures stores_nothing { StoresNothing (view hand.old) (view hand.new) }
     ensures holdings { KeepsHoldingCounts (view hand.old) (view hand.new) }
     ensures hand { StaysReady arena.now hand.old hand.new }
