@@ -339,7 +339,7 @@ check_maps() {
     else
         bad "$build: the maps are JSON, one in a line" "$(tail -n 1 "$room/stderr")"
     fi
-    run_on /dev/null --help
+    run_on /dev/null --help --json # the help goes before another view
     if [ "$status" -eq 0 ] && grep -q -- '--classes' "$room/stdout" && [ ! -s "$room/stderr" ]; then
         ok "$build: --help"
     else
@@ -356,13 +356,16 @@ check_map_refusals() {
         run_on "$room/script" $arguments
         wants "refused: $arguments" "$wanted"
     done <<'ROWS'
-2 script:_line_2
-2 script:_line_2 --svg
-2 script:_line_2 --json
-1 config:_3 --factor 1.25
-1 config:_3 --svg --factor 1.25
-1 config:_3 --classes --factor 1.25
-1 config:_6 --stripes 0
+2 script:_line_2;_mcmap_--check_prints_why
+2 script:_line_2;_mcmap_--check_prints_why --svg
+2 script:_line_2;_mcmap_--check_prints_why --json
+1 config:_3;_mcmap_--check_prints_why --factor 1.25
+1 config:_3;_mcmap_--check_prints_why --svg --factor 1.25
+1 config:_3;_mcmap_--check_prints_why --classes --factor 1.25
+1 config:_6;_mcmap_--check_prints_why --stripes 0
+1 one_of_--json,_--svg,_--classes_and_--check_at_a_time --json --svg
+1 one_of_--json,_--svg,_--classes_and_--check_at_a_time --check --page 7 --classes
+1 one_of_--json,_--svg,_--classes_and_--check_at_a_time --check --check
 1 --threads:_a_map_is_of_one_thread;_mcslab_has_threads --threads
 ROWS
     for arguments in '--page x' '--frob' 'more'; do
@@ -416,26 +419,32 @@ window 1
 stats items
 1 frob 1
 frob
+turn 5 6
+automove
+1 gett	x
 ROWS
     cat >"$room/want" <<'ROWS'
-line 3: a worker is 1 to 63
-line 4: a worker is 1 to 63
-line 5: a key is a number below 2^64
-line 6: an item has 0 to 4096 words
-line 7: a base is a number below 2^64
-line 8: set has a key, a count of words and a base: <worker> set <key> <n> <base>
-line 9: one key stands behind get, del, hold, drop and touch
-line 10: reassign has two classes: reassign <src> <dst>
-line 11: a destination is a class, or 0 for the pool
-line 12: a source is a class, or -1 for any
-line 13: a mode is 0, 1 or 2: automove <mode>
-line 14: a line has 1 to 1000000 turns: turn <n>
-line 15: nothing stands behind window
-line 16: behind stats stands nothing, or slabs
-line 17: it is a worker with set, get, del, hold, drop or touch, or reassign, automove, window, turn or stats
-line 18: it is a worker with set, get, del, hold, drop or touch, or reassign, automove, window, turn or stats
+line 3: "0" is no worker: it is 1 to 63
+line 4: "64" is no worker: it is 1 to 63
+line 5: "x" is no key: it is a number below 2^64
+line 6: "4097" is no count of words: an item has 0 to 4096
+line 7: "-7" is no base: it is a number below 2^64
+line 8: "set" has a key, a count of words and a base: <worker> set <key> <n> <base>
+line 9: "hold" has one key, as get, del, hold, drop and touch have
+line 10: "reassign" has two classes: reassign <src> <dst>
+line 11: "x" is no destination: it is a class, or 0 for the pool
+line 12: "x" is no source: it is a class, or -1 for any
+line 13: "3" is no mode: automove <mode> has 0, 1 or 2
+line 14: "0" is no count of turns: turn <n> has 1 to 1000000
+line 15: "1" is too much: window is alone
+line 16: "items" is no statistic: it is stats or stats slabs
+line 17: "frob" is no command of a worker: it is set, get, del, hold, drop or touch
+line 18: "frob" is no command: it is a worker with set, get, del, hold, drop or touch, or reassign, automove, window, turn or stats
+line 19: "6" is too much: it has one number
+line 20: "automove" has a number behind it
+line 21: "gett?x" is no command of a worker: it is set, get, del, hold, drop or touch
 ROWS
-    echo 'mcmap: 16 lines of the script are wrong' >"$room/want-stderr"
+    echo 'mcmap: 19 lines of the script are wrong' >"$room/want-stderr"
     run_on "$room/script" --check
     wants "--check of each kind of wrong line" 2
     echo 'mcmap: the options are wrong' >"$room/want-stderr"

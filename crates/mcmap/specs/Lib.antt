@@ -1,4 +1,5 @@
 pub mod Status
+pub mod Asked
 pub mod Played
 pub mod Checked
 pub mod Json

@@ -5,7 +5,7 @@ ghost use Rattle.mc_classes.specs.Refusals.{config_refusal};
 ghost use Rattle.mcmap.specs.Checked.{IsAcceptedScript, IsRefusalOf, wrong_count};
 
 use crate::fault::Fault;
-use crate::lines::reason_of;
+use crate::lines::{reason_of, write_wrong};
 use mc_classes::Config;
 use mc_map::{ConfigError, ScriptError, read_script};
 use mc_script::lines::Lines;
@@ -156,8 +156,8 @@ fn write_lines(alloc: Global, bytes: &[u8], text: &mut String) -> Result<u64, Fa
     let mut wrong: u64 = 0;
     for line in Lines::new(bytes) {
         number += 1;
-        if let Some(reason) = reason_of(alloc, line)? {
-            writeln!(text, "line {number}: {reason}")?;
+        if let Some(found) = reason_of(alloc, line)? {
+            write_wrong(number, found.word, found.reason, text)?;
             wrong += 1;
         }
     }

@@ -20,11 +20,14 @@ pub enum Fault {
     /// `--threads` is asked for: the schedule would decide what is shown.
     #[error("--threads: a map is of one thread; mcslab has threads")]
     Threads,
+    /// More than one view is asked for.
+    #[error("one of --json, --svg, --classes and --check at a time")]
+    Views,
     /// The configuration is refused, by the test of this number.
-    #[error("config: {0}")]
+    #[error("config: {0}; mcmap --check prints why")]
     Config(u64),
     /// The script is refused; this is the first line that is no command.
-    #[error("script: line {0}")]
+    #[error("script: line {0}; mcmap --check prints why")]
     Script(u64),
     /// The script has more than 1,048,576 bytes.
     #[error("script: too long")]
@@ -62,7 +65,7 @@ impl Fault {
     {
         match self {
             Fault::Options(_) | Fault::Words | Fault::Threads | Fault::Config(_) => 1,
-            Fault::Chart | Fault::WrongOptions => 1,
+            Fault::Views | Fault::Chart | Fault::WrongOptions => 1,
             Fault::Script(_) | Fault::TooLong | Fault::WrongLines(_) => 2,
             Fault::Read | Fault::Write => 3,
             Fault::Memory => 4,

@@ -5,10 +5,11 @@ pub const HELP: &str = "mcmap: shows a slab memory at each line '# map' of a scr
 
 usage: mcmap [--json | --svg | --classes | --check] [OPTIONS of mcslab] < script
 
+One of these at a time:
   --json      the same maps as JSON, one in a line; at the end its line is 0
   --svg       pages over time as an SVG, a column for each entry of the ledger
   --classes   the class table with each class's worst waste, before anything runs; no script is read
-  --check     what is wrong with the options or the script, in words, and what would be right; nothing runs
+  --check     what is wrong with the options, or which word of a line is wrong, and what would be right; nothing runs
   --help      this text; that of mcslab tells its options
 
 A map has the owner of each page, a line for each class that has pages, the ledger, and where a move hangs:
