@@ -1,5 +1,5 @@
 -- Texts that go on.
-use Rattle.std.proofs.Common.{◌≡◌, ℕ, List, [], ◌∷◌, ◌++◌, ◌+◌, length, refl, ap, ap₂, sym, ◌∙◌, append_assoc, Err, Ok, OnOk, Result, if◌then◌else◌}
+use Rattle.std.proofs.Common.{◌≡◌, ℕ, List, [], ◌∷◌, ◌++◌, ◌+◌, length, refl, ap, sym, ◌∙◌, append_assoc, Err, Ok, OnOk, Result, if◌then◌else◌}
 use Rattle.mc_pages.specs.declared.ledger.Owner.{Owner}
 use Rattle.std.specs.Prelude.{is_ok, map, Option, Some}
 use Rattle.mc_pages.specs.declared.ledger.Entry.{Entry}
@@ -47,14 +47,14 @@ ends_on (Ok done) old middle new first second = extends_on old middle new first 
 ends_on (Err e) old middle new first second = tt
 
 -- cells between two texts
-pub drawn : (columns : List (List Owner)) (count : ℕ) (old before after new : List ℕ) → count ≡ length columns → TextExtends old before → after ≡ before ++ cells_text columns count → TextExtends after new
-    → IsDrawn columns old new
-drawn columns count old before after new same first cells second = record {
+pub drawn : (columns : List (List Owner)) (pages : ℕ) (old before after new : List ℕ) → TextExtends old before → after ≡ before ++ cells_text columns pages → TextExtends after new
+    → IsDrawn columns pages old new
+drawn columns pages old before after new first cells second = record {
   front = first.0;
   back = second.0;
   whole = second.1
-      ∙ ap (λ (l : List ℕ). l ++ second.0) (cells ∙ ap₂ (λ (l : List ℕ) (n : ℕ). l ++ cells_text columns n) first.1 same)
-      ∙ parts old first.0 (cells_text columns (length columns)) second.0;
+      ∙ ap (λ (l : List ℕ). l ++ second.0) (cells ∙ ap (λ (l : List ℕ). l ++ cells_text columns pages) first.1)
+      ∙ parts old first.0 (cells_text columns pages) second.0;
 }
 
 map_twice : {X : Type 0} (f : X → List Owner) (columns : List X) → map Some (map f columns) ≡ map (λ (x : X). Some (f x)) columns
@@ -63,6 +63,6 @@ map_twice f (column ∷ more) = ap (λ (rest : List (Option (List Owner))). Some
 
 -- cells of replays are a chart
 pub chart : {X : Type 0} (f : X → List Owner) (columns shown : List X) (pages : ℕ) (entries : List Entry) (old new : List ℕ) → shown ≡ columns
-    → map (λ (x : X). Some (f x)) columns ≡ replayed_owners pages entries (length entries + 1) → IsDrawn (map f shown) old new → IsChart pages entries old new
+    → map (λ (x : X). Some (f x)) columns ≡ replayed_owners pages entries (length entries + 1) → IsDrawn (map f shown) pages old new → IsChart pages entries old new
 chart {X} f columns shown pages entries old new same replayed drawn =
     record { columns = map f shown; replayed = map_twice f shown ∙ ap (map (λ (x : X). Some (f x))) same ∙ replayed; drawn = drawn }

@@ -1,4 +1,3 @@
 pub mod Ranges
-pub mod Columns
 pub mod Extends
 pub mod FewRows

@@ -18,4 +18,4 @@ chart_error_of (misfits.NoMemory refused) = errors.Memory
 pub record IsChart (pages : ℕ) (entries : List Entry) (old new : List ℕ) : Type 0 where
   pub columns : List (List Owner)
   pub replayed : map Some columns ≡ replayed_owners pages entries (length entries + 1)
-  pub drawn : IsDrawn columns old new
+  pub drawn : IsDrawn columns pages old new

@@ -1,6 +1,7 @@
 -- Worked examples of what is written, which the prover computes.
 use Rattle.std.specs.Prelude.{◌≡◌, [], ◌∷◌, ◌++◌, Some, None, codes}
 use Rattle.mc_pages.specs.declared.ledger.Owner.TheVariants.{Untouched, Pool, Class, Moving}
+use Rattle.mc_picture.specs.Cells.{runs_text}
 use Rattle.mc_picture.specs.Maps.{heading_text, line_text, lines_text, pages_text, page_totals_text}
 use Rattle.mc_picture.specs.Tables.{memory_text, row_text}
 
@@ -15,6 +16,15 @@ abbrev pub PagesShown : Type 0
 PagesShown =
     pages_text (Class 4 ∷ Moving 4 1 ∷ Moving 12 0 ∷ Pool ∷ Untouched ∷ Class 1 ∷ Class 1 ∷ Class 1 ∷ Class 63 ∷ Untouched ∷ []) 10
     ≡ codes "   0      4   4>1    12>p      p      .      1      1      1\n   8     63      .\n"
+
+-- a page that nobody had in column 0, class 4 in columns 1 and 2, and that then moves to class 1: three boxes, and hatching over the last
+abbrev pub RunsShown : Type 0
+RunsShown =
+    runs_text (Untouched ∷ Class 4 ∷ Class 4 ∷ Moving 4 1 ∷ []) 64 4
+    ≡ codes "<rect x=\"76\" y=\"64\" width=\"24\" height=\"17\" fill=\"none\" stroke=\"#ddd\"/>\n"
+    ++ codes "<rect x=\"100\" y=\"64\" width=\"48\" height=\"17\" fill=\"rgb(246,196,146)\"/>\n"
+    ++ codes "<rect x=\"148\" y=\"64\" width=\"24\" height=\"17\" fill=\"rgb(246,196,146)\"/>\n"
+    ++ codes "<rect x=\"148\" y=\"64\" width=\"24\" height=\"17\" fill=\"url(#moving)\"/>\n"
 
 -- the line of a class whose items leave 144 bytes of their chunks
 abbrev pub LineShown : Type 0

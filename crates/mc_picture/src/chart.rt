@@ -20,7 +20,10 @@ pub const MOST_ENTRIES: usize = 4095;
 const MOST_PAGES: usize = 4096;
 
 /// The least width, with room for the legend.
-const LEAST: usize = 640;
+const LEAST: usize = 736;
+
+/// The room behind the last column for the names of owners.
+const NAMES: usize = 150;
 
 /// Why no chart is drawn.
 #[derive(Debug, PartialEq, Eq, Drop)]
@@ -85,17 +88,22 @@ pub fn write_chart(
         ledger,
         classes,
     };
-    draw(&shown, &sheet, text)?;
+    draw(alloc, &shown, &sheet, text)?;
     Ok(())
 }
 
 /// Adds the chart of these columns, each with the owners of all pages. Column k comes behind entry k of the ledger.
-fn draw(columns: &[Vec<Owner>], sheet: &Sheet, text: &mut String) -> Result<(), AllocError>
-    ensures drawn { OnOk result (IsDrawn (map (λ column. column.items) columns.now)
+fn draw(
+    alloc: Global,
+    columns: &[Vec<Owner>],
+    sheet: &Sheet,
+    text: &mut String,
+) -> Result<(), AllocError>
+    ensures drawn { OnOk result (IsDrawn (map (λ column. column.items) columns.now) sheet.now.pages
         (string_bytes text.old) (string_bytes text.new)) }
 {
     write_front(sheet, text)?;
-    write_cells(columns, text)?;
+    write_cells(alloc, columns, sheet.pages, text)?;
     write_back(columns, sheet, text)?;
     Ok(())
 }
@@ -113,17 +121,18 @@ fn write_front(sheet: &Sheet, text: &mut String) -> Result<(), AllocError>
     ensures { OnOk result (TextExtends (string_bytes text.old) (string_bytes text.new)) }
 {
     let entries = sheet.ledger.len();
-    let wide = column_at(entries + 2).max(LEAST);
+    let wide = (column_at(entries + 1) + NAMES).max(LEAST);
     write_head(wide, legend_end(sheet, legend_at(sheet.pages)), text)?;
     write_title(sheet.pages, sheet.page, entries, text)?;
     write_names(sheet.pages, text)
 }
 
-/// Adds what is behind the cells: the numbers of classes in them, the axis and the legend.
+/// Adds what is behind the cells: the numbers of classes in them, who owns each page at the end, the axis and the legend.
 fn write_back(columns: &[Vec<Owner>], sheet: &Sheet, text: &mut String) -> Result<(), AllocError>
     ensures { OnOk result (TextExtends (string_bytes text.old) (string_bytes text.new)) }
 {
     write_labels(columns, text)?;
+    write_ends(columns, column_at(sheet.ledger.len() + 1) + 8, text)?;
     write_axis(sheet.ledger, row_at(sheet.pages), text)?;
     write_legend(sheet, legend_at(sheet.pages), text)?;
     text.push_str("</svg>\n")
@@ -142,7 +151,7 @@ fn write_head(wide: usize, high: usize, text: &mut String) -> Result<(), AllocEr
 
 /// The style and the patterns.
 const HEAD: &str =
-    "<style>text { font-family: Helvetica, Arial, sans-serif; font-size: 12px; fill: #222 } .t { font-size: 16px; font-weight: bold } .s { fill: #666; font-size: 11px } .c { font-weight: bold; font-size: 11px } .m { text-anchor: middle } .r { text-anchor: end }</style>
+    "<style>text { font-family: Helvetica, Arial, sans-serif; font-size: 12px; fill: #222 } .t { font-size: 16px; font-weight: bold } .s { fill: #666; font-size: 11px } .c { font-weight: bold; font-size: 11px; paint-order: stroke; stroke: #fff; stroke-width: 2px; stroke-opacity: 0.7 } .m { text-anchor: middle } .r { text-anchor: end }</style>
 <defs>
 <pattern id=\"moving\" width=\"6\" height=\"6\" patternUnits=\"userSpaceOnUse\" patternTransform=\"rotate(45)\"><rect width=\"2.4\" height=\"6\" fill=\"#222\"/></pattern>
 <pattern id=\"pool\" width=\"6\" height=\"6\" patternUnits=\"userSpaceOnUse\"><rect width=\"6\" height=\"6\" fill=\"#fff\"/><circle cx=\"3\" cy=\"3\" r=\"1\" fill=\"#555\"/></pattern>
@@ -239,7 +248,48 @@ fn write_label(
     }
 }
 
-/// Adds the axis: the number of each entry, and what it did.
+/// Adds who owns each page behind the last column, so far from the left.
+#[tactic(auto, using(crate::proofs::Extends::extends_on, crate::proofs::Extends::extends_same))]
+fn write_ends(columns: &[Vec<Owner>], x: usize, text: &mut String) -> Result<(), AllocError>
+    ensures { OnOk result (TextExtends (string_bytes text.old) (string_bytes text.new)) }
+{
+    let owners: &[Owner] = match columns.last() {
+        Some(column) => column.as_slice(),
+        None => &[],
+    };
+    for page in 0..owners.len() {
+        write_end(x, row_at(page) + 13, owners[page], text)?;
+    }
+    Ok(())
+}
+
+/// Adds who owns a page at the end of its row.
+#[tactic(auto, using(crate::proofs::Extends::extends, crate::proofs::Extends::extends_same))]
+fn write_end(x: usize, y: usize, owner: Owner, text: &mut String) -> Result<(), AllocError>
+    ensures { OnOk result (TextExtends (string_bytes text.old) (string_bytes text.new)) }
+{
+    match owner {
+        Owner::Untouched => Ok(()),
+        Owner::Pool => writeln!(text, "<text class=\"s\" x=\"{x}\" y=\"{y}\">pool</text>"),
+        Owner::Class(class) => writeln!(
+            text,
+            "<text class=\"s\" x=\"{x}\" y=\"{y}\">class {class}</text>"
+        ),
+        Owner::Moving { src, dst: 0 } => writeln!(
+            text,
+            "<text class=\"s\" x=\"{x}\" y=\"{y}\">class {src} to the pool</text>"
+        ),
+        Owner::Moving { src, dst } => writeln!(
+            text,
+            "<text class=\"s\" x=\"{x}\" y=\"{y}\">class {src} to class {dst}</text>"
+        ),
+    }
+}
+
+/// The most entries whose numbers all stand below their columns.
+const MOST_TICKS: usize = 99;
+
+/// Adds the axis: what each entry did, and the numbers of all entries, or of each tenth of many.
 #[tactic(auto, using(crate::proofs::Extends::extends, crate::proofs::Extends::extends_on))]
 fn write_axis(ledger: &[Entry], below: usize, text: &mut String) -> Result<(), AllocError>
     requires ledger { length ledger.now ≤ 4096 }
@@ -250,7 +300,7 @@ fn write_axis(ledger: &[Entry], below: usize, text: &mut String) -> Result<(), A
         write_tick(
             column_at(place + 1) + 12,
             below,
-            place + 1,
+            number_below(place + 1, ledger.len()),
             ledger[place],
             text,
         )?;
@@ -262,26 +312,51 @@ fn write_axis(ledger: &[Entry], below: usize, text: &mut String) -> Result<(), A
     )
 }
 
-/// Adds the number of an entry, and what it did.
+/// Adds what an entry did, and its number if that is given.
 fn write_tick(
     x: usize,
     below: usize,
-    number: usize,
+    number: Option<usize>,
     entry: Entry,
     text: &mut String,
 ) -> Result<(), AllocError>
     requires below { below ≤ 100000 }
     ensures { OnOk result (TextExtends (string_bytes text.old) (string_bytes text.new)) }
 {
-    let (upper, lower, letter) = (below + 14, below + 28, letter_of(entry));
-    writeln!(
-        text,
-        "<text class=\"s m\" x=\"{x}\" y=\"{upper}\">{number}</text>"
-    )?;
+    let (lower, letter) = (below + 28, letter_of(entry));
+    write_number(x, below + 14, number, text)?;
     writeln!(
         text,
         "<text class=\"c m\" x=\"{x}\" y=\"{lower}\">{letter}</text>"
     )
+}
+
+/// Adds the number of an entry, if it is given.
+#[tactic(auto, using(crate::proofs::Extends::extends, crate::proofs::Extends::extends_same))]
+fn write_number(
+    x: usize,
+    y: usize,
+    number: Option<usize>,
+    text: &mut String,
+) -> Result<(), AllocError>
+    ensures { OnOk result (TextExtends (string_bytes text.old) (string_bytes text.new)) }
+{
+    match number {
+        Some(number) => writeln!(
+            text,
+            "<text class=\"s m\" x=\"{x}\" y=\"{y}\">{number}</text>"
+        ),
+        None => Ok(()),
+    }
+}
+
+/// The number below an entry: each entry has one, or of many entries each tenth, as four digits are wider than a column.
+fn number_below(entry: usize, entries: usize) -> Option<usize> {
+    if entries <= MOST_TICKS || entry % 10 == 0 {
+        Some(entry)
+    } else {
+        None
+    }
 }
 
 /// What an entry did: a page was granted, taken from the pool, began to move, or came to its end.

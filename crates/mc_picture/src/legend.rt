@@ -2,7 +2,7 @@
 ghost use Rattle.std.specs.Prelude.{◌≤◌, OnOk, string_bytes};
 ghost use Rattle.mc_picture.specs.Drawn.{TextExtends};
 
-use crate::cells::{colour, write_box};
+use crate::cells::{write_box, write_class_box};
 use crate::sheet::Sheet;
 use mc_classes::ClassId;
 use mc_pages::Entry;
@@ -29,8 +29,8 @@ fn write_patterns(y: usize, text: &mut String) -> Result<(), AllocError>
     ensures { OnOk result (TextExtends (string_bytes text.old) (string_bytes text.new)) }
 {
     write_key(16, y, "none\" stroke=\"#ddd", "never granted", text)?;
-    write_key(176, y, "url(#pool)", "in the pool", text)?;
-    write_key(336, y, "url(#moving)", "on the move", text)
+    write_key(192, y, "url(#pool)", "in the pool", text)?;
+    write_key(368, y, "url(#moving)", "on the move", text)
 }
 
 /// Adds the classes that the ledger names, four in a line.
@@ -44,7 +44,7 @@ fn write_class_keys(sheet: &Sheet, top: usize, text: &mut String) -> Result<(), 
         if !is_named(sheet.ledger, row.class) {
             continue;
         }
-        let (x, y) = (16 + shown % 4 * 160, top + shown / 4 * 24);
+        let (x, y) = (16 + shown % 4 * 176, top + shown / 4 * 24);
         write_class_key(x, y, row.class, row.size, text)?;
         shown += 1;
     }
@@ -76,7 +76,7 @@ fn write_key(
     requires y { y ≤ 300000 }
     ensures { OnOk result (TextExtends (string_bytes text.old) (string_bytes text.new)) }
 {
-    write_box(x, y, fill, text)?;
+    write_box(x, y, 24, fill, text)?;
     let (right, below) = (x + 32, y + 13);
     writeln!(text, "<text x=\"{right}\" y=\"{below}\">{name}</text>")
 }
@@ -93,7 +93,7 @@ fn write_class_key(
     requires y { y ≤ 300000 }
     ensures { OnOk result (TextExtends (string_bytes text.old) (string_bytes text.new)) }
 {
-    write_box(x, y, colour(class), text)?;
+    write_class_box(x, y, 24, class, text)?;
     let (middle, right, below) = (x + 12, x + 32, y + 13);
     writeln!(
         text,

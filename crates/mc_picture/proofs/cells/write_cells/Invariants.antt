@@ -3,6 +3,6 @@ use Rattle.std.specs.Prelude.{map}
 use Rattle.mc_picture.specs.Cells.{cells_text}
 use Rattle.mc_picture.proofs.cells.write_cells.Given as goal
 
--- the cells of the columns so far
-abbrev pub invariant-loop-place : goal.invariant-loop-place
-invariant-loop-place l = string_bytes l.text ≡ string_bytes l.initial.text ++ cells_text (map (λ column. column.items) l.columns) l.place
+-- the rows of the pages so far
+abbrev pub invariant-loop-page : goal.invariant-loop-page
+invariant-loop-page l = string_bytes l.text ≡ string_bytes l.initial.text ++ cells_text (map (λ column. column.items) l.columns) l.page

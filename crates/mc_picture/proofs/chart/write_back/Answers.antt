@@ -3,4 +3,4 @@ use Rattle.mc_picture.proofs.chart.write_back.Goals as goal
 
 pub returns : goal.returns
 returns c =
-    ends_pushing _ _ _ _ _ (extends_on _ _ _ (extends_on _ _ _ c.in_ok-write_labels.ensures c.in_ok-write_axis.ensures) c.in_ok-write_legend.ensures) c.push_str.ensures.bytes
+    ends_pushing _ _ _ _ _ (extends_on _ _ _ (extends_on _ _ _ (extends_on _ _ _ c.in_ok-write_labels.ensures c.in_ok-write_ends.ensures) c.in_ok-write_axis.ensures) c.in_ok-write_legend.ensures) c.push_str.ensures.bytes

@@ -1,6 +1,7 @@
 use Rattle.std.proofs.Common.{refl}
 use Rattle.std.specs.Fmt.{char_count, digits, padded_integral}
 use lib.Utf8.{encode}
+use Rattle.mc_picture.specs.Cells.{box_corner_text, run_text}
 use Rattle.mc_picture.specs.Maps.{bytes_text, chunk_counts_text, end_text, heading_text, line_text, lines_text, owner_text, map_page_text, sizes_text, start_text, page_totals_text}
 use Rattle.mc_picture.specs.Tables.{memory_text, row_text, table_note, waste_text}
 use Rattle.mc_picture.proofs.laws.worked_texts.Goals as goal
@@ -28,3 +29,7 @@ returns-clause-memory c = refl
 pub returns-clause-rows : goal.returns-clause-rows
 unfolding row_text waste_text padded_integral digits char_count encode
 returns-clause-rows c = refl
+
+pub returns-clause-runs : goal.returns-clause-runs
+unfolding run_text box_corner_text digits
+returns-clause-runs c = refl
