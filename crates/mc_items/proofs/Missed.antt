@@ -14,7 +14,9 @@ use Rattle.mc_items.specs.Within.{LeavesUnlinked}
 use Rattle.mc_items.proofs.Chains.{holdings_stay}
 use Rattle.mc_items.proofs.Left.{Kept, bumped_keeps, bumped_tells, kept_of}
 use Rattle.mc_items.proofs.Made.{Gains, Tells, TellsTuple, told_of}
+use Rattle.mc_items.proofs.Passes.{own_of}
 use Rattle.mc_items.proofs.StoredRows.{lost_again}
+use Rattle.mc_items.proofs.Visits.{Deletions, deletes_none}
 
 -- whatever misses leave stays
 pub slabs_misses_keep : {X : Type 0} (part : View → X) → ((word : ℕ) (v : View) → part (slabs_missed word v) ≡ part v) → (words : List ℕ) (before now : View) → MissesSlabs words before now → part now ≡ part before
@@ -41,6 +43,10 @@ slabs_missed_keeps tries view now missed = slabs_misses_keep kept_of (λ word v.
 -- the hand's own calls
 pub slabs_missed_tells : (tries : ℕ) (view now : View) → MissesSlabsEachTime tries view now → RecordsNoCall view now
 slabs_missed_tells tries view now missed = slabs_misses_keep (λ (v : View). v.row.knows.mine) (λ word v. refl) missed.words view now missed.misses
+
+-- no key was deleted
+pub slabs_missed_deletes : (number tries : ℕ) (view now : View) → MissesSlabsEachTime tries view now → Deletions number 0 view now
+slabs_missed_deletes number tries view now missed = deletes_none number view now (slabs_misses_keep own_of (λ word v. refl) missed.words view now missed.misses)
 
 -- the same where each try for a stripe's lock missed
 pub stripe_missed_keeps : (tries stripe : ℕ) (view now : View) → MissesStripeEachTime tries stripe view now → kept_of now ≡ kept_of view

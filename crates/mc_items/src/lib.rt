@@ -62,5 +62,6 @@ pub use within::bumping::bump_within;
 pub use within::deleting::delete_within;
 pub use within::error::WithinError;
 pub use within::getting::get_within;
+pub use within::making_room::make_room_within;
 pub use within::touching::touch_within;
 pub use within::{SetWithinError, set_within};

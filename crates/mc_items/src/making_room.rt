@@ -71,7 +71,7 @@ pub fn make_room<R: Wait, M: Marks>(
 }
 
 // Makes room in a class, if it has no free chunk, under the lock of the slabs.
-fn make_room_held<M: Marks>(
+pub(crate) fn make_room_held<M: Marks>(
     arena: &Arena,
     hand: &mut Hand,
     slabs: &mut SlabsHeld,

@@ -28,6 +28,7 @@ pub mod bumping;
 pub mod deleting;
 pub mod error;
 pub mod getting;
+pub mod making_room;
 pub mod touching;
 
 use crate::filling::fill_item;
