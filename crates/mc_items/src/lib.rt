@@ -64,4 +64,4 @@ pub use within::error::WithinError;
 pub use within::getting::get_within;
 pub use within::making_room::make_room_within;
 pub use within::touching::touch_within;
-pub use within::{SetWithinError, set_within};
+pub use within::{SetWithinError, set_hinted_within, set_within};

@@ -14,11 +14,11 @@ ghost use Rattle.mc_words.specs.item.Items.{item_with, known_words_in};
 ghost use Rattle.mc_words.specs.lock.Wait.{MissesSlabsEachTime};
 ghost use Rattle.mc_items.specs.Calls.{RecordsNoCall};
 ghost use Rattle.mc_items.specs.Evicting.{RecordsEviction};
-ghost use Rattle.mc_items.specs.FreshChunks.{IsFilledWith, IsFreshFor, LosesFresh, StoresFresh, filled_with};
+ghost use Rattle.mc_items.specs.FreshChunks.{IsFilledWith, IsFreshFor, IsHintInto, LosesFresh, StoresFresh, filled_with};
 ghost use Rattle.mc_words.specs.item.Refs.{KeepsHoldings};
 ghost use Rattle.mc_items.specs.Keeping.{StoresWithStamp, StoresNothing};
 ghost use Rattle.mc_items.specs.OnKeys.{ActsOnce, RecordsOn};
-ghost use Rattle.mc_items.specs.Setting.{SetsItem, RecordsSet};
+ghost use Rattle.mc_items.specs.Setting.{SetsItem, SetsWithHint, RecordsSet};
 ghost use Rattle.mc_items.specs.Sources.{SuppliesChunk, SuppliesNone};
 ghost use Rattle.mc_items.specs.Storing.{IsOwnItem};
 ghost use Rattle.mc_items.specs.Within.{MissesFor, RefusesWithin};
@@ -32,12 +32,12 @@ pub mod making_room;
 pub mod touching;
 
 use crate::filling::fill_item;
-use crate::setting::SetError;
+use crate::setting::{NewItem, SetError};
 use crate::storing::store_at;
 use crate::supplying::supply_chunk;
 use mc_classes::ClassId;
 use mc_stripe::{NoMemory, Stamp};
-use mc_words::{Arena, Fresh, Hand, Held};
+use mc_words::{Arena, Fresh, Hand, Held, Hint};
 use thiserror::Error;
 
 /// Why a set that doesn't wait was refused.
@@ -79,6 +79,38 @@ pub fn set_within(
     ensures holdings { KeepsHoldings (view hand.old) (view hand.new) }
     ensures hand { StaysReady arena.now hand.old hand.new }
 {
+    match set_hinted_within(arena, hand, key, words, tries) {
+        Ok(stored) => Ok(stored.stamp),
+        Err(error) => Err(error),
+    }
+}
+
+/// The same as [`set_within`]; and it returns a hint of the item too, by which [`again`](crate::again) gets it without a lock. (own)
+pub fn set_hinted_within(
+    arena: &Arena,
+    hand: &mut Hand,
+    key: u64,
+    words: &[u64],
+    tries: u64,
+) -> Result<NewItem, SetWithinError>
+    requires arena { IsHandOf arena.now hand.old }
+    requires ready { IsReady (view hand.old) }
+    ensures sets { IfOk result (λ stored. SetsWithHint (hand_number hand.old) key stored words.now
+        (view hand.old) (view hand.new)) }
+    ensures calls { IfOk result (λ stored. RecordsSet (hand_number hand.old) key stored.stamp
+        (view hand.old) (view hand.new)) }
+    ensures stores_words { IfOk result (λ stored.
+        StoresWithStamp (item_with key stored.stamp words.now) stored.stamp (view hand.old)
+        (view hand.new)) }
+    ensures refused { IfErr result (λ error. RefusesWithin
+        (hand_number hand.old) tries key words.now error (view hand.old) (view hand.new)) }
+    ensures evicts { OnErr result (RecordsEviction (hand_number hand.old) (view hand.old)
+        (view hand.new)) }
+    ensures stores_nothing { OnErr result (StoresNothing (view hand.old) (view hand.new)) }
+    ensures stamps { OnErr result ((view hand.new).row.ids ≡ (view hand.old).row.ids) }
+    ensures holdings { KeepsHoldings (view hand.old) (view hand.new) }
+    ensures hand { StaysReady arena.now hand.old hand.new }
+{
     let Some(class) = arena.classes().class_for(24 + 8 * words.len() as u64) else {
         return Err(SetWithinError::Refused(SetError::TooLarge));
     };
@@ -91,7 +123,7 @@ pub fn set_within(
         Err(_) => return Err(SetWithinError::Held),
     };
     match store_words_within(arena, hand, fresh, key, stamp, words, tries) {
-        Ok(Ok(())) => Ok(stamp),
+        Ok(Ok(hint)) => Ok(NewItem { stamp, hint }),
         Ok(Err(refused)) => Err(SetWithinError::Refused(SetError::NoMemory(refused))),
         Err(_) => Err(SetWithinError::Held),
     }
@@ -142,7 +174,7 @@ fn store_words_within(
     stamp: u64,
     words: &[u64],
     tries: u64,
-) -> Result<Result<(), NoMemory>, Held>
+) -> Result<Result<Hint, NoMemory>, Held>
     requires arena { IsHandOf arena.now hand.old }
     requires unlocked { is_unlocked (view hand.old) ≡ true }
     requires fresh { IsFreshOf (view hand.old) (fresh_chunk fresh) (fresh_room fresh) }
@@ -167,6 +199,7 @@ fn store_words_within(
         (RecordsNoCall (view hand.old) (view hand.new))) }
     ensures missed { OnErr result (MissesFor (setup_of arena.now) tries key fresh
         (filled_with fresh key stamp words.now (view hand.old)) (view hand.new)) }
+    ensures hint { IfOk result (λ stored. IfOk stored (IsHintInto (view hand.old) fresh)) }
 {
     let mut fresh = fresh;
     fill_item(arena, hand, &mut fresh, key, stamp, words);
@@ -180,7 +213,7 @@ fn store_within(
     fresh: Fresh,
     key: u64,
     tries: u64,
-) -> Result<Result<(), NoMemory>, Held>
+) -> Result<Result<Hint, NoMemory>, Held>
     requires arena { IsHandOf arena.now hand.old }
     requires unlocked { is_unlocked (view hand.old) ≡ true }
     requires fresh { IsFreshOf (view hand.old) (fresh_chunk fresh) (fresh_room fresh) }
@@ -205,6 +238,7 @@ fn store_within(
         (RecordsNoCall (view hand.old) (view hand.new))) }
     ensures missed { OnErr result (MissesFor (setup_of arena.now) tries key fresh (view hand.old)
         (view hand.new)) }
+    ensures hint { IfOk result (λ stored. IfOk stored (IsHintInto (view hand.old) fresh)) }
 {
     let stripe = key % arena.config().stripes;
     let Ok(held) = arena.stripe_within(hand, stripe, tries) else {
@@ -213,8 +247,9 @@ fn store_within(
     };
     match store_at(arena, hand, held, fresh, key) {
         Ok(reference) => {
+            let hint = reference.hint();
             arena.release(hand, reference);
-            Ok(Ok(()))
+            Ok(Ok(hint))
         }
         Err(error) => Ok(Err(error)),
     }

@@ -1,7 +1,9 @@
 use Rattle.std.proofs.Common.{◌≡◌, ◌%◌, ℕ, List, refl, ap, sym, subst, ◌∙◌}
 use Rattle.mc_classes.specs.declared.config.Config.{Config}
 use Rattle.mc_pages.specs.declared.ids.ChunkId.{ChunkId}
+use Rattle.std.specs.Option.{option_map_or}
 use Rattle.mc_core.specs.declared.holding.Holding.{Holding}
+use Rattle.mc_core.specs.model.Holdings.{holding_of}
 use Rattle.mc_words.specs.item.Fresh.{IsFreshIn}
 use Rattle.mc_words.specs.lock.Lent.{IsLentStripe}
 use Rattle.mc_words.specs.lock.Out.{without_stripe}
@@ -112,6 +114,14 @@ returns-in-Ok-store_at-clause-stores_words c =
       dropped = c.release.ensures.dropped ∙ ap (λ (chunk : ChunkId). chunk_released chunk linked) c.in-Ok-store_at.ensures.same.0;
     } in
     stored_said hand.number stripe c.args.key c.args.fresh.stamp c.args.fresh.chunk c.args.fresh.room before now stored
+
+pub returns-in-Ok-store_at-clause-hint : goal.returns-in-Ok-store_at-clause-hint
+returns-in-Ok-store_at-clause-hint c =
+    let held = c.in-Ok in
+    let before : View = c.args.hand.now.seat.me.0 in
+    let taken : View = c.stripe_within.new.hand.seat.me.0 in
+    let holdings = waits_keep (λ (v : View). v.row.holdings) (c.args.key % c.config.result.now.stripes) (λ word v. refl) (λ value v. refl) before held.held.stripe taken held.ensures.within.waits in
+    (c.hint-hint.ensures.chunk ∙ c.in-Ok-store_at.ensures.same.0, c.hint-hint.ensures.issue ∙ (c.in-Ok-store_at.ensures.same.1 ∙ ap (λ (hs : List Holding). option_map_or (λ (h : Holding). h.issue) (holding_of c.args.fresh.chunk hs) 0) holdings))
 
 pub returns-in-Err-clause-locks : goal.returns-in-Err-clause-locks
 returns-in-Err-clause-locks c =

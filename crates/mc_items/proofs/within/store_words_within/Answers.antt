@@ -7,7 +7,10 @@ use Rattle.mc_items.specs.Storing.{LeavesDead, StoresItem}
 use Rattle.mc_items.specs.Within.{LeavesUnlinked}
 use Rattle.mc_pages.specs.declared.ids.ChunkId.{ChunkId}
 use Rattle.mc_words.proofs.Hands.HandNumbers.{number_stays}
-use Rattle.mc_words.specs.item.Items.{item_with}
+use Rattle.mc_words.specs.item.Items.{issue_in, item_with}
+use Rattle.mc_items.specs.FreshChunks.{IsHintInto}
+use Rattle.mc_items.proofs.Deletes.{ok_map}
+use Rattle.mc_items.proofs.Fills.{issue_filled}
 use Rattle.mc_items.proofs.Stored.{numbers_known}
 use Rattle.mc_items.proofs.within.store_words_within.Goals as goal
 
@@ -47,3 +50,14 @@ returns-clause-no_memory c =
     let last : View = c.store_within.new.hand.seat.me.0 in
     let stripe = c.args.key % c.args.arena.now.table.shared.key.config.stripes in
     subst (λ (p : ChunkId × View). IfOk c.store_within.result (λ stored. OnErr stored (LeavesDead stripe p.0 p.1 last))) (λ k. (fill.ensures.same.0 k, fill.ensures.filled k)) c.store_within.ensures.no_memory
+
+pub returns-clause-hint : goal.returns-clause-hint
+returns-clause-hint c =
+    let fill = c.fill_item in
+    let view : View = c.args.hand.now.seat.me.0 in
+    let chunk = c.args.fresh.chunk in
+    let same = fill.ensures.same.0 in
+    let issue = ap (λ (at : ChunkId). issue_in fill.new.hand.seat.me.0 at) same ∙ issue_filled chunk (item_with c.args.key c.args.stamp c.args.words.now) view fill.new.hand.seat.me.0 c.requires.own fill.ensures.filled in
+    ok_map (λ stored. IfOk stored (IsHintInto fill.new.hand.seat.me.0 fill.new.fresh)) (λ stored. IfOk stored (IsHintInto view c.args.fresh)) c.store_within.result
+    (λ stored. ok_map (IsHintInto fill.new.hand.seat.me.0 fill.new.fresh) (IsHintInto view c.args.fresh) stored (λ hint into. (into.0 ∙ same, into.1 ∙ issue)))
+    c.store_within.ensures.hint
