@@ -8,6 +8,7 @@ use Rattle.mc_serial_spec.specs.Item.{item_bytes}
 use Rattle.mc_serial_spec.specs.Machine.{Machine}
 use Rattle.mc_keeper.specs.Calls.{item_words_of_key}
 use Rattle.mc_map.specs.declared.kept.ClassLine.{ClassLine}
+use Rattle.mc_map.specs.Sums.{IsSummed}
 
 -- an item of n words goes to the class
 abbrev pub fits_class : Classes → ℕ → ℕ → Bool
@@ -39,9 +40,11 @@ pub record IsLine (m : Machine) (keys : List ℕ) (line : ClassLine) : Type 0 wh
   pub size : line.size ≡ size_of m.table line.class
   pub per_page : line.per_page ≡ per_page_of m.table line.class
   pub pages : line.pages ≡ (numbers_of (class_at m.slabs line.class)).pages
+  pub chunks : line.chunks ≡ line.pages * line.per_page
   pub free : line.free ≡ (numbers_of (class_at m.slabs line.class)).free
   pub evictions : line.evictions ≡ (numbers_of (class_at m.slabs line.class)).evictions
   pub linked : line.linked ≡ linked_count m line.class keys
   pub asked : line.asked ≡ asked_bytes m line.class keys
   pub bytes : line.bytes ≡ line.linked * line.size
   pub dead : line.dead ≡ line.pages * line.per_page - (line.free + line.cleared + line.linked + line.unlinked)
+  pub sums : IsSummed line

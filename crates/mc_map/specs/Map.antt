@@ -50,6 +50,7 @@ shown_line line = if nat_lt 0 line.pages || nat_lt 0 line.evictions then line �
 -- the map shows the machine and the books, which agree, and a line for each class that has pages or evictions
 pub record IsMap (m : Machine) (book : Book) (keys : List ℕ) (map : Map) : Type 0 where
   pub page : map.page ≡ m.table.page
+  pub within : map.within ≡ book.within
   pub owners : map.owners.items ≡ book.owners
   pub agrees : AgreesOnPages m.slabs book.owners
   pub pool : map.pool.items ≡ book.pool

@@ -42,6 +42,13 @@ impl Books {
         })
     }
 
+    /// How many pages may be granted within the limit. They have the lowest numbers.
+    pub fn within(&self) -> u64
+        ensures { result ≡ self.now.within }
+    {
+        self.within
+    }
+
     /// Who owns each page, page 0 first.
     pub fn owners(&self) -> &[Owner]
         ensures { result.now ≡ self.now.owners }

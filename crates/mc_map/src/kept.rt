@@ -19,6 +19,8 @@ pub struct ClassLine {
     pub per_page: u64,
     /// How many pages the class has, a moving one included.
     pub pages: u64,
+    /// The chunks of these pages: the free, cleared, linked, unlinked and dead ones.
+    pub chunks: u64,
     /// Items to which their keys lead.
     pub linked: u64,
     /// Items that somebody holds, whether their keys lead to them or not.
@@ -39,13 +41,22 @@ pub struct ClassLine {
 }
 
 impl ClassLine {
-    ghost use Rattle.std.specs.Prelude.{◌≡◌, ◌-◌};
+    ghost use Rattle.std.specs.Prelude.{◌≡◌, ◌-◌, true};
+    ghost use Rattle.mc_map.specs.Sums.{IsSummed};
 
     /// The bytes of the linked items' chunks that they don't ask for.
     pub fn waste(&self) -> u64
         ensures { result ≡ self.now.bytes - self.now.asked }
     {
         self.bytes.saturating_sub(self.asked)
+    }
+
+    /// Whether each chunk is counted once.
+    fn is_summed(&self) -> bool
+        ensures { result ≡ true → IsSummed self.now }
+    {
+        let items = self.linked as u128 + self.unlinked as u128 + self.dead as u128;
+        self.chunks as u128 == items + self.free as u128 + self.cleared as u128
     }
 }
 
@@ -145,15 +156,17 @@ pub(crate) fn class_line(
     let per_page = table.per_page(class);
     let linked = linked_in(keeper, class, items.keys())?;
     let held = held_in(keeper, class, items)?;
-    Ok(ClassLine {
+    let chunks = numbers.pages * per_page;
+    let line = ClassLine {
         class,
         size,
         per_page,
         pages: numbers.pages,
+        chunks,
         linked: linked.count,
         held: held.count,
         unlinked: held.unlinked,
-        dead: (numbers.pages * per_page)
+        dead: chunks
             .saturating_sub(numbers.free)
             .saturating_sub(cleared)
             .saturating_sub(linked.count)
@@ -163,5 +176,9 @@ pub(crate) fn class_line(
         asked: linked.asked,
         bytes: linked.count * size,
         evictions: numbers.evictions,
-    })
+    };
+    if !line.is_summed() {
+        return Err(MapError::Books);
+    }
+    Ok(line)
 }

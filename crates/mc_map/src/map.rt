@@ -32,6 +32,8 @@ impl From<Refused> for MapError {
 pub struct Map {
     /// The bytes of a page.
     pub page: u64,
+    /// How many pages may be granted within the limit. They have the lowest numbers.
+    pub within: u64,
     /// How many commands were done.
     pub done: u64,
     /// Who owns each page, page 0 first.

@@ -332,6 +332,7 @@ impl Player {
         };
         Ok(Map {
             page: self.keeper.table().page(),
+            within: self.books.within(),
             done: commands.len() as u64,
             owners: from_slice(self.alloc, self.books.owners())?,
             pool: from_slice(self.alloc, self.books.pool())?,

@@ -25,6 +25,7 @@ mod hang;
 mod laws;
 mod ledger;
 mod legend;
+mod lines;
 mod sheet;
 mod text;
 

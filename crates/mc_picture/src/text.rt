@@ -1,9 +1,31 @@
 //! A map as text.
-ghost use Rattle.std.specs.Prelude.{◌≡◌, ◌++◌, ◌<◌, OnOk, flat_map, length, string_bytes};
-ghost use Rattle.mc_picture.specs.Maps.{bytes_text, chunk_counts_text, end_text, front_text, heading_text, line_columns, line_text, lines_text, map_text, owner_text, page_map_text, page_columns, page_legend, map_page_text, pages_text, sizes_text, start_text, page_totals_text};
+ghost use Rattle.std.specs.Prelude.{◌≡◌, ◌++◌, ◌<◌, ◌^◌, OnOk, count_by, length, string_bytes};
+ghost use Rattle.mc_picture.specs.Maps.{
+  beyond_heading,
+  end_text,
+  front_text,
+  granted_beyond_text,
+  granted_within_text,
+  heading_text,
+  is_granted,
+  lines_text,
+  map_page_text,
+  map_text,
+  moved_text,
+  owner_text,
+  page_bytes_text,
+  page_columns,
+  page_legend,
+  page_map_text,
+  page_totals_text,
+  pages_text,
+  parts_text,
+  start_text,
+};
 
 use crate::hang::write_move;
 use crate::ledger::write_ledger;
+use crate::lines::{sum_of, write_each_line, write_line_columns, write_line_legend, write_sum};
 use mc_map::{ClassLine, Map, Owner, Totals};
 use std::alloc::AllocError;
 use std::fmt::Write;
@@ -29,9 +51,26 @@ fn write_front(map: &Map, heading: &str, text: &mut String) -> Result<(), AllocE
     ensures front { OnOk result (string_bytes text.new ≡ string_bytes text.old
         ++ front_text heading.now map.now) }
 {
+    let owners = map.owners.as_slice();
+    let (within, beyond) = owners.split_at((map.within as usize).min(owners.len()));
+    write_parts(map, heading, within, beyond, text)
+}
+
+/// Adds the heading, who owns each page within the limit and beyond it, and what each class has.
+#[tactic(auto, unfolding(crate::specs::Maps::parts_text))]
+fn write_parts(
+    map: &Map,
+    heading: &str,
+    within: &[Owner],
+    beyond: &[Owner],
+    text: &mut String,
+) -> Result<(), AllocError>
+    ensures parts { OnOk result (string_bytes text.new ≡ string_bytes text.old
+        ++ parts_text heading.now map.now within.now beyond.now) }
+{
     write_heading(heading, map.done, text)?;
-    write_totals(map.page, map.owners.len(), map.totals, text)?;
-    write_owners(&map.owners, text)?;
+    write_totals(map.page, within, beyond, map.totals, text)?;
+    write_owners(within, beyond, text)?;
     write_lines(&map.classes, text)
 }
 
@@ -48,35 +87,95 @@ fn write_heading(heading: &str, done: u64, text: &mut String) -> Result<(), Allo
 #[tactic(auto, unfolding(crate::specs::Maps::page_totals_text))]
 fn write_totals(
     page: u64,
-    pages: usize,
+    within: &[Owner],
+    beyond: &[Owner],
     totals: Totals,
     text: &mut String,
 ) -> Result<(), AllocError>
     ensures totals { OnOk result (string_bytes text.new ≡ string_bytes text.old
-        ++ page_totals_text page pages totals) }
+        ++ page_totals_text page within.now beyond.now totals) }
 {
-    let Totals {
-        granted,
-        pool,
-        moved,
-        ..
-    } = totals;
-    write!(
-        text,
-        "pages of {page} bytes: {granted} of {pages} granted, "
-    )?;
+    write_page_bytes(page, text)?;
+    write_granted_within(within, text)?;
+    write_granted_beyond(beyond, text)?;
+    write_moved(totals, text)
+}
+
+/// Adds the bytes of a page.
+#[tactic(auto, unfolding(crate::specs::Maps::page_bytes_text))]
+fn write_page_bytes(page: u64, text: &mut String) -> Result<(), AllocError>
+    ensures page { OnOk result (string_bytes text.new ≡ string_bytes text.old
+        ++ page_bytes_text page) }
+{
+    write!(text, "pages of {page} bytes: ")
+}
+
+/// Whether somebody was given the page.
+fn is_granted(owner: Owner) -> bool
+    ensures { result ≡ is_granted owner }
+{
+    match owner {
+        Owner::Untouched => false,
+        Owner::Pool | Owner::Class(_) | Owner::Moving { .. } => true,
+    }
+}
+
+/// How many of these pages were granted.
+fn granted_count(owners: &[Owner]) -> usize
+    ensures { result ≡ count_by is_granted owners.now }
+{
+    owners.iter().filter(|owner| is_granted(**owner)).count()
+}
+
+/// Adds how many of these pages within the limit were granted.
+#[tactic(auto, unfolding(crate::specs::Maps::granted_within_text))]
+fn write_granted_within(owners: &[Owner], text: &mut String) -> Result<(), AllocError>
+    ensures granted { OnOk result (string_bytes text.new ≡ string_bytes text.old
+        ++ granted_within_text owners.now) }
+{
+    let (granted, pages) = (granted_count(owners), owners.len());
+    write!(text, "{granted} of {pages} within the limit granted, ")
+}
+
+/// Adds how many of these pages beyond the limit were granted.
+#[tactic(auto, unfolding(crate::specs::Maps::granted_beyond_text))]
+fn write_granted_beyond(owners: &[Owner], text: &mut String) -> Result<(), AllocError>
+    ensures granted { OnOk result (string_bytes text.new ≡ string_bytes text.old
+        ++ granted_beyond_text owners.now) }
+{
+    let (granted, pages) = (granted_count(owners), owners.len());
+    write!(text, "{granted} of {pages} first pages beyond it; ")
+}
+
+/// Adds how many pages are in the pool, and how many moved.
+#[tactic(auto, unfolding(crate::specs::Maps::moved_text))]
+fn write_moved(totals: Totals, text: &mut String) -> Result<(), AllocError>
+    ensures moved { OnOk result (string_bytes text.new ≡ string_bytes text.old
+        ++ moved_text totals) }
+{
+    let Totals { pool, moved, .. } = totals;
     writeln!(text, "{pool} in the pool, {moved} moved")
 }
 
-/// Adds the page map: who owns each page.
+/// Adds the page map: who owns each page within the limit, and each beyond it.
 #[tactic(auto, unfolding(crate::specs::Maps::page_map_text))]
-fn write_owners(owners: &[Owner], text: &mut String) -> Result<(), AllocError>
+fn write_owners(within: &[Owner], beyond: &[Owner], text: &mut String) -> Result<(), AllocError>
     ensures owners { OnOk result (string_bytes text.new ≡ string_bytes text.old
-        ++ page_map_text owners.now) }
+        ++ page_map_text within.now beyond.now) }
 {
     write_page_columns(text)?;
-    write_pages(owners, text)?;
+    write_pages(0, within, text)?;
+    write_beyond(text)?;
+    write_pages(within.len(), beyond, text)?;
     write_page_legend(text)
+}
+
+/// Adds what is before the pages beyond the limit.
+#[tactic(auto, unfolding(crate::specs::Maps::beyond_heading))]
+fn write_beyond(text: &mut String) -> Result<(), AllocError>
+    ensures heading { OnOk result (string_bytes text.new ≡ string_bytes text.old ++ beyond_heading) }
+{
+    text.push_str("  beyond the limit, for the first page of a class:\n")
 }
 
 /// Adds what the columns of the page map are.
@@ -97,48 +196,58 @@ fn write_page_legend(text: &mut String) -> Result<(), AllocError>
     )
 }
 
-/// Adds each page, eight in a line.
-fn write_pages(owners: &[Owner], text: &mut String) -> Result<(), AllocError>
+/// Adds each page of a part that begins with page `first`, eight in a line.
+fn write_pages(first: usize, owners: &[Owner], text: &mut String) -> Result<(), AllocError>
+    requires { first < 2 ^ 60 }
     ensures pages { OnOk result (string_bytes text.new ≡ string_bytes text.old
-        ++ pages_text owners.now (length owners.now)) }
+        ++ pages_text first owners.now (length owners.now)) }
 {
-    for page in 0..owners.len() {
-        write_page(owners, page, text)?;
+    for place in 0..owners.len() {
+        write_page(first, owners, place, text)?;
     }
     Ok(())
 }
 
-/// Adds a page of these.
+/// Adds a page of a part.
 #[tactic(auto, unfolding(crate::specs::Maps::map_page_text))]
-fn write_page(owners: &[Owner], page: usize, text: &mut String) -> Result<(), AllocError>
-    requires { page < length owners.now }
+fn write_page(
+    first: usize,
+    owners: &[Owner],
+    place: usize,
+    text: &mut String,
+) -> Result<(), AllocError>
+    requires first { first < 2 ^ 60 }
+    requires place { place < length owners.now }
     ensures page { OnOk result (string_bytes text.new ≡ string_bytes text.old
-        ++ map_page_text owners.now page) }
+        ++ map_page_text first owners.now place) }
 {
-    write_line_start(page, text)?;
-    write_owner(owners[page], text)?;
-    write_line_end(page, owners.len(), text)
+    write_line_start(first, place, text)?;
+    write_owner(owners[place], text)?;
+    write_line_end(place, owners.len(), text)
 }
 
 /// Adds a page's number where a line of the page map starts.
 #[tactic(auto, unfolding(crate::specs::Maps::start_text))]
-fn write_line_start(page: usize, text: &mut String) -> Result<(), AllocError>
-    ensures start { OnOk result (string_bytes text.new ≡ string_bytes text.old ++ start_text page) }
+fn write_line_start(first: usize, place: usize, text: &mut String) -> Result<(), AllocError>
+    requires first { first < 2 ^ 60 }
+    requires place { place < 2 ^ 60 }
+    ensures start { OnOk result (string_bytes text.new ≡ string_bytes text.old
+        ++ start_text first place) }
 {
-    if page % PAGES_A_LINE != 0 {
+    if place % PAGES_A_LINE != 0 {
         return Ok(());
     }
-    write!(text, "{page:>4}")
+    write!(text, "{:>4}", first + place)
 }
 
 /// Ends a line of the page map behind eight pages, and behind the last.
 #[tactic(auto, unfolding(crate::specs::Maps::end_text))]
-fn write_line_end(page: usize, pages: usize, text: &mut String) -> Result<(), AllocError>
+fn write_line_end(place: usize, pages: usize, text: &mut String) -> Result<(), AllocError>
     ensures end { OnOk result (string_bytes text.new ≡ string_bytes text.old
-        ++ end_text page pages) }
+        ++ end_text place pages) }
 {
     let last = pages.saturating_sub(1);
-    if page % PAGES_A_LINE == PAGES_A_LINE - 1 || page == last {
+    if place % PAGES_A_LINE == PAGES_A_LINE - 1 || place == last {
         return text.push_str("\n");
     }
     Ok(())
@@ -159,7 +268,7 @@ fn write_owner(owner: Owner, text: &mut String) -> Result<(), AllocError>
     }
 }
 
-/// Adds the lines of the classes.
+/// Adds the lines of the classes, and their totals.
 #[tactic(auto, unfolding(crate::specs::Maps::lines_text))]
 fn write_lines(lines: &[ClassLine], text: &mut String) -> Result<(), AllocError>
     ensures lines { OnOk result (string_bytes text.new ≡ string_bytes text.old
@@ -169,66 +278,7 @@ fn write_lines(lines: &[ClassLine], text: &mut String) -> Result<(), AllocError>
         return text.push_str("\nno class has a page\n");
     }
     write_line_columns(text)?;
-    write_each_line(lines, text)
-}
-
-/// Adds what the columns of the classes are.
-#[tactic(auto, unfolding(crate::specs::Maps::line_columns))]
-fn write_line_columns(text: &mut String) -> Result<(), AllocError>
-    ensures columns { OnOk result (string_bytes text.new ≡ string_bytes text.old ++ line_columns) }
-{
-    text.push_str(
-        "\nclass   size  pages  linked  held  dead  free  cleared    asked    bytes    waste  evicted\n",
-    )
-}
-
-/// Adds the line of each of these classes.
-fn write_each_line(lines: &[ClassLine], text: &mut String) -> Result<(), AllocError>
-    ensures lines { OnOk result (string_bytes text.new ≡ string_bytes text.old
-        ++ flat_map line_text lines.now) }
-{
-    for line in lines {
-        write_line(line, text)?;
-    }
-    Ok(())
-}
-
-/// Adds the line of a class.
-#[tactic(auto, unfolding(crate::specs::Maps::line_text))]
-fn write_line(line: &ClassLine, text: &mut String) -> Result<(), AllocError>
-    ensures line { OnOk result (string_bytes text.new ≡ string_bytes text.old
-        ++ line_text line.now) }
-{
-    write_sizes(line, text)?;
-    write_chunks(line, text)?;
-    write_bytes(line, text)
-}
-
-/// Adds a class, the bytes of its chunks, and how many pages it has.
-#[tactic(auto, unfolding(crate::specs::Maps::sizes_text))]
-fn write_sizes(line: &ClassLine, text: &mut String) -> Result<(), AllocError>
-    ensures sizes { OnOk result (string_bytes text.new ≡ string_bytes text.old
-        ++ sizes_text line.now) }
-{
-    write!(text, "{:>5}{:>7}{:>7}", line.class, line.size, line.pages)
-}
-
-/// Adds how many of a class's chunks are an item's, held, dead, free and cleared.
-#[tactic(auto, unfolding(crate::specs::Maps::chunk_counts_text))]
-fn write_chunks(line: &ClassLine, text: &mut String) -> Result<(), AllocError>
-    ensures chunks { OnOk result (string_bytes text.new ≡ string_bytes text.old
-        ++ chunk_counts_text line.now) }
-{
-    write!(text, "{:>8}{:>6}{:>6}", line.linked, line.held, line.dead)?;
-    write!(text, "{:>6}{:>9}", line.free, line.cleared)
-}
-
-/// Adds the bytes that a class's items ask for, those of their chunks and what is wasted of these, and how many were evicted.
-#[tactic(auto, unfolding(crate::specs::Maps::bytes_text))]
-fn write_bytes(line: &ClassLine, text: &mut String) -> Result<(), AllocError>
-    ensures bytes { OnOk result (string_bytes text.new ≡ string_bytes text.old
-        ++ bytes_text line.now) }
-{
-    write!(text, "{:>9}{:>9}", line.asked, line.bytes)?;
-    writeln!(text, "{:>9}{:>9}", line.waste(), line.evictions)
+    write_each_line(lines, text)?;
+    write_sum(&sum_of(lines), text)?;
+    write_line_legend(text)
 }

@@ -51,7 +51,7 @@ chunk_counts line =
 
 -- the numbers of a class's line, by their names
 abbrev pub class_counts : ClassLine → List (List ℕ × ℕ)
-class_counts line = (codes "class", line.class) ∷ (codes "size", line.size) ∷ (codes "per_page", line.per_page) ∷ (codes "pages", line.pages) ∷ chunk_counts line
+class_counts line = (codes "class", line.class) ∷ (codes "size", line.size) ∷ (codes "per_page", line.per_page) ∷ (codes "pages", line.pages) ∷ (codes "chunks", line.chunks) ∷ chunk_counts line
 
 -- the line of a class
 abbrev pub class_json : ClassLine → Data
@@ -99,9 +99,11 @@ hang_json Idle = null
 hang_json (Found blockers) = row_json blocker_json blockers.items
 hang_json Unknown = null
 
--- the first members of a map: the line of its mark, which is 0 at the end, how many commands are done, and the sizes of a page
+-- the first members of a map: the line of its mark, which is 0 at the end, how many commands are done, the bytes of a page, how many
+-- pages the limit has, and the chunks of the moving page
 abbrev pub front_members : ℕ → Map → List (List ℕ × Data)
-front_members line map = (codes "line", number_json line) ∷ (codes "done", number_json map.done) ∷ (codes "page", number_json map.page) ∷ (codes "chunks", number_json map.chunks) ∷ []
+front_members line map = (codes "line", number_json line) ∷ (codes "done", number_json map.done) ∷ (codes "page", number_json map.page) ∷ (codes "within", number_json map.within)
+    ∷ (codes "chunks", number_json map.chunks) ∷ []
 
 -- who owns the pages, the classes, and the numbers of the whole
 abbrev pub page_members : Map → List (List ℕ × Data)

@@ -48,6 +48,7 @@ ClassShown =
       size = 96;
       per_page = 10;
       pages = 3;
+      chunks = 12;
       linked = 4;
       held = 5;
       unlinked = 6;
@@ -59,7 +60,7 @@ ClassShown =
       evictions = 11;
     })
     ≡ numbers_in_order (
-    (codes "asked", 100) ∷ (codes "bytes", 200) ∷ (codes "class", 1) ∷ (codes "cleared", 9) ∷ (codes "dead", 7) ∷ (codes "evictions", 11) ∷ (codes "free", 8)
+    (codes "asked", 100) ∷ (codes "bytes", 200) ∷ (codes "chunks", 12) ∷ (codes "class", 1) ∷ (codes "cleared", 9) ∷ (codes "dead", 7) ∷ (codes "evictions", 11) ∷ (codes "free", 8)
     ∷ (codes "held", 5) ∷ (codes "linked", 4) ∷ (codes "pages", 3) ∷ (codes "per_page", 10) ∷ (codes "size", 96) ∷ (codes "unlinked", 6) ∷ []
     )
 
@@ -83,7 +84,7 @@ NothingShown = moving_json None ∷ hang_json Idle ∷ hang_json Unknown ∷ [] 
 abbrev pub MapNames : Type 0
 MapNames =
     (line : ℕ) (m : Map) → map (λ pair. pair.0) (map_members line m)
-    ≡ codes "line" ∷ codes "done" ∷ codes "page" ∷ codes "chunks" ∷ codes "owners" ∷ codes "pool" ∷ codes "classes" ∷ codes "totals" ∷ codes "ledger" ∷ codes "moving"
+    ≡ codes "line" ∷ codes "done" ∷ codes "page" ∷ codes "within" ∷ codes "chunks" ∷ codes "owners" ∷ codes "pool" ∷ codes "classes" ∷ codes "totals" ∷ codes "ledger" ∷ codes "moving"
     ∷ codes "blockers" ∷ []
 
 -- of five commands: a mark below two, one below two where four are done already, and one past the end

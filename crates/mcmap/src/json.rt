@@ -66,7 +66,7 @@ fn put_map(
     put_moves(alloc, map, object)
 }
 
-/// Puts the line, how many commands are done, and the sizes of a page.
+/// Puts the line, how many commands are done, the sizes of a page, and how many the limit has.
 fn put_front(
     alloc: Global,
     map: &Map,
@@ -79,6 +79,7 @@ fn put_front(
     put(object, alloc, "line", Value::from(line))?;
     put(object, alloc, "done", Value::from(map.done))?;
     put(object, alloc, "page", Value::from(map.page))?;
+    put(object, alloc, "within", Value::from(map.within))?;
     put(object, alloc, "chunks", Value::from(map.chunks))
 }
 
@@ -174,6 +175,7 @@ fn class_value(alloc: Global, line: &ClassLine) -> Result<Value, AllocError>
         ("size", line.size),
         ("per_page", line.per_page),
         ("pages", line.pages),
+        ("chunks", line.chunks),
         ("linked", line.linked),
         ("held", line.held),
         ("unlinked", line.unlinked),

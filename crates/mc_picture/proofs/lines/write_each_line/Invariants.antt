@@ -1,6 +1,6 @@
 use Rattle.std.proofs.Common.{◌≡◌, ◌++◌, drop, flat_map, string_bytes}
 use Rattle.mc_picture.specs.Maps.{line_text}
-use Rattle.mc_picture.proofs.text.write_each_line.Given as goal
+use Rattle.mc_picture.proofs.lines.write_each_line.Given as goal
 
 -- the lines so far, and those that are left
 abbrev pub invariant-loop-line : goal.invariant-loop-line
