@@ -347,6 +347,26 @@ check_maps() {
     fi
 }
 
+# What a browser shows of the page of an example stands beside the example, as .seen: its text at each place of the slider.
+check_pages() {
+    for stored in examples/*.seen; do
+        run_on "examples/$(basename "${stored%.*}").txt" --html
+        cp "$room/stdout" "$room/page.html"
+        python3 ci/page "$room/page.html" "$room/page.png" >"$room/seen" 2>"$room/stderr"
+        case $? in
+        0)
+            if cmp -s "$stored" "$room/seen"; then
+                ok "$build: $stored"
+            else
+                bad "$build: $stored" "$(diff "$stored" "$room/seen" | head -n 5)"
+            fi
+            ;;
+        3) ok "$build: $stored, which nobody read, as there is no Chromium" ;;
+        *) bad "$build: $stored" "$(head -c 300 "$room/stderr")" ;;
+        esac
+    done
+}
+
 # What mcmap refuses. The script is refused, too, and isn't read where the options are.
 check_map_refusals() {
     printf '1 set 1 3 7\n1 frob\n' >"$room/script"
@@ -363,9 +383,9 @@ check_map_refusals() {
 1 config:_3;_mcmap_--check_prints_why --svg --factor 1.25
 1 config:_3;_mcmap_--check_prints_why --classes --factor 1.25
 1 config:_6;_mcmap_--check_prints_why --stripes 0
-1 one_of_--json,_--svg,_--classes_and_--check_at_a_time --json --svg
-1 one_of_--json,_--svg,_--classes_and_--check_at_a_time --check --page 7 --classes
-1 one_of_--json,_--svg,_--classes_and_--check_at_a_time --check --check
+1 one_of_--json,_--svg,_--html,_--classes_and_--check_at_a_time --json --svg
+1 one_of_--json,_--svg,_--html,_--classes_and_--check_at_a_time --check --page 7 --classes
+1 one_of_--json,_--svg,_--html,_--classes_and_--check_at_a_time --check --check
 1 --threads:_a_map_is_of_one_thread;_mcslab_has_threads --threads
 ROWS
     for arguments in '--page x' '--frob' 'more'; do
@@ -389,6 +409,10 @@ ROWS
     echo 'mcmap: turns' >"$room/want-stderr"
     run_on "$room/script"
     wants "a turn more than 1,000,000, behind a map" 5
+    { printf '1 set 1 3 7\n'; yes "$(printf '# map\n1 get 1')" | head -n 1002; } >"$room/script.moments"
+    told 'mcmap: --html: more than 500 moments'
+    run_on "$room/script.moments" --html
+    wants "501 moments --html" 1
     told 'mcmap: turns'
     run_on "$room/script" --svg
     wants "a turn more than 1,000,000 --svg" 5
@@ -478,7 +502,7 @@ check_map_streams() {
         wants "a directory as standard input $view" 3
     done
     if [ -c /dev/full ]; then
-        for view in '' --json --svg --classes --check --help; do
+        for view in '' --json --svg --html --classes --check --help; do
             told 'mcmap: write'
             # shellcheck disable=SC2086
             timeout 60 "$program" $view <examples/how-a-page-moves.txt >/dev/full 2>"$room/stderr"
@@ -520,6 +544,7 @@ check_program() {
             continue
         fi
         check_maps
+        check_pages
         check_map_refusals
         check_words
         check_map_streams

@@ -1,3 +1,4 @@
 pub mod PlayedMore
 pub mod NoFloat
 pub mod RowsMore
+pub mod Paged

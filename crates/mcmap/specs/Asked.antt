@@ -3,7 +3,7 @@ use Rattle.std.specs.Prelude.{ℕ, Bool, true, false, if◌then◌else◌, List,
 use Rattle.std.specs.List.{list_any}
 use Rattle.std.specs.Str.{bytes_eq}
 use Rattle.mcmap.specs.declared.asked.View.{View}
-use Rattle.mcmap.specs.declared.asked.View.TheVariants.{Maps, Json, Chart, Classes, Check, Help}
+use Rattle.mcmap.specs.declared.asked.View.TheVariants.{Maps, Json, Chart, Page, Classes, Check, Help}
 use Rattle.mcmap.specs.declared.fault.Fault.{Fault}
 use Rattle.mcmap.specs.declared.fault.Fault.TheVariants.{Views}
 
@@ -12,6 +12,7 @@ abbrev pub view_of_word : List ℕ → Option View
 view_of_word word =
     if bytes_eq word (codes "--json") then Some Json
     else if bytes_eq word (codes "--svg") then Some Chart
+    else if bytes_eq word (codes "--html") then Some Page
     else if bytes_eq word (codes "--classes") then Some Classes
     else if bytes_eq word (codes "--check") then Some Check
     else if bytes_eq word (codes "--help") then Some Help

@@ -1,7 +1,7 @@
 -- The status that the program ends with, by what kept it from being done.
 use Rattle.std.specs.Prelude.{ℕ}
 use Rattle.mcmap.specs.declared.fault.Fault.{Fault}
-use Rattle.mcmap.specs.declared.fault.Fault.TheVariants.{Options, Words, Threads, Views, Config, Script, TooLong, Read, Write, Memory, Turns, Chart, Books, WrongOptions, WrongLines}
+use Rattle.mcmap.specs.declared.fault.Fault.TheVariants.{Options, Words, Threads, Views, Moments, Config, Script, TooLong, Read, Write, Memory, Turns, Chart, Books, WrongOptions, WrongLines}
 
 -- 1 for what the program is started with; 2 for the script; 3 for a stream; 4 for memory; 5 for turns past the limit; 6 for its own books
 abbrev pub map_status : Fault → ℕ
@@ -9,6 +9,7 @@ map_status (Options error) = 1
 map_status Words = 1
 map_status Threads = 1
 map_status Views = 1
+map_status Moments = 1
 map_status (Config number) = 1
 map_status Chart = 1
 map_status (Script line) = 2

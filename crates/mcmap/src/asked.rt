@@ -17,6 +17,8 @@ pub enum View {
     Json,
     /// Pages over time.
     Chart,
+    /// Maps under a slider, as a page of HTML.
+    Page,
     /// The class table, before anything runs.
     Classes,
     /// What is wrong with the options and the script.
@@ -41,6 +43,7 @@ fn view_of(word: &str) -> Option<View>
     match word {
         "--json" => Some(View::Json),
         "--svg" => Some(View::Chart),
+        "--html" => Some(View::Page),
         "--classes" => Some(View::Classes),
         "--check" => Some(View::Check),
         "--help" | "-h" => Some(View::Help),

@@ -21,7 +21,7 @@ pub enum Fault {
     #[error("--threads: a map is of one thread; mcslab has threads")]
     Threads,
     /// More than one view is asked for.
-    #[error("one of --json, --svg, --classes and --check at a time")]
+    #[error("one of --json, --svg, --html, --classes and --check at a time")]
     Views,
     /// The configuration is refused, by the test of this number.
     #[error("config: {0}; mcmap --check prints why")]
@@ -44,6 +44,9 @@ pub enum Fault {
     /// The script asks for more than 1,000,000 turns of the mover.
     #[error("turns")]
     Turns,
+    /// The moments are more than a page of HTML has.
+    #[error("--html: more than 500 moments")]
+    Moments,
     /// The entries are more than a chart has columns.
     #[error("--svg: more than 4095 entries")]
     Chart,
@@ -65,7 +68,7 @@ impl Fault {
     {
         match self {
             Fault::Options(_) | Fault::Words | Fault::Threads | Fault::Config(_) => 1,
-            Fault::Views | Fault::Chart | Fault::WrongOptions => 1,
+            Fault::Views | Fault::Moments | Fault::Chart | Fault::WrongOptions => 1,
             Fault::Script(_) | Fault::TooLong | Fault::WrongLines(_) => 2,
             Fault::Read | Fault::Write => 3,
             Fault::Memory => 4,

@@ -3,11 +3,12 @@
 /// The text of `--help`.
 pub const HELP: &str = "mcmap: shows a slab memory at each line '# map' of a script, and at its end
 
-usage: mcmap [--json | --svg | --classes | --check] [OPTIONS of mcslab] < script
+usage: mcmap [--json | --svg | --html | --classes | --check] [OPTIONS of mcslab] < script
 
 One of these at a time:
   --json      the same maps as JSON, one in a line; at the end its line is 0
   --svg       pages over time as an SVG, a column for each entry of the ledger
+  --html      a page for a browser: maps under a slider, at each mark and behind each command that changed an owner
   --classes   the class table with each class's worst waste, before anything runs; no script is read
   --check     what is wrong with the options, or which word of a line is wrong, and what would be right; nothing runs
   --help      this text; that of mcslab tells its options

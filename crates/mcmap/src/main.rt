@@ -16,12 +16,15 @@ mod help;
 mod json;
 mod laws;
 mod lines;
+mod page;
+mod page_script;
 mod show;
 
 use crate::asked::{Asked, View, read_words};
 use crate::check::{check_options, check_script};
 use crate::fault::Fault;
 use crate::help::HELP;
+use crate::page::show_page;
 use crate::show::{Form, show_chart, show_classes, show_maps};
 use mc_map::{Config, Script, read_script};
 use std::env::Env;
@@ -72,6 +75,7 @@ fn show_view<R: Input + AllocGlobal>(rt: &R, asked: &Asked, text: &mut String) -
         View::Help => Ok(text.push_str(HELP)?),
         View::Classes => show_classes(alloc, run, text),
         View::Chart => show_chart(alloc, run, &script_read(rt, &run.config)?, text),
+        View::Page => show_page(alloc, run, &script_read(rt, &run.config)?, text),
         View::Maps => show_maps(alloc, Form::Text, run, &script_read(rt, &run.config)?, text),
         View::Json => show_maps(alloc, Form::Json, run, &script_read(rt, &run.config)?, text),
         View::Check => show_faults(rt, asked, text),

@@ -43,8 +43,25 @@ pub fn show_maps(
     ensures maps { OnOk result (AreMapsOf form run.now script.now.commands.items
         script.now.marks.items (string_bytes text.old) (string_bytes text.new)) }
 {
+    show_all(alloc, form, run, &script.commands, &script.marks, text)
+}
+
+/// Does these commands from a fresh memory, and shows a map at each of these marks and at the end.
+pub fn show_all(
+    alloc: Global,
+    form: Form,
+    run: &Run,
+    commands: &[Command],
+    marks: &[Mark],
+    text: &mut String,
+) -> Result<(), Fault>
+    requires mode { run.now.automove ≤ 2 }
+    requires valid { All IsValid commands.now }
+    ensures maps { OnOk result (AreMapsOf form run.now commands.now marks.now
+        (string_bytes text.old) (string_bytes text.new)) }
+{
     let mut player = Player::new(alloc, run)?;
-    let done = play_maps(alloc, form, &mut player, run, script, text);
+    let done = play_maps(alloc, form, &mut player, run, commands, marks, text);
     drop(player);
     done
 }
@@ -55,17 +72,17 @@ fn play_maps(
     form: Form,
     player: &mut Player,
     run: &Run,
-    script: &Script,
+    commands: &[Command],
+    marks: &[Mark],
     text: &mut String,
 ) -> Result<(), Fault>
     requires mode { run.now.automove ≤ 2 }
-    requires valid { All IsValid script.now.commands.items }
-    ensures maps { OnOk result (ShowsMaps form script.now.commands.items 0 script.now.marks.items
-        player.old.keeper player.old.books (string_bytes text.old) (string_bytes text.new)) }
+    requires valid { All IsValid commands.now }
+    ensures maps { OnOk result (ShowsMaps form commands.now 0 marks.now player.old.keeper
+        player.old.books (string_bytes text.old) (string_bytes text.new)) }
 {
-    let commands = script.commands.as_slice();
     let mut done = 0;
-    for mark in &script.marks {
+    for mark in marks {
         let place = place_of(*mark, commands.len(), done);
         play_all(player, &commands[done..place])?;
         done = place;

@@ -1,6 +1,4 @@
-use Rattle.std.proofs.Common.{List, refl, subst, string_bytes, arith}
-use Rattle.mc_script.specs.declared.command.Command.{Command}
-use Rattle.mcmap.specs.Played.{ShowsMaps}
+use Rattle.std.proofs.Common.{refl, string_bytes, arith}
 use Rattle.mcmap.proofs.PlayedMore.{on_ok, shows_last, shows_more}
 use Rattle.mcmap.proofs.show.play_maps.Goals as goal
 
@@ -9,8 +7,8 @@ loop-mark-preserved c = record {
   within_limit = omega (arith, c.place_of-place.ensures);
   shown = λ new rest.
       c.loop-mark.invariant.shown new
-      (shows_more c.args.form c.as_slice-commands.result.now c.loop-mark.done c.place_of-place.result c.args.script.now.marks.items c.deref-mark-items.result.now c.loop-mark.mark-index _ _ c.loop-mark.player.keeper
-      c.play_all.new.player.keeper c.loop-mark.player.books c.play_all.new.player.books (string_bytes c.loop-mark.text) (string_bytes c.show_map.new.text) new c.deref-mark-items.ensures.value c.loop-mark-test.true refl
+      (shows_more c.args.form c.args.commands.now c.loop-mark.done c.place_of-place.result c.args.marks.now c.args.marks.now c.loop-mark.mark-index _ _ c.loop-mark.player.keeper
+      c.play_all.new.player.keeper c.loop-mark.player.books c.play_all.new.player.books (string_bytes c.loop-mark.text) (string_bytes c.show_map.new.text) new refl c.loop-mark-test.true refl
       c.place_of-place.ensures c.in_ok-play_all.ensures.played c.in_ok-show_map.ensures.shown rest);
 }
 
@@ -18,10 +16,8 @@ pub returns : goal.returns
 returns c = record {
   maps = on_ok c.show_map-2.result
       (λ shown.
-      subst (λ (commands : List Command). ShowsMaps c.args.form commands 0 c.args.script.now.marks.items c.args.player.now.keeper c.args.player.now.books (string_bytes c.args.text.now) (string_bytes c.show_map-2.new.text))
-      c.as_slice-commands.ensures.value
-      (c.loop-mark.invariant.shown (string_bytes c.show_map-2.new.text)
-      (shows_last c.args.form c.as_slice-commands.result.now c.loop-mark.done c.args.script.now.marks.items c.deref-mark-items.result.now c.loop-mark.mark-index c.loop-mark.player.keeper c.play_all-2.new.player.keeper
-      c.loop-mark.player.books c.play_all-2.new.player.books (string_bytes c.loop-mark.text) (string_bytes c.show_map-2.new.text) c.deref-mark-items.ensures.value c.loop-mark-test.false
-      c.in_ok-play_all-2.ensures.played shown))) c.show_map-2.ensures.shown;
+      c.loop-mark.invariant.shown (string_bytes c.show_map-2.new.text)
+      (shows_last c.args.form c.args.commands.now c.loop-mark.done c.args.marks.now c.args.marks.now c.loop-mark.mark-index c.loop-mark.player.keeper c.play_all-2.new.player.keeper
+      c.loop-mark.player.books c.play_all-2.new.player.books (string_bytes c.loop-mark.text) (string_bytes c.show_map-2.new.text) refl c.loop-mark-test.false
+      c.in_ok-play_all-2.ensures.played shown)) c.show_map-2.ensures.shown;
 }

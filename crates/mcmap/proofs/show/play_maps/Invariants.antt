@@ -7,6 +7,6 @@ abbrev pub invariant-loop-mark : goal.invariant-loop-mark
 invariant-loop-mark l =
     record {
       within_limit : l.done ≤ length l.commands;
-      shown : (new : List ℕ) → ShowsMaps l.form l.commands l.done (drop l.mark-index l.script.marks.items) l.player.keeper l.player.books (string_bytes l.text) new
-          → ShowsMaps l.form l.commands 0 l.script.marks.items l.initial.player.keeper l.initial.player.books (string_bytes l.initial.text) new;
+      shown : (new : List ℕ) → ShowsMaps l.form l.commands l.done (drop l.mark-index l.marks) l.player.keeper l.player.books (string_bytes l.text) new
+          → ShowsMaps l.form l.commands 0 l.marks l.initial.player.keeper l.initial.player.books (string_bytes l.initial.text) new;
     }
