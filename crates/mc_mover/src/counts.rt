@@ -70,7 +70,7 @@ pub enum Turn {
 /// Why a turn that waits for nobody wasn't done, or not to its end.
 #[derive(Debug, PartialEq, Eq, Drop)]
 pub enum TryTurn {
-    /// Another hand has the lock of the slabs.
+    /// Another hand has the lock of the slabs, or had it at each of n tries.
     Held,
     /// The room for a call on a key was refused. The chunk at hand is as before, and the move's position is there. What was done
     /// for chunks before it stays, and dead chunks may have been put back.
