@@ -9,7 +9,8 @@
 //! - [`hint`] makes a hint of a reference, and [`again`] gets the item by the hint with no lock, if it is there still.
 //! - [`make_room`] makes room in a class without a sweep: it evicts some of its oldest items, but those that [`Marks`] spare.
 //! - [`touch`] and [`bump`] make an item the one of its class that is evicted last, and [`delete`] deletes a key.
-//! - [`get_within`], [`touch_within`], [`bump_within`] and [`delete_within`] do so and give up after n tries for each lock.
+//! - [`get_within`], [`touch_within`], [`bump_within`], [`delete_within`], [`set_hinted_within`] and [`make_room_within`] do so and
+//!   give up after n tries for each lock.
 //!
 //! ```rust
 //! fn read_own<R: Wait>(rt: &R, alloc: Global, arena: &Arena, hand: &mut Hand) -> Option<Vec<u64>> {

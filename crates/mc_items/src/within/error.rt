@@ -1,15 +1,16 @@
-//! Why a call on a key was refused that tries for each lock n times.
+//! Why a call that tries for each lock n times was refused.
 use mc_memory::Refused;
 use thiserror::Error;
 
-/// Why a delete or a touch that doesn't wait was refused. (own)
+/// Why a delete, a touch or a making of room that doesn't wait was refused. (own)
 #[derive(Debug, PartialEq, Eq, Drop, Error)]
 pub enum WithinError {
-    /// The stripe got no room for one more call. The key is as before.
-    #[error("out of memory: the key is as before")]
+    /// The stripe got no room for one more call, or a class none for its next page. A key has what it had, unless its item was one of those that
+    /// were evicted to make room.
+    #[error("out of memory: a key has what it had, unless its item was evicted")]
     NoMemory(Refused),
-    /// Other hands had a lock of the call at each try, and the key is as before. A touch that had got the item gave it up again, and didn't
-    /// move it.
-    #[error("other hands had the lock at each try: the key is as before")]
+    /// Other hands had a lock of the call at each try, and each key has what it had. A touch that had got the item gave it up again, and
+    /// didn't move it.
+    #[error("other hands had the lock at each try: each key has what it had")]
     Held,
 }
