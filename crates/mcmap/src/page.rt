@@ -90,7 +90,7 @@ h1 { font-size: 18px } h2 { font-size: 15px; margin: 16px 0 4px }
 input { width: 100%; max-width: 900px } .wide { overflow-x: auto }
 table { border-collapse: collapse } th, td { padding: 2px 8px; text-align: right; border-bottom: 1px solid #ddd }
 th { font-weight: normal; color: #555 } tr.sum td { font-weight: bold; border-bottom: 0 }
-svg text { font-size: 11px; fill: #222 } p { margin: 4px 0 }
+svg text { font-size: 11px; fill: #222; paint-order: stroke; stroke: #fff; stroke-width: 2px; stroke-opacity: 0.7 } p { margin: 4px 0 }
 </style>
 </head>
 <body>
