@@ -21,6 +21,6 @@ pub use first::{first_header, header_from, pop_worn, worn_out};
 pub use held::{read_after_all, read_after_trims};
 pub use moves_within::{begin_and_turn, mode_within, set_mode_untried, turn_and_count};
 pub use own::{RefusedCall, set_and_read};
-pub use roomy::make_room_and_set;
+pub use roomy::{make_room_and_set, make_room_and_set_within};
 pub use trimmed::{entries_behind_a_trim, join_behind_a_trim, page_behind_a_trim};
 pub use within::{delete_at_second_try, read_within, touch_at_second_try};

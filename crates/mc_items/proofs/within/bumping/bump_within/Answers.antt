@@ -1,11 +1,6 @@
-use Rattle.std.proofs.Common.{◌≡◌, Result, Ok, Err, OnErr, OnOk, ap}
-use Rattle.mc_pages.specs.declared.ids.ChunkId.{ChunkId}
-use Rattle.mc_words.specs.hand.View.{View}
-use Rattle.mc_words.specs.lock.Doing.{HoldsSlabs}
-use Rattle.mc_words.specs.lock.Wait.{MissesSlabsEachTime}
-use Rattle.mc_items.specs.Calls.{Bumps, RecordsNoCall}
+use Rattle.std.proofs.Common.{ap}
 use Rattle.mc_items.proofs.Chains.{hand_still, holdings_stay, kept_refs_keep_items}
-use Rattle.mc_items.proofs.Left.{Kept, kept_of}
+use Rattle.mc_items.proofs.Left.{Kept}
 use Rattle.mc_items.proofs.Missed.{bump_keeps, bump_tells}
 use Rattle.mc_items.proofs.within.bumping.bump_within.Goals as goal
 
