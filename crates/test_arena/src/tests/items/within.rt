@@ -5,8 +5,8 @@ ghost use Rattle.testlib_hands.specs.Pairs.{AreReady};
 
 use crate::tests::assert_same;
 use mc_items::{
-    SetWithinError, TryGetError, WithinError, bump_within, delete_within, get_within, release,
-    set_within, touch_within,
+    NoMarks, SetWithinError, TryGetError, WithinError, bump_within, delete_within, get_within,
+    make_room_within, release, set_hinted_within, set_within, touch_within,
 };
 use mc_pages::ChunkId;
 use mc_stripe::Key;
@@ -18,6 +18,7 @@ use testlib_hands::{Two, header, play_two};
 
 /// The key of all calls, and its stripe.
 const KEY: Key = 1;
+
 const STRIPE: u64 = 1;
 
 /// The first chunk of a class of 21 chunks a page that goes out.
@@ -29,7 +30,9 @@ const LINKED: u64 = 458_753;
 /// A call with n tries for each lock.
 #[derive(Clone, Copy)]
 enum Call {
+    Room,
     Set,
+    SetHinted,
     Get,
     Bump,
     Touch,
@@ -58,6 +61,33 @@ fn set_key(arena: &Arena, hand: &mut Hand, tries: u64) -> Answer
         Ok(_) => Answer::Done,
         Err(SetWithinError::Held) => Answer::Held,
         Err(_) => Answer::Refused,
+    }
+}
+
+/// What such a set answers that returns a hint, too.
+fn set_hinted_key(arena: &Arena, hand: &mut Hand, tries: u64) -> Answer
+    requires arena { IsReadyHandOf arena.now hand.old }
+    ensures arena { IsReadyHandOf arena.now hand.new }
+{
+    match set_hinted_within(arena, hand, KEY, &[7, 8, 9], tries) {
+        Ok(_) => Answer::Done,
+        Err(SetWithinError::Held) => Answer::Held,
+        Err(_) => Answer::Refused,
+    }
+}
+
+/// What it answers to make room for a set of three words.
+fn make_room(arena: &Arena, hand: &mut Hand, tries: u64) -> Answer
+    requires arena { IsReadyHandOf arena.now hand.old }
+    ensures arena { IsReadyHandOf arena.now hand.new }
+{
+    let Some(class) = arena.classes().class_for(48) else {
+        return Answer::Refused;
+    };
+    match make_room_within(arena, hand, class, &NoMarks, tries) {
+        Ok(_) => Answer::Done,
+        Err(WithinError::Held) => Answer::Held,
+        Err(WithinError::NoMemory(_)) => Answer::Refused,
     }
 }
 
@@ -106,7 +136,9 @@ fn act(arena: &Arena, hand: &mut Hand, call: Call, tries: u64) -> Answer
     ensures arena { IsReadyHandOf arena.now hand.new }
 {
     match call {
+        Call::Room => make_room(arena, hand, tries),
         Call::Set => set_key(arena, hand, tries),
+        Call::SetHinted => set_hinted_key(arena, hand, tries),
         Call::Get => get_key(arena, hand, tries),
         Call::Bump => bump_key(arena, hand, tries),
         Call::Touch => answer_of(touch_within(arena, hand, KEY, tries)),
@@ -172,7 +204,9 @@ fn play_beside_slabs(
 }
 
 /// With no tries each call is held, though each lock is free. One try is enough for a set then.
-const WITHOUT_TRIES: [(Call, u64, Answer); 6] = [
+const WITHOUT_TRIES: [(Call, u64, Answer); 8] = [
+    (Call::Room, 0, Answer::Held),
+    (Call::SetHinted, 0, Answer::Held),
     (Call::Set, 0, Answer::Held),
     (Call::Get, 0, Answer::Held),
     (Call::Get, 1, Answer::Absent),
@@ -181,8 +215,10 @@ const WITHOUT_TRIES: [(Call, u64, Answer); 6] = [
     (Call::Set, 1, Answer::Done),
 ];
 
-/// While another hand has the stripe, each call on the key is held.
-const BESIDE_STRIPE: [(Call, u64, Answer); 5] = [
+/// While another hand has the stripe, each call on the key is held. Room is made.
+const BESIDE_STRIPE: [(Call, u64, Answer); 7] = [
+    (Call::Room, 3, Answer::Done),
+    (Call::SetHinted, 3, Answer::Held),
     (Call::Set, 1, Answer::Held),
     (Call::Set, 3, Answer::Held),
     (Call::Get, 3, Answer::Held),
@@ -191,7 +227,9 @@ const BESIDE_STRIPE: [(Call, u64, Answer); 5] = [
 ];
 
 /// While another hand has the slabs, what moves or takes a chunk is held. A get is done.
-const BESIDE_SLABS: [(Call, u64, Answer); 5] = [
+const BESIDE_SLABS: [(Call, u64, Answer); 7] = [
+    (Call::Room, 3, Answer::Held),
+    (Call::SetHinted, 3, Answer::Held),
     (Call::Set, 3, Answer::Held),
     (Call::Bump, 3, Answer::Held),
     (Call::Touch, 1, Answer::Held),
@@ -200,7 +238,9 @@ const BESIDE_SLABS: [(Call, u64, Answer); 5] = [
 ];
 
 /// Once both are given, one try is enough for each call.
-const BEHIND_BOTH: [(Call, u64, Answer); 8] = [
+const BEHIND_BOTH: [(Call, u64, Answer); 10] = [
+    (Call::Room, 1, Answer::Done),
+    (Call::SetHinted, 1, Answer::Done),
     (Call::Bump, 0, Answer::Held),
     (Call::Touch, 0, Answer::Held),
     (Call::Delete, 0, Answer::Held),
