@@ -12,6 +12,7 @@ mod rooms;
 mod steps;
 mod surveys;
 mod trims;
+mod within;
 
 ghost use Rattle.mc_words.specs.hand.Ready.{IsReadyHandOf};
 
