@@ -28,3 +28,4 @@ pub mod Touched
 pub mod Currents
 pub mod Visits
 pub mod Rooms
+pub mod PutIn

@@ -13,3 +13,4 @@ pub mod Current
 pub mod Within
 pub mod Visiting
 pub mod MakingRoom
+pub mod PutIn
