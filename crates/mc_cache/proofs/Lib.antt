@@ -2,6 +2,7 @@ pub mod Shards
 pub mod Pairs
 pub mod Dealt
 pub mod Acts
+pub mod Rests
 pub mod Lasts
 pub mod Opened
 pub mod TableWords

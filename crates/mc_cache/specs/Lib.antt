@@ -13,3 +13,6 @@ pub mod Windows
 pub mod Tending
 pub mod Stats
 pub mod Cases
+pub mod Resting
+pub mod WorkingWithin
+pub mod OpeningWithin

@@ -5,3 +5,4 @@ pub mod Newest
 pub mod Finding
 pub mod Recording
 pub mod Setting
+pub mod Within

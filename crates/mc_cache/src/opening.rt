@@ -145,7 +145,7 @@ fn open<R: Wait>(
 }
 
 // A decider for each arena, which was fed no window yet.
-fn make_deciders(alloc: Global, arenas: &[Arena]) -> Result<Vec<Decider>, Refused>
+pub(crate) fn make_deciders(alloc: Global, arenas: &[Arena]) -> Result<Vec<Decider>, Refused>
     ensures { IfOk result (λ deciders. ArePaired IsFreshDecider arenas.now deciders.items) }
 {
     let mut deciders = with_capacity(alloc, arenas.len())?;
@@ -181,7 +181,7 @@ fn fill<R: Wait>(
 
 // Adds the workers, who have no hands yet, and room for one of each shard.
 #[tactic(auto, using(crate::proofs::Opened::one_worker_more))]
-fn add_workers(
+pub(crate) fn add_workers(
     alloc: Global,
     count: u64,
     shards: u64,
@@ -248,7 +248,11 @@ fn open_arena<R: Wait>(
 }
 
 // A hand of the last arena for each worker, behind those of the arenas before.
-fn deal(arenas: &[Arena], workers: &mut [Worker], hands: &mut Vec<Hand>) -> Result<(), Refused>
+pub(crate) fn deal(
+    arenas: &[Arena],
+    workers: &mut [Worker],
+    hands: &mut Vec<Hand>,
+) -> Result<(), Refused>
     requires some { 1 ≤ length arenas.now }
     requires enough { length workers.old ≤ length hands.old.items }
     requires own { (last : Arena) →

@@ -7,6 +7,7 @@
 //! - [`get`] puts the key's value behind bytes that are there, and marks its item as got. [`peek`] marks nothing. [`try_get`] doesn't
 //!   wait. [`contains`] only looks.
 //! - [`touch`] makes the key's item the newest of its class, and [`delete`] deletes the key.
+//! - [`set_within`], [`get_within`], [`contains_within`], [`touch_within`] and [`delete_within`] try for each lock n times, and don't wait.
 //! - A [`HintTable`] has notes of where items may be. A call that finds one gets the item with no lock.
 //!
 //! ```rust
@@ -29,11 +30,15 @@ mod label;
 mod lookup;
 mod reading;
 mod setting;
+mod setting_within;
 mod try_gets;
+mod within;
 
 pub use deleting::delete;
 pub use gets::{get, peek, touch};
 pub use hints::HintTable;
 pub use label::Label;
 pub use setting::set;
+pub use setting_within::set_within;
 pub use try_gets::{TryGetError, contains, try_get};
+pub use within::{contains_within, delete_within, get_within, touch_within};

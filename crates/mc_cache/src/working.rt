@@ -47,7 +47,7 @@ pub enum TryGetError {
 }
 
 /// The most bytes of a value: as many as the largest chunk has. (own)
-const MOST_VALUE_BYTES: usize = MOST_PAGE_BYTES as usize;
+pub(crate) const MOST_VALUE_BYTES: usize = MOST_PAGE_BYTES as usize;
 
 impl Worker {
     ghost use Rattle.std.specs.Prelude.{◌≡◌, ◌<◌, ◌↔◌, ◌⊎◌, Err, Ok, OnErr, OnOk, false, length, true};

@@ -13,7 +13,7 @@ use Rattle.mc_words.specs.hand.Observers.{hand_number}
 use Rattle.mc_words.specs.hand.View.{Setup, View}
 use Rattle.mc_words.specs.hand.Views.{chunk_released, slabs_missed, word_seen}
 use Rattle.mc_words.specs.lock.Doing.{HoldsSlabs}
-use Rattle.mc_words.specs.lock.Wait.{MissesSlabs, WaitsForStripe}
+use Rattle.mc_words.specs.lock.Wait.{MissesSlabs, MissesSlabsEachTime, WaitsForStripe}
 use Rattle.mc_stripe.specs.StripeState.{ReadyStripe}
 use Rattle.mc_items.specs.declared.refs.Ref.{Ref}
 use Rattle.mc_items.specs.Calls.{Bumps, CallsOn, Deletes, LooksUp}
@@ -21,6 +21,10 @@ use Rattle.mc_items.specs.ItemRefs.{item_chunk, item_reference}
 use Rattle.mc_cache.specs.shard.Finding.{FollowsInVain}
 use Rattle.mc_items.specs.OnKeys.{ActsOn, FindsNoRoomFor, FindsStripeHeld, Gets, GetsByHint, stripe_of_key}
 use Rattle.mc_items.specs.Reading.{AndReads}
+use Rattle.mc_items.specs.Within.{MissesKeyEachTime}
+use Rattle.mc_items.specs.declared.within.error.WithinError.{WithinError}
+use Rattle.mc_items.specs.declared.within.error.WithinError.TheVariants as within_error
+use Rattle.mc_words.proofs.Locks.Waited.{misses_keep}
 use Rattle.mc_items.proofs.Locks.{waits_keep}
 use Rattle.mc_cache.specs.shard.Reading.{LeavesSlabs, TakesSlabsOnce}
 
@@ -46,6 +50,10 @@ no_room_leaves setup hash before now only = ap count_of only.given ∙ waited (s
 -- one that found the lock with another hand
 pub held_leaves : (setup : Setup) (hash : ℕ) (before now : Hand) → FindsStripeHeld setup hash before now → LeavesSlabs (view before) (view now)
 held_leaves setup hash before now held = ap count_of held.2
+
+-- one for whose lock each try missed
+pub lock_missed_leaves : (setup : Setup) (tries hash : ℕ) (before now : Hand) → MissesKeyEachTime setup tries hash before now → LeavesSlabs (view before) (view now)
+lock_missed_leaves setup tries hash before now missed = misses_keep count_of (stripe_of_key setup hash) (λ word v. refl) missed.words (view before) (view now) missed.misses
 
 -- a word that was read
 pub read_leaves : (chunk : ChunkId) (place : ℕ) (before now : View) → now ≡ word_seen chunk place before → LeavesSlabs before now
@@ -95,9 +103,20 @@ pub delete_leaves : {E : Type 0} (result : Result Bool E) (setup : Setup) (hash 
 delete_leaves (Ok there) setup hash before now done none = deleted_leaves setup hash there before now done
 delete_leaves (Err error) setup hash before now done none = no_room_leaves setup hash before now none
 
+-- a delete that came, was refused, or missed the lock at each try
+pub delete_within_leaves : (result : Result Bool WithinError) (setup : Setup) (tries hash : ℕ) (before now : Hand) → IfOk result (λ there. ActsOn setup hash (λ number stripe. Deletes number stripe hash there) before now) → (result ≡ Err (within_error.NoMemory tt) → FindsNoRoomFor setup hash before now)
+    → (result ≡ Err within_error.Held → MissesKeyEachTime setup tries hash before now) → LeavesSlabs (view before) (view now)
+delete_within_leaves (Ok there) setup tries hash before now done none held = deleted_leaves setup hash there before now done
+delete_within_leaves (Err (within_error.NoMemory refused)) setup tries hash before now done none held = no_room_leaves setup hash before now (none refl)
+delete_within_leaves (Err within_error.Held) setup tries hash before now done none held = lock_missed_leaves setup tries hash before now (held refl)
+
 misses_leave : (words : List ℕ) (before now : View) → MissesSlabs words before now → count_of now ≡ count_of before
 misses_leave [] before now is = ap count_of is
 misses_leave (word ∷ words) before now (busy, happens, rest) = misses_leave words (slabs_missed word before) now rest
+
+-- each try for that lock missed
+pub slabs_missed_leaves : (tries : ℕ) (before now : View) → MissesSlabsEachTime tries before now → LeavesSlabs before now
+slabs_missed_leaves tries before now missed = misses_leave missed.words before now missed.misses
 
 -- an item that was made the newest: the lock was taken once
 pub bumped_once : (number : ℕ) (chunk : ChunkId) (before now : View) → HoldsSlabs (Bumps number chunk) before now → TakesSlabsOnce before now

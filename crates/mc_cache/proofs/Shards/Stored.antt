@@ -6,7 +6,11 @@ use Rattle.mc_words.specs.hand.View.{View}
 use Rattle.mc_items.specs.Evicting.{RecordsEviction}
 use Rattle.mc_items.specs.MakingRoom.{RecordsSomeDeletes}
 use Rattle.mc_items.specs.Setting.{RecordsSet, RefusesSet, SetsItem}
+use Rattle.mc_items.specs.Within.{RefusesWithin}
 use Rattle.mc_items.specs.declared.setting.SetError.{SetError}
+use Rattle.mc_items.specs.declared.within.SetWithinError.{SetWithinError}
+use Rattle.mc_items.specs.declared.within.SetWithinError.TheVariants.{Refused, Held}
+use Rattle.mc_cache.specs.shard.Within.{RefusesBytesWithin}
 use Rattle.mc_cache.specs.shard.Setting.{MakesRoomFor, RecordsEvictionsAlone, RecordsSetBehindRoom, RefusesBytes, SetsBehindRoom}
 
 -- who did nothing recorded no delete
@@ -37,6 +41,14 @@ module _ (number own hash : ℕ) (same : own ≡ number) (first second words : L
     between = between;
     makes = made makes;
     refuses = subst (λ (ws : List ℕ). RefusesSet number hash ws error (view between) (view now)) is_second (subst (λ (n : ℕ). RefusesSet n hash second error (view between) (view now)) same refuses);
+  })
+
+  pub refuses_within_behind : (tries : ℕ) (error : SetWithinError) → MakesRoomFor first before between → RefusesWithin own tries hash second error (view between) (view now) → RefusesBytesWithin number tries hash words error before now
+  refuses_within_behind tries (Refused error) makes refuses = refuses_behind error makes refuses
+  refuses_within_behind tries Held makes misses = inr (record {
+    between = between;
+    makes = made makes;
+    misses = subst (λ (ws : List ℕ). RefusesWithin number tries hash ws Held (view between) (view now)) is_second (subst (λ (n : ℕ). RefusesWithin n tries hash second Held (view between) (view now)) same misses);
   })
 
   pub evicts_behind : RecordsSomeDeletes number (view before) (view between) → RecordsEviction own (view between) (view now) → RecordsEvictionsAlone number before now

@@ -8,6 +8,7 @@ ghost use Rattle.mc_cache.specs.declared.shard.try_gets.TryGetError.TheVariants 
 ghost use Rattle.mc_cache.specs.shard.Hands.{IsIdleHandOf};
 ghost use Rattle.mc_cache.specs.shard.Reading.{LeavesSlabs};
 ghost use Rattle.mc_cache.specs.shard.Recording.{RecordsGetAtMost};
+ghost use Rattle.mc_cache.specs.shard.Within.{MissesLock};
 
 use crate::shard::hinting::get_hinted;
 use crate::shard::hints::HintTable;
@@ -80,6 +81,45 @@ pub(crate) fn try_item(
         return Ok(Some(item));
     }
     match mc_items::try_get(arena, hand, hash) {
+        Ok(Some(item)) => {
+            hints.note(hash, hint(&item));
+            Ok(Some(item))
+        }
+        Ok(None) => Ok(None),
+        Err(mc_items::TryGetError::NoMemory(refused)) => Err(TryGetError::NoMemory(refused)),
+        Err(mc_items::TryGetError::Held) => Err(TryGetError::Held),
+        Err(mc_items::TryGetError::TooManyRefs) => unreachable!(),
+    }
+}
+
+/// The same as `get_item`, but where no hint leads to the item, the hand tries for the lock of the hash's stripe `tries` times at most, and
+/// doesn't wait. (own, for memcached's `item_trylock`)
+pub(crate) fn item_within(
+    arena: &Arena,
+    hints: &HintTable,
+    hand: &mut Hand,
+    hash: u64,
+    tries: u64,
+) -> Result<Option<Ref>, TryGetError>
+    requires { IsIdleHandOf arena.now hand.old }
+    ensures item { IfOk result (λ found. IfSome found (λ item.
+        FindsItem arena.now hash item hand.old hand.new)) }
+    ensures none { result ≡ Ok None → FindsWords (setup_of arena.now) hash hand.old None
+        × IsIdleHandOf arena.now hand.new }
+    ensures refused { OnErr result (IsIdleHandOf arena.now hand.new) }
+    ensures held { result ≡ Err try_error.Held →
+        MissesLock (setup_of arena.now) tries hash hand.old hand.new }
+    ensures full { result ≡ Err (try_error.NoMemory tt) →
+        FindsFull (setup_of arena.now) hash hand.old hand.new }
+    ensures number { hand_number hand.new ≡ hand_number hand.old }
+    ensures calls { RecordsGetAtMost (setup_of arena.now) hash hand.old hand.new }
+    ensures stores_nothing { StoresNothing (view hand.old) (view hand.new) }
+    ensures slabs { LeavesSlabs (view hand.old) (view hand.new) }
+{
+    if let Some(item) = get_hinted(arena, hints, hand, hash) {
+        return Ok(Some(item));
+    }
+    match mc_items::get_within(arena, hand, hash, tries) {
         Ok(Some(item)) => {
             hints.note(hash, hint(&item));
             Ok(Some(item))

@@ -22,12 +22,20 @@ use std::sync::Wait;
 /// How many marked items a set lets stay. Behind these it evicts marked ones, too, so that it finds room where all are marked. (own)
 const MOST_CHANCES: u64 = 12;
 
-// The marks as one set takes them off.
+/// The marks as one set takes them off.
 #[derive(Drop)]
-struct Chances<'a> {
+pub(crate) struct Chances<'a> {
     hints: &'a HintTable,
     /// How many items it let stay.
     count: Cell<u64>,
+}
+
+impl<'a> Chances<'a> {
+    /// Those of a set that let no item stay yet.
+    pub(crate) fn new(hints: &'a HintTable) -> Chances<'a> {
+        let count = Cell::new(0);
+        Chances { hints, count }
+    }
 }
 
 impl Marks for Chances<'_> {

@@ -157,7 +157,7 @@ pub(crate) fn give_value(
 }
 
 // Whether an item that the hand holds, and nothing else, is of the key. The reference is given up.
-fn tell_key(arena: &Arena, hand: &mut Hand, item: Ref, key: &[u8]) -> bool
+pub(crate) fn tell_key(arena: &Arena, hand: &mut Hand, item: Ref, key: &[u8]) -> bool
     requires item { RefersTo arena.now item hand.old }
     requires alone { (view hand.old).row.holdings ≡ holding_by (view hand.old) item ∷ [] }
     ensures idle { IsIdleHandOf arena.now hand.new }

@@ -1,0 +1,97 @@
+//! The set of an item of bytes that tries for each lock n times, and doesn't wait. (own)
+ghost use Rattle.std.specs.Prelude.{◌≡◌, Err, IfErr, IfOk, OnErr, OnOk};
+ghost use Rattle.mc_packing.specs.Packing.{packed_item};
+ghost use Rattle.mc_words.specs.hand.Arenas.{view};
+ghost use Rattle.mc_words.specs.hand.Observers.{hand_number};
+ghost use Rattle.mc_words.specs.item.Items.{item_with};
+ghost use Rattle.mc_words.specs.lock.Wait.{MissesSlabsEachTime};
+ghost use Rattle.mc_items.specs.Keeping.{StoresNothing, StoresWithStamp};
+ghost use Rattle.mc_items.specs.MakingRoom.{RecordsSomeDeletes};
+ghost use Rattle.mc_items.specs.declared.within.error.WithinError.TheVariants as within_error;
+ghost use Rattle.mc_cache.specs.shard.Hands.{IsIdleHandOf};
+ghost use Rattle.mc_cache.specs.shard.Setting.{LacksRoomFor, MakesRoomFor, RecordsEvictionsAlone, RecordsSetBehindRoom, SetsBehindRoom};
+ghost use Rattle.mc_cache.specs.shard.Within.{RefusesBytesWithin};
+
+use crate::shard::hints::HintTable;
+use crate::shard::label::Label;
+use crate::shard::setting::Chances;
+use mc_items::{SetError, SetWithinError, WithinError, make_room_within, set_hinted_within};
+use mc_packing::pack;
+use mc_stripe::Stamp;
+use mc_words::{Arena, Hand};
+
+/// The same as `set`, but the hand tries for each lock `tries` times at most: for that of the slabs at the room and at the item, and for that of
+/// the hash's stripe. It doesn't wait. (own)
+pub fn set_within(
+    arena: &Arena,
+    hints: &HintTable,
+    hand: &mut Hand,
+    at: Label,
+    value: &[u8],
+    words: &mut Vec<u64>,
+    tries: u64,
+) -> Result<Stamp, SetWithinError>
+    requires { IsIdleHandOf arena.now hand.old }
+    ensures sets { IfOk result (λ stamp. SetsBehindRoom (hand_number hand.old) at.entry.hash stamp
+        (packed_item at.entry.key.now value.now) hand.old hand.new) }
+    ensures stores_words { IfOk result (λ stamp.
+        StoresWithStamp (item_with at.entry.hash stamp (packed_item at.entry.key.now value.now))
+        stamp (view hand.old) (view hand.new)) }
+    ensures calls { IfOk result (λ stamp. RecordsSetBehindRoom
+        (hand_number hand.old) at.entry.hash stamp hand.old hand.new) }
+    ensures refused { IfErr result (λ error. RefusesBytesWithin (hand_number hand.old) tries
+        at.entry.hash (packed_item at.entry.key.now value.now) error hand.old hand.new) }
+    ensures evicts { OnErr result (RecordsEvictionsAlone
+        (hand_number hand.old) hand.old hand.new) }
+    ensures stores_nothing { OnErr result (StoresNothing (view hand.old) (view hand.new)) }
+    ensures number { hand_number hand.new ≡ hand_number hand.old }
+    ensures idle { IsIdleHandOf arena.now hand.new }
+{
+    if let Err(refused) = pack(words, at.key, value) {
+        return Err(SetWithinError::Refused(SetError::NoMemory(refused)));
+    }
+    match room_within(arena, hints, hand, words, tries) {
+        Ok(()) => {}
+        Err(WithinError::NoMemory(refused)) => {
+            return Err(SetWithinError::Refused(SetError::NoMemory(refused)));
+        }
+        Err(WithinError::Held) => return Err(SetWithinError::Held),
+    }
+    match set_hinted_within(arena, hand, at.hash, words, tries) {
+        Ok(item) => {
+            hints.note(at.hash, item.hint);
+            Ok(item.stamp)
+        }
+        Err(error) => Err(error),
+    }
+}
+
+// Makes room in the class of these words, if it has none and one of `tries` tries gets the slabs lock.
+fn room_within(
+    arena: &Arena,
+    hints: &HintTable,
+    hand: &mut Hand,
+    words: &[u64],
+    tries: u64,
+) -> Result<(), WithinError>
+    requires { IsIdleHandOf arena.now hand.old }
+    ensures makes { OnOk result (MakesRoomFor words.now hand.old hand.new) }
+    ensures refused { result ≡ Err (within_error.NoMemory tt) →
+        LacksRoomFor words.now hand.old hand.new }
+    ensures held { result ≡ Err within_error.Held →
+        MissesSlabsEachTime tries (view hand.old) (view hand.new) }
+    ensures calls { RecordsSomeDeletes (hand_number hand.old) (view hand.old) (view hand.new) }
+    ensures stores_nothing { StoresNothing (view hand.old) (view hand.new) }
+    ensures number { hand_number hand.new ≡ hand_number hand.old }
+    ensures idle { IsIdleHandOf arena.now hand.new }
+{
+    let Some(class) = arena.classes().class_for(24 + 8 * words.len() as u64) else {
+        return Ok(());
+    };
+    let chances = Chances::new(hints);
+    match make_room_within(arena, hand, class, &chances, tries) {
+        Ok(_room) => Ok(()),
+        Err(WithinError::NoMemory(refused)) => Err(WithinError::NoMemory(refused)),
+        Err(WithinError::Held) => Err(WithinError::Held),
+    }
+}
