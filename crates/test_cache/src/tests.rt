@@ -10,3 +10,4 @@ mod tended;
 mod threads;
 mod touching;
 mod values;
+mod within;
