@@ -1,0 +1,75 @@
+//! The calls of a worker: each result has its code.
+
+use crate::client::WorkerClient;
+use crate::codes::{
+    BAD_KEY, HELD, MISSING, NO_MEMORY, NO_ROOM, OK, TOO_LARGE, TOO_SMALL, WORN_OUT,
+};
+use mc_cache::{SetWithinError, TryGetError, WithinError};
+use mc_items::SetError;
+
+/// Copies the key's value to `out`, and writes its length. Where there is too little room, it writes the length alone.
+pub(crate) fn get(
+    client: &mut WorkerClient,
+    key: &[u8],
+    tries: u64,
+    out: &mut [u8],
+    len: &mut u64,
+) -> u32 {
+    client.value.clear();
+    match client
+        .worker
+        .get_within(&client.cache, key, tries, &mut client.value)
+    {
+        Ok(true) => copy(client.value.as_slice(), out, len),
+        Ok(false) => MISSING,
+        Err(TryGetError::KeyLength) => BAD_KEY,
+        Err(TryGetError::NoMemory(_)) => NO_MEMORY,
+        Err(TryGetError::Held) => HELD,
+    }
+}
+
+// Copies the value, if there is room for it, and writes its length.
+fn copy(value: &[u8], out: &mut [u8], len: &mut u64) -> u32 {
+    *len = value.len() as u64;
+    if value.len() > out.len() {
+        return TOO_SMALL;
+    }
+    out[..value.len()].copy_from_slice(value);
+    OK
+}
+
+/// Stores the value under the key.
+pub(crate) fn set(client: &mut WorkerClient, key: &[u8], value: &[u8], tries: u64) -> u32 {
+    match client.worker.set_within(&client.cache, key, value, tries) {
+        Ok(()) => OK,
+        Err(SetWithinError::KeyLength) => BAD_KEY,
+        Err(SetWithinError::ValueLength) | Err(SetWithinError::Item(SetError::TooLarge)) => {
+            TOO_LARGE
+        }
+        Err(SetWithinError::Item(SetError::NoRoom)) => NO_ROOM,
+        Err(SetWithinError::Item(SetError::WornOut)) => WORN_OUT,
+        Err(SetWithinError::Item(SetError::NoMemory(_))) => NO_MEMORY,
+        Err(SetWithinError::Held) => HELD,
+    }
+}
+
+/// Deletes the key.
+pub(crate) fn delete(client: &mut WorkerClient, key: &[u8], tries: u64) -> u32 {
+    code_of(client.worker.delete_within(&client.cache, key, tries))
+}
+
+/// Makes the key's item the newest of its class.
+pub(crate) fn touch(client: &mut WorkerClient, key: &[u8], tries: u64) -> u32 {
+    code_of(client.worker.touch_within(&client.cache, key, tries))
+}
+
+// The code of a delete's or a touch's result.
+fn code_of(done: Result<bool, WithinError>) -> u32 {
+    match done {
+        Ok(true) => OK,
+        Ok(false) => MISSING,
+        Err(WithinError::KeyLength) => BAD_KEY,
+        Err(WithinError::NoMemory(_)) => NO_MEMORY,
+        Err(WithinError::Held) => HELD,
+    }
+}

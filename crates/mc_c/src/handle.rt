@@ -1,0 +1,69 @@
+//! The handles of C: of a worker and of the tender. A handle is open or closed, and zeros are a closed one.
+ghost use Rattle.std.specs.Prelude.{◌≡◌, true};
+
+use crate::client::{Client, TenderClient, WorkerClient};
+use crate::owner::Owner;
+use std::alloc::Global;
+use std::mem;
+
+/// What C keeps of a worker or of the tender, 16 bytes that a program passes on and doesn't change.
+#[repr(C)]
+#[derive(Drop)]
+pub struct Handle {
+    /// 1 where the handle is open.
+    state: u64,
+    owner: Owner,
+    ghost full: { state ≡ 1 → owner.full ≡ true },
+}
+
+impl Handle {
+    /// An open handle of a client.
+    pub(crate) fn of(client: Box<Client>) -> Handle {
+        Handle {
+            state: 1,
+            owner: Owner::of(client),
+        }
+    }
+
+    // Whether the handle owns a client.
+    fn is_open(&self) -> bool
+        ensures full { result ≡ true → self.now.owner.full ≡ true }
+    {
+        self.state == 1
+    }
+
+    fn client(&mut self) -> Option<&mut Client> {
+        if !self.is_open() {
+            return None;
+        }
+        Some(self.owner.as_mut())
+    }
+
+    /// The worker of an open handle, if it is one of a worker.
+    pub(crate) fn worker(&mut self) -> Option<&mut WorkerClient> {
+        match self.client() {
+            Some(Client::Worker(worker)) => Some(worker),
+            Some(Client::Tender(_)) | None => None,
+        }
+    }
+
+    /// The tender of an open handle, if it is one of a tender.
+    pub(crate) fn tender(&mut self) -> Option<&mut TenderClient> {
+        match self.client() {
+            Some(Client::Tender(tender)) => Some(tender),
+            Some(Client::Worker(_)) | None => None,
+        }
+    }
+
+    /// Closes the handle, and returns whether it was open. What it led to is freed.
+    pub(crate) fn close(&mut self, alloc: Global) -> bool {
+        if !self.is_open() {
+            return false;
+        }
+        self.state = 0;
+        let empty = Owner::empty(alloc, &self.owner);
+        let owner = mem::replace(&mut self.owner, empty);
+        drop(owner.into_box());
+        true
+    }
+}

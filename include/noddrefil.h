@@ -1,0 +1,157 @@
+/* noddrefil.h - a cache of bytes that threads share, called from C and C++.
+ *
+ * Link libmc_c.a and then liblibc_c.a, which pass requests for memory on to malloc and free:
+ *
+ *     cc -O2 -Iinclude first.c libmc_c.a liblibc_c.a -lpthread -o first
+ *
+ * A cache has a fixed number of workers, and one tender. mc_open makes all of them. It fills the handle of the first worker and that of the
+ * tender; mc_join fills the handles of the other workers. A thread that stores or reads has a worker of its own. One thread has the tender, and
+ * calls mc_tend about once a second: pages of memory move to the sizes of items that are asked for. A cache works without it, but its pages stay
+ * where they are.
+ *
+ * Who owns what. A handle is a struct of the caller's, and what it leads to is the library's. The caller closes each handle that was filled, in
+ * any order and by any thread; the last one frees the cache. The library keeps no pointer to a key, to a value or to a buffer once a call has
+ * returned.
+ *
+ * Threads. A handle is given to one call at a time. Another thread may have it later, if the program orders the two calls by a lock, by the start
+ * or the end of a thread. Calls with different handles need no order.
+ *
+ * Waiting. No call waits or sleeps. A call tries for a lock n times, and spins between two tries; `tries` is that number. Where other threads
+ * had the lock at each try, the call returns MC_HELD, and the caller tries again, best behind sched_yield(). The helpers at the end of this file
+ * do so.
+ *
+ * Zeros. A handle that is all zeros is closed. Each call answers a closed handle, or one of the other kind, with MC_CLOSED. A handle that
+ * this library did not fill must be zeros: nothing can test another one.
+ */
+#ifndef NODDREFIL_H
+#define NODDREFIL_H
+
+#include <stddef.h>
+#include <stdint.h>
+
+#ifdef __cplusplus
+extern "C" {
+#endif
+
+/* What a call returns. */
+enum mc_code {
+    MC_OK = 0,
+    MC_MISSING = 1,        /* the key has no value */
+    MC_HELD = 2,           /* other threads had a lock at each try: yield, and call again */
+    MC_TOO_LARGE = 3,      /* no chunk has room for the key and the value */
+    MC_NO_ROOM = 4,        /* nothing could be evicted */
+    MC_WORN_OUT = 5,       /* a counter is at its end, after 2^48 stores of one worker: join another worker */
+    MC_NO_MEMORY = 6,      /* malloc returned none; the key has what it had */
+    MC_TOO_SMALL = 7,      /* the buffer has too little room: *len is the value's length */
+    MC_NO_WORKERS = 8,     /* all workers were given out */
+    MC_CLOSED = 9,         /* the handle is closed, or of the other kind */
+    MC_BAD_KEY = 10,       /* a key has from 1 to 250 bytes */
+
+    /* why a configuration is refused: the first test that it fails */
+    MC_BAD_SHARDS = 16,    /* from 1 to 4096 */
+    MC_BAD_WORKERS = 17,   /* from 1 to 63 */
+    MC_BAD_PAGE = 18,      /* a multiple of 8 from 64 to 16384 */
+    MC_BAD_FIRST = 19,     /* from 24 to the page's size */
+    MC_BAD_FACTOR = 20,    /* num / den is above 1, and num is at most 65535 */
+    MC_BAD_MAX = 21,       /* a multiple of 8 from the first size to the page's */
+    MC_BAD_LIMIT = 22,     /* 1 to 64 pages */
+    MC_BAD_STRIPES = 23,   /* from 1 to 64 */
+    MC_BAD_CHUNKS = 24,    /* a page of the first class has at most 256 chunks */
+    MC_BAD_BULK = 25,      /* from 1 to 256 */
+    MC_TOO_FEW_BYTES = 26  /* a shard with one page takes more */
+};
+
+/* A handle: of a worker, or of the tender. A program passes it on, and does not change it. */
+typedef struct mc_handle {
+    uint64_t state;
+    void *at;
+} mc_handle;
+typedef mc_handle mc_worker;
+typedef mc_handle mc_tender;
+
+/* What a cache is made with. Sizes are in bytes. */
+typedef struct mc_config {
+    uint64_t page;         /* the size of a page */
+    uint64_t limit;        /* the bytes of a shard's pages */
+    uint64_t first;        /* the size of the first class's chunks */
+    uint64_t num, den;     /* chunks grow by num / den from class to class */
+    uint64_t max;          /* the size of the last class's chunks */
+    uint64_t stripes;      /* the number of item locks of a shard */
+    uint64_t bulk;         /* how many chunks a turn of the mover looks at */
+    uint64_t shards;       /* the number of shards; a key's hash chooses its shard */
+    uint64_t hash_first;   /* two numbers that keys are hashed with: random ones, */
+    uint64_t hash_second;  /* where others choose the keys */
+} mc_config;
+
+/* Writes a configuration of a cache that takes at most this many bytes, all that grows with its items counted in, for items of which most have
+ * `usual_item` bytes of key and value. It leaves the two numbers of the hash alone: set them. MC_BAD_WORKERS, MC_TOO_FEW_BYTES. */
+uint32_t mc_config_for_bytes(mc_config *config, uint64_t bytes, uint64_t usual_item, uint64_t workers);
+
+/* Writes how many bytes mc_open asks malloc for and keeps. The codes of a refused configuration. */
+uint32_t mc_bytes(const mc_config *config, uint64_t workers, uint64_t *bytes);
+
+/* Makes a cache for this many workers, and fills both handles. What they held is overwritten, so give closed ones. The codes of a refused
+ * configuration, MC_NO_MEMORY: then nothing is left, and both handles are as before or closed. */
+uint32_t mc_open(const mc_config *config, uint64_t workers, mc_worker *first, mc_tender *tender);
+
+/* Fills the handle of another worker. `first` is the one that mc_open filled. MC_NO_WORKERS, MC_NO_MEMORY, MC_CLOSED. */
+uint32_t mc_join(mc_worker *first, mc_worker *out);
+
+/* Copies the key's value to `out`, which has room for `room` bytes, and writes its length to *len. MC_MISSING; MC_TOO_SMALL, where the
+ * length alone is written; MC_HELD, MC_NO_MEMORY, MC_BAD_KEY, MC_CLOSED. */
+uint32_t mc_get(mc_worker *worker, const uint8_t *key, size_t key_len, uint64_t tries, uint8_t *out, size_t room, uint64_t *len);
+
+/* Stores the value under the key, in place of what the key had. Items that nobody used lately go, where there is no room. MC_HELD; MC_TOO_LARGE,
+ * MC_NO_ROOM, MC_WORN_OUT, MC_NO_MEMORY: the key has what it had, unless its item was evicted; MC_BAD_KEY, MC_CLOSED. */
+uint32_t mc_set(mc_worker *worker, const uint8_t *key, size_t key_len, const uint8_t *value, size_t value_len, uint64_t tries);
+
+/* Deletes the key. MC_MISSING where it had no value; MC_HELD, MC_NO_MEMORY, MC_BAD_KEY, MC_CLOSED. */
+uint32_t mc_delete(mc_worker *worker, const uint8_t *key, size_t key_len, uint64_t tries);
+
+/* Makes the key's item the last one of its size to be evicted. MC_MISSING; MC_HELD, MC_NO_MEMORY, MC_BAD_KEY, MC_CLOSED. */
+uint32_t mc_touch(mc_worker *worker, const uint8_t *key, size_t key_len, uint64_t tries);
+
+/* Closes a handle. What only it led to is freed. MC_CLOSED where it was closed. */
+uint32_t mc_close(mc_handle *handle);
+
+/* Helpers that call again where other threads had the lock, behind a yield. */
+#include <sched.h>
+enum { MC_TRIES = 64 };
+
+static inline uint32_t mc_get_again(mc_worker *worker, const uint8_t *key, size_t key_len, uint8_t *out, size_t room, uint64_t *len)
+{
+    uint32_t code;
+    while ((code = mc_get(worker, key, key_len, MC_TRIES, out, room, len)) == MC_HELD)
+        sched_yield();
+    return code;
+}
+
+static inline uint32_t mc_set_again(mc_worker *worker, const uint8_t *key, size_t key_len, const uint8_t *value, size_t value_len)
+{
+    uint32_t code;
+    while ((code = mc_set(worker, key, key_len, value, value_len, MC_TRIES)) == MC_HELD)
+        sched_yield();
+    return code;
+}
+
+static inline uint32_t mc_delete_again(mc_worker *worker, const uint8_t *key, size_t key_len)
+{
+    uint32_t code;
+    while ((code = mc_delete(worker, key, key_len, MC_TRIES)) == MC_HELD)
+        sched_yield();
+    return code;
+}
+
+static inline uint32_t mc_touch_again(mc_worker *worker, const uint8_t *key, size_t key_len)
+{
+    uint32_t code;
+    while ((code = mc_touch(worker, key, key_len, MC_TRIES)) == MC_HELD)
+        sched_yield();
+    return code;
+}
+
+#ifdef __cplusplus
+}
+#endif
+
+#endif
