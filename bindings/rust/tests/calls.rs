@@ -1,0 +1,79 @@
+//! The calls of a worker, by one thread and by several.
+use noddrefil::{Cache, Config, Error};
+
+fn cache(workers: u64) -> Cache {
+    Cache::open(&Config::for_bytes(1 << 20, 100, workers).unwrap().with_hash_key(3, 4)).unwrap()
+}
+
+#[test]
+fn stores_reads_and_deletes() {
+    let mut worker = cache(1).worker().unwrap();
+    let mut value = b"old ".to_vec();
+    assert!(!worker.get(b"a", &mut value).unwrap());
+    worker.set(b"a", b"new").unwrap();
+    assert!(worker.get(b"a", &mut value).unwrap());
+    assert_eq!(value, b"old new");
+    assert!(worker.touch(b"a").unwrap());
+    assert!(worker.delete(b"a").unwrap());
+    assert!(!worker.delete(b"a").unwrap());
+    assert!(!worker.touch(b"a").unwrap());
+}
+
+#[test]
+fn reads_a_value_that_is_longer_than_the_first_room() {
+    let mut worker = cache(1).worker().unwrap();
+    let long = vec![7; 10_000];
+    let mut value = Vec::new();
+    worker.set(b"long", &long).unwrap();
+    assert!(worker.get(b"long", &mut value).unwrap());
+    assert_eq!(value, long);
+}
+
+#[test]
+fn refuses_keys_values_and_workers() {
+    let cache = cache(1);
+    let mut worker = cache.worker().unwrap();
+    let mut value = b"kept".to_vec();
+    assert_eq!(worker.set(b"", b"1"), Err(Error::BadKey));
+    assert_eq!(worker.get(&[1; 251], &mut value), Err(Error::BadKey));
+    assert_eq!(value, b"kept");
+    assert_eq!(worker.set(b"a", &[0; 20_000]), Err(Error::TooLarge));
+    assert!(matches!(cache.worker(), Err(Error::NoWorkers)));
+    assert_eq!(Config::for_bytes(1 << 20, 100, 63).unwrap_err(), Error::Config(17));
+    assert_eq!(Config::for_bytes(1, 100, 1).unwrap_err(), Error::Config(26));
+}
+
+#[test]
+fn a_worker_outlives_its_cache() {
+    let cache = cache(2);
+    let (mut one, mut other) = (cache.worker().unwrap(), cache.worker().unwrap());
+    drop(cache);
+    one.set(b"a", b"1").unwrap();
+    let mut value = Vec::new();
+    assert!(other.get(b"a", &mut value).unwrap());
+    assert_eq!(value, b"1");
+}
+
+#[test]
+fn threads_read_what_was_stored_under_the_key() {
+    let cache = cache(4);
+    std::thread::scope(|scope| {
+        for thread in 0..4u64 {
+            let mut worker = cache.worker().unwrap();
+            scope.spawn(move || {
+                let mut value = Vec::new();
+                for call in 0..20_000u64 {
+                    let key = ((call * 7 + thread) % 100).to_le_bytes();
+                    if call % 3 == 0 {
+                        worker.set(&key, &key.repeat(1 + call as usize % 20)).unwrap();
+                        continue;
+                    }
+                    value.clear();
+                    if worker.get(&key, &mut value).unwrap() {
+                        assert!(value.chunks(8).all(|part| part == key));
+                    }
+                }
+            });
+        }
+    });
+}
