@@ -1,0 +1,73 @@
+# The static library, called from C and from Rust. A part of ci/test, which has $gate, $top, $room, ok and bad.
+
+# build_library: $room/lib with the two archives that a program links.
+build_library() {
+    kit=$(dirname "$(rt doc)")
+    mkdir -p "$room/lib"
+    (cd "$gate/crates/mc_c" && rt lib) >"$room/library.log" 2>&1 || return 1
+    cp "$gate/crates/mc_c/out/libmc_c.a" "$kit/c/liblibc_c.a" "$room/lib/"
+}
+
+# compile_c NAME OPTIONS..: a program of C over the library, as $room/NAME
+compile_c() {
+    name=$1
+    shift
+    cc -std=c99 -O2 -g -Wall -Wextra -Werror -pedantic -Iinclude "$@" "$room/lib/libmc_c.a" "$room/lib/liblibc_c.a" -lpthread -o "$room/$name"
+}
+
+# lacks TOOL NAME: whether the tool isn't there, so that the check of that name is left out
+lacks() {
+    if command -v "$1" >/dev/null; then
+        return 1
+    fi
+    echo "left out: library: $2: $1 isn't installed"
+}
+
+# compile_header COMPILER FILE STANDARD
+compile_header() {
+    echo '#include "noddrefil.h"' >"$room/$2"
+    "$1" -std="$3" -Wall -Wextra -Werror -pedantic -Iinclude -fsyntax-only "$room/$2"
+}
+
+# The header by itself, as C and as C++.
+check_header() {
+    if compile_header cc header.c c99; then
+        ok "library: the header as C"
+    else
+        bad "library: the header as C" "the compiler's lines say what it refused"
+    fi
+    lacks c++ "the header as C++" && return
+    if compile_header c++ header.cc c++11; then
+        ok "library: the header as C++"
+    else
+        bad "library: the header as C++" "the compiler's lines say what it refused"
+    fi
+}
+
+# check_run NAME COMMAND..: a program that ends with status 0, and what it prints
+check_run() {
+    check=$1
+    shift
+    if "$@" >"$room/out" 2>"$room/err"; then
+        ok "library: $check"
+    else
+        bad "library: $check" "it printed $(tail -n 3 "$room/out" "$room/err")"
+    fi
+}
+
+check_library() {
+    if ! build_library; then
+        bad "library" "$(tail -n 3 "$room/library.log")"
+        return
+    fi
+    check_header
+    if compile_c first examples/first.c && compile_c calls ci/c/threads.c && compile_c calls-asan -fsanitize=address ci/c/threads.c; then
+        check_run "the first program" "$room/first"
+        check_run "four threads" "$room/calls" 4 250000
+        check_run "four threads, AddressSanitizer" "$room/calls-asan" 4 250000
+        lacks valgrind "two threads, memcheck" || check_run "two threads, memcheck" valgrind -q --fair-sched=yes --leak-check=full --error-exitcode=9 "$room/calls" 2 20000
+    else
+        bad "library: the programs of C" "the compiler's lines say why"
+    fi
+    lacks cargo "the bindings" || check_run "the bindings" env NODDREFIL_LIB_DIR="$room/lib" CARGO_TARGET_DIR="$room/bindings" cargo test --offline --quiet --manifest-path bindings/rust/Cargo.toml
+}
