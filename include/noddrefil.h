@@ -4,10 +4,11 @@
  *
  *     cc -O2 -Iinclude first.c libmc_c.a liblibc_c.a -lpthread -o first
  *
+ * `make install` installs both, this header, and what pkg-config prints: cc first.c $(pkg-config --cflags --libs noddrefil) -o first
+ *
  * A cache has a fixed number of workers, and one tender. mc_open makes all of them. It fills the handle of the first worker and that of the
- * tender; mc_join fills the handles of the other workers. A thread that stores or reads has a worker of its own. One thread has the tender, and
- * calls mc_tend about once a second: pages of memory move to the sizes of items that are asked for. A cache works without it, but its pages stay
- * where they are.
+ * tender; mc_join fills the handles of the other workers. A thread that stores or reads has a worker of its own. The tender is what will move
+ * pages of memory to the sizes of items that are asked for. No call of this header does so yet: a page stays with the size that took it first.
  *
  * Who owns what. A handle is a struct of the caller's, and what it leads to is the library's. The caller closes each handle that was filled, in
  * any order and by any thread; the last one frees the cache. The library keeps no pointer to a key, to a value or to a buffer once a call has
