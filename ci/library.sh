@@ -55,19 +55,52 @@ check_run() {
     fi
 }
 
+# The programs of C: with threads, and with each request for memory refused in turn.
+check_programs() {
+    wrapped=-Wl,--wrap=malloc,--wrap=realloc,--wrap=free
+    if compile_c first examples/first.c && compile_c calls ci/c/threads.c &&
+        compile_c calls-asan -fsanitize=address ci/c/threads.c && compile_c refusals "$wrapped" ci/c/refusals.c; then
+        check_run "the first program" "$room/first"
+        check_run "four threads" "$room/calls" 4 250000
+        check_run "four threads, AddressSanitizer" "$room/calls-asan" 4 250000
+        lacks valgrind "two threads, memcheck" || check_run "two threads, memcheck" valgrind -q --fair-sched=yes --leak-check=full --error-exitcode=9 "$room/calls" 2 20000
+        check_run "refused memory" "$room/refusals"
+    else
+        bad "library: the programs of C" "the compiler's lines say why"
+    fi
+}
+
+# The bindings: their tests, and their first program.
+check_bindings() {
+    lacks cargo "the bindings" && return
+    for words in test "run --example first"; do
+        # the words of a command
+        # shellcheck disable=SC2086
+        check_run "cargo $words" env NODDREFIL_LIB_DIR="$room/lib" CARGO_TARGET_DIR="$room/bindings" cargo $words --offline --quiet --manifest-path bindings/rust/Cargo.toml
+    done
+}
+
+# first_installed FOLDER: the first program, built as pkg-config says over what was installed there, and run
+first_installed() {
+    flags=$(PKG_CONFIG_PATH=$1/lib/pkgconfig pkg-config --cflags --libs noddrefil) || return 1
+    # the words of a command
+    # shellcheck disable=SC2086
+    cc examples/first.c $flags -o "$room/first-installed" && "$room/first-installed"
+}
+
+check_install() {
+    { lacks make "make install" || lacks pkg-config "make install"; } && return
+    check_run "make install" make -C "$gate" install PREFIX="$room/installed"
+    check_run "the first program, as installed" first_installed "$room/installed"
+}
+
 check_library() {
     if ! build_library; then
         bad "library" "$(tail -n 3 "$room/library.log")"
         return
     fi
     check_header
-    if compile_c first examples/first.c && compile_c calls ci/c/threads.c && compile_c calls-asan -fsanitize=address ci/c/threads.c; then
-        check_run "the first program" "$room/first"
-        check_run "four threads" "$room/calls" 4 250000
-        check_run "four threads, AddressSanitizer" "$room/calls-asan" 4 250000
-        lacks valgrind "two threads, memcheck" || check_run "two threads, memcheck" valgrind -q --fair-sched=yes --leak-check=full --error-exitcode=9 "$room/calls" 2 20000
-    else
-        bad "library: the programs of C" "the compiler's lines say why"
-    fi
-    lacks cargo "the bindings" || check_run "the bindings" env NODDREFIL_LIB_DIR="$room/lib" CARGO_TARGET_DIR="$room/bindings" cargo test --offline --quiet --manifest-path bindings/rust/Cargo.toml
+    check_programs
+    check_bindings
+    check_install
 }
