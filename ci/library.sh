@@ -88,6 +88,21 @@ first_installed() {
     cc examples/first.c $flags -o "$room/first-installed" && "$room/first-installed"
 }
 
+# The server over the bindings: its tests, and clients that talk to it. Debian's python3 has the packages of these.
+check_server() {
+    lacks cargo "the server" && return
+    set -- env NODDREFIL_LIB_DIR="$room/lib" CARGO_TARGET_DIR="$room/server" cargo
+    check_run "the server's tests" "$@" test --release --offline --quiet --manifest-path examples/server/Cargo.toml
+    check_run "the server" "$@" build --release --offline --quiet --manifest-path examples/server/Cargo.toml
+    python=/usr/bin/python3
+    [ -x "$python" ] || python=python3
+    if "$python" ci/server/check "$room/server/release/noddrefil-server"; then
+        ok "library: clients of the server"
+    else
+        bad "library: clients of the server" "their own lines say what"
+    fi
+}
+
 check_install() {
     { lacks make "make install" || lacks pkg-config "make install"; } && return
     check_run "make install" make -C "$gate" install PREFIX="$room/installed"
@@ -102,5 +117,6 @@ check_library() {
     check_header
     check_programs
     check_bindings
+    check_server
     check_install
 }
