@@ -6,7 +6,7 @@ use crate::shared::{now, Shared, LONGEST};
 use crate::store::{Change, Counted, Store};
 use noddrefil::Error;
 use std::io::{self, Read, Write};
-use std::process;
+use std::{mem, process};
 
 /// How many bytes a read asks for.
 const READ: usize = 65_536;
@@ -17,25 +17,25 @@ const LONGEST_LINE: usize = 65_536;
 /// Serves the connection until its client closes it or quits.
 pub fn serve(mut stream: impl Read + Write, shared: &Shared) -> io::Result<()> {
     let mut session = Session::default();
-    let mut part = vec![0; READ];
-    loop {
-        let count = stream.read(&mut part)?;
+    while !session.quits {
+        session.input.resize(session.filled.max(READ) + READ, 0);
+        let count = stream.read(&mut session.input[session.filled..])?;
         if count == 0 {
             return Ok(());
         }
-        session.input.extend_from_slice(&part[..count]);
+        session.filled += count;
         session.answer(shared);
         stream.write_all(&session.output)?;
         session.output.clear();
-        if session.quits {
-            return Ok(());
-        }
     }
+    Ok(())
 }
 
 #[derive(Default)]
 struct Session {
     input: Vec<u8>,
+    // How many bytes of the input came, and weren't answered.
+    filled: usize,
     output: Vec<u8>,
     item: Vec<u8>,
     room: Vec<u8>,
@@ -50,16 +50,17 @@ impl Session {
     fn answer(&mut self, shared: &Shared) {
         let now = now();
         shared.settle_flush(now);
-        let (input, mut item, mut room) = (std::mem::take(&mut self.input), std::mem::take(&mut self.item), std::mem::take(&mut self.room));
+        let (input, mut item, mut room) = (mem::take(&mut self.input), mem::take(&mut self.item), mem::take(&mut self.room));
         let mut begin = 0;
         shared.with_worker(|worker| {
             let mut store = Store { shared, worker, now, item: &mut item, room: &mut room };
-            while let Some(length) = self.step(&mut store, &input[begin..]) {
+            while let Some(length) = self.step(&mut store, &input[begin..self.filled]) {
                 begin += length;
             }
         });
         (self.input, self.item, self.room) = (input, item, room);
-        self.input.drain(..begin);
+        self.input.copy_within(begin..self.filled, 0);
+        self.filled -= begin;
         shared.counts.drain(&mut self.counts);
     }
 
