@@ -59,15 +59,27 @@ const LONGEST_KEY: usize = 250;
 /// The command of a line, which has no line end. An `Err` is the reply.
 pub fn parse(line: &[u8]) -> Line<'_> {
     let mut words: Vec<&[u8]> = line.split(|byte| *byte == b' ').filter(|word| !word.is_empty()).collect();
-    let reads = matches!(words.first(), Some(&(b"get" | b"gets" | b"gat" | b"gats")));
-    let replies = reads || words.last() != Some(&&b"noreply"[..]);
+    let replies = !is_quiet(&words);
     if !replies {
         words.pop();
     }
-    Line { command: command(&words, replies), replies }
+    Line { command: command(&words), replies }
 }
 
-fn command<'a>(words: &[&'a [u8]], replies: bool) -> Result<Command<'a>, &'static str> {
+// Whether `noreply` ends a command that may have it: behind as many words as memcached asks for. Then errors aren't written either.
+fn is_quiet(words: &[&[u8]]) -> bool {
+    let [name, words @ .., b"noreply"] = words else { return false };
+    match *name {
+        b"set" | b"add" | b"replace" | b"append" | b"prepend" => (3..=4).contains(&words.len()),
+        b"cas" => (4..=5).contains(&words.len()),
+        b"incr" | b"decr" | b"touch" => (1..=2).contains(&words.len()),
+        b"delete" => !words.is_empty(),
+        b"flush_all" | b"verbosity" => true,
+        _ => false,
+    }
+}
+
+fn command<'a>(words: &[&'a [u8]]) -> Result<Command<'a>, &'static str> {
     let (name, words) = words.split_first().ok_or(UNKNOWN)?;
     match (*name, words) {
         (b"get" | b"gets", [_, ..]) => Ok(Command::Get { keys: keys(words)?, with_unique: name.len() == 4 }),
@@ -96,10 +108,9 @@ fn command<'a>(words: &[&'a [u8]], replies: bool) -> Result<Command<'a>, &'stati
         }),
         (b"flush_all", []) => Ok(Command::FlushAll { delay: 0 }),
         (b"flush_all", [delay]) => Ok(Command::FlushAll { delay: number(delay).ok_or(EXPIRY)? }),
-        (b"stats", []) if replies => Ok(Command::Stats),
+        (b"stats", []) => Ok(Command::Stats),
         (b"version", _) => Ok(Command::Version),
         (b"verbosity", [level]) => number::<u32>(level).map(|_| Command::Verbosity).ok_or(FORMAT),
-        (b"verbosity", []) if !replies => Ok(Command::Verbosity),
         (b"quit", _) => Ok(Command::Quit),
         _ => Err(UNKNOWN),
     }

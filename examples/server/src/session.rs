@@ -91,14 +91,14 @@ impl Session {
         if HEAD + command.length > LONGEST {
             self.counts.add(Counter::TooLarge, 1);
             self.passed_over = command.length + 2;
-            self.line("SERVER_ERROR object too large for cache");
+            self.reply(replies, "SERVER_ERROR object too large for cache");
             // As at memcached, the old item doesn't outlive a store that was refused.
             let _gone = store.delete(command.key);
             return Some(0);
         }
         let (data, ending) = behind.get(..command.length + 2)?.split_at(command.length);
         if ending != b"\r\n" {
-            self.line("CLIENT_ERROR bad data chunk");
+            self.reply(replies, "CLIENT_ERROR bad data chunk");
             return Some(command.length + 2);
         }
         let head = Head { flags: command.flags, deadline: deadline(command.expiry, store.now), unique: 0 };
@@ -112,8 +112,8 @@ impl Session {
             Ok(Change::NotStored) => self.reply(replies, "NOT_STORED"),
             Ok(Change::Exists) => self.reply(replies, "EXISTS"),
             Ok(Change::NotFound) => self.reply(replies, "NOT_FOUND"),
-            Err(Error::TooLarge) => self.line("SERVER_ERROR object too large for cache"),
-            Err(_) => self.line("SERVER_ERROR out of memory storing object"),
+            Err(Error::TooLarge) => self.reply(replies, "SERVER_ERROR object too large for cache"),
+            Err(_) => self.reply(replies, "SERVER_ERROR out of memory storing object"),
         }
         Some(command.length + 2)
     }
@@ -129,7 +129,7 @@ impl Session {
     fn reply_to(&mut self, store: &mut Store, line: Line) {
         let replies = line.replies;
         match line.command {
-            Err(reply) => self.line(reply),
+            Err(reply) => self.reply(replies, reply),
             Ok(Command::Get { keys, with_unique }) => self.get(store, &keys, with_unique, None),
             Ok(Command::GetAndTouch { expiry, keys, with_unique }) => self.get(store, &keys, with_unique, Some(deadline(expiry, store.now))),
             Ok(Command::Delete { key }) => {
@@ -193,7 +193,7 @@ impl Session {
                 self.reply(replies, "NOT_FOUND");
             }
             Ok(Counted::NoNumber) => self.reply(replies, "CLIENT_ERROR cannot increment or decrement non-numeric value"),
-            Err(_) => self.line("SERVER_ERROR out of memory in incr"),
+            Err(_) => self.reply(replies, "SERVER_ERROR out of memory in incr"),
         }
     }
 
@@ -207,7 +207,7 @@ impl Session {
                 self.counts.add(miss, 1);
                 self.reply(replies, "NOT_FOUND");
             }
-            Err(_) => self.line("SERVER_ERROR out of memory"),
+            Err(_) => self.reply(replies, "SERVER_ERROR out of memory"),
         }
     }
 

@@ -109,7 +109,7 @@ impl Store<'_> {
         let _change = shared.lock_of(key);
         let Some(head) = self.find(key)? else { return Ok(Counted::NotFound) };
         let old = &self.item[HEAD..];
-        let Some(number) = std::str::from_utf8(old).ok().and_then(|text| text.trim_matches(' ').parse::<u64>().ok()) else {
+        let Some(number) = std::str::from_utf8(old).ok().and_then(|text| text.split_ascii_whitespace().next()?.parse::<u64>().ok()) else {
             return Ok(Counted::NoNumber);
         };
         let number = if up { number.wrapping_add(by) } else { number.saturating_sub(by) };
