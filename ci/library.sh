@@ -4,7 +4,7 @@
 build_library() {
     kit=$(dirname "$(rt doc)")
     mkdir -p "$room/lib"
-    (cd "$gate/crates/mc_c" && rt lib) >"$room/library.log" 2>&1 || return 1
+    python3 ci/archive "$gate" mc_c >"$room/library.log" 2>&1 || return 1
     cp "$gate/crates/mc_c/out/libmc_c.a" "$kit/c/liblibc_c.a" "$room/lib/"
 }
 
@@ -105,7 +105,7 @@ check_server() {
 
 check_install() {
     { lacks make "make install" || lacks pkg-config "make install"; } && return
-    check_run "make install" make -C "$gate" install PREFIX="$room/installed"
+    check_run "make install" make install LIB="$room/lib" PREFIX="$room/installed"
     check_run "the first program, as installed" first_installed "$room/installed"
 }
 
