@@ -45,6 +45,10 @@ impl Counts {
         self.0[counter as usize].fetch_sub(by, Ordering::Relaxed);
     }
 
+    pub fn get(&self, counter: Counter) -> u64 {
+        self.0[counter as usize].load(Ordering::Relaxed)
+    }
+
     /// Adds what another one has counted, and sets that back.
     pub fn drain(&self, other: &mut Counts) {
         for (own, count) in self.0.iter().zip(&mut other.0) {

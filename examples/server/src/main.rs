@@ -10,10 +10,10 @@ mod store;
 use counts::Counter;
 use options::Options;
 use shared::Shared;
-use std::net::TcpListener;
+use std::net::{TcpListener, TcpStream};
 use std::process::ExitCode;
 use std::sync::Arc;
-use std::thread;
+use std::{io, thread};
 
 fn main() -> ExitCode {
     let options = match Options::read(std::env::args().skip(1)) {
@@ -37,23 +37,28 @@ fn run(options: &Options) -> Result<(), Box<dyn std::error::Error>> {
     let listener = TcpListener::bind((options.address.as_str(), options.port))?;
     println!("listening on {}", listener.local_addr()?);
     for stream in listener.incoming() {
-        let shared = Arc::clone(&shared);
+        let Ok(stream) = stream else { continue };
+        if shared.counts.get(Counter::Connections) >= options.connections {
+            eprintln!("noddrefil-server: a connection is closed: {} are open", options.connections);
+            continue;
+        }
+        shared.counts.add(Counter::Connections, 1);
+        shared.counts.add(Counter::AllConnections, 1);
+        let its = Arc::clone(&shared);
         let begun = thread::Builder::new().spawn(move || {
             // What a client does to its connection ends that connection alone.
-            let _ended = stream.and_then(|stream| connect(stream, &shared));
+            let _ended = connect(stream, &its);
+            its.counts.take(Counter::Connections, 1);
         });
         if let Err(fault) = begun {
+            shared.counts.take(Counter::Connections, 1);
             eprintln!("noddrefil-server: a connection is closed: no thread was started: {fault}");
         }
     }
     Ok(())
 }
 
-fn connect(stream: std::net::TcpStream, shared: &Shared) -> std::io::Result<()> {
+fn connect(stream: TcpStream, shared: &Shared) -> io::Result<()> {
     stream.set_nodelay(true)?;
-    shared.counts.add(Counter::Connections, 1);
-    shared.counts.add(Counter::AllConnections, 1);
-    let ended = session::serve(stream, shared);
-    shared.counts.take(Counter::Connections, 1);
-    ended
+    session::serve(stream, shared)
 }

@@ -11,6 +11,9 @@ use std::{mem, process};
 /// How many bytes a read asks for.
 const READ: usize = 65_536;
 
+/// How many bytes of replies are kept before they are written.
+const MOST_OUTPUT: usize = 1 << 20;
+
 /// The longest line that is waited for.
 const LONGEST_LINE: usize = 65_536;
 
@@ -24,7 +27,10 @@ pub fn serve(mut stream: impl Read + Write, shared: &Shared) -> io::Result<()> {
             return Ok(());
         }
         session.filled += count;
-        session.answer(shared);
+        while session.answer(shared) {
+            stream.write_all(&session.output)?;
+            session.output.clear();
+        }
         stream.write_all(&session.output)?;
         session.output.clear();
     }
@@ -46,22 +52,27 @@ struct Session {
 }
 
 impl Session {
-    // Answers each command that has come whole.
-    fn answer(&mut self, shared: &Shared) {
+    // Answers each command that has come whole, until there are many replies. Returns whether a command may be left.
+    fn answer(&mut self, shared: &Shared) -> bool {
         let now = now();
         shared.settle_flush(now);
         let (input, mut item, mut room) = (mem::take(&mut self.input), mem::take(&mut self.item), mem::take(&mut self.room));
         let mut begin = 0;
-        shared.with_worker(|worker| {
+        let is_full = shared.with_worker(|worker| {
             let mut store = Store { shared, worker, now, item: &mut item, room: &mut room };
             while let Some(length) = self.step(&mut store, &input[begin..self.filled]) {
                 begin += length;
+                if self.output.len() > MOST_OUTPUT {
+                    return true;
+                }
             }
+            false
         });
         (self.input, self.item, self.room) = (input, item, room);
         self.input.copy_within(begin..self.filled, 0);
         self.filled -= begin;
         shared.counts.drain(&mut self.counts);
+        is_full
     }
 
     // Answers the first command, and returns how many bytes it has; None where more have to come.
