@@ -33,6 +33,9 @@ acts arenas hands shard arena hand after Does in_range count is_arena is_hand do
 pub same_ok : {T E : Type 0} (x y : T) → ◌≡◌ {A = Result T E} (Ok x) (Ok y) → x ≡ y
 same_ok x y is = cc
 
+pub same_error : {T E : Type 0} (x y : E) → ◌≡◌ {A = Result T E} (Err x) (Err y) → x ≡ y
+same_error x y is = cc
+
 -- an answer whose refusal was named anew is the answer that came
 pub same_answer : {T D E : Type 0} (Q : E → Type 0) (r : Result T E) (m : Result T D) (x : T) → MatchResult r (λ y. m ≡ Ok y) Q → is_ok m ≡ is_ok r → m ≡ Ok x → r ≡ Ok x
 same_answer Q (Ok y) m x cases variant is = ap Ok (same_ok y x (sym cases ∙ is))

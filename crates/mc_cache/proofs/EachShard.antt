@@ -31,6 +31,20 @@ module _ (Does : Hand → Hand → Type 0) where
     left = λ k a from. get_or-set_other hands_now count k now a (λ (same : k ≡ count). omega arith) ∙ h.left k a (omega arith);
   }
 
+  -- at the shard at which this wasn't done, those before it did it
+  pub first_before : (count : ℕ) (hands hands_now : List Hand) (now : Hand) → FirstDo count hands hands_now → (shard : ℕ) (hand after : Hand) → shard < count → Does (get_or hands shard hand) (get_or (set hands_now count now) shard after)
+  first_before count hands hands_now now h k a b less =
+      let e3 : get_or (set hands_now count now) k b ≡ get_or hands_now k b = get_or-set_other hands_now count k now b (λ (same : k ≡ count). omega arith) in
+      rw e3 (h.each k a b less)
+
+  -- and there this was done
+  pub at_last : (count : ℕ) (hands hands_now : List Hand) (hand now : Hand) → count < length hands_now → hand ≡ get_or hands_now count hand → ((shard : ℕ) (h : Hand) → count ≤ shard → get_or hands_now shard h ≡ get_or hands shard h) → Does hand now
+      → (a b : Hand) → Does (get_or hands count a) (get_or (set hands_now count now) count b)
+  at_last count hands hands_now hand now in_range is left does a b =
+      let e1 : get_or hands count a ≡ hand = was_there hands_now hands count count hand a refl in_range is left in
+      let e2 : get_or (set hands_now count now) count b ≡ now = at_place hands_now count count now b refl in_range in
+      rw (e1, e2) does
+
 -- up to a shard each was surveyed, and from there on all hands are as they were
 pub record AreSurveyed (count : ℕ) (hands hands_now : List Hand) (surveys : List Survey) : Type 0 where
   pub first : SurveysFirst count hands hands_now surveys

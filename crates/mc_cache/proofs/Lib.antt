@@ -3,11 +3,13 @@ pub mod Pairs
 pub mod Dealt
 pub mod Acts
 pub mod Rests
+pub mod Recalls
 pub mod Lasts
 pub mod Opened
 pub mod TableWords
 pub mod TurnsDone
 pub mod Tendings
+pub mod Decided
 pub mod Deciders
 pub mod EachShard
 pub mod Counted

@@ -10,7 +10,9 @@ pub mod Newest
 pub mod Bytes
 pub mod Sizing
 pub mod Windows
+pub mod WindowsWithin
 pub mod Tending
+pub mod TendingWithin
 pub mod Stats
 pub mod Cases
 pub mod Resting

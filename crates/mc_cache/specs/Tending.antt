@@ -43,15 +43,15 @@ abbrev pub tended_in_all : List Tended → Tended
 tended_in_all shares = fold tended_with nothing_tended shares
 
 -- each of the first n shards did a window, by its own hand and its own decider, and its share is what it did
-pub record TendsFirst (count : ℕ) (hands : List Hand) (deciders : List DeciderState) (hands_now : List Hand) (deciders_now : List DeciderState) (shares : List Tended) : Type 0 where
+pub record TendsFirst {Share : Type 0} (Tends : Share → DeciderState → Hand → DeciderState → Hand → Type 0) (count : ℕ) (hands : List Hand) (deciders : List DeciderState) (hands_now : List Hand) (deciders_now : List DeciderState) (shares : List Share) : Type 0 where
   pub shared : length shares ≡ count
-  pub each : (shard : ℕ) (share : Tended) (hand now : Hand) (decider left : DeciderState) → shard < count
-      → TendsShard (slice_index_or shares shard share) (slice_index_or deciders shard decider) (slice_index_or hands shard hand) (slice_index_or deciders_now shard left) (slice_index_or hands_now shard now)
+  pub each : (shard : ℕ) (share : Share) (hand now : Hand) (decider left : DeciderState) → shard < count
+      → Tends (slice_index_or shares shard share) (slice_index_or deciders shard decider) (slice_index_or hands shard hand) (slice_index_or deciders_now shard left) (slice_index_or hands_now shard now)
 
 -- on each shard of the cache a window was done, and this is what was done in all
 pub record TendsCache (cache : Cache) (done : Tended) (before now : Tender) : Type 0 where
   pub shares : List Tended
-  pub tends : TendsFirst (shard_count cache) (tender_hands before) (deciders_of before) (tender_hands now) (deciders_of now) shares
+  pub tends : TendsFirst TendsShard (shard_count cache) (tender_hands before) (deciders_of before) (tender_hands now) (deciders_of now) shares
   pub counted : done ≡ tended_in_all shares
 
 -- memory was refused on some shard: each shard before it did a window, and the hands and deciders of those behind it are as they were
@@ -59,7 +59,7 @@ pub record TendsUpToRefusal (cache : Cache) (before now : Tender) : Type 0 where
   pub count : ℕ
   pub in_range : count < shard_count cache
   pub shares : List Tended
-  pub tends : TendsFirst count (tender_hands before) (deciders_of before) (tender_hands now) (deciders_of now) shares
+  pub tends : TendsFirst TendsShard count (tender_hands before) (deciders_of before) (tender_hands now) (deciders_of now) shares
   pub hands_left : (shard : ℕ) (hand : Hand) → count < shard → slice_index_or (tender_hands now) shard hand ≡ slice_index_or (tender_hands before) shard hand
   pub deciders_left : (shard : ℕ) (decider : DeciderState) → count < shard → slice_index_or (deciders_of now) shard decider ≡ slice_index_or (deciders_of before) shard decider
 

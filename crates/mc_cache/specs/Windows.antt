@@ -1,5 +1,5 @@
 -- A window of one shard: its survey, what its decider makes of that, and turns of its mover.
-use Rattle.std.specs.Prelude.{◌≡◌, ◌<◌, ◌≤◌, ℕ, ◌+◌, ◌-◌, ◌^◌, Bool, true, false, is_some, is_none, min, if◌then◌else◌, List, [], ◌∷◌, length, Option, Some, None, Result, Ok}
+use Rattle.std.specs.Prelude.{◌≡◌, ◌<◌, ◌≤◌, ℕ, ◌+◌, ◌-◌, ◌^◌, Bool, true, false, is_some, is_none, min, if◌then◌else◌, List, [], ◌∷◌, length, drop, ⊤, Option, Some, None, Result, Ok}
 use Rattle.mc_pages.specs.declared.moves.Reassign.{Reassign}
 use Rattle.mc_words.specs.declared.hand.Hand.{Hand}
 use Rattle.mc_words.specs.page.Moves.{Reassigns}
@@ -85,16 +85,22 @@ abbrev pub began_by : Option (Result (Unit {0}) Reassign) → ℕ
 began_by (Some (Ok _)) = 1
 began_by other = 0
 
+-- each of these turns left its page on the move
+unfoldable pub AreUnderWay : List Turn → Type 0
+AreUnderWay [] = ⊤
+AreUnderWay (turn ∷ turns) = (is_under_way turn ≡ true) × AreUnderWay turns
+
 -- the newest of the turns found no move, or ended one
 abbrev pub HasEnded : List Turn → Type 0
 HasEnded [] = ⊥
 HasEnded (turn ∷ turns) = is_under_way turn ≡ false
 
--- the turns of a window, and what they did: 16, or fewer where one found no move or ended one
+-- the turns of a window, and what they did: 16, or fewer where the newest found no move or ended one; each before it left its page on the move
 pub record DoesWindowTurns (done : Tended) (before now : Hand) : Type 0 where
   pub turns : List Turn
   pub most : length turns ≤ 16
   pub fewer : length turns < 16 → HasEnded turns
+  pub before_newest : AreUnderWay (drop 1 turns)
   pub does : DoesTurns turns before now
   pub counted : done ≡ turns_tended turns
 

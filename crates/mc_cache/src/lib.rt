@@ -7,6 +7,8 @@
 //!   `touch` and `delete` are the calls on a key of 1 to 250 bytes.
 //! - The [`Tender`] has a thread of its own. [`Tender::tend`], called about once a second, moves pages between classes on each
 //!   shard. [`Tender::stats`] returns sums over all shards, and [`Tender::set_automove`] sets the mode.
+//! - A caller that can't wait makes the cache by [`Cache::new_within`], and calls `set_within`, `tend_within` and their like. These
+//!   try for each lock n times.
 //!
 //! ```rust
 //! fn remember<R: Wait>(rt: &R, cache: &Cache, worker: &mut Worker, key: &[u8], value: &[u8], into: &mut Vec<u8>)
@@ -37,7 +39,9 @@ mod sizing;
 mod stats;
 mod tended;
 mod tending;
+mod tending_within;
 mod window;
+mod window_within;
 mod working;
 mod working_within;
 
@@ -51,5 +55,6 @@ pub use sizing::{SizingError, worked_sizes};
 pub use stats::{CacheStats, ClassStats, worked_stats};
 pub use tended::{Tended, worked_tended};
 pub use tending::Tender;
+pub use tending_within::TendedWithin;
 pub use working::{CallError, SetError, TryGetError};
 pub use working_within::{SetWithinError, WithinError};

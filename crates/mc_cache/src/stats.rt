@@ -1,12 +1,16 @@
 //! The statistics of a cache: sums over the classes of all shards.
-ghost use Rattle.std.specs.Prelude.{◌≡◌, ◌≤◌, ◌-◌, ◌^◌, ◌∷◌, [], OnOk, length, max, slice_index_or, ℕ};
+ghost use Rattle.std.specs.Prelude.{◌≡◌, ◌≤◌, ◌-◌, ◌^◌, ◌∷◌, [], Err, OnOk, length, max, slice_index_or, ℕ};
 ghost use Rattle.mc_words.specs.hand.Arenas.{view};
 ghost use Rattle.mc_items.specs.Keeping.{StoresNothing};
+ghost use Rattle.mc_mover.specs.declared.within.SurveyWithin.TheVariants as survey_error;
+ghost use Rattle.mc_cache.specs.Resting.{IsRestingHandOf};
+ghost use Rattle.mc_cache.specs.WindowsWithin.{MissesEachTime};
 ghost use Rattle.mc_cache.specs.shard.Hands.{IsIdleHandOf};
 ghost use Rattle.mc_cache.specs.Stats.{AddsNumbers, AddsSurvey, CountsShard, SumsSurveys, class_in_all, class_with, most_classes_of_shards, no_statistics, sum_in_all};
 
+use crate::resting::recall;
 use mc_memory::{Refused, push};
-use mc_mover::{Survey, survey};
+use mc_mover::{Survey, SurveyWithin, survey, survey_within};
 use mc_pages::Numbers;
 use mc_words::{Arena, Hand};
 use std::alloc::Global;
@@ -115,6 +119,31 @@ pub(crate) fn count_shard<R: Wait>(
 {
     let survey = survey(rt, alloc, arena, hand, false)?;
     stats.add(&survey)
+}
+
+// Counts what the shard of a hand that rests has, too; the hand tries for the lock n times.
+pub(crate) fn count_shard_within(
+    alloc: Global,
+    arena: &Arena,
+    hand: &mut Hand,
+    tries: u64,
+    stats: &mut CacheStats,
+) -> Result<(), SurveyWithin>
+    requires { IsRestingHandOf arena.now hand.old }
+    ensures idle { IsIdleHandOf arena.now hand.new }
+    ensures stores_nothing { StoresNothing (view hand.old) (view hand.new) }
+    ensures counts { OnOk result (CountsShard stats.old hand.old stats.new hand.new) }
+    ensures held { result ≡ Err survey_error.Held → MissesEachTime tries hand.old hand.new }
+{
+    recall(arena, hand);
+    let survey = match survey_within(alloc, arena, hand, false, tries) {
+        Ok(survey) => survey,
+        Err(error) => return Err(error),
+    };
+    match stats.add(&survey) {
+        Ok(()) => Ok(()),
+        Err(refused) => Err(SurveyWithin::NoMemory(refused)),
+    }
 }
 
 // Counts what each class of one shard has, too.

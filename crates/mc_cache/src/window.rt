@@ -15,7 +15,7 @@ use std::alloc::Global;
 use std::sync::Wait;
 
 // How many turns a window has at most (own).
-const TURNS: u64 = 16;
+pub(crate) const TURNS: u64 = 16;
 
 // A window of one shard, by a hand of its arena and by its own decider: the survey, the move that is decided on, and turns. Then the
 // ledger is trimmed, as the stripes record no call.
@@ -63,7 +63,7 @@ fn end_window<R: Wait>(
 }
 
 // Feeds the decider the numbers of a window. Gives what it decides.
-fn decide(
+pub(crate) fn decide(
     alloc: Global,
     decider: &mut Decider,
     survey: &Survey,
@@ -100,7 +100,7 @@ fn do_turns<R: Wait>(rt: &R, arena: &Arena, hand: &mut Hand) -> Result<Tended, R
 }
 
 // How many moves began by this answer.
-fn count_begun(answer: Option<Result<(), Reassign>>) -> u64
+pub(crate) fn count_begun(answer: Option<Result<(), Reassign>>) -> u64
     ensures begun { result ≡ began_by answer }
 {
     match answer {
@@ -110,7 +110,7 @@ fn count_begun(answer: Option<Result<(), Reassign>>) -> u64
 }
 
 // Whether the page moves still.
-fn is_under_way(turn: Turn) -> bool
+pub(crate) fn is_under_way(turn: Turn) -> bool
     ensures under_way { result ≡ is_under_way turn }
 {
     matches!(turn, Turn::Went(_))

@@ -17,5 +17,5 @@ pub loop-preserved : goal.loop-preserved
 loop-preserved g c = record {
   idle = record { of_arena = c.turn.ensures.hand.arena; ready = c.turn.ensures.hand.ready; none = c.turn.ensures.holdings.same ∙ c.loop.invariant.idle.none };
   stores_nothing = c.turn.ensures.stores_nothing ∙ c.loop.invariant.stores_nothing;
-  done = one_more c.loop.counter c.args.hand.now c.loop.hand c.turn.new.hand c.loop.done c.count.new.self c.in_ok-turn.turn c.loop.invariant.done (c.in_ok-turn.ensures.turns, c.in_ok-turn.ensures.records) c.count.ensures.counted;
+  done = one_more c.loop.counter c.args.hand.now c.loop.hand c.turn.new.hand c.loop.done c.count.new.self c.in_ok-turn.turn c.loop.invariant.done (c.in_ok-turn.ensures.turns, c.in_ok-turn.ensures.records) c.count.ensures.counted (sym c.is_under_way.ensures.under_way ∙ c.if-not-is_under_way.false);
 }

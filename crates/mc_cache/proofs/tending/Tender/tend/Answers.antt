@@ -1,6 +1,7 @@
 use Rattle.std.proofs.Common.{◌<◌, ◌∙◌, arith, length, refl}
 use Rattle.std.proofs.lemmas.List.{length-set}
-use Rattle.mc_cache.specs.Tending.{deciders_of, tender_hands}
+use Rattle.mc_cache.specs.Tending.{deciders_of, tended_with, tender_hands}
+use Rattle.mc_cache.specs.Windows.{TendsShard, nothing_tended}
 use Rattle.mc_cache.proofs.Acts.{idle_after, on_refusal}
 use Rattle.mc_cache.proofs.Tendings.{none_said, none_tended, one_tended, still_behind, still_unsaid, tended_before}
 use Rattle.mc_cache.proofs.tending.Tender.tend.Goals as goal
@@ -10,7 +11,7 @@ loop-shard-init g c = record {
   tender = c.requires;
   stores_nothing = none_said (tender_hands c.args.self.now);
   count = refl;
-  done = none_tended (tender_hands c.args.self.now) (deciders_of c.args.self.now) c.new-done.result c.new-done.ensures.none;
+  done = none_tended TendsShard tended_with nothing_tended (tender_hands c.args.self.now) (deciders_of c.args.self.now) c.new-done.result c.new-done.ensures.none;
 }
 
 pub returns-in_err-share-clause-belongs : goal.returns-in_err-share-clause-belongs
@@ -39,7 +40,7 @@ loop-shard-preserved g c =
       };
       stores_nothing = still_unsaid (tender_hands c.args.self.now) c.loop-shard.self.worker.hands.items c.loop-shard.shard c.index_mut-hand.result.now c.tend_shard.new.hand inv.count near_hand c.index_mut-hand.ensures.value c.tend_shard.ensures.stores_nothing inv.stores_nothing;
       count = omega (arith, inv.count, length-set c.loop-shard.self.worker.hands.items c.loop-shard.shard c.tend_shard.new.hand);
-      done = one_tended c.loop-shard.shard (tender_hands c.args.self.now) (deciders_of c.args.self.now) c.loop-shard.self.worker.hands.items c.loop-shard.self.deciders.items c.loop-shard.done c.add.new.self c.in_ok-share.share c.index_mut-hand.result.now c.tend_shard.new.hand c.index_mut-decider.result.now c.tend_shard.new.decider
+      done = one_tended TendsShard tended_with nothing_tended c.loop-shard.shard (tender_hands c.args.self.now) (deciders_of c.args.self.now) c.loop-shard.self.worker.hands.items c.loop-shard.self.deciders.items c.loop-shard.done c.add.new.self c.in_ok-share.share c.index_mut-hand.result.now c.tend_shard.new.hand c.index_mut-decider.result.now c.tend_shard.new.decider
           near_hand near_decider c.index_mut-hand.ensures.value c.index_mut-decider.ensures.value c.in_ok-share.ensures.tends c.add.ensures.added inv.done;
     }
 
@@ -49,7 +50,7 @@ returns-in_err-share-clause-refused g c =
       count = c.loop-shard.shard;
       in_range = omega (arith, c.loop-shard-test.true);
       shares = done.shares;
-      tends = tended_before c.loop-shard.shard (tender_hands c.args.self.now) (deciders_of c.args.self.now) c.loop-shard.self.worker.hands.items c.loop-shard.self.deciders.items c.loop-shard.done c.tend_shard.new.hand c.tend_shard.new.decider done;
+      tends = tended_before TendsShard tended_with nothing_tended c.loop-shard.shard (tender_hands c.args.self.now) (deciders_of c.args.self.now) c.loop-shard.self.worker.hands.items c.loop-shard.self.deciders.items c.loop-shard.done c.tend_shard.new.hand c.tend_shard.new.decider done;
       hands_left = still_behind c.loop-shard.shard (tender_hands c.args.self.now) c.loop-shard.self.worker.hands.items c.tend_shard.new.hand done.hands_left;
       deciders_left = still_behind c.loop-shard.shard (deciders_of c.args.self.now) c.loop-shard.self.deciders.items c.tend_shard.new.decider done.deciders_left;
     })
