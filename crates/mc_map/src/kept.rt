@@ -1,9 +1,10 @@
 //! The numbers of a class on a map: its pages, and what is in its chunks.
-ghost use Rattle.std.specs.Prelude.{◌≡◌, ℕ, ◌≤◌, ◌^◌, length, IfOk, IfSome};
+ghost use Rattle.std.specs.Prelude.{◌≡◌, ℕ, ◌+◌, ◌≤◌, ◌^◌, length, true, is_ok, IfErr, IfOk, IfSome};
+ghost use Rattle.mc_map.specs.declared.map.MapError.TheVariants as MapError;
 ghost use Rattle.mc_classes.specs.Limits.{most_page_bytes};
 ghost use Rattle.mc_pages.specs.SlabState.{HasClass};
 ghost use Rattle.mc_serial_spec.specs.Item.{item_bytes};
-ghost use Rattle.mc_map.specs.Kept.{asked_bytes, bytes_as, bytes_of_key, linked_count, IsLine};
+ghost use Rattle.mc_map.specs.Kept.{asked_bytes, bytes_as, bytes_of_key, linked_count, FitsIn, HasCounts, IsLine};
 
 use crate::items::Items;
 use crate::map::MapError;
@@ -41,7 +42,7 @@ pub struct ClassLine {
 }
 
 impl ClassLine {
-    ghost use Rattle.std.specs.Prelude.{◌≡◌, ◌-◌, true};
+    ghost use Rattle.std.specs.Prelude.{◌≡◌, ◌-◌, ◌↔◌, true};
     ghost use Rattle.mc_map.specs.Sums.{IsSummed};
 
     /// The bytes of the linked items' chunks that they don't ask for.
@@ -53,7 +54,7 @@ impl ClassLine {
 
     /// Whether each chunk is counted once.
     fn is_summed(&self) -> bool
-        ensures { result ≡ true → IsSummed self.now }
+        ensures { result ≡ true ↔ IsSummed self.now }
     {
         let items = self.linked as u128 + self.unlinked as u128 + self.dead as u128;
         self.chunks as u128 == items + self.free as u128 + self.cleared as u128
@@ -147,6 +148,27 @@ pub(crate) fn class_line(
     ensures line { IfOk result (IsLine keeper.now items.now.keys.items) }
     ensures class { IfOk result (λ line. line.class ≡ class) }
 {
+    let linked = linked_in(keeper, class, items.keys())?;
+    let held = held_in(keeper, class, items)?;
+    line_of(keeper, class, linked, held, cleared)
+}
+
+/// The line of these items of the class, with n of its chunks cleared. `Books` where the class has fewer chunks than that.
+fn line_of(
+    keeper: &Keeper,
+    class: ClassId,
+    linked: Linked,
+    held: Held,
+    cleared: u64,
+) -> Result<ClassLine, MapError>
+    requires class { HasClass keeper.now.slabs class }
+    requires within_limit { linked.count ≤ 2 ^ 32 }
+    ensures counts { IfOk result (HasCounts keeper.now class linked.count linked.asked
+        held.unlinked cleared) }
+    ensures refused { IfErr result (λ error. error ≡ MapError.Books) }
+    ensures fits { FitsIn keeper.now class (linked.count + held.unlinked + cleared) →
+        is_ok result ≡ true }
+{
     let table = keeper.table();
     let numbers = keeper.numbers(class);
     if numbers.pages > table.arena_pages() {
@@ -154,8 +176,6 @@ pub(crate) fn class_line(
     }
     let size = table.size(class);
     let per_page = table.per_page(class);
-    let linked = linked_in(keeper, class, items.keys())?;
-    let held = held_in(keeper, class, items)?;
     let chunks = numbers.pages * per_page;
     let line = ClassLine {
         class,
