@@ -1,1 +1,3 @@
 pub mod AsBox
+pub mod Acted
+pub mod Written

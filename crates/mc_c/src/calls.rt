@@ -1,4 +1,7 @@
 //! The calls of a worker: each result has its code.
+ghost use Rattle.std.specs.Prelude.{◌≡◌, Ok, true};
+ghost use Rattle.mc_c.specs.Calls.{DeletesAs, GetsAs, SetsAs, TouchesAs, WritesValue};
+ghost use Rattle.mc_c.specs.Codes.{within_code};
 
 use crate::client::WorkerClient;
 use crate::codes::{
@@ -14,7 +17,9 @@ pub(crate) fn get(
     tries: u64,
     out: &mut [u8],
     len: &mut u64,
-) -> u32 {
+) -> u32
+    ensures { GetsAs result tries key.now out.old len.old out.new len.new client.old client.new }
+{
     client.value.clear();
     match client
         .worker
@@ -29,7 +34,9 @@ pub(crate) fn get(
 }
 
 // Copies the value, if there is room for it, and writes its length.
-fn copy(value: &[u8], out: &mut [u8], len: &mut u64) -> u32 {
+fn copy(value: &[u8], out: &mut [u8], len: &mut u64) -> u32
+    ensures { WritesValue (Ok true) value.now result out.old len.old out.new len.new }
+{
     *len = value.len() as u64;
     if value.len() > out.len() {
         return TOO_SMALL;
@@ -39,7 +46,9 @@ fn copy(value: &[u8], out: &mut [u8], len: &mut u64) -> u32 {
 }
 
 /// Stores the value under the key.
-pub(crate) fn set(client: &mut WorkerClient, key: &[u8], value: &[u8], tries: u64) -> u32 {
+pub(crate) fn set(client: &mut WorkerClient, key: &[u8], value: &[u8], tries: u64) -> u32
+    ensures { SetsAs result tries key.now value.now client.old client.new }
+{
     match client.worker.set_within(&client.cache, key, value, tries) {
         Ok(()) => OK,
         Err(SetWithinError::KeyLength) => BAD_KEY,
@@ -54,17 +63,23 @@ pub(crate) fn set(client: &mut WorkerClient, key: &[u8], value: &[u8], tries: u6
 }
 
 /// Deletes the key.
-pub(crate) fn delete(client: &mut WorkerClient, key: &[u8], tries: u64) -> u32 {
+pub(crate) fn delete(client: &mut WorkerClient, key: &[u8], tries: u64) -> u32
+    ensures { DeletesAs result tries key.now client.old client.new }
+{
     code_of(client.worker.delete_within(&client.cache, key, tries))
 }
 
 /// Makes the key's item the newest of its class.
-pub(crate) fn touch(client: &mut WorkerClient, key: &[u8], tries: u64) -> u32 {
+pub(crate) fn touch(client: &mut WorkerClient, key: &[u8], tries: u64) -> u32
+    ensures { TouchesAs result tries key.now client.old client.new }
+{
     code_of(client.worker.touch_within(&client.cache, key, tries))
 }
 
 // The code of a delete's or a touch's result.
-fn code_of(done: Result<bool, WithinError>) -> u32 {
+fn code_of(done: Result<bool, WithinError>) -> u32
+    ensures { result ≡ within_code done }
+{
     match done {
         Ok(true) => OK,
         Ok(false) => MISSING,

@@ -25,6 +25,16 @@ pub(crate) const CLOSED: u32 = 9;
 
 pub(crate) const BAD_KEY: u32 = 10;
 
+pub(crate) const BUSY: u32 = 11;
+
+pub(crate) const BAD_CLASS: u32 = 12;
+
+pub(crate) const NO_SPARE: u32 = 13;
+
+pub(crate) const SAME_CLASS: u32 = 14;
+
+pub(crate) const OUT_OF_RANGE: u32 = 15;
+
 pub(crate) const BAD_SHARDS: u32 = 16;
 
 pub(crate) const BAD_WORKERS: u32 = 17;

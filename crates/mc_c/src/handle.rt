@@ -1,5 +1,5 @@
 //! The handles of C: of a worker and of the tender. A handle is open or closed, and zeros are a closed one.
-ghost use Rattle.std.specs.Prelude.{◌≡◌, true};
+ghost use Rattle.std.specs.Prelude.{◌≡◌, ◌↔◌, true};
 
 use crate::client::{Client, TenderClient, WorkerClient};
 use crate::owner::Owner;
@@ -12,7 +12,7 @@ use std::mem;
 pub struct Handle {
     /// 1 where the handle is open.
     state: u64,
-    owner: Owner,
+    pub(crate) owner: Owner,
     ghost full: { state ≡ 1 → owner.full ≡ true },
 }
 
@@ -25,9 +25,10 @@ impl Handle {
         }
     }
 
-    // Whether the handle owns a client.
-    fn is_open(&self) -> bool
+    /// Whether the handle owns a client.
+    pub(crate) fn is_open(&self) -> bool
         ensures full { result ≡ true → self.now.owner.full ≡ true }
+        ensures open { (result ≡ true) ↔ (self.now.state ≡ 1) }
     {
         self.state == 1
     }
@@ -44,14 +45,6 @@ impl Handle {
         match self.client() {
             Some(Client::Worker(worker)) => Some(worker),
             Some(Client::Tender(_)) | None => None,
-        }
-    }
-
-    /// The tender of an open handle, if it is one of a tender.
-    pub(crate) fn tender(&mut self) -> Option<&mut TenderClient> {
-        match self.client() {
-            Some(Client::Tender(tender)) => Some(tender),
-            Some(Client::Worker(_)) | None => None,
         }
     }
 

@@ -5,6 +5,11 @@
 //! this library filled or zeros, and is given to one call at a time.
 #![tactic(auto)]
 
+ghost use Rattle.std.specs.Prelude.{◌≡◌, None};
+ghost use Rattle.mc_c.specs.Calls.{DeletesAs, GetsAs, SetsAs, TouchesAs};
+ghost use Rattle.mc_c.specs.Handles.{ActsOn, tender_of, worker_of};
+ghost use Rattle.mc_c.specs.TenderCalls.{CountsAs, ReassignsAs, SetsModeAs, TendsAs};
+
 mod calls;
 mod client;
 mod codes;
@@ -13,6 +18,7 @@ mod handle;
 mod opening;
 mod owner;
 mod parts;
+mod tending;
 
 use client::{Client, JoinError};
 use codes::{BAD_WORKERS, CLOSED, NO_MEMORY, NO_WORKERS, OK, TOO_FEW_BYTES, code_of_new};
@@ -20,6 +26,7 @@ pub use config::McConfig;
 pub use handle::Handle;
 use mc_cache::{Cache, CacheConfig, SizingError};
 use std::alloc::Global;
+pub use tending::{McClassStats, McTended, McTotals};
 
 /// Writes a configuration that takes at most so many bytes, but for the two numbers of the hash.
 #[unsafe(no_mangle)]
@@ -96,37 +103,134 @@ pub extern "C" fn mc_get(
     tries: u64,
     out: &mut [u8],
     len: &mut u64,
-) -> u32 {
-    match worker.worker() {
-        Some(worker) => calls::get(worker, key, tries, out, len),
-        None => CLOSED,
+) -> u32
+    ensures acts { ActsOn worker_of (GetsAs result tries key.now out.old len.old out.new len.new)
+        result worker.old worker.new }
+    ensures kept { worker_of worker.old ≡ None → (out.new ≡ out.old) × (len.new ≡ len.old) }
+{
+    if !worker.is_open() {
+        return CLOSED;
+    }
+    match worker.owner.as_mut() {
+        Client::Worker(client) => calls::get(client, key, tries, out, len),
+        Client::Tender(_) => CLOSED,
     }
 }
 
 /// Stores the value under the key.
 #[unsafe(no_mangle)]
-pub extern "C" fn mc_set(worker: &mut Handle, key: &[u8], value: &[u8], tries: u64) -> u32 {
-    match worker.worker() {
-        Some(worker) => calls::set(worker, key, value, tries),
-        None => CLOSED,
+pub extern "C" fn mc_set(worker: &mut Handle, key: &[u8], value: &[u8], tries: u64) -> u32
+    ensures acts { ActsOn worker_of (SetsAs result tries key.now value.now) result worker.old
+        worker.new }
+{
+    if !worker.is_open() {
+        return CLOSED;
+    }
+    match worker.owner.as_mut() {
+        Client::Worker(client) => calls::set(client, key, value, tries),
+        Client::Tender(_) => CLOSED,
     }
 }
 
 /// Deletes the key.
 #[unsafe(no_mangle)]
-pub extern "C" fn mc_delete(worker: &mut Handle, key: &[u8], tries: u64) -> u32 {
-    match worker.worker() {
-        Some(worker) => calls::delete(worker, key, tries),
-        None => CLOSED,
+pub extern "C" fn mc_delete(worker: &mut Handle, key: &[u8], tries: u64) -> u32
+    ensures acts { ActsOn worker_of (DeletesAs result tries key.now) result worker.old worker.new }
+{
+    if !worker.is_open() {
+        return CLOSED;
+    }
+    match worker.owner.as_mut() {
+        Client::Worker(client) => calls::delete(client, key, tries),
+        Client::Tender(_) => CLOSED,
     }
 }
 
 /// Makes the key's item the newest of its class.
 #[unsafe(no_mangle)]
-pub extern "C" fn mc_touch(worker: &mut Handle, key: &[u8], tries: u64) -> u32 {
-    match worker.worker() {
-        Some(worker) => calls::touch(worker, key, tries),
-        None => CLOSED,
+pub extern "C" fn mc_touch(worker: &mut Handle, key: &[u8], tries: u64) -> u32
+    ensures acts { ActsOn worker_of (TouchesAs result tries key.now) result worker.old worker.new }
+{
+    if !worker.is_open() {
+        return CLOSED;
+    }
+    match worker.owner.as_mut() {
+        Client::Worker(client) => calls::touch(client, key, tries),
+        Client::Tender(_) => CLOSED,
+    }
+}
+
+/// Tends each shard.
+#[unsafe(no_mangle)]
+pub extern "C" fn mc_tend(tender: &mut Handle, tries: u64, done: &mut McTended) -> u32
+    ensures acts { ActsOn tender_of (TendsAs result tries done.old done.new) result tender.old
+        tender.new }
+    ensures kept { tender_of tender.old ≡ None → done.new ≡ done.old }
+{
+    if !tender.is_open() {
+        return CLOSED;
+    }
+    match tender.owner.as_mut() {
+        Client::Tender(client) => tending::tend(client, tries, done),
+        Client::Worker(_) => CLOSED,
+    }
+}
+
+/// Writes what the classes of all shards have together.
+#[unsafe(no_mangle)]
+pub extern "C" fn mc_stats(
+    tender: &mut Handle,
+    tries: u64,
+    totals: &mut McTotals,
+    classes: &mut [McClassStats],
+    count: &mut u64,
+) -> u32
+    ensures acts { ActsOn tender_of (CountsAs result tries totals.old classes.old count.old
+        totals.new classes.new count.new) result tender.old tender.new }
+    ensures kept { tender_of tender.old ≡ None → (totals.new ≡ totals.old)
+        × (classes.new ≡ classes.old) × (count.new ≡ count.old) }
+{
+    if !tender.is_open() {
+        return CLOSED;
+    }
+    match tender.owner.as_mut() {
+        Client::Tender(client) => tending::stats(client, tries, totals, classes, count),
+        Client::Worker(_) => CLOSED,
+    }
+}
+
+/// Sets the mode of all shards' automovers.
+#[unsafe(no_mangle)]
+pub extern "C" fn mc_automove(tender: &mut Handle, mode: u64, tries: u64) -> u32
+    ensures acts { ActsOn tender_of (SetsModeAs result tries mode) result tender.old tender.new }
+{
+    if !tender.is_open() {
+        return CLOSED;
+    }
+    match tender.owner.as_mut() {
+        Client::Tender(client) => tending::set_automove(client, mode, tries),
+        Client::Worker(_) => CLOSED,
+    }
+}
+
+/// Begins a move of a page of one shard.
+#[unsafe(no_mangle)]
+pub extern "C" fn mc_reassign(
+    tender: &mut Handle,
+    shard: u64,
+    src: u64,
+    dst: u64,
+    tries: u64,
+) -> u32
+    ensures acts { ActsOn tender_of (ReassignsAs result tries shard src dst) result tender.old
+        tender.new }
+{
+    if !tender.is_open() {
+        return CLOSED;
+    }
+    match tender.owner.as_mut() {
+        Client::Tender(client) => tending::reassign(client, shard, src, dst, tries),
+        Client::Worker(_) => CLOSED,
     }
 }
 

@@ -1,6 +1,5 @@
-use Rattle.std.proofs.Common.{◌≡◌, ◌++◌, ◌∷◌, [], All, List, subst, sym}
+use Rattle.std.proofs.Common.{◌++◌, ◌∷◌, [], All, subst, sym}
 use Rattle.mc_cache.specs.declared.cache.Cache.{Cache}
-use Rattle.mc_cache.specs.declared.cache.Worker.{Worker}
 use Rattle.mc_cache.specs.Resting.{RestsIn}
 use Rattle.mc_cache.proofs.Dealt.{each_front, each_last}
 use Rattle.mc_c.proofs.opening.open.Goals as goal

@@ -1,21 +1,20 @@
 -- An empty owner owns nothing. The other owner gives the proof a client to name.
-use mathlib.Core.Path.{◌≡◌, refl}
+use mathlib.Core.Path.{refl}
 use mathlib.Core.List.{List, [], ◌∷◌}
-use mathlib.Core.Bool.{Bool, false}
+use mathlib.Core.Bool.{false}
 use mir.Syntax.{named, w64}
 use Rattle.std.proofs.Common.{lit<}
 use mir.Val.{Val, vptr, vint, vstruct, vnil, vcons}
 use base.Logic.{SProp}
-use base.Fml.{ftrue, fsep}
 use contract.Running.{tables}
-use types.Kit.{Item, ‵, raw, ◌⊛◌, ◌$◌, ◌∵◌, !, qed, move, keep, drop, use1, join, split, fsplit, fjoin, fpack, feq_i, suffices, done}
+use types.Kit.{‵, raw, ◌⊛◌, ◌$◌, ◌∵◌, !, qed, move, keep, join, split, fsplit, fjoin, fpack, feq_i, suffices, done}
 use types.Run.{lit, no_more, and_then, returns, enter}
 use types.ByLocal.{alloc_all, pass_all, free_all, look_at, get, sets}
 use types.Part.{agg}
 use denote.Exit.{yes}
 use denote.RattleType.{Valss, owns}
 use denote.RawPtr.{RawPtr, null_ptr, ptr_val}
-use denote.Ref.{ShrRef, shr_vals, shr_Tells}
+use denote.Ref.{shr_vals, shr_Tells}
 use denote.Builtin.{RefOf}
 use denote.Signature.{plain, types_at}
 use denote.Steps.{nothing}
