@@ -5,3 +5,4 @@ pub mod Popped
 pub mod Rising
 pub mod Misses
 pub mod Outcomes
+pub mod Unheld

@@ -6,6 +6,7 @@ mod opened;
 mod remembered;
 mod resting;
 mod shared;
+mod tended;
 mod unused;
 mod watched;
 
@@ -15,5 +16,6 @@ pub use opened::{OpenError, Opened, open_within};
 pub use remembered::{Answer, remember};
 pub use resting::Client;
 pub use shared::share;
+pub use tended::tend_whole;
 pub use unused::get_from_new;
 pub use watched::tend_and_tell;

@@ -1,5 +1,5 @@
 -- What one call does on one shard.
-use Rattle.std.proofs.Common.{None, Some, ◌≡◌, ◌<◌, ◌∙◌, ◌++◌, ℕ, Bool, true, false, List, Err, MatchResult, Ok, OnErr, Result, ap, arith, get_or, is_ok, length, refl, set, subst, sym, true≢false}
+use Rattle.std.proofs.Common.{None, Some, ◌≡◌, ◌<◌, ◌∙◌, ℕ, List, Err, MatchResult, Ok, OnErr, Result, ap, arith, get_or, is_ok, length, refl, set, subst, sym, true≢false}
 use Rattle.std.proofs.lemmas.Option.{slice_get_read}
 use Rattle.mc_words.specs.declared.arena.Arena.{Arena}
 use Rattle.mc_words.specs.declared.hand.Hand.{Hand}

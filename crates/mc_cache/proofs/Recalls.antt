@@ -1,5 +1,5 @@
 -- What a hand did once it was recalled, it did as it lay.
-use Rattle.std.proofs.Common.{◌≡◌, Option, Result, ℕ, inl, inr, subst, true, ◌⊎◌}
+use Rattle.std.proofs.Common.{◌≡◌, Option, Result, ℕ, inl, inr, subst, true}
 use Rattle.mc_pages.specs.declared.moves.Reassign.{Reassign}
 use Rattle.mc_words.specs.declared.hand.Hand.{Hand}
 use Rattle.mc_words.specs.hand.Arenas.{view}
@@ -13,7 +13,7 @@ use Rattle.mc_watch.specs.Decider.{DeciderState}
 use Rattle.mc_cache.specs.Windows.{EndsWindow}
 use Rattle.mc_cache.specs.declared.window_within.WindowEnd.{WindowEnd}
 use Rattle.mc_cache.specs.declared.window_within.WindowEnd.TheVariants as window_end
-use Rattle.mc_cache.specs.WindowsWithin.{EndsWindowWithin, MissesEachTime, MissesMove, MissesWindow}
+use Rattle.mc_cache.specs.WindowsWithin.{EndsWindowWithin, MissesEachTime, MissesWindow}
 
 module _ (before again : Hand) (same : view again ≡ view before) (number : hand_number again ≡ hand_number before) where
   -- what was done under the slabs lock

@@ -1,5 +1,5 @@
 -- Worked cases of caches, which the prover computes.
-use Rattle.std.specs.Prelude.{◌≡◌, None, Some, ◌∷◌, [], false, true}
+use Rattle.std.specs.Prelude.{◌≡◌, None, Some, ◌∷◌, []}
 use Rattle.mc_mover.specs.declared.counts.Turn.TheVariants.{Finished, Went}
 use Rattle.mc_cache.specs.declared.opening.CacheConfig.{CacheConfig}
 use Rattle.mc_cache.specs.Bytes.{cache_bytes, config_table_bytes}

@@ -1,5 +1,5 @@
 -- When a cache is refused to a caller that doesn't wait.
-use Rattle.std.specs.Prelude.{◌≡◌, ℕ, List, None, Ok, Err, Result, unwrap_or}
+use Rattle.std.specs.Prelude.{◌≡◌, None, Ok, Err, Result, unwrap_or}
 use Rattle.mc_cache.specs.declared.opening.CacheConfig.{CacheConfig}
 use Rattle.mc_cache.specs.declared.opening.NewError.TheVariants as new_error
 use Rattle.mc_cache.specs.declared.opening_within.NewWithinError.{NewWithinError}

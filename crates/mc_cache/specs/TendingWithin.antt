@@ -1,8 +1,7 @@
 -- What a tender does on all shards where it tries for each lock.
-use Rattle.std.specs.Prelude.{◌≡◌, ◌<◌, ℕ, List, Option, Result, fold, if◌then◌else◌, length, slice_index_or}
+use Rattle.std.specs.Prelude.{◌≡◌, ◌<◌, ℕ, List, Option, Result, fold, if◌then◌else◌, slice_index_or}
 use Rattle.mc_pages.specs.declared.moves.Reassign.{Reassign}
 use Rattle.mc_watch.specs.Decider.{DeciderState}
-use Rattle.mc_words.specs.declared.arena.Arena.{Arena}
 use Rattle.mc_words.specs.declared.hand.Hand.{Hand}
 use Rattle.mc_words.specs.page.Moves.{Reassigns}
 use Rattle.mc_mover.specs.declared.numbers.Survey.{Survey}

@@ -5,7 +5,6 @@ use Rattle.mc_core.specs.declared.head.Head.{Head}
 use Rattle.mc_core.specs.past.Past.{Own}
 use Rattle.mc_stripe.specs.declared.history.Call.TheVariants as call
 use Rattle.mc_stripe.specs.declared.history.Call.{Call}
-use Rattle.mc_stripe.specs.StripeState.{ReadyStripe}
 use Rattle.mc_words.specs.declared.hand.Hand.{Hand}
 use Rattle.mc_words.specs.declared.item.refs.Again.{Again}
 use Rattle.mc_words.specs.declared.item.refs.Again.TheVariants.{Gone, Contended, TooManyRefs}
@@ -17,7 +16,7 @@ use Rattle.mc_words.specs.hand.Observers.{hand_number}
 use Rattle.mc_words.specs.hand.View.{Setup, View}
 use Rattle.mc_words.specs.hand.Views.{chunk_released, word_seen}
 use Rattle.mc_items.specs.declared.refs.Ref.{Ref}
-use Rattle.mc_items.specs.Calls.{RecordsCall, RecordsNoCall}
+use Rattle.mc_items.specs.Calls.{RecordsNoCall}
 use Rattle.mc_items.specs.OnKeys.{GetsByHint, RecordsOn, stripe_of_key}
 use Rattle.mc_cache.specs.shard.Recording.{RecordsDeleteAtMost, RecordsGetAtMost}
 

@@ -1,7 +1,6 @@
 use Rattle.std.proofs.Common.{◌+◌, ◌-◌, ◌≡◌, ◌∙◌, List, Ok, arith, drop, length, subst, sym, take}
 use Rattle.std.proofs.lemmas.List.{take_at}
 use Rattle.mc_words.specs.declared.arena.Arena.{Arena}
-use Rattle.mc_words.specs.declared.hand.Hand.{Hand}
 use Rattle.mc_words.specs.hand.Arenas.{setup_of}
 use Rattle.mc_words.specs.hand.Hands.{IsMadeWith}
 use Rattle.mc_cache.specs.declared.cache.Worker.{Worker}

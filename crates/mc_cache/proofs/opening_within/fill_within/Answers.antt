@@ -1,4 +1,4 @@
-use Rattle.std.proofs.Common.{◌+◌, ◌≡◌, ◌∙◌, ℕ, Ok, ap, true}
+use Rattle.std.proofs.Common.{◌+◌, ◌∙◌, ℕ, Ok, ap}
 use Rattle.mc_cache.proofs.opening_within.fill_within.Goals as goal
 
 pub loop-preserved : goal.loop-preserved

@@ -1,4 +1,4 @@
-use Rattle.std.proofs.Common.{Err, ◌≡◌, ◌+◌, ◌*◌, ◌≤◌, ◌∙◌, ℕ, List, Option, Some, IfSome, ap, inl, inr, length, refl, subst, sym}
+use Rattle.std.proofs.Common.{Err, ◌≡◌, ◌+◌, ◌*◌, ◌≤◌, ◌∙◌, ℕ, List, Option, Some, IfSome, ap, inr, length, subst, sym}
 use Rattle.mc_classes.specs.Classes.{Classes, IsClass, class_of, size_of}
 use Rattle.mc_words.specs.hand.Arenas.{setup_of, view}
 use Rattle.mc_words.specs.hand.View.{Setup, View}

@@ -1,4 +1,4 @@
-use Rattle.std.proofs.Common.{◌≡◌, ◌∙◌, ◌+◌, ℕ, Bool, Err, None, Ok, OnErr, Result, ap, inl, inr, subst}
+use Rattle.std.proofs.Common.{◌∙◌, ◌+◌, ℕ, Bool, Err, None, Ok, OnErr, Result, ap, inl, inr, subst}
 use Rattle.mc_packing.specs.Packing.{IsPackingOf}
 use Rattle.mc_words.specs.hand.Arenas.{setup_of, view}
 use Rattle.mc_items.specs.ItemRefs.{item_words}
