@@ -7,8 +7,12 @@
  * `make install` installs both, this header, and what pkg-config prints: cc first.c $(pkg-config --cflags --libs noddrefil) -o first
  *
  * A cache has a fixed number of workers, and one tender. mc_open makes all of them. It fills the handle of the first worker and that of the
- * tender; mc_join fills the handles of the other workers. A thread that stores or reads has a worker of its own. The tender is what will move
- * pages of memory to the sizes of items that are asked for. No call of this header does so yet: a page stays with the size that took it first.
+ * tender; mc_join fills the handles of the other workers. A thread that stores or reads has a worker of its own. One thread more has the tender,
+ * and calls mc_tend about once a second. That call moves pages of memory to the sizes of items that are asked for. A program may leave the tender
+ * alone: then a page stays with the size that took it first.
+ *
+ * A cache consists of shards, and each shard has pages of its own. A class is one size of chunks. Each page belongs to a class, which cuts it into
+ * its chunks, or to the shard's pool. Class 1 has the smallest chunks.
  *
  * Who owns what. A handle is a struct of the caller's, and what it leads to is the library's. The caller closes each handle that was filled, in
  * any order and by any thread; the last one frees the cache. The library keeps no pointer to a key, to a value or to a buffer once a call has
@@ -47,6 +51,11 @@ enum mc_code {
     MC_NO_WORKERS = 8,     /* all workers were given out */
     MC_CLOSED = 9,         /* the handle is closed, or of the other kind */
     MC_BAD_KEY = 10,       /* a key has from 1 to 250 bytes */
+    MC_BUSY = 11,          /* a page of the shard moves already */
+    MC_BAD_CLASS = 12,     /* there is no such class */
+    MC_NO_SPARE = 13,      /* the source has fewer than two pages */
+    MC_SAME_CLASS = 14,    /* source and destination are one class */
+    MC_OUT_OF_RANGE = 15,  /* there is no such shard, or no such mode */
 
     /* why a configuration is refused: the first test that it fails */
     MC_BAD_SHARDS = 16,    /* from 1 to 4096 */
@@ -84,6 +93,35 @@ typedef struct mc_config {
     uint64_t hash_second;  /* where others choose the keys */
 } mc_config;
 
+/* What a window of all shards did. */
+typedef struct mc_tended {
+    uint64_t began;        /* the moves of a page that began */
+    uint64_t ended;        /* the moves of a page that ended */
+    uint64_t rescued;      /* the items that a move took to another chunk of their class */
+    uint64_t evicted;      /* the items that a move evicted, as their class had no other chunk */
+    uint64_t held;         /* the shards whose window ended early, as other workers had a lock at each try */
+} mc_tended;
+
+/* What a class has on all shards together. */
+typedef struct mc_class_stats {
+    uint64_t size;         /* the bytes of a chunk */
+    uint64_t per_page;     /* the chunks of a page */
+    uint64_t pages;        /* the pages of the class, those that move counted in */
+    uint64_t free_chunks;  /* the chunks of the free lists; a deleted item's is among them from the next window on */
+    uint64_t evictions;    /* the items that were ever evicted to make room */
+} mc_class_stats;
+
+/* What all shards have together. */
+typedef struct mc_totals {
+    uint64_t granted;      /* the pages that were ever granted to a class */
+    uint64_t pool;         /* the pages in the pools */
+    uint64_t moving;       /* the shards of which a page moves */
+    uint64_t ended;        /* the moves that ended */
+    uint64_t rescued;      /* the items that moves took to another chunk of their class */
+    uint64_t evicted;      /* the items that moves evicted */
+    uint64_t busy;         /* how often a move met a chunk that somebody held */
+} mc_totals;
+
 /* Writes a configuration of a cache that takes at most this many bytes, all that grows with its items counted in, for items of which most have
  * `usual_item` bytes of key and value. It leaves the two numbers of the hash alone: set them. MC_BAD_WORKERS, MC_TOO_FEW_BYTES. */
 uint32_t mc_config_for_bytes(mc_config *config, uint64_t bytes, uint64_t usual_item, uint64_t workers);
@@ -111,6 +149,26 @@ uint32_t mc_delete(mc_worker *worker, const uint8_t *key, size_t key_len, uint64
 
 /* Makes the key's item the last one of its size to be evicted. MC_MISSING; MC_HELD, MC_NO_MEMORY, MC_BAD_KEY, MC_CLOSED. */
 uint32_t mc_touch(mc_worker *worker, const uint8_t *key, size_t key_len, uint64_t tries);
+
+/* Does a window of each shard: call it about once a second. The chunks of items that are gone are put back. The shard's classes are looked at,
+ * and a page may begin to move. Up to 16 turns of the move are done; a turn looks at `bulk` chunks. A window that other workers hold up is
+ * counted in `held`, and the next call does it. MC_NO_MEMORY: it stopped at a shard, what was done stays, and *done is left alone; MC_CLOSED.
+ * It never returns MC_HELD. */
+uint32_t mc_tend(mc_tender *tender, uint64_t tries, mc_tended *done);
+
+/* Writes what all shards have together, of each class to `classes`, class 1 first, and how many classes there are to *count. `room` is how many
+ * classes fit into `classes`. One shard is counted after another, so not all at one moment. MC_TOO_SMALL where `room` is too small: *count
+ * alone is written; MC_HELD, MC_NO_MEMORY, MC_CLOSED: nothing is written. */
+uint32_t mc_stats(mc_tender *tender, uint64_t tries, mc_totals *totals, mc_class_stats *classes, size_t room, uint64_t *count);
+
+/* Sets the mode of all shards. In mode 2 a store that evicts asks for a page of any class at once. The modes 0 and 1 are alike here, and mc_open
+ * leaves mode 0. MC_OUT_OF_RANGE for another mode; MC_HELD, where some shards may have the mode already; MC_CLOSED. */
+uint32_t mc_automove(mc_tender *tender, uint64_t mode, uint64_t tries);
+
+/* Begins to move a page of the shard from class `src` to class `dst`; mc_tend does the turns. The first shard is 0. A `src` of 0 picks a class
+ * with more than one page, and a `dst` of 0 is the shard's pool. MC_OUT_OF_RANGE where there is no such shard; MC_BUSY; MC_SAME_CLASS;
+ * MC_BAD_CLASS, also where no class can be picked; MC_NO_SPARE; MC_HELD, MC_NO_MEMORY, MC_CLOSED. */
+uint32_t mc_reassign(mc_tender *tender, uint64_t shard, uint64_t src, uint64_t dst, uint64_t tries);
 
 /* Closes a handle. What only it led to is freed. MC_CLOSED where it was closed. */
 uint32_t mc_close(mc_handle *handle);
@@ -147,6 +205,30 @@ static inline uint32_t mc_touch_again(mc_worker *worker, const uint8_t *key, siz
 {
     uint32_t code;
     while ((code = mc_touch(worker, key, key_len, MC_TRIES)) == MC_HELD)
+        sched_yield();
+    return code;
+}
+
+static inline uint32_t mc_stats_again(mc_tender *tender, mc_totals *totals, mc_class_stats *classes, size_t room, uint64_t *count)
+{
+    uint32_t code;
+    while ((code = mc_stats(tender, MC_TRIES, totals, classes, room, count)) == MC_HELD)
+        sched_yield();
+    return code;
+}
+
+static inline uint32_t mc_automove_again(mc_tender *tender, uint64_t mode)
+{
+    uint32_t code;
+    while ((code = mc_automove(tender, mode, MC_TRIES)) == MC_HELD)
+        sched_yield();
+    return code;
+}
+
+static inline uint32_t mc_reassign_again(mc_tender *tender, uint64_t shard, uint64_t src, uint64_t dst)
+{
+    uint32_t code;
+    while ((code = mc_reassign(tender, shard, src, dst, MC_TRIES)) == MC_HELD)
         sched_yield();
     return code;
 }
