@@ -3,6 +3,9 @@
 //! [`Cache::open`] makes a cache. Each thread takes a [`Worker`] of its own from it, and stores and reads by the worker. A call that meets
 //! another thread's lock tries some times, then lets other threads run, and tries again.
 //!
+//! Items of one size lie in pages of memory of their own. The cache's [`Tender`] moves pages to the sizes that are asked for: a thread of its
+//! own calls [`Tender::tend`] about once a second. Without that, a page stays with the size that took it first.
+//!
 //! ```
 //! use noddrefil::{Cache, Config};
 //!
@@ -22,6 +25,7 @@
 mod raw;
 
 use raw::Handle;
+pub use raw::{ClassStats, Tended, Totals};
 use std::fmt;
 use std::sync::Mutex;
 use std::thread;
@@ -31,6 +35,9 @@ const TRIES: u64 = 64;
 
 /// The room for a value that a first get offers.
 const FIRST_ROOM: usize = 1024;
+
+/// The room for classes that a first look at all of them offers.
+const FIRST_CLASSES: usize = 64;
 
 /// Why a call was refused.
 #[derive(Clone, Copy, Debug, PartialEq, Eq)]
@@ -47,6 +54,16 @@ pub enum Error {
     NoWorkers,
     /// A key has from 1 to 250 bytes.
     BadKey,
+    /// A page of the shard moves already.
+    Busy,
+    /// There is no such class, or none can be picked.
+    BadClass,
+    /// The source has fewer than two pages.
+    NoSpare,
+    /// Source and destination are one class.
+    SameClass,
+    /// There is no such shard, or no such mode.
+    OutOfRange,
     /// The configuration is refused: the code of noddrefil.h.
     Config(u32),
 }
@@ -60,6 +77,11 @@ impl fmt::Display for Error {
             Error::NoMemory => to.write_str("out of memory; the key has what it had"),
             Error::NoWorkers => to.write_str("all workers were given out"),
             Error::BadKey => to.write_str("a key must have from 1 to 250 bytes"),
+            Error::Busy => to.write_str("a page of the shard moves already"),
+            Error::BadClass => to.write_str("there is no such class"),
+            Error::NoSpare => to.write_str("the source has fewer than two pages"),
+            Error::SameClass => to.write_str("source and destination are one class"),
+            Error::OutOfRange => to.write_str("there is no such shard or mode"),
             Error::Config(code) => write!(to, "the configuration is refused with code {code} of noddrefil.h"),
         }
     }
@@ -88,6 +110,11 @@ fn answer(code: u32) -> Result<Answer, Error> {
         6 => Err(Error::NoMemory),
         8 => Err(Error::NoWorkers),
         10 => Err(Error::BadKey),
+        11 => Err(Error::Busy),
+        12 => Err(Error::BadClass),
+        13 => Err(Error::NoSpare),
+        14 => Err(Error::SameClass),
+        15 => Err(Error::OutOfRange),
         9 => unreachable!("each handle is open until it is dropped"),
         code => Err(Error::Config(code)),
     }
@@ -127,6 +154,11 @@ impl Config {
         self
     }
 
+    /// How many shards the cache has. Each has pages of its own.
+    pub fn shards(&self) -> u64 {
+        self.raw.shards
+    }
+
     /// How many bytes the cache asks the allocator for and keeps.
     pub fn bytes(&self) -> Result<u64, Error> {
         let mut bytes = 0;
@@ -135,10 +167,10 @@ impl Config {
     }
 }
 
-/// A cache. Its memory is freed once it and all its workers are dropped.
+/// A cache. Its memory is freed once it, its tender and all its workers are dropped.
 pub struct Cache {
     first: Mutex<Handle>,
-    _tender: Handle,
+    tender: Mutex<Option<Handle>>,
 }
 
 impl Cache {
@@ -148,7 +180,7 @@ impl Cache {
         answer(unsafe { raw::mc_open(&config.raw, config.workers, &mut first, &mut tender) })?;
         Ok(Cache {
             first: Mutex::new(first),
-            _tender: tender,
+            tender: Mutex::new(Some(tender)),
         })
     }
 
@@ -159,10 +191,13 @@ impl Cache {
         answer(unsafe { raw::mc_join(&mut *first, &mut handle) })?;
         Ok(Worker { handle })
     }
-}
 
-// A cache is shared by the mutex alone.
-unsafe impl Sync for Cache {}
+    /// The tender. A cache has one: `None` where it was taken before.
+    pub fn tender(&self) -> Option<Tender> {
+        let mut tender = self.tender.lock().unwrap_or_else(|broken| broken.into_inner());
+        tender.take().map(|handle| Tender { handle })
+    }
+}
 
 /// What one thread stores and reads with.
 pub struct Worker {
@@ -214,5 +249,75 @@ impl Worker {
     pub fn touch(&mut self, key: &[u8]) -> Result<bool, Error> {
         let done = until_done(|| unsafe { raw::mc_touch(&mut self.handle, key.as_ptr(), key.len(), TRIES) })?;
         Ok(done == Answer::Done)
+    }
+}
+
+/// What one thread moves pages with, between the sizes of items.
+///
+/// Items of sizes that are near one another have chunks of one *class*, and each page belongs to a class of its shard or to the shard's pool.
+///
+/// ```
+/// use noddrefil::{Cache, Config};
+///
+/// let cache = Cache::open(&Config::for_bytes(16 << 20, 100, 1)?.with_hash_key(1, 2))?;
+/// let mut worker = cache.worker()?;
+/// let mut tender = cache.tender().expect("it wasn't taken");
+/// worker.set(b"greeting", b"hello")?;
+/// tender.tend()?; // once a second, in a thread of its own
+/// let stats = tender.stats()?;
+/// assert_eq!(stats.classes[0].pages, 1);
+/// assert_eq!(stats.classes[0].free_chunks, stats.classes[0].per_page - 1);
+/// # Ok::<(), noddrefil::Error>(())
+/// ```
+pub struct Tender {
+    handle: Handle,
+}
+
+/// What a tender counts.
+#[derive(Clone, Debug, PartialEq, Eq)]
+pub struct Stats {
+    /// What each class has on all shards together, class 1 first.
+    pub classes: Vec<ClassStats>,
+    /// What all shards have together.
+    pub totals: Totals,
+}
+
+impl Tender {
+    /// Does a window of each shard: the chunks of items that are gone are put back, a page may begin to move, and up to 16 turns of the move are
+    /// done. At `NoMemory` it stopped at a shard, and what was done stays.
+    pub fn tend(&mut self) -> Result<Tended, Error> {
+        let mut done = Tended::default();
+        answer(unsafe { raw::mc_tend(&mut self.handle, TRIES, &mut done) })?;
+        Ok(done)
+    }
+
+    /// What the classes and all shards have. One shard is counted after another, so not all at one moment.
+    pub fn stats(&mut self) -> Result<Stats, Error> {
+        let mut totals = Totals::default();
+        let mut classes = vec![ClassStats::default(); FIRST_CLASSES];
+        let mut count = 0;
+        loop {
+            let done = until_done(|| unsafe { raw::mc_stats(&mut self.handle, TRIES, &mut totals, classes.as_mut_ptr(), classes.len(), &mut count) })?;
+            classes.resize(count as usize, ClassStats::default());
+            if done == Answer::Done {
+                return Ok(Stats { classes, totals });
+            }
+        }
+    }
+
+    /// Sets the mode of all shards. In mode 2 a store that evicts asks for a page of any class at once. Modes 0 and 1 are alike, and a new cache
+    /// has mode 0. `OutOfRange` for another mode.
+    pub fn set_automove(&mut self, mode: u64) -> Result<(), Error> {
+        until_done(|| unsafe { raw::mc_automove(&mut self.handle, mode, TRIES) })?;
+        Ok(())
+    }
+
+    /// Begins to move a page of the shard from a class to another one, and `tend` does the turns. Without `src` a class with more than one page
+    /// is picked. A `dst` of 0 is the shard's pool.
+    pub fn reassign(&mut self, shard: u64, src: Option<u64>, dst: u64) -> Result<(), Error> {
+        // The library takes a class 0 for none that is named.
+        let src = src.map_or(Ok(0), |class| if class == 0 { Err(Error::BadClass) } else { Ok(class) })?;
+        until_done(|| unsafe { raw::mc_reassign(&mut self.handle, shard, src, dst, TRIES) })?;
+        Ok(())
     }
 }
