@@ -1,64 +1,60 @@
 //! A server that speaks memcached's text protocol. Sockets and protocol are plain Rust, and unproved; the cache below is proved.
-mod command;
 mod counts;
 mod item;
 mod options;
+mod pages;
 mod session;
 mod shared;
 mod store;
+mod words;
 
-use counts::Counter;
 use options::Options;
-use shared::Shared;
+use shared::{lock, Shared};
+use std::error::Error;
 use std::net::{TcpListener, TcpStream};
 use std::process::ExitCode;
 use std::sync::Arc;
-use std::{io, thread};
+use std::thread;
+use std::time::Duration;
+
+/// How often the tender looks at the pages.
+const WINDOW: Duration = Duration::from_secs(1);
 
 fn main() -> ExitCode {
-    let options = match Options::read(std::env::args().skip(1)) {
-        Ok(options) => options,
-        Err(fault) => {
-            eprintln!("noddrefil-server: {fault}\n{}", options::USAGE);
-            return ExitCode::from(2);
-        }
-    };
-    match run(&options) {
-        Ok(()) => ExitCode::SUCCESS,
-        Err(fault) => {
-            eprintln!("noddrefil-server: {fault}; nothing is served");
-            ExitCode::FAILURE
-        }
-    }
+    let served = Options::read(std::env::args().skip(1)).map_err(Box::from).and_then(serve);
+    let Err(fault) = served else { return ExitCode::SUCCESS };
+    eprintln!("noddrefil-server: {fault}");
+    ExitCode::FAILURE
 }
 
-fn run(options: &Options) -> Result<(), Box<dyn std::error::Error>> {
-    let shared = Arc::new(Shared::new(options.bytes, options.usual_item, options.workers)?);
-    let listener = TcpListener::bind((options.address.as_str(), options.port))?;
+fn serve(options: Options) -> Result<(), Box<dyn Error>> {
+    let shared: &Shared = Box::leak(Box::new(Shared::new(&options)?)); // it stays as long as the process
+    thread::Builder::new().spawn(|| loop {
+        thread::sleep(WINDOW);
+        lock(&shared.pages).tend();
+        shared.settle_flush();
+    })?;
+    let listener = TcpListener::bind((options.address, options.port))?;
     println!("listening on {}", listener.local_addr()?);
-    for stream in listener.incoming() {
-        let Ok(stream) = stream else { continue };
-        if shared.counts.get(Counter::Connections) >= options.connections {
-            eprintln!("noddrefil-server: a connection is closed: {} are open", options.connections);
-            continue;
-        }
-        shared.counts.add(Counter::Connections, 1);
-        shared.counts.add(Counter::AllConnections, 1);
-        let its = Arc::clone(&shared);
-        let begun = thread::Builder::new().spawn(move || {
-            // What a client does to its connection ends that connection alone.
-            let _ended = connect(stream, &its);
-            its.counts.take(Counter::Connections, 1);
-        });
-        if let Err(fault) = begun {
-            shared.counts.take(Counter::Connections, 1);
-            eprintln!("noddrefil-server: a connection is closed: no thread was started: {fault}");
+    for (number, stream) in listener.incoming().flatten().enumerate() {
+        if let Err(fault) = begin(stream, shared, number, options.connections) {
+            eprintln!("noddrefil-server: a connection is closed: {fault}");
         }
     }
     Ok(())
 }
 
-fn connect(stream: TcpStream, shared: &Shared) -> io::Result<()> {
+// Starts the thread of a connection, unless as many are open as there may be.
+fn begin(stream: TcpStream, shared: &'static Shared, number: usize, most: usize) -> Result<(), Box<dyn Error>> {
+    let open = Arc::clone(&shared.open);
+    if Arc::strong_count(&open) > most + 1 {
+        return Err(format!("{most} are open").into());
+    }
     stream.set_nodelay(true)?;
-    session::serve(stream, shared)
+    thread::Builder::new().spawn(move || {
+        // What a client does to its connection ends that connection alone.
+        let _ended = session::serve(stream, shared, number);
+        drop(open);
+    })?;
+    Ok(())
 }
