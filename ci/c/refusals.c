@@ -1,6 +1,7 @@
-/* Each request for memory is refused in turn, while one thread opens a cache, joins a worker, stores, reads, deletes, and closes all. Behind a
- * refusal the key has what it had, a handle that wasn't filled is closed, and at the end no memory is left. It is linked with the wrappers of
- * malloc, realloc and free that stand here. The status is 0 where nothing was wrong. */
+/* Each request for memory is refused in turn, while one thread opens a cache, joins a worker, stores, reads, deletes, moves pages, counts them,
+ * and closes all. Behind a refusal the key has what it had, a handle that wasn't filled is closed, what a call was to write is left alone, and
+ * at the end no memory is left. It is linked with the wrappers of malloc, realloc and free that stand here. The status is 0 where nothing was
+ * wrong. */
 #include "noddrefil.h"
 #include <stdio.h>
 #include <stdlib.h>
@@ -38,7 +39,7 @@ void __wrap_free(void *old)
 
 static const mc_config shape = {.page = 1024, .limit = 4096, .first = 64, .num = 2, .den = 1, .max = 1024, .stripes = 4, .bulk = 8,
                                 .shards = 2, .hash_first = 1, .hash_second = 2};
-enum { KEYS = 24, LEN = 100 };
+enum { KEYS = 24, LEN = 100, CLASSES = 5 };
 
 /* The first byte that was stored last under each key. */
 static uint8_t stored[KEYS];
@@ -66,6 +67,28 @@ static uint64_t wrong_calls(mc_worker *worker, uint8_t begin)
     return wrong;
 }
 
+/* Windows, counts and moves. What is refused memory writes nothing. */
+static uint64_t wrong_tending(mc_tender *tender)
+{
+    uint64_t wrong = 0;
+    for (uint64_t step = 0; step < 12; step++) {
+        mc_tended done = {7, 7, 7, 7, 7};
+        mc_totals totals = {7, 7, 7, 7, 7, 7, 7};
+        mc_class_stats classes[CLASSES] = {{7, 7, 7, 7, 7}};
+        uint64_t count = 7;
+        uint32_t moved = mc_reassign(tender, step % shape.shards, 0, step % 5, 1);
+        wrong += moved != MC_OK && moved != MC_BUSY && moved != MC_BAD_CLASS && moved != MC_NO_MEMORY;
+        uint32_t tended = mc_tend(tender, 1, &done);
+        wrong += tended != MC_OK && tended != MC_NO_MEMORY;
+        wrong += tended == MC_OK ? done.held != 0 : done.began != 7 || done.held != 7;
+        uint32_t counted = mc_stats(tender, 1, &totals, classes, CLASSES, &count);
+        wrong += counted != MC_OK && counted != MC_NO_MEMORY;
+        wrong += counted == MC_OK ? count != CLASSES || classes[0].size != shape.first : totals.granted != 7 || count != 7 || classes[0].size != 7;
+        wrong += mc_automove(tender, step % 3, 1) != MC_OK;
+    }
+    return wrong;
+}
+
 /* A run from the first call to the last. */
 static uint64_t wrong_codes(void)
 {
@@ -75,7 +98,7 @@ static uint64_t wrong_codes(void)
     if (opened != MC_OK)
         return (opened != MC_NO_MEMORY) + (mc_close(&first) != MC_CLOSED) + (mc_close(&tender) != MC_CLOSED);
     uint32_t joined = mc_join(&first, &second);
-    uint64_t wrong = wrong_calls(&first, 1);
+    uint64_t wrong = wrong_calls(&first, 1) + wrong_tending(&tender) + wrong_calls(&first, 50) + wrong_tending(&tender);
     if (joined == MC_OK)
         wrong += wrong_calls(&second, 100) + (mc_close(&second) != MC_OK);
     else

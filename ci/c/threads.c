@@ -1,13 +1,22 @@
 /* Threads store, read, delete and touch the same keys. Each value is a function of its key and of a number that it begins with, so a wrong byte
- * shows. Every handle that is wrong is answered. Usage: threads THREADS CALLS. The status is 0 where no byte was wrong. */
+ * shows. One thread more has the tender: it does windows, counts pages, and begins moves, until the others have ended. Every handle that is
+ * wrong is answered. Usage: threads THREADS CALLS. The status is 0 where no byte was wrong. */
 #include "noddrefil.h"
 #include <pthread.h>
 #include <stdio.h>
 #include <stdlib.h>
 #include <string.h>
 
-enum { KEYS = 2048, MOST = 63, LONGEST = 1500 };
+enum { KEYS = 2048, MOST = 63, LONGEST = 1500, CLASSES = 256 };
 static uint64_t calls;
+
+/* What the thread with the tender has, and whether it is to end. */
+static struct tending {
+    pthread_mutex_t lock;
+    mc_tender tender;
+    uint64_t shards, windows, held, begun, wrong;
+    int ends;
+} tending = {.lock = PTHREAD_MUTEX_INITIALIZER};
 
 struct thread {
     mc_worker worker;
@@ -79,6 +88,82 @@ static void *work(void *arg)
     return NULL;
 }
 
+static int tending_ends(int ends)
+{
+    pthread_mutex_lock(&tending.lock);
+    tending.ends |= ends;
+    ends = tending.ends;
+    pthread_mutex_unlock(&tending.lock);
+    return ends;
+}
+
+/* Whether the numbers of the classes and of all agree. A page that moves is still its class's, so each granted page is a class's or in the pool.
+ * Each shard is counted under its lock, so that holds while others store. */
+static int agree(const mc_totals *totals, const mc_class_stats *classes, uint64_t count)
+{
+    uint64_t pages = totals->pool, wrong = totals->moving > tending.shards;
+    for (uint64_t place = 0; place < count; place++) {
+        pages += classes[place].pages;
+        wrong += classes[place].free_chunks > classes[place].pages * classes[place].per_page;
+        wrong += place && classes[place].size <= classes[place - 1].size;
+    }
+    return !wrong && pages == totals->granted;
+}
+
+/* Windows, counts and moves, one after another, until the other threads have ended. */
+static void *tend(void *arg)
+{
+    static mc_class_stats classes[CLASSES];
+    mc_tended done;
+    mc_totals totals;
+    (void)arg;
+    for (uint64_t turn = 0; !tending_ends(0); turn++) {
+        uint64_t count = 0;
+        uint32_t code = mc_tend(&tending.tender, 1 + turn % MC_TRIES, &done);
+        tending.windows++;
+        tending.wrong += code != MC_OK;
+        tending.held += code == MC_OK ? done.held : 0;
+        code = mc_stats_again(&tending.tender, &totals, classes, CLASSES, &count);
+        tending.wrong += code != MC_OK || !agree(&totals, classes, count);
+        code = mc_reassign_again(&tending.tender, turn % tending.shards, turn % 3 ? 0 : 1 + turn % count, turn % (count + 1));
+        tending.begun += code == MC_OK;
+        tending.wrong += code != MC_OK && code != MC_BUSY && code != MC_BAD_CLASS && code != MC_NO_SPARE && code != MC_SAME_CLASS;
+        tending.wrong += mc_automove_again(&tending.tender, turn % 3) != MC_OK;
+        sched_yield();
+    }
+    return NULL;
+}
+
+/* What the tender's calls answer to handles and numbers that are wrong. The cache is new, so no class has a page to spare. */
+static uint64_t wrong_tending(mc_worker *worker, mc_tender *tender)
+{
+    mc_tender none = {0}, *others[] = {&none, worker};
+    mc_tended done = {7, 7, 7, 7, 7};
+    mc_totals totals = {7, 7, 7, 7, 7, 7, 7};
+    mc_class_stats classes[CLASSES];
+    uint64_t count = 7, wrong = 0;
+    for (size_t place = 0; place < 2; place++) {
+        wrong += mc_tend(others[place], 1, &done) != MC_CLOSED || done.held != 7;
+        wrong += mc_stats(others[place], 1, &totals, classes, CLASSES, &count) != MC_CLOSED || totals.granted != 7 || count != 7;
+        wrong += mc_automove(others[place], 1, 1) != MC_CLOSED;
+        wrong += mc_reassign(others[place], 0, 0, 1, 1) != MC_CLOSED;
+    }
+    wrong += mc_stats(tender, 1, &totals, classes, 0, &count) != MC_TOO_SMALL || totals.granted != 7 || count < 2 || count > CLASSES;
+    uint64_t known = count;
+    wrong += mc_stats(tender, 1, &totals, classes, known - 1, &count) != MC_TOO_SMALL || totals.granted != 7 || count != known;
+    wrong += mc_stats(tender, 1, &totals, classes, known, &count) != MC_OK || count != known || !agree(&totals, classes, count);
+    wrong += mc_automove(tender, 3, 1) != MC_OUT_OF_RANGE || mc_automove(tender, UINT64_MAX, 1) != MC_OUT_OF_RANGE;
+    wrong += mc_reassign(tender, tending.shards, 1, 2, 1) != MC_OUT_OF_RANGE || mc_reassign(tender, UINT64_MAX, 1, 2, 1) != MC_OUT_OF_RANGE;
+    wrong += mc_reassign(tender, 0, known + 1, 1, 1) != MC_BAD_CLASS || mc_reassign(tender, 0, 1, known + 1, 1) != MC_BAD_CLASS;
+    wrong += mc_reassign(tender, 0, UINT64_MAX, 1, 1) != MC_BAD_CLASS || mc_reassign(tender, 0, 1, UINT64_MAX, 1) != MC_BAD_CLASS;
+    wrong += mc_reassign(tender, 0, 0, 1, 1) != MC_BAD_CLASS;
+    wrong += mc_reassign(tender, 0, 1, 1, 1) != MC_SAME_CLASS;
+    wrong += mc_reassign(tender, tending.shards - 1, 1, 2, 1) != MC_NO_SPARE;
+    wrong += mc_tend(tender, 1, &done) != MC_OK || done.began || done.ended || done.held;
+    wrong += mc_automove(tender, 2, 1) != MC_OK;
+    return wrong;
+}
+
 /* The codes of handles that are closed, and of calls that are refused. */
 static uint64_t wrong_codes(mc_worker *worker, mc_tender *tender)
 {
@@ -104,22 +189,34 @@ static uint64_t wrong_codes(mc_worker *worker, mc_tender *tender)
     return wrong;
 }
 
+/* What the tender's calls answer once its handle is closed. */
+static uint64_t wrong_behind_close(mc_tender *tender)
+{
+    mc_tended done;
+    uint64_t wrong = mc_close(tender) != MC_OK;
+    wrong += mc_close(tender) != MC_CLOSED;
+    wrong += mc_tend(tender, 1, &done) != MC_CLOSED;
+    return wrong;
+}
+
 int main(int count, char **words)
 {
     static struct thread threads[MOST];
     static pthread_t ids[MOST];
     uint64_t number = count > 1 ? strtoull(words[1], 0, 10) : 4, wrong = 0, refused = 0, bytes = 0;
     mc_config config = {.hash_first = 1, .hash_second = 2};
-    mc_tender tender = {0};
+    pthread_t tends;
     calls = count > 2 ? strtoull(words[2], 0, 10) : 10000;
     if (number < 1 || number > MOST || mc_config_for_bytes(&config, 1 << 20, 200, number) || mc_bytes(&config, number, &bytes))
         return 2;
-    if (mc_open(&config, number, &threads[0].worker, &tender))
+    tending.shards = config.shards;
+    if (mc_open(&config, number, &threads[0].worker, &tending.tender))
         return 2;
     for (uint64_t place = 1; place < number; place++)
         if (mc_join(&threads[0].worker, &threads[place].worker))
             return 2;
-    wrong += wrong_codes(&threads[0].worker, &tender);
+    wrong += wrong_tending(&threads[0].worker, &tending.tender) + wrong_codes(&threads[0].worker, &tending.tender);
+    pthread_create(&tends, NULL, tend, NULL);
     for (uint64_t place = 0; place < number; place++) {
         threads[place].number = place;
         pthread_create(&ids[place], NULL, work, &threads[place]);
@@ -130,8 +227,12 @@ int main(int count, char **words)
         wrong += mc_close(&threads[place].worker) != MC_OK;
         wrong += mc_close(&threads[place].worker) != MC_CLOSED;
     }
-    wrong += mc_close(&tender) != MC_OK;
+    tending_ends(1);
+    pthread_join(tends, NULL);
+    wrong += tending.wrong + wrong_behind_close(&tending.tender);
     printf("wrong %llu\n", (unsigned long long)wrong);
     fprintf(stderr, "refused %llu\n", (unsigned long long)refused);
+    fprintf(stderr, "windows %llu, of shards held %llu, moves %llu\n", (unsigned long long)tending.windows, (unsigned long long)tending.held,
+            (unsigned long long)tending.begun);
     return wrong != 0;
 }
