@@ -83,7 +83,10 @@ static uint64_t wrong_tending(mc_tender *tender)
         wrong += tended == MC_OK ? done.held != 0 : done.began != 7 || done.held != 7;
         uint32_t counted = mc_stats(tender, 1, &totals, classes, CLASSES, &count);
         wrong += counted != MC_OK && counted != MC_NO_MEMORY;
-        wrong += counted == MC_OK ? count != CLASSES || classes[0].size != shape.first : totals.granted != 7 || count != 7 || classes[0].size != 7;
+        if (counted == MC_OK)
+            wrong += count != CLASSES || classes[0].size != shape.first;
+        else
+            wrong += totals.granted != 7 || count != 7 || classes[0].size != 7;
         wrong += mc_automove(tender, step % 3, 1) != MC_OK;
     }
     return wrong;

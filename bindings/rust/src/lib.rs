@@ -297,7 +297,8 @@ impl Tender {
         let mut classes = vec![ClassStats::default(); FIRST_CLASSES];
         let mut count = 0;
         loop {
-            let done = until_done(|| unsafe { raw::mc_stats(&mut self.handle, TRIES, &mut totals, classes.as_mut_ptr(), classes.len(), &mut count) })?;
+            let room = classes.len();
+            let done = until_done(|| unsafe { raw::mc_stats(&mut self.handle, TRIES, &mut totals, classes.as_mut_ptr(), room, &mut count) })?;
             classes.resize(count as usize, ClassStats::default());
             if done == Answer::Done {
                 return Ok(Stats { classes, totals });

@@ -148,7 +148,7 @@ fn pages_follow_the_sizes_that_are_asked_for() {
 #[test]
 fn pages_move_while_threads_store_and_read() {
     let (cache, mut tender, worker) = parts();
-    let mut workers = vec![worker, cache.worker().unwrap(), cache.worker().unwrap()];
+    let mut workers = [worker, cache.worker().unwrap(), cache.worker().unwrap()];
     tender.set_automove(2).unwrap();
     std::thread::scope(|scope| {
         let threads: Vec<_> = workers.iter_mut().enumerate().map(|(thread, worker)| scope.spawn(move || store_and_read(worker, thread))).collect();
