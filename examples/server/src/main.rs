@@ -47,7 +47,7 @@ fn serve(options: Options) -> Result<(), Box<dyn Error>> {
 // Starts the thread of a connection, unless as many are open as there may be.
 fn begin(stream: TcpStream, shared: &'static Shared, number: usize, most: usize) -> Result<(), Box<dyn Error>> {
     let open = Arc::clone(&shared.open);
-    if Arc::strong_count(&open) > most + 1 {
+    if Arc::strong_count(&open) - 1 > most {
         return Err(format!("{most} are open").into());
     }
     stream.set_nodelay(true)?;

@@ -34,7 +34,7 @@ impl Options {
             "-l" => self.address = word.to_string(),
             "-p" => self.port = word.parse().ok()?,
             "-m" => self.bytes = word.parse::<u64>().ok()?.saturating_mul(1 << 20),
-            "-t" => self.workers = word.parse().ok()?,
+            "-t" => self.workers = word.parse().ok().filter(|count| *count > 0)?,
             "-c" => self.connections = word.parse().ok()?,
             "-u" => self.usual_item = word.parse().ok()?,
             _ => return None,
