@@ -24,7 +24,7 @@ impl Options {
         let mut options = Options { address: "127.0.0.1".to_string(), port: 11_211, bytes: 64 << 20, workers: 8, connections: 1024, usual_item: 200 };
         while let Some(name) = words.next() {
             let set = words.next().and_then(|word| options.set(&name, &word));
-            set.ok_or_else(|| format!("'{name}' is no option, or lacks its value\n{USAGE}"))?;
+            set.ok_or_else(|| format!("'{name}' is no option, or its value is missing or wrong\n{USAGE}"))?;
         }
         Ok(options)
     }
