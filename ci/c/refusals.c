@@ -39,7 +39,7 @@ void __wrap_free(void *old)
 
 static const mc_config shape = {.page = 1024, .limit = 4096, .first = 64, .num = 2, .den = 1, .max = 1024, .stripes = 4, .bulk = 8,
                                 .shards = 2, .hash_first = 1, .hash_second = 2};
-enum { KEYS = 24, LEN = 100, CLASSES = 5 };
+enum { KEYS = 24, LEN = 100, CLASSES = 4 };
 
 /* The first byte that was stored last under each key. */
 static uint8_t stored[KEYS];
