@@ -56,5 +56,6 @@ pub use stats::{CacheStats, ClassStats, worked_stats};
 pub use tended::{Tended, worked_tended};
 pub use tending::Tender;
 pub use tending_within::TendedWithin;
+pub use window_within::Window;
 pub use working::{CallError, SetError, TryGetError};
 pub use working_within::{SetWithinError, WithinError};

@@ -18,11 +18,12 @@ use mc_watch::{Decider, Decision};
 use mc_words::{Arena, Hand};
 use std::alloc::Global;
 
-// What became of a window.
+/// What became of a shard's window that doesn't wait. Contracts alone name it.
 #[derive(Clone, Copy)]
-pub(crate) struct Window {
+pub struct Window {
+    /// What was done.
     pub done: Tended,
-    // Whether the window ended early, as each try for a lock missed.
+    /// Whether the window ended early, as each try for a lock missed.
     pub stopped: bool,
 }
 
