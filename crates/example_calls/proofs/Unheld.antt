@@ -10,7 +10,7 @@ use Rattle.mc_cache.specs.declared.tending_within.TendedWithin.{TendedWithin}
 use Rattle.mc_cache.specs.declared.window_within.Window.{Window}
 use Rattle.mc_cache.specs.Observers.{shard_count}
 use Rattle.mc_cache.specs.Tending.{TendsCache, TendsFirst, deciders_of, tended_with, tender_hands}
-use Rattle.mc_cache.specs.TendingWithin.{TendsCacheWithin, nothing_within, with_window}
+use Rattle.mc_cache.specs.TendingWithin.{TendsCacheWithin, nothing_within, with_shard_window}
 use Rattle.mc_cache.specs.Windows.{TendsShard, count_with, nothing_tended}
 use Rattle.mc_cache.specs.WindowsWithin.{TendsShardWithin}
 
@@ -31,16 +31,16 @@ one_before window windows first rest zero other less = first
 one_before window windows first rest (suc place) other less = rest place other (omega (arith, less))
 
 -- none of these was missed, where none is counted
-all_whole_from : (windows : List Window) (done : TendedWithin) → (fold with_window done windows).held ≡ 0 → (done.held ≡ 0) × AreWhole windows
+all_whole_from : (windows : List Window) (done : TendedWithin) → (fold with_shard_window done windows).held ≡ 0 → (done.held ≡ 0) × AreWhole windows
 all_whole_from [] done none = (none, λ place other less. absurd (omega (arith, less)))
 all_whole_from (window ∷ windows) done none =
-    let rest = all_whole_from windows (with_window done window) none in
+    let rest = all_whole_from windows (with_shard_window done window) none in
     let first = one_whole done.held window.stopped rest.0 in (first.0, one_before window windows first.1 rest.1)
 
 -- the sums of the windows are those of what each did
-sums_of : (windows : List Window) (done : TendedWithin) → (fold with_window done windows).tended ≡ fold tended_with done.tended (map (λ (w : Window). w.done) windows)
+sums_of : (windows : List Window) (done : TendedWithin) → (fold with_shard_window done windows).tended ≡ fold tended_with done.tended (map (λ (w : Window). w.done) windows)
 sums_of [] done = refl
-sums_of (window ∷ windows) done = sums_of windows (with_window done window)
+sums_of (window ∷ windows) done = sums_of windows (with_shard_window done window)
 
 some_window : Tended → Window
 some_window done = record { done = done; stopped = false }

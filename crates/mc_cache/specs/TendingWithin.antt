@@ -22,8 +22,8 @@ abbrev pub nothing_within : TendedWithin
 nothing_within = record { tended = nothing_tended; held = 0 }
 
 -- what was done, with a window of one more shard added
-abbrev pub with_window : TendedWithin → Window → TendedWithin
-with_window done window = record {
+abbrev pub with_shard_window : TendedWithin → Window → TendedWithin
+with_shard_window done window = record {
   tended = tended_with done.tended window.done;
   held = count_with (if window.stopped then 1 else 0) done.held;
 }
@@ -32,7 +32,7 @@ with_window done window = record {
 pub record TendsCacheWithin (tries : ℕ) (cache : Cache) (done : TendedWithin) (before now : Tender) : Type 0 where
   pub windows : List Window
   pub tends : TendsFirst (TendsShardWithin tries) (shard_count cache) (tender_hands before) (deciders_of before) (tender_hands now) (deciders_of now) windows
-  pub counted : done ≡ fold with_window nothing_within windows
+  pub counted : done ≡ fold with_shard_window nothing_within windows
 
 -- memory was refused on some shard: each shard before it did a window, and the hands and deciders of those behind it are as they were
 pub record TendsUpToRefusalWithin (tries : ℕ) (cache : Cache) (before now : Tender) : Type 0 where

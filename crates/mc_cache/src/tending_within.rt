@@ -1,7 +1,7 @@
 //! The calls of a tender that tries for each lock n times, and doesn't wait. A tender may lie in a struct between them. A caller that can't wait
 //! uses these calls: a static library can't. (own)
 ghost use Rattle.std.specs.Prelude.{◌≡◌};
-ghost use Rattle.mc_cache.specs.TendingWithin.{nothing_within, with_window};
+ghost use Rattle.mc_cache.specs.TendingWithin.{nothing_within, with_shard_window};
 
 use crate::cache::Cache;
 use crate::resting::recall;
@@ -35,7 +35,7 @@ impl TendedWithin {
 
     // Counts a window of one shard more, too.
     fn add(&mut self, window: Window)
-        ensures added { self.new ≡ with_window self.old window }
+        ensures added { self.new ≡ with_shard_window self.old window }
     {
         self.tended.add(window.done);
         let more = if window.stopped { 1 } else { 0 };

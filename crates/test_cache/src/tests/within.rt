@@ -1,4 +1,4 @@
-//! Calls that try for each lock n times, by a worker that lies in a struct.
+//! Calls that try for each lock n times, by a worker or a tender that lies in a struct.
 use super::made::{HASH_KEY, config_of};
 use example_calls::cache::Client;
 use mc_cache::{Cache, SetWithinError, TryGetError, WithinError};
@@ -108,5 +108,39 @@ fn a_struct_has_cache_and_worker(rt: HostRuntime) -> Result<(), Fail> {
     assert!(rt; client.find(b"river", &mut bytes), "it isn't found");
     assert!(rt; !client.find(b"lake", &mut bytes), "a lake is found");
     assert!(rt; bytes.as_slice() == b"Aare".as_slice(), "the bytes changed");
+    Ok(())
+}
+
+/// A tender that doesn't wait: without a try each shard's window ends early, and with one it doesn't. A class that isn't there gets no page.
+#[test]
+fn a_tender_without_a_try_is_held(rt: HostRuntime) -> Result<(), Fail> {
+    let made = Cache::new_within(rt.alloc(), &config_of(2, 1), HASH_KEY, 1);
+    let Ok((cache, _workers, mut tender)) = made else {
+        return Err(Fail::new("no cache was made"));
+    };
+    let untried = tender.tend_within(&cache, 0)?;
+    assert!(rt; untried.held == 2, "a window without a lock");
+    let tended = tender.tend_within(&cache, 1)?;
+    assert!(rt; tended.held == 0, "a free lock was missed");
+    assert!(rt;
+        tender.stats_within(&cache, 0).is_err(),
+        "a survey without a lock"
+    );
+    assert!(rt;
+        tender.stats_within(&cache, 1).is_ok(),
+        "no survey with a lock"
+    );
+    assert!(rt;
+        tender.set_automove_within(&cache, 2, 0).is_err(),
+        "a mode without a lock"
+    );
+    assert!(rt;
+        tender.set_automove_within(&cache, 2, 1).is_ok(),
+        "no mode with a lock"
+    );
+    if cache.shards() > 1 {
+        let answer = tender.reassign_within(&cache, 1, None, cache.classes().count() + 1, 1);
+        assert!(rt; matches!(answer, Ok(Err(_))), "a page for no class");
+    }
     Ok(())
 }

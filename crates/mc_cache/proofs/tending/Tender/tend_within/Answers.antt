@@ -1,7 +1,7 @@
 use Rattle.std.proofs.Common.{◌<◌, ◌∙◌, arith, length, refl}
 use Rattle.std.proofs.lemmas.List.{length-set}
 use Rattle.mc_cache.specs.Tending.{deciders_of, tender_hands}
-use Rattle.mc_cache.specs.TendingWithin.{nothing_within, with_window}
+use Rattle.mc_cache.specs.TendingWithin.{nothing_within, with_shard_window}
 use Rattle.mc_cache.specs.WindowsWithin.{TendsShardWithin}
 use Rattle.mc_cache.proofs.Acts.{on_refusal}
 use Rattle.mc_cache.proofs.Rests.{rests_after}
@@ -13,7 +13,7 @@ loop-shard-init c = record {
   rests = c.requires;
   stores_nothing = none_said (tender_hands c.args.self.now);
   count = refl;
-  done = none_tended (TendsShardWithin c.args.tries) with_window nothing_within (tender_hands c.args.self.now) (deciders_of c.args.self.now) c.new-done.result c.new-done.ensures.none;
+  done = none_tended (TendsShardWithin c.args.tries) with_shard_window nothing_within (tender_hands c.args.self.now) (deciders_of c.args.self.now) c.new-done.result c.new-done.ensures.none;
 }
 
 pub returns-in_err-window-clause-rests : goal.returns-in_err-window-clause-rests
@@ -42,7 +42,7 @@ loop-shard-preserved c =
       };
       stores_nothing = still_unsaid (tender_hands c.args.self.now) c.loop-shard.self.worker.hands.items c.loop-shard.shard c.index_mut-hand.result.now c.tend_shard_within.new.hand inv.count near_hand c.index_mut-hand.ensures.value c.tend_shard_within.ensures.stores_nothing inv.stores_nothing;
       count = omega (arith, inv.count, length-set c.loop-shard.self.worker.hands.items c.loop-shard.shard c.tend_shard_within.new.hand);
-      done = one_tended (TendsShardWithin c.args.tries) with_window nothing_within c.loop-shard.shard (tender_hands c.args.self.now) (deciders_of c.args.self.now) c.loop-shard.self.worker.hands.items c.loop-shard.self.deciders.items c.loop-shard.done c.add.new.self c.in_ok-window.window c.index_mut-hand.result.now c.tend_shard_within.new.hand c.index_mut-decider.result.now c.tend_shard_within.new.decider
+      done = one_tended (TendsShardWithin c.args.tries) with_shard_window nothing_within c.loop-shard.shard (tender_hands c.args.self.now) (deciders_of c.args.self.now) c.loop-shard.self.worker.hands.items c.loop-shard.self.deciders.items c.loop-shard.done c.add.new.self c.in_ok-window.window c.index_mut-hand.result.now c.tend_shard_within.new.hand c.index_mut-decider.result.now c.tend_shard_within.new.decider
           near_hand near_decider c.index_mut-hand.ensures.value c.index_mut-decider.ensures.value c.in_ok-window.ensures.tends c.add.ensures.added inv.done;
     }
 
@@ -52,7 +52,7 @@ returns-in_err-window-clause-refused c =
       count = c.loop-shard.shard;
       in_range = omega (arith, c.loop-shard-test.true);
       windows = done.shares;
-      tends = tended_before (TendsShardWithin c.args.tries) with_window nothing_within c.loop-shard.shard (tender_hands c.args.self.now) (deciders_of c.args.self.now) c.loop-shard.self.worker.hands.items c.loop-shard.self.deciders.items c.loop-shard.done c.tend_shard_within.new.hand c.tend_shard_within.new.decider done;
+      tends = tended_before (TendsShardWithin c.args.tries) with_shard_window nothing_within c.loop-shard.shard (tender_hands c.args.self.now) (deciders_of c.args.self.now) c.loop-shard.self.worker.hands.items c.loop-shard.self.deciders.items c.loop-shard.done c.tend_shard_within.new.hand c.tend_shard_within.new.decider done;
       hands_left = still_behind c.loop-shard.shard (tender_hands c.args.self.now) c.loop-shard.self.worker.hands.items c.tend_shard_within.new.hand done.hands_left;
       deciders_left = still_behind c.loop-shard.shard (deciders_of c.args.self.now) c.loop-shard.self.deciders.items c.tend_shard_within.new.decider done.deciders_left;
     })
