@@ -1,8 +1,13 @@
 -- The code of each result of a call.
-use Rattle.std.specs.Prelude.{ℕ, Bool, true, false, Err, Ok, Result}
+use Rattle.std.specs.Prelude.{ℕ, Bool, true, false, Err, None, Ok, Option, Result, Some}
+use Rattle.mc_classes.specs.declared.config.ConfigError.TheVariants as config_error
 use Rattle.mc_items.specs.declared.setting.SetError.TheVariants as item_error
 use Rattle.mc_pages.specs.declared.moves.Reassign.{Reassign}
 use Rattle.mc_pages.specs.declared.moves.Reassign.TheVariants as answer
+use Rattle.mc_cache.specs.declared.opening.NewError.{NewError}
+use Rattle.mc_cache.specs.declared.opening.NewError.TheVariants as new_error
+use Rattle.mc_cache.specs.declared.sizing.SizingError.{SizingError}
+use Rattle.mc_cache.specs.declared.sizing.SizingError.TheVariants as sizing_error
 use Rattle.mc_cache.specs.declared.working.TryGetError.{TryGetError}
 use Rattle.mc_cache.specs.declared.working.TryGetError.TheVariants as get_error
 use Rattle.mc_cache.specs.declared.working_within.SetWithinError.{SetWithinError}
@@ -45,3 +50,29 @@ reassign_code (Err answer.Same) = 14
 reassign_code (Err answer.BadClass) = 12
 reassign_code (Err answer.NoSpare) = 13
 reassign_code (Err (answer.NoMemory refused)) = 6
+
+-- the code of a refused configuration, or of want of memory
+abbrev pub new_code : NewError → ℕ
+new_code new_error.Shards = 16
+new_code new_error.Workers = 17
+new_code (new_error.Config config_error.PageSize) = 18
+new_code (new_error.Config config_error.FirstSize) = 19
+new_code (new_error.Config config_error.Factor) = 20
+new_code (new_error.Config config_error.ChunkMax) = 21
+new_code (new_error.Config config_error.Limit) = 22
+new_code (new_error.Config config_error.Stripes) = 23
+new_code (new_error.Config config_error.TooManyChunks) = 24
+new_code (new_error.Config config_error.Bulk) = 25
+new_code (new_error.Config (config_error.NoMemory refused)) = 6
+new_code (new_error.NoMemory refused) = 6
+
+-- the code of a test of a configuration
+abbrev pub refusal_code : Option NewError → ℕ
+refusal_code None = 0
+refusal_code (Some error) = new_code error
+
+-- the code of a sizing
+abbrev pub sizing_code : Option SizingError → ℕ
+sizing_code None = 0
+sizing_code (Some sizing_error.Workers) = 17
+sizing_code (Some sizing_error.TooFewBytes) = 26

@@ -1,4 +1,6 @@
 //! The codes that calls return. `include/noddrefil.h` has them for C.
+ghost use Rattle.std.specs.Prelude.{◌≡◌};
+ghost use Rattle.mc_c.specs.Codes.{new_code};
 
 use mc_cache::NewError;
 use mc_classes::ConfigError;
@@ -58,7 +60,9 @@ pub(crate) const BAD_BULK: u32 = 25;
 pub(crate) const TOO_FEW_BYTES: u32 = 26;
 
 /// The code of a refused configuration.
-pub(crate) fn code_of_new(error: NewError) -> u32 {
+pub(crate) fn code_of_new(error: NewError) -> u32
+    ensures { result ≡ new_code error }
+{
     match error {
         NewError::Shards => BAD_SHARDS,
         NewError::Workers => BAD_WORKERS,

@@ -21,8 +21,13 @@ pub struct McConfig {
 }
 
 impl McConfig {
+    ghost use Rattle.std.specs.Prelude.{◌≡◌};
+    ghost use Rattle.mc_c.specs.Configs.{config_for, config_with};
+
     /// The configuration of a cache for so many workers.
-    pub(crate) fn for_workers(&self, workers: u64) -> CacheConfig {
+    pub(crate) fn for_workers(&self, workers: u64) -> CacheConfig
+        ensures { result ≡ config_for self.now workers }
+    {
         CacheConfig {
             arena: Config {
                 page: self.page,
@@ -48,7 +53,9 @@ impl McConfig {
     }
 
     /// Takes the numbers of a configuration over, but those for hashes.
-    pub(crate) fn set(&mut self, config: &CacheConfig) {
+    pub(crate) fn set(&mut self, config: &CacheConfig)
+        ensures { self.new ≡ config_with self.old config.now }
+    {
         self.page = config.arena.page;
         self.limit = config.arena.limit;
         self.first = config.arena.first;

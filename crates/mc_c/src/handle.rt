@@ -1,5 +1,5 @@
 //! The handles of C: of a worker and of the tender. A handle is open or closed, and zeros are a closed one.
-ghost use Rattle.std.specs.Prelude.{◌≡◌, ◌↔◌, true};
+ghost use Rattle.std.specs.Prelude.{◌≡◌, ◌≢◌, ◌↔◌, true};
 
 use crate::client::{Client, TenderClient, WorkerClient};
 use crate::owner::Owner;
@@ -49,7 +49,10 @@ impl Handle {
     }
 
     /// Closes the handle, and returns whether it was open. What it led to is freed.
-    pub(crate) fn close(&mut self, alloc: Global) -> bool {
+    pub(crate) fn close(&mut self, alloc: Global) -> bool
+        ensures closed { self.new.state ≢ 1 }
+        ensures open { (result ≡ true) ↔ (self.old.state ≡ 1) }
+    {
         if !self.is_open() {
             return false;
         }

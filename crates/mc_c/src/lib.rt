@@ -5,9 +5,14 @@
 //! this library filled or zeros, and is given to one call at a time.
 #![tactic(auto)]
 
-ghost use Rattle.std.specs.Prelude.{◌≡◌, None};
+ghost use Rattle.std.specs.Prelude.{◌≡◌, ◌≢◌, IfSome, None};
+ghost use Rattle.mc_cache.specs.Bytes.{cache_bytes};
+ghost use Rattle.mc_cache.specs.Opening.{cache_refusal};
+ghost use Rattle.mc_cache.specs.Sizing.{sizing_refusal};
 ghost use Rattle.mc_c.specs.Calls.{DeletesAs, GetsAs, SetsAs, TouchesAs};
-ghost use Rattle.mc_c.specs.Handles.{ActsOn, tender_of, worker_of};
+ghost use Rattle.mc_c.specs.Codes.{refusal_code, sizing_code};
+ghost use Rattle.mc_c.specs.Configs.{WritesSized, config_for};
+ghost use Rattle.mc_c.specs.Handles.{ActsOn, client_of, tender_of, worker_of};
 ghost use Rattle.mc_c.specs.TenderCalls.{CountsAs, ReassignsAs, SetsModeAs, TendsAs};
 
 mod calls;
@@ -35,7 +40,13 @@ pub extern "C" fn mc_config_for_bytes(
     bytes: u64,
     usual_item: u64,
     workers: u64,
-) -> u32 {
+) -> u32
+    ensures code { result ≡ sizing_code (sizing_refusal bytes usual_item workers) }
+    ensures sized { sizing_refusal bytes usual_item workers ≡ None →
+        WritesSized bytes workers config.old config.new }
+    ensures kept { IfSome (sizing_refusal bytes usual_item workers) (λ error.
+        config.new ≡ config.old) }
+{
     match CacheConfig::for_bytes(bytes, usual_item, workers) {
         Ok(sized) => {
             config.set(&sized);
@@ -48,7 +59,13 @@ pub extern "C" fn mc_config_for_bytes(
 
 /// Writes how many bytes `mc_open` asks for and keeps.
 #[unsafe(no_mangle)]
-pub extern "C" fn mc_bytes(config: &McConfig, workers: u64, bytes: &mut u64) -> u32 {
+pub extern "C" fn mc_bytes(config: &McConfig, workers: u64, bytes: &mut u64) -> u32
+    ensures code { result ≡ refusal_code (cache_refusal (config_for config.now workers)) }
+    ensures bytes { cache_refusal (config_for config.now workers) ≡ None →
+        bytes.new ≡ cache_bytes (config_for config.now workers) }
+    ensures kept { IfSome (cache_refusal (config_for config.now workers)) (λ error.
+        bytes.new ≡ bytes.old) }
+{
     match Cache::bytes(&config.for_workers(workers)) {
         Ok(count) => {
             *bytes = count;
@@ -236,6 +253,10 @@ pub extern "C" fn mc_reassign(
 
 /// Closes a handle of a worker or of the tender. The last one frees the cache.
 #[unsafe(no_mangle)]
-pub extern "C" fn mc_close(alloc: Global, handle: &mut Handle) -> u32 {
+pub extern "C" fn mc_close(alloc: Global, handle: &mut Handle) -> u32
+    ensures closed { client_of handle.new ≡ None }
+    ensures open { handle.old.state ≡ 1 → result ≡ 0 }
+    ensures other { handle.old.state ≢ 1 → result ≡ 9 }
+{
     if handle.close(alloc) { OK } else { CLOSED }
 }
