@@ -5,3 +5,4 @@ pub mod Configs
 pub mod Calls
 pub mod TenderCalls
 pub mod Handles
+pub mod Joining

@@ -1,7 +1,7 @@
 //! The handles of C: of a worker and of the tender. A handle is open or closed, and zeros are a closed one.
 ghost use Rattle.std.specs.Prelude.{◌≡◌, ◌≢◌, ◌↔◌, true};
 
-use crate::client::{Client, TenderClient, WorkerClient};
+use crate::client::Client;
 use crate::owner::Owner;
 use std::alloc::Global;
 use std::mem;
@@ -17,8 +17,13 @@ pub struct Handle {
 }
 
 impl Handle {
+    ghost use Rattle.std.specs.Prelude.{◌≡◌, ◌≢◌, ◌↔◌, Some, true};
+    ghost use Rattle.mc_c.specs.Handles.{client_of};
+
     /// An open handle of a client.
-    pub(crate) fn of(client: Box<Client>) -> Handle {
+    pub(crate) fn of(client: Box<Client>) -> Handle
+        ensures { client_of result ≡ Some client.value }
+    {
         Handle {
             state: 1,
             owner: Owner::of(client),
@@ -31,21 +36,6 @@ impl Handle {
         ensures open { (result ≡ true) ↔ (self.now.state ≡ 1) }
     {
         self.state == 1
-    }
-
-    fn client(&mut self) -> Option<&mut Client> {
-        if !self.is_open() {
-            return None;
-        }
-        Some(self.owner.as_mut())
-    }
-
-    /// The worker of an open handle, if it is one of a worker.
-    pub(crate) fn worker(&mut self) -> Option<&mut WorkerClient> {
-        match self.client() {
-            Some(Client::Worker(worker)) => Some(worker),
-            Some(Client::Tender(_)) | None => None,
-        }
     }
 
     /// Closes the handle, and returns whether it was open. What it led to is freed.

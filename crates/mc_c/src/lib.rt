@@ -13,6 +13,7 @@ ghost use Rattle.mc_c.specs.Calls.{DeletesAs, GetsAs, SetsAs, TouchesAs};
 ghost use Rattle.mc_c.specs.Codes.{refusal_code, sizing_code};
 ghost use Rattle.mc_c.specs.Configs.{WritesSized, config_for};
 ghost use Rattle.mc_c.specs.Handles.{ActsOn, client_of, tender_of, worker_of};
+ghost use Rattle.mc_c.specs.Joining.{JoinsAs};
 ghost use Rattle.mc_c.specs.TenderCalls.{CountsAs, ReassignsAs, SetsModeAs, TendsAs};
 
 mod calls;
@@ -25,7 +26,7 @@ mod owner;
 mod parts;
 mod tending;
 
-use client::{Client, JoinError};
+use client::{Client, JoinError, WorkerClient};
 use codes::{BAD_WORKERS, CLOSED, NO_MEMORY, NO_WORKERS, OK, TOO_FEW_BYTES, code_of_new};
 pub use config::McConfig;
 pub use handle::Handle;
@@ -101,12 +102,28 @@ pub extern "C" fn mc_open(
 
 /// Gives another worker of the cache out.
 #[unsafe(no_mangle)]
-pub extern "C" fn mc_join(alloc: Global, first: &mut Handle, out: &mut Handle) -> u32 {
-    let Some(worker) = first.worker() else {
+pub extern "C" fn mc_join(alloc: Global, first: &mut Handle, out: &mut Handle) -> u32
+    ensures acts { ActsOn worker_of (JoinsAs result out.old out.new) result first.old first.new }
+    ensures kept { worker_of first.old ≡ None → out.new ≡ out.old }
+{
+    if !first.is_open() {
         return CLOSED;
-    };
-    match worker.join(alloc) {
-        Ok(joined) => opening::put(alloc, Client::Worker(joined), out),
+    }
+    match first.owner.as_mut() {
+        Client::Worker(client) => join(alloc, client, out),
+        Client::Tender(_) => CLOSED,
+    }
+}
+
+// Puts another worker of the client's cache there.
+fn join(alloc: Global, client: &mut WorkerClient, out: &mut Handle) -> u32
+    ensures { JoinsAs result out.old out.new client.old client.new }
+{
+    match client.join(alloc) {
+        Ok(boxed) => {
+            *out = Handle::of(boxed);
+            OK
+        }
         Err(JoinError::NoMemory) => NO_MEMORY,
         Err(JoinError::NoWorkers) => NO_WORKERS,
     }
