@@ -63,7 +63,7 @@ check_programs() {
         check_run "the first program" "$room/first"
         check_run "four threads" "$room/calls" 4 250000
         check_run "four threads, AddressSanitizer" "$room/calls-asan" 4 250000
-        lacks valgrind "two threads, memcheck" || check_run "two threads, memcheck" valgrind -q --fair-sched=yes --leak-check=full --error-exitcode=9 "$room/calls" 2 20000
+        lacks valgrind "four threads, memcheck" || check_run "four threads, memcheck" valgrind -q --fair-sched=yes --leak-check=full --error-exitcode=9 "$room/calls" 4 250000
         check_run "refused memory" "$room/refusals"
     else
         bad "library: the programs of C" "the compiler's lines say why"
