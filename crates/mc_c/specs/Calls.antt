@@ -35,6 +35,7 @@ pub record GetsAs (code tries : ℕ) (key before : List ℕ) (len : ℕ) (now : 
   pub acts : IsKey key → ActsAgain (cache_of client) key (λ hash. GetsWithin tries hash key [] value found) client.worker after.worker
   pub writes : WritesValue found value code before len now new_len
   pub cache : cache_of after ≡ cache_of client
+  pub spare : after.spare.items ≡ client.spare.items
 
 -- a set of the client, whose result has this code
 pub record SetsAs (code tries : ℕ) (key value : List ℕ) (client after : WorkerClient) : Type 0 where
@@ -45,6 +46,7 @@ pub record SetsAs (code tries : ℕ) (key value : List ℕ) (client after : Work
   pub acts : IsKey key → length value ≤ most_page_bytes → ActsAgain (cache_of client) key (λ hash. SetsWithin tries hash key value done) client.worker after.worker
   pub same : ¬ IsKey key ⊎ (most_page_bytes < length value) → KeepsHands client.worker after.worker
   pub cache : cache_of after ≡ cache_of client
+  pub spare : after.spare.items ≡ client.spare.items
 
 -- a delete of the client, whose result has this code
 pub record DeletesAs (code tries : ℕ) (key : List ℕ) (client after : WorkerClient) : Type 0 where
@@ -54,6 +56,7 @@ pub record DeletesAs (code tries : ℕ) (key : List ℕ) (client after : WorkerC
   pub same : done ≡ Err within_error.KeyLength → KeepsHands client.worker after.worker
   pub acts : IsKey key → ActsAgain (cache_of client) key (λ hash. DeletesWithin tries hash key done) client.worker after.worker
   pub cache : cache_of after ≡ cache_of client
+  pub spare : after.spare.items ≡ client.spare.items
 
 -- a touch of the client, whose result has this code
 pub record TouchesAs (code tries : ℕ) (key : List ℕ) (client after : WorkerClient) : Type 0 where
@@ -63,3 +66,4 @@ pub record TouchesAs (code tries : ℕ) (key : List ℕ) (client after : WorkerC
   pub same : done ≡ Err within_error.KeyLength → KeepsHands client.worker after.worker
   pub acts : IsKey key → ActsAgain (cache_of client) key (λ hash. TouchesWithin tries hash key done) client.worker after.worker
   pub cache : cache_of after ≡ cache_of client
+  pub spare : after.spare.items ≡ client.spare.items

@@ -13,4 +13,5 @@ returns c = record {
   same = c.delete_within.ensures.same;
   acts = subst (λ (cache : Cache). IsKey c.args.key.now → ActsAgain cache c.args.key.now (λ hash. DeletesWithin c.args.tries hash c.args.key.now c.delete_within.result) c.args.client.now.worker c.delete_within.new.self) c.deref.ensures c.delete_within.ensures.acts;
   cache = refl;
+  spare = refl;
 }

@@ -19,6 +19,7 @@ returns-in-Ok-true c = record {
   writes = subst (λ (b : Bool). WritesValue (Ok b) c.get_within.new.into.items c.copy.result c.args.out.now c.args.len.now c.copy.new.out c.copy.new.len) (sym c.in-Ok-true.field-0-test)
       (subst (λ (v : List ℕ). WritesValue (Ok true) v c.copy.result c.args.out.now c.args.len.now c.copy.new.out c.copy.new.len) c.as_slice.ensures.value c.copy.ensures);
   cache = refl;
+  spare = refl;
 }
 
 pub returns-in-Ok-false : goal.returns-in-Ok-false
@@ -31,6 +32,7 @@ returns-in-Ok-false c = record {
       (subst (λ (cache : Cache). ActsAgain cache c.args.key.now (λ hash. GetsWithin c.args.tries hash c.args.key.now c.clear.new.self.items c.get_within.new.into.items (Ok c.in-Ok-false.field-0)) c.args.client.now.worker c.get_within.new.self) c.deref.ensures (c.in-Ok-false.ensures.acts key));
   writes = subst (λ (b : Bool). WritesValue (Ok b) c.get_within.new.into.items 1 c.args.out.now c.args.len.now c.args.out.now c.args.len.now) (sym c.in-Ok-false.field-0-test) (refl, refl, refl);
   cache = refl;
+  spare = refl;
 }
 
 pub returns-in-Err-NoMemory : goal.returns-in-Err-NoMemory
@@ -43,4 +45,5 @@ returns-in-Err-NoMemory c = record {
       (subst (λ (cache : Cache). ActsAgain cache c.args.key.now (λ hash. GetsWithin c.args.tries hash c.args.key.now c.clear.new.self.items c.get_within.new.into.items (Err c.in-Err-NoMemory.field-0)) c.args.client.now.worker c.get_within.new.self) c.deref.ensures (c.in-Err-NoMemory.ensures.acts key));
   writes = (sym (ap (λ (e : TryGetError). get_code (Err e)) c.in-Err-NoMemory.field-0-is), refl, refl);
   cache = refl;
+  spare = refl;
 }

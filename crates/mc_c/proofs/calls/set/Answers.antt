@@ -17,6 +17,7 @@ returns-in-Ok c = record {
   acts = subst (λ (cache : Cache). IsKey c.args.key.now → length c.args.value.now ≤ most_page_bytes → ActsAgain cache c.args.key.now (λ hash. SetsWithin c.args.tries hash c.args.key.now c.args.value.now (Ok c.in-Ok.field-0)) c.args.client.now.worker c.set_within.new.self) c.deref.ensures c.in-Ok.ensures.acts;
   same = c.in-Ok.ensures.same;
   cache = refl;
+  spare = refl;
 }
 
 pub returns-in-Err-Held : goal.returns-in-Err-Held
@@ -28,4 +29,5 @@ returns-in-Err-Held c = record {
   acts = subst (λ (cache : Cache). IsKey c.args.key.now → length c.args.value.now ≤ most_page_bytes → ActsAgain cache c.args.key.now (λ hash. SetsWithin c.args.tries hash c.args.key.now c.args.value.now (Err c.in-Err-Held.field-0)) c.args.client.now.worker c.set_within.new.self) c.deref.ensures c.in-Err-Held.ensures.acts;
   same = c.in-Err-Held.ensures.same;
   cache = refl;
+  spare = refl;
 }

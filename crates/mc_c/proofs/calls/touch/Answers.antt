@@ -13,4 +13,5 @@ returns c = record {
   same = c.touch_within.ensures.same;
   acts = subst (λ (cache : Cache). IsKey c.args.key.now → ActsAgain cache c.args.key.now (λ hash. TouchesWithin c.args.tries hash c.args.key.now c.touch_within.result) c.args.client.now.worker c.touch_within.new.self) c.deref.ensures c.touch_within.ensures.acts;
   cache = refl;
+  spare = refl;
 }
