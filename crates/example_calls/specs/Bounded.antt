@@ -11,6 +11,7 @@ use Rattle.mc_words.specs.item.Items.{item_with}
 use Rattle.mc_words.specs.lock.Lent.{BeginsWithSeen}
 use Rattle.mc_items.specs.Keeping.{StoresWithStamp}
 use Rattle.mc_items.specs.Setting.{SetsItem}
+use Rattle.mc_items.specs.declared.comparing.Expected.TheVariants.{Anything}
 
 -- how many events the hand made so far
 abbrev pub event_count : Hand → ℕ
@@ -53,4 +54,4 @@ StoresKeyAndWords key words before now stamp = StoresWithStamp (item_with key st
 
 -- the hand set the item of this key and these words, by its own number
 abbrev pub SetsOwn : ℕ → List ℕ → Hand → Hand → ℕ → Type 0
-SetsOwn key words before now stamp = SetsItem (hand_number before) key stamp words (view before) (view now)
+SetsOwn key words before now stamp = SetsItem Anything (hand_number before) key stamp words (view before) (view now)

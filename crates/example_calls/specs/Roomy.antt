@@ -7,6 +7,7 @@ use Rattle.mc_items.specs.declared.making_room.Room.{Room}
 use Rattle.mc_items.specs.MakingRoom.{MakesRoom, evicted_for}
 use Rattle.mc_items.specs.OnKeys.{ActsOnce}
 use Rattle.mc_items.specs.Setting.{SetsItem}
+use Rattle.mc_items.specs.declared.comparing.Expected.TheVariants.{Anything}
 use Rattle.mc_items.specs.Visiting.{RecordsDeletes}
 
 -- room was made in this class, and then the item of this key and these words was set, with this stamp
@@ -16,4 +17,4 @@ pub record MakesRoomAndSets (class key : ℕ) (words : List ℕ) (before now : H
   pub makes : ActsOnce (MakesRoom (hand_number before) class room) before between
   -- the calls that the hand made for that are deletes of the items that it evicted
   pub deletes : RecordsDeletes (hand_number before) (evicted_for room) (view before) (view between)
-  pub sets : SetsItem (hand_number before) key stamp words (view between) (view now)
+  pub sets : SetsItem Anything (hand_number before) key stamp words (view between) (view now)

@@ -1,5 +1,5 @@
 -- What a call does by a client, and the code that it returns.
-use Rattle.std.specs.Prelude.{◌≡◌, ◌↔◌, ◌⊎◌, ◌<◌, ◌≤◌, ◌++◌, ℕ, Bool, true, List, [], drop, length, Err, Ok, Result}
+use Rattle.std.specs.Prelude.{◌≡◌, ◌↔◌, ◌⊎◌, ◌<◌, ◌≤◌, ◌++◌, ℕ, Bool, true, false, List, [], drop, length, Option, None, Some, Err, Ok, Result}
 use Rattle.std.specs.Arc.{arc_value}
 use Rattle.mc_classes.specs.Limits.{most_page_bytes}
 use Rattle.mc_cache.specs.declared.cache.Cache.{Cache}
@@ -10,11 +10,15 @@ use Rattle.mc_cache.specs.declared.working_within.SetWithinError.TheVariants as 
 use Rattle.mc_cache.specs.declared.working_within.WithinError.{WithinError}
 use Rattle.mc_cache.specs.declared.working_within.WithinError.TheVariants as within_error
 use Rattle.mc_cache.specs.Belonging.{KeepsHands}
+use Rattle.mc_cache.specs.declared.shard.conditions.Outcome.{Outcome}
+use Rattle.mc_cache.specs.declared.shard.conditions.When.{When}
+use Rattle.mc_cache.specs.Conditional.{SetsValueIfWithin}
 use Rattle.mc_cache.specs.Resting.{ActsAgain}
 use Rattle.mc_cache.specs.Shards.{IsKey}
+use Rattle.mc_cache.specs.Versions.{GetsVersionWithin}
 use Rattle.mc_cache.specs.WorkingWithin.{DeletesWithin, GetsWithin, SetsWithin, TouchesWithin}
 use Rattle.mc_c.specs.declared.client.WorkerClient.{WorkerClient}
-use Rattle.mc_c.specs.Codes.{get_code, set_code, within_code}
+use Rattle.mc_c.specs.Codes.{get_code, outcome_code, set_code, within_code}
 
 -- the cache of a client
 abbrev pub cache_of : WorkerClient → Cache
@@ -45,6 +49,41 @@ pub record SetsAs (code tries : ℕ) (key value : List ℕ) (client after : Work
   pub value_length : (done ≡ Err set_error.ValueLength) ↔ IsKey key × (most_page_bytes < length value)
   pub acts : IsKey key → length value ≤ most_page_bytes → ActsAgain (cache_of client) key (λ hash. SetsWithin tries hash key value done) client.worker after.worker
   pub same : ¬ IsKey key ⊎ (most_page_bytes < length value) → KeepsHands client.worker after.worker
+  pub cache : cache_of after ≡ cache_of client
+  pub spare : after.spare.items ≡ client.spare.items
+
+-- a set on a condition of the client, whose result has this code
+pub record SetsIfAs (code tries : ℕ) (key value : List ℕ) (when : When) (client after : WorkerClient) : Type 0 where
+  pub done : Result Outcome SetWithinError
+  pub coded : code ≡ outcome_code done
+  pub key_length : (done ≡ Err set_error.KeyLength) ↔ ¬ IsKey key
+  pub value_length : (done ≡ Err set_error.ValueLength) ↔ IsKey key × (most_page_bytes < length value)
+  pub acts : IsKey key → length value ≤ most_page_bytes → ActsAgain (cache_of client) key (λ hash. SetsValueIfWithin tries hash key value when done) client.worker after.worker
+  pub same : ¬ IsKey key ⊎ (most_page_bytes < length value) → KeepsHands client.worker after.worker
+  pub cache : cache_of after ≡ cache_of client
+  pub spare : after.spare.items ≡ client.spare.items
+
+-- whether a get found a version, or why it didn't look
+abbrev pub is_found : Result (Option ℕ) TryGetError → Result Bool TryGetError
+is_found (Ok (Some version)) = Ok true
+is_found (Ok None) = Ok false
+is_found (Err error) = Err error
+
+-- the version that a get writes: that which it found, or what was there
+abbrev pub version_or : Result (Option ℕ) TryGetError → ℕ → ℕ
+version_or (Ok (Some version)) before = version
+version_or (Ok None) before = before
+version_or (Err error) before = before
+
+-- a get with its version of the client: what it found of the key, and what it wrote
+pub record GetsVersionAs (code tries : ℕ) (key before : List ℕ) (len version : ℕ) (now : List ℕ) (new_len new_version : ℕ) (client after : WorkerClient) : Type 0 where
+  pub found : Result (Option ℕ) TryGetError
+  pub value : List ℕ
+  pub key_length : (found ≡ Err get_error.KeyLength) ↔ ¬ IsKey key
+  pub same : found ≡ Err get_error.KeyLength → KeepsHands client.worker after.worker
+  pub acts : IsKey key → ActsAgain (cache_of client) key (λ hash. GetsVersionWithin tries hash key [] value found) client.worker after.worker
+  pub writes : WritesValue (is_found found) value code before len now new_len
+  pub version_is : new_version ≡ version_or found version
   pub cache : cache_of after ≡ cache_of client
   pub spare : after.spare.items ≡ client.spare.items
 

@@ -4,6 +4,8 @@ use Rattle.mc_classes.specs.declared.config.ConfigError.TheVariants as config_er
 use Rattle.mc_items.specs.declared.setting.SetError.TheVariants as item_error
 use Rattle.mc_pages.specs.declared.moves.Reassign.{Reassign}
 use Rattle.mc_pages.specs.declared.moves.Reassign.TheVariants as answer
+use Rattle.mc_cache.specs.declared.shard.conditions.Outcome.{Outcome}
+use Rattle.mc_cache.specs.declared.shard.conditions.Outcome.TheVariants as outcome
 use Rattle.mc_cache.specs.declared.opening.NewError.{NewError}
 use Rattle.mc_cache.specs.declared.opening.NewError.TheVariants as new_error
 use Rattle.mc_cache.specs.declared.sizing.SizingError.{SizingError}
@@ -33,6 +35,13 @@ set_code (Err (set_error.Item item_error.NoRoom)) = 4
 set_code (Err (set_error.Item item_error.WornOut)) = 5
 set_code (Err (set_error.Item (item_error.NoMemory refused))) = 6
 set_code (Err set_error.Held) = 2
+
+-- the code of the result of a set on a condition
+abbrev pub outcome_code : Result Outcome SetWithinError → ℕ
+outcome_code (Ok (outcome.Stored version)) = 0
+outcome_code (Ok outcome.Exists) = 27
+outcome_code (Ok outcome.Missing) = 1
+outcome_code (Err error) = set_code (Err error)
 
 -- the code of a delete's or a touch's result
 abbrev pub within_code : Result Bool WithinError → ℕ

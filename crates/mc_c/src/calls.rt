@@ -1,13 +1,13 @@
 //! The calls of a worker: each result has its code.
 ghost use Rattle.std.specs.Prelude.{◌≡◌, Ok, true};
-ghost use Rattle.mc_c.specs.Calls.{DeletesAs, GetsAs, SetsAs, TouchesAs, WritesValue};
-ghost use Rattle.mc_c.specs.Codes.{within_code};
+ghost use Rattle.mc_c.specs.Calls.{DeletesAs, GetsAs, GetsVersionAs, SetsAs, SetsIfAs, TouchesAs, WritesValue};
+ghost use Rattle.mc_c.specs.Codes.{outcome_code, within_code};
 
 use crate::client::WorkerClient;
 use crate::codes::{
-    BAD_KEY, HELD, MISSING, NO_MEMORY, NO_ROOM, OK, TOO_LARGE, TOO_SMALL, WORN_OUT,
+    BAD_KEY, EXISTS, HELD, MISSING, NO_MEMORY, NO_ROOM, OK, TOO_LARGE, TOO_SMALL, WORN_OUT,
 };
-use mc_cache::{SetWithinError, TryGetError, WithinError};
+use mc_cache::{Outcome, SetWithinError, TryGetError, When, WithinError};
 use mc_items::SetError;
 
 /// Copies the key's value to `out`, and writes its length. Where there is too little room, it writes the length alone.
@@ -59,6 +59,72 @@ pub(crate) fn set(client: &mut WorkerClient, key: &[u8], value: &[u8], tries: u6
         Err(SetWithinError::Item(SetError::WornOut)) => WORN_OUT,
         Err(SetWithinError::Item(SetError::NoMemory(_))) => NO_MEMORY,
         Err(SetWithinError::Held) => HELD,
+    }
+}
+
+/// Stores the value under the key on a condition.
+pub(crate) fn set_if(
+    client: &mut WorkerClient,
+    key: &[u8],
+    value: &[u8],
+    when: When,
+    tries: u64,
+) -> u32
+    ensures { SetsIfAs result tries key.now value.now when client.old client.new }
+{
+    code_of_outcome(
+        client
+            .worker
+            .set_if_within(&client.cache, key, value, when, tries),
+    )
+}
+
+// The code of what a set on a condition did.
+fn code_of_outcome(done: Result<Outcome, SetWithinError>) -> u32
+    ensures { result ≡ outcome_code done }
+{
+    match done {
+        Ok(Outcome::Stored(_version)) => OK,
+        Ok(Outcome::Exists) => EXISTS,
+        Ok(Outcome::Missing) => MISSING,
+        Err(SetWithinError::KeyLength) => BAD_KEY,
+        Err(SetWithinError::ValueLength) | Err(SetWithinError::Item(SetError::TooLarge)) => {
+            TOO_LARGE
+        }
+        Err(SetWithinError::Item(SetError::NoRoom)) => NO_ROOM,
+        Err(SetWithinError::Item(SetError::WornOut)) => WORN_OUT,
+        Err(SetWithinError::Item(SetError::NoMemory(_))) => NO_MEMORY,
+        Err(SetWithinError::Held) => HELD,
+    }
+}
+
+/// Copies the key's value to `out`, and writes its length and its version. Where there is too little room, it writes these two alone.
+pub(crate) fn get_with_version(
+    client: &mut WorkerClient,
+    key: &[u8],
+    tries: u64,
+    out: &mut [u8],
+    len: &mut u64,
+    version: &mut u64,
+) -> u32
+    ensures { GetsVersionAs result tries key.now out.old len.old version.old out.new len.new
+        version.new client.old client.new }
+{
+    client.value.clear();
+    let cache = &client.cache;
+    let into = &mut client.value;
+    match client
+        .worker
+        .get_with_version_within(cache, key, tries, into)
+    {
+        Ok(Some(found)) => {
+            *version = found;
+            copy(client.value.as_slice(), out, len)
+        }
+        Ok(None) => MISSING,
+        Err(TryGetError::KeyLength) => BAD_KEY,
+        Err(TryGetError::NoMemory(_)) => NO_MEMORY,
+        Err(TryGetError::Held) => HELD,
     }
 }
 

@@ -59,6 +59,8 @@ pub(crate) const BAD_BULK: u32 = 25;
 
 pub(crate) const TOO_FEW_BYTES: u32 = 26;
 
+pub(crate) const EXISTS: u32 = 27;
+
 /// The code of a refused configuration.
 pub(crate) fn code_of_new(error: NewError) -> u32
     ensures { result ≡ new_code error }

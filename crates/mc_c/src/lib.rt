@@ -9,7 +9,8 @@ ghost use Rattle.std.specs.Prelude.{◌≡◌, ◌≢◌, IfSome, None};
 ghost use Rattle.mc_cache.specs.Bytes.{cache_bytes};
 ghost use Rattle.mc_cache.specs.Opening.{cache_refusal};
 ghost use Rattle.mc_cache.specs.Sizing.{sizing_refusal};
-ghost use Rattle.mc_c.specs.Calls.{DeletesAs, GetsAs, SetsAs, TouchesAs};
+ghost use Rattle.mc_c.specs.Calls.{DeletesAs, GetsAs, GetsVersionAs, SetsAs, SetsIfAs, TouchesAs};
+ghost use Rattle.mc_cache.specs.declared.shard.conditions.When.TheVariants as when;
 ghost use Rattle.mc_c.specs.Codes.{refusal_code, sizing_code};
 ghost use Rattle.mc_c.specs.Configs.{WritesSized, config_for};
 ghost use Rattle.mc_c.specs.Handles.{ActsOn, client_of, tender_of, worker_of};
@@ -30,7 +31,7 @@ use client::{Client, JoinError, WorkerClient};
 use codes::{BAD_WORKERS, CLOSED, NO_MEMORY, NO_WORKERS, OK, TOO_FEW_BYTES, code_of_new};
 pub use config::McConfig;
 pub use handle::Handle;
-use mc_cache::{Cache, CacheConfig, SizingError};
+use mc_cache::{Cache, CacheConfig, SizingError, When};
 use std::alloc::Global;
 pub use tending::{McClassStats, McTended, McTotals};
 
@@ -162,6 +163,77 @@ pub extern "C" fn mc_set(worker: &mut Handle, key: &[u8], value: &[u8], tries: u
     }
     match worker.owner.as_mut() {
         Client::Worker(client) => calls::set(client, key, value, tries),
+        Client::Tender(_) => CLOSED,
+    }
+}
+
+/// Stores the value under the key, where the key has none.
+#[unsafe(no_mangle)]
+pub extern "C" fn mc_add(worker: &mut Handle, key: &[u8], value: &[u8], tries: u64) -> u32
+    ensures acts { ActsOn worker_of (SetsIfAs result tries key.now value.now when.Absent) result
+        worker.old worker.new }
+{
+    set_if(worker, key, value, When::Absent, tries)
+}
+
+/// Stores the value under the key, where the key has one.
+#[unsafe(no_mangle)]
+pub extern "C" fn mc_replace(worker: &mut Handle, key: &[u8], value: &[u8], tries: u64) -> u32
+    ensures acts { ActsOn worker_of (SetsIfAs result tries key.now value.now when.Present) result
+        worker.old worker.new }
+{
+    set_if(worker, key, value, When::Present, tries)
+}
+
+/// Stores the value under the key, where the key's value has this version.
+#[unsafe(no_mangle)]
+pub extern "C" fn mc_compare_and_set(
+    worker: &mut Handle,
+    key: &[u8],
+    value: &[u8],
+    version: u64,
+    tries: u64,
+) -> u32
+    ensures acts { ActsOn worker_of (SetsIfAs result tries key.now value.now
+        (when.Version version)) result worker.old worker.new }
+{
+    set_if(worker, key, value, When::Version(version), tries)
+}
+
+// Stores the value under the key on a condition.
+fn set_if(worker: &mut Handle, key: &[u8], value: &[u8], when: When, tries: u64) -> u32
+    ensures { ActsOn worker_of (SetsIfAs result tries key.now value.now when) result worker.old
+        worker.new }
+{
+    if !worker.is_open() {
+        return CLOSED;
+    }
+    match worker.owner.as_mut() {
+        Client::Worker(client) => calls::set_if(client, key, value, when, tries),
+        Client::Tender(_) => CLOSED,
+    }
+}
+
+/// Copies the key's value, and writes its version.
+#[unsafe(no_mangle)]
+pub extern "C" fn mc_get_with_version(
+    worker: &mut Handle,
+    key: &[u8],
+    tries: u64,
+    out: &mut [u8],
+    len: &mut u64,
+    version: &mut u64,
+) -> u32
+    ensures acts { ActsOn worker_of (GetsVersionAs result tries key.now out.old len.old version.old
+        out.new len.new version.new) result worker.old worker.new }
+    ensures kept { worker_of worker.old ≡ None → (out.new ≡ out.old) × (len.new ≡ len.old)
+        × (version.new ≡ version.old) }
+{
+    if !worker.is_open() {
+        return CLOSED;
+    }
+    match worker.owner.as_mut() {
+        Client::Worker(client) => { calls::get_with_version(client, key, tries, out, len, version) }
         Client::Tender(_) => CLOSED,
     }
 }

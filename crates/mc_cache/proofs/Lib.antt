@@ -5,6 +5,7 @@ pub mod Acts
 pub mod Rests
 pub mod Recalls
 pub mod Lasts
+pub mod Conditions
 pub mod Opened
 pub mod TableWords
 pub mod TurnsDone

@@ -17,4 +17,6 @@ pub mod Stats
 pub mod Cases
 pub mod Resting
 pub mod WorkingWithin
+pub mod Conditional
+pub mod Versions
 pub mod OpeningWithin

@@ -12,6 +12,7 @@ use Rattle.mc_cache.specs.shard.Finding.{DeletesKey, FindsFull, FindsKey, FindsL
 use Rattle.mc_cache.specs.shard.Hands.{IsIdleHandOf, IsUnusedHandOf}
 use Rattle.mc_cache.specs.shard.Reading.{LeavesSlabs, TakesSlabsOnce}
 use Rattle.mc_cache.specs.shard.Recording.{RecordsDeleteAtMost, RecordsGetAtMost}
+use Rattle.mc_items.specs.declared.comparing.Expected.TheVariants.{Anything}
 use Rattle.mc_cache.specs.shard.Setting.{RecordsEvictionsAlone, RecordsSetBehindRoom, RefusesBytes, SetsBehindRoom}
 use Rattle.mc_cache.specs.Pairs.{ArePaired}
 
@@ -45,7 +46,7 @@ IsKey key = (1 ≤ length key) × (length key ≤ 250)
 abbrev pub StoresValue : ℕ → List ℕ → List ℕ → Arena → Hand → Hand → Type 0
 StoresValue hash key value arena hand now =
     (hand_number now ≡ hand_number hand) × ((stamp : ℕ) × StoresWithStamp (item_with hash stamp (packed_item key value)) stamp (view hand) (view now)
-    × SetsBehindRoom (hand_number hand) hash stamp (packed_item key value) hand now × RecordsSetBehindRoom (hand_number hand) hash stamp hand now)
+    × SetsBehindRoom Anything (hand_number hand) hash stamp (packed_item key value) hand now × RecordsSetBehindRoom (hand_number hand) hash stamp hand now)
 
 -- the store of this value under the key was refused to the hand, whose own calls got evictions at most
 abbrev pub RefusesValue : ℕ → List ℕ → List ℕ → SetError → Arena → Hand → Hand → Type 0

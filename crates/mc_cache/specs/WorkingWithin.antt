@@ -18,6 +18,7 @@ use Rattle.mc_cache.specs.declared.working_within.WithinError.TheVariants as wit
 use Rattle.mc_cache.specs.Shards.{DeletesAtMost, GetsAtMost}
 use Rattle.mc_cache.specs.shard.Finding.{DeletesKey, DeletesNone, FindsFull, FindsOtherKey, FindsSome, ReturnsValue, TouchesKey}
 use Rattle.mc_cache.specs.shard.Reading.{LeavesSlabs, TakesSlabsOnce}
+use Rattle.mc_items.specs.declared.comparing.Expected.TheVariants.{Anything}
 use Rattle.mc_cache.specs.shard.Setting.{RecordsEvictionsAlone, RecordsSetBehindRoom, RefusesBytes, SetsBehindRoom}
 use Rattle.mc_cache.specs.shard.Within.{MissesDelete, MissesLock, MissesKeyTouch, RefusesBytesWithin}
 
@@ -25,7 +26,7 @@ use Rattle.mc_cache.specs.shard.Within.{MissesDelete, MissesLock, MissesKeyTouch
 pub record SetsWithin (tries hash : ℕ) (key value : List ℕ) (result : Result (Unit {0}) SetWithinError) (arena : Arena) (before now : Hand) : Type 0 where
   -- the value was stored with a stamp of the hand's own, behind room that was made for it
   pub stores : result ≡ Ok tt → (stamp : ℕ) × StoresWithStamp (item_with hash stamp (packed_item key value)) stamp (view before) (view now)
-      × SetsBehindRoom (hand_number before) hash stamp (packed_item key value) before now × RecordsSetBehindRoom (hand_number before) hash stamp before now
+      × SetsBehindRoom Anything (hand_number before) hash stamp (packed_item key value) before now × RecordsSetBehindRoom (hand_number before) hash stamp before now
   pub refused : (error : SetError) → result ≡ Err (set_error.Item error) → RefusesBytes (hand_number before) hash (packed_item key value) error before now
   -- each try for one of the locks missed
   pub held : result ≡ Err set_error.Held → RefusesBytesWithin (hand_number before) tries hash (packed_item key value) items.Held before now

@@ -6,3 +6,4 @@ pub mod Finding
 pub mod Recording
 pub mod Setting
 pub mod Within
+pub mod Conditions

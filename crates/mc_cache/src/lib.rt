@@ -28,6 +28,8 @@
 
 mod bytes;
 mod cache;
+mod conditional;
+mod conditional_within;
 mod hashing;
 mod laws;
 mod opening;
@@ -40,6 +42,7 @@ mod stats;
 mod tended;
 mod tending;
 mod tending_within;
+mod versions;
 mod window;
 mod window_within;
 mod working;
@@ -48,9 +51,10 @@ mod working_within;
 pub use bytes::worked_bytes;
 pub use cache::{Cache, Worker};
 pub use hashing::HashKey;
-pub use laws::own_values_are_newest;
+pub use laws::{conditions_are_met, own_values_are_newest};
 pub use opening::{CacheConfig, NewError};
 pub use opening_within::NewWithinError;
+pub use shard::{Outcome, When};
 pub use sizing::{SizingError, worked_sizes};
 pub use stats::{CacheStats, ClassStats, worked_stats};
 pub use tended::{Tended, worked_tended};

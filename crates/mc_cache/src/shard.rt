@@ -4,10 +4,11 @@
 //! [`Label`] is a key with its hash.
 //!
 //! - [`set`] packs key and value and stores them under the hash, in place of what was there.
+//! - [`set_if`] stores only [`When`] the key has no value, has one, or has a version of it.
 //! - [`get`] puts the key's value behind bytes that are there, and marks its item as got. [`peek`] marks nothing. [`try_get`] doesn't
-//!   wait. [`contains`] only looks.
+//!   wait. [`get_with_version`] returns the version, too. [`contains`] only looks.
 //! - [`touch`] makes the key's item the newest of its class, and [`delete`] deletes the key.
-//! - [`set_within`], [`get_within`], [`contains_within`], [`touch_within`] and [`delete_within`] try for each lock n times, and don't wait.
+//! - [`set_within`], [`set_if_within`], [`get_within`], [`contains_within`], [`touch_within`] and [`delete_within`] try for each lock n times, and don't wait.
 //! - A [`HintTable`] has notes of where items may be. A call that finds one gets the item with no lock.
 //!
 //! ```rust
@@ -22,23 +23,30 @@
 //! stored. An item of another key under the same hash is none to [`get`], [`peek`], [`try_get`], [`contains`], [`touch`] and [`delete`],
 //! and a [`set`] takes its place. Hashes, shards and the lengths of keys and values are `mc_cache`'s.
 
+mod comparing;
+mod conditions;
 mod deleting;
 mod gets;
 mod hinting;
 mod hints;
 mod label;
+mod looking;
 mod lookup;
 mod reading;
 mod setting;
 mod setting_within;
 mod try_gets;
+mod versions;
 mod within;
 
+pub use conditions::{Outcome, When, set_if, set_if_within};
 pub use deleting::delete;
 pub use gets::{get, peek, touch};
 pub use hints::HintTable;
 pub use label::Label;
+pub use looking::Seen;
 pub use setting::set;
 pub use setting_within::set_within;
 pub use try_gets::{TryGetError, contains, try_get};
+pub use versions::{get_with_version, get_with_version_within};
 pub use within::{contains_within, delete_within, get_within, touch_within};

@@ -17,11 +17,14 @@ use Rattle.mc_words.specs.item.Items.{held_item}
 use Rattle.mc_words.specs.lock.Lent.{IsLentStripe}
 use Rattle.mc_words.specs.lock.Wait.{WaitsForStripe}
 use Rattle.mc_words.specs.item.References.{reference_to, GetsItem}
-use Rattle.mc_words.specs.hand.Views.{stripe_given, call_reserved}
+use Rattle.mc_words.specs.hand.Views.{chunk_released, stripe_given, call_reserved}
 use Rattle.mc_words.proofs.Items.References.{is_item}
 use Rattle.mc_words.specs.declared.item.refs.Ref.{Ref}
 use Rattle.mc_items.specs.Calls.{CallsBehind, FindsStripe, LooksUp}
 use Rattle.mc_items.specs.Reading.{AndReads}
+use Rattle.mc_core.specs.declared.event.StripeChange.TheVariants.{Reserve}
+use Rattle.mc_items.specs.Storing.{IsExpected, Stores, StoresItem}
+use Rattle.mc_items.specs.declared.comparing.Expected.{Expected}
 
 -- the item of a reference that was got is the one that the first holding of its chunk has
 pub got_item : (view now : View) (number stripe : ℕ) (value : ReadyStripe) (key : ℕ) (chunk : ChunkId) (issue room : ℕ) → (gets : GetsItem view number stripe value key chunk issue room now) → LawfulView now → held_item now chunk ≡ gets.item
@@ -53,6 +56,17 @@ called_on {room} Does number stripe number' stripe' value view taken now numbers
   waits = waits;
   lent = lent;
   done = subst (λ (p : ℕ × ℕ). IsDoneBehind room p.0 p.1 value (Does p.0 p.1) taken now) (λ k. (numbers k, stripes k)) done;
+}
+
+-- a store under a lock that was waited for, where the key had what was expected
+pub stored_on : (expected : Expected) (number stripe key stamp : ℕ) (chunk : ChunkId) (room number' stripe' : ℕ) (value : ReadyStripe) (view taken linked now : View) → number' ≡ number → stripe' ≡ stripe → WaitsForStripe stripe view value taken → IsLentStripe taken stripe value
+    → IsDoneBehind Reserve number' stripe' value (Stores number' stripe' key stamp chunk room) taken linked → IsExpected expected (stamp_of_key value.state key) → now ≡ chunk_released chunk linked → StoresItem expected number stripe key stamp chunk room view now
+unfolding called_on
+stored_on expected number stripe key stamp chunk room number' stripe' value view taken linked now numbers stripes waits lent done met dropped = record {
+  linked = linked;
+  stores = called_on (λ number stripe. Stores number stripe key stamp chunk room) number stripe number' stripe' value view taken linked numbers stripes waits lent done;
+  met = met;
+  dropped = dropped;
 }
 
 -- one that ran out of memory

@@ -1,33 +1,27 @@
 -- A get by a hint can be put into its stripe's history.
-use Rattle.std.proofs.Common.{◌≡◌, ◌≢◌, ◌<◌, ◌≤◌, ◌%◌, ℕ, true, List, [], ◌∷◌, ◌++◌, length, is_some, IfSome, Option, Some, None, refl, sym, ap, ◌∙◌, inl, inr, arith}
+use Rattle.std.proofs.Common.{◌≡◌, ◌≢◌, ℕ, List, [], ◌∷◌, ◌++◌, length, IfSome, Option, Some, None, refl, sym, ap, ◌∙◌, inl, inr}
 use Rattle.std.proofs.lemmas.Bool.{and_parts, cases_Bool, cases_lt}
 use Rattle.std.proofs.lemmas.List.{append-nil, append_assoc, get_or_past}
 use Rattle.std.specs.Option.{option_map}
 use Rattle.mc_pages.specs.declared.ids.ChunkId.{ChunkId}
 use Rattle.mc_stripe.specs.declared.history.Call.{Call}
 use Rattle.mc_stripe.specs.declared.history.Call.TheVariants.{Get}
-use Rattle.mc_stripe.specs.Entries.{entry_at}
 use Rattle.mc_stripe.specs.History.{Stamps, is_reply_right, stamps_after, stamps_after_calls}
 use Rattle.mc_stripe.specs.Legal.{IsLegal}
-use Rattle.mc_stripe.specs.StripeState.{Index, StripeState, ReadyStripe, new_stripe, chunk_and_stamp, key_aside, stamps_of}
+use Rattle.mc_stripe.specs.StripeState.{StripeState, new_stripe, chunk_and_stamp, stamps_of}
 use Rattle.mc_stripe.proofs.Histories.{None≢Some}
 use Rattle.mc_stripe.proofs.Kept.{IsLegal-after_got, IsLegal-new}
 use Rattle.mc_core.specs.declared.event.Event.{Event}
 use Rattle.mc_core.specs.law.Laws.{IsRun, moment_at_end}
 use Rattle.mc_core.specs.law.Lawful.{IsLawful}
-use Rattle.mc_core.specs.model.State.{State, is_hand, number_at, stripe_at, stripe_of}
+use Rattle.mc_core.specs.model.State.{is_hand, number_at, stripe_at, stripe_of}
 use Rattle.mc_core.specs.past.Past.{Moment, history_at, moment_after}
-use Rattle.mc_core.specs.run.Run.{is_allowed}
 use Rattle.mc_core.proofs.Frame.Effects.{histories_grow}
 use Rattle.mc_core.proofs.Law.LawKept.{are_lawful}
 use Rattle.mc_core.proofs.Seen.SeenLooks.{some_is}
-use Rattle.mc_words.specs.declared.item.refs.Hint.{Hint}
 use Rattle.mc_words.specs.hand.Observers.{hint_chunk}
-use Rattle.mc_words.specs.hand.View.{View}
-use Rattle.mc_items.specs.Current.{GetsCurrent}
-use Rattle.mc_items.specs.declared.refs.Ref.{Ref}
 use Rattle.mc_items.specs.ItemRefs.{item_key, item_stamp}
-use Rattle.mc_items.specs.PutIn.{TakesIn, exchange_of, HintedGetsAreLegal, HintedGetsLeaveOthers}
+use Rattle.mc_items.specs.PutIn.{exchange_of, HintedGetsAreLegal, HintedGetsLeaveOthers}
 
 -- what comes behind a legal beginning is replayed from the stamps that this leaves
 replay_on : (start stamps : Stamps) (history more : List Call) → stamps_after_calls start history ≡ Some stamps → stamps_after_calls start (history ++ more) ≡ stamps_after_calls stamps more

@@ -11,7 +11,9 @@ use Rattle.mc_words.specs.item.Calls.{with_own_call}
 use Rattle.mc_words.specs.item.Items.{issue_in, known_words_in}
 use Rattle.mc_words.specs.item.Links.{IsItemFilled, own_item}
 use Rattle.mc_items.specs.Calls.{RecordsNoCall}
+use Rattle.mc_stripe.specs.StripeState.{ReadyStripe}
 use Rattle.mc_items.specs.Storing.{LeavesDead, StoresItem}
+use Rattle.mc_items.specs.declared.comparing.Expected.{Expected}
 use Rattle.mc_items.proofs.Tells.{told_none}
 use Rattle.mc_items.proofs.Locks.{waits_keep}
 
@@ -33,7 +35,7 @@ pub numbers_known : (item : List ℕ) → numbers_of_known (all_known item) ≡ 
 numbers_known [] = refl
 numbers_known (word ∷ item) = ap (λ (l : List ℕ). word ∷ l) (numbers_known item)
 
-module _ (number stripe key stamp : ℕ) (chunk : ChunkId) (room : ℕ) (view now : View) (stored : StoresItem number stripe key stamp chunk room view now) where
+module _ {expected : Expected} (number stripe key stamp : ℕ) (chunk : ChunkId) (room : ℕ) (view now : View) (stored : StoresItem expected number stripe key stamp chunk room view now) where
   -- the hand's own calls have the one more
   pub stored_mine : now.row.knows.mine ≡ map (with_own_call number stripe (Set number key stamp)) view.row.knows.mine
   stored_mine =
@@ -51,5 +53,5 @@ module _ (number stripe key stamp : ℕ) (chunk : ChunkId) (room : ℕ) (view no
       ∙ ap (λ (p : List StoredItem × List Holding). p.0 ++ record { stamp = stamp; words = numbers_of_known (words_of_item (words_among chunk p.1)) } ∷ []) (waits_keep (λ (v : View). (v.row.knows.stored, v.row.holdings)) stripe (λ word v. refl) (λ value v. refl) view stored.stores.value stored.stores.taken stored.stores.waits)))
 
 -- who gave its chunk up told nothing
-pub dead_told : (stripe : ℕ) (chunk : ChunkId) (view now : View) → LeavesDead stripe chunk view now → RecordsNoCall view now
+pub dead_told : {Is : ReadyStripe → Type 0} (stripe : ℕ) (chunk : ChunkId) (view now : View) → LeavesDead Is stripe chunk view now → RecordsNoCall view now
 dead_told stripe chunk view now dead = ap (λ (v : View). v.row.knows.mine) dead.dropped ∙ told_none stripe view dead.given dead.waits

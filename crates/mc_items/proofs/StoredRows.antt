@@ -12,7 +12,9 @@ use Rattle.mc_words.specs.item.Items.{issue_in, known_words_in}
 use Rattle.mc_words.specs.item.Links.{own_item}
 use Rattle.mc_words.specs.item.References.{reference_to}
 use Rattle.mc_words.specs.item.Refs.{KeepsHoldings}
+use Rattle.mc_stripe.specs.StripeState.{ReadyStripe}
 use Rattle.mc_items.specs.Storing.{IsOwnItem, LeavesDead, StoresItem, holding_with, item_filled}
+use Rattle.mc_items.specs.declared.comparing.Expected.{Expected}
 use Rattle.mc_items.proofs.Chains.{holdings_kept, holdings_stay}
 use Rattle.mc_items.proofs.Left.{Kept, kept_of, only_keeps, waited}
 use Rattle.mc_items.proofs.Made.{Gains}
@@ -47,7 +49,7 @@ module _ (chunk : ChunkId) (item : List ℕ) (view between : View) (none : has_f
   lost_again = ap (without_first (is_of_chunk chunk)) filled_holds ∙ lose_last chunk view.row.holdings (holding_with item gains.fresh) before (last_passes chunk (holding_with item gains.fresh) gains.of)
 
   -- stored, it is given up
-  module _ (number stripe key stamp room : ℕ) (now : View) (stored : StoresItem number stripe key stamp chunk room filled now) where
+  module _ {expected : Expected} (number stripe key stamp room : ℕ) (now : View) (stored : StoresItem expected number stripe key stamp chunk room filled now) where
     taken_is : kept_of stored.stores.taken ≡ kept_of filled
     taken_is = waited stripe filled stored.stores.value stored.stores.taken stored.stores.waits
 
@@ -84,7 +86,7 @@ module _ (chunk : ChunkId) (item : List ℕ) (view between : View) (none : has_f
     stored_keeps same = holdings_kept view now (known_by room linked ∷ []) stored_holds (stored_knows ∙ ap (λ (l : List KnownItem). l ++ known_by room linked ∷ []) same)
 
   -- left dead, it is given up, too
-  module _ (stripe : ℕ) (now : View) (dead : LeavesDead stripe chunk filled now) where
+  module _ {Is : ReadyStripe → Type 0} (stripe : ℕ) (now : View) (dead : LeavesDead Is stripe chunk filled now) where
     given_is : kept_of dead.given ≡ kept_of filled
     given_is = only_keeps stripe filled dead.given dead.waits
 

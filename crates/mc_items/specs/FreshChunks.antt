@@ -14,7 +14,9 @@ use Rattle.mc_words.specs.hand.Observers.{fresh_chunk, fresh_room, hint_chunk, h
 use Rattle.mc_words.specs.hand.View.{Setup, View}
 use Rattle.mc_words.specs.hand.Views.{chunk_discarded, stripe_given}
 use Rattle.mc_items.specs.OnKeys.{stripe_of_key}
-use Rattle.mc_items.specs.Storing.{LeavesDead, StoresItem, item_filled}
+use Rattle.mc_items.specs.Storing.{LeavesDead, RefusesStore, StoresItem, item_filled}
+use Rattle.mc_items.specs.declared.comparing.Expected.{Expected}
+use Rattle.mc_items.specs.declared.storing.StoreError.{StoreError}
 
 -- the fresh chunk is the hand's, and has the room of chunks of the class
 abbrev pub IsFreshFor : Setup → ℕ → View → Fresh → Type 0
@@ -28,13 +30,13 @@ IsFilledWith view fresh key stamp = IsItemFilled view (fresh_chunk fresh) (issue
 abbrev pub filled_with : Fresh → ℕ → ℕ → List ℕ → View → View
 filled_with fresh key stamp words view = item_filled (fresh_chunk fresh) (item_with key stamp words) view
 
--- the item that the fresh chunk was filled with was stored under its key
-abbrev pub StoresFresh : Setup → ℕ → ℕ → Fresh → ℕ → View → View → Type 0
-StoresFresh setup key stamp fresh number filled now = StoresItem number (stripe_of_key setup key) key stamp (fresh_chunk fresh) (fresh_room fresh) filled now
+-- the item that the fresh chunk was filled with was stored under its key, which had what was expected
+abbrev pub StoresFresh : Expected → Setup → ℕ → ℕ → Fresh → ℕ → View → View → Type 0
+StoresFresh expected setup key stamp fresh number filled now = StoresItem expected number (stripe_of_key setup key) key stamp (fresh_chunk fresh) (fresh_room fresh) filled now
 
--- the stripe had no room for a call, and the hand gave the chunk up
-abbrev pub LosesFresh : Setup → ℕ → Fresh → View → View → Type 0
-LosesFresh setup key fresh filled now = LeavesDead (stripe_of_key setup key) (fresh_chunk fresh) filled now
+-- the stripe didn't take the store for this reason, and the hand gave the chunk up
+abbrev pub LosesFresh : StoreError → Expected → Setup → ℕ → Fresh → View → View → Type 0
+LosesFresh error expected setup key fresh filled now = LeavesDead (RefusesStore error expected key) (stripe_of_key setup key) (fresh_chunk fresh) filled now
 
 -- the reference is to this chunk, as the hand got and filled it
 abbrev pub IsRefInto : View → Fresh → words.Ref → Type 0

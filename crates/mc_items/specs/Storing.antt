@@ -1,7 +1,7 @@
 -- Items that are stored: what the hand writes into its fresh chunk, and how that comes to its key.
-use Rattle.std.specs.Prelude.{◌≡◌, ℕ, ◌+◌, List, [], ◌∷◌, ◌++◌, if◌then◌else◌, is_some, Some}
+use Rattle.std.specs.Prelude.{◌≡◌, ℕ, ◌+◌, List, [], ◌∷◌, ◌++◌, if◌then◌else◌, is_some, true, Option, Some, None}
 use Rattle.mc_pages.specs.declared.ids.ChunkId.{ChunkId}
-use Rattle.mc_stripe.specs.StripeState.{ReadyStripe, chunk_and_stamp}
+use Rattle.mc_stripe.specs.StripeState.{ReadyStripe, chunk_and_stamp, stamp_of_key}
 use Rattle.mc_stripe.specs.Changes.{after_lift, after_link, used_up}
 use Rattle.mc_core.specs.declared.holding.Holding.{Holding}
 use Rattle.mc_core.specs.declared.holding.Kind.{Kind}
@@ -16,6 +16,10 @@ use Rattle.mc_words.specs.item.Items.{issue_in, known_words_in}
 use Rattle.mc_words.specs.item.Links.{item_linked, own_item}
 use Rattle.mc_words.specs.hand.Views.{chunk_discarded, chunk_released, with_holdings}
 use Rattle.mc_items.specs.Calls.{CallsBehind, FindsStripe, IsFullToStore}
+use Rattle.mc_items.specs.declared.comparing.Expected.{Expected}
+use Rattle.mc_items.specs.declared.comparing.Expected.TheVariants.{Anything, Nothing, Something, Item}
+use Rattle.mc_items.specs.declared.storing.StoreError.{StoreError}
+use Rattle.mc_items.specs.declared.storing.StoreError.TheVariants.{NoMemory, Differs}
 
 -- the words of a chunk, with the item's words in place of the first ones, as far as there is room
 abbrev pub written_over : List ℕ → Words → Words
@@ -60,14 +64,31 @@ Stores number stripe key stamp chunk room value view left now =
     (now ≡ item_linked number stripe (stripe_lifted value key) key stamp chunk (issue_in view chunk) (known_words_in view chunk) room (key_put_aside stripe value key view))
     × (left ≡ used_up (after_link (stripe_lifted value key).state number key chunk stamp))
 
--- the item was stored, and the hand gave the reference to it up, so that its header counts the link alone
-pub record StoresItem (number stripe key stamp : ℕ) (chunk : ChunkId) (room : ℕ) (view now : View) : Type 0 where
+-- a store expects what was found under its key: the stamp of an item, or none
+abbrev pub IsExpected : Expected → Option ℕ → Type 0
+IsExpected Anything found = Unit {0}
+IsExpected Nothing found = found ≡ None
+IsExpected Something found = is_some found ≡ true
+IsExpected (Item stamp) found = found ≡ Some stamp
+
+-- the stripe has this under the key, the stamp of an item or none, and a store doesn't expect it
+abbrev pub HasOther : Expected → Option ℕ → ℕ → ReadyStripe → Type 0
+HasOther expected found key value = (stamp_of_key value.state key ≡ found) × ¬ IsExpected expected found
+
+-- why the stripe didn't take a store: it has no room for the call and its entry, or the key has what the store doesn't expect
+abbrev pub RefusesStore : StoreError → Expected → ℕ → ReadyStripe → Type 0
+RefusesStore (NoMemory _) expected key value = IsFullToStore value
+RefusesStore (Differs found) expected key value = HasOther expected found key value
+
+-- the key had what was expected, the item was stored, and the hand gave the reference to it up, so that its header counts the link alone
+pub record StoresItem (expected : Expected) (number stripe key stamp : ℕ) (chunk : ChunkId) (room : ℕ) (view now : View) : Type 0 where
   pub linked : View
   pub stores : CallsBehind Reserve number stripe (Stores number stripe key stamp chunk room) view linked
+  pub met : IsExpected expected (stamp_of_key stores.value.state key)
   pub dropped : now ≡ chunk_released chunk linked
 
--- the stripe got no room for the call and its entry, and the hand gave the chunk up
-pub record LeavesDead (stripe : ℕ) (chunk : ChunkId) (view now : View) : Type 0 where
+-- the hand found that the property holds of the stripe, so it stored nothing there, and gave the chunk up
+pub record LeavesDead (Is : ReadyStripe → Type 0) (stripe : ℕ) (chunk : ChunkId) (view now : View) : Type 0 where
   pub given : View
-  pub waits : FindsStripe IsFullToStore stripe view given
+  pub waits : FindsStripe Is stripe view given
   pub dropped : now ≡ chunk_discarded chunk given

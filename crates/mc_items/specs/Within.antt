@@ -14,9 +14,15 @@ use Rattle.mc_words.specs.lock.Doing.{HoldsSlabs}
 use Rattle.mc_words.specs.lock.Wait.{MissesSlabsEachTime, MissesStripeEachTime}
 use Rattle.mc_items.specs.Calls.{CallsOn, Finds, RecordsNoCall}
 use Rattle.mc_items.specs.OnKeys.{RecordsGet, stripe_of_key}
-use Rattle.mc_items.specs.Setting.{RefusesSet, class_for_words}
+use Rattle.mc_items.specs.Setting.{RefusesSet, StoresNone, class_for_words}
 use Rattle.mc_items.specs.Sources.{SuppliesChunk}
-use Rattle.mc_items.specs.Storing.{item_filled}
+use Rattle.mc_items.specs.Storing.{HasOther, item_filled}
+use Rattle.mc_items.specs.declared.comparing.Expected.{Expected}
+use Rattle.mc_items.specs.declared.setting.SetError.TheVariants as set_error
+use Rattle.mc_items.specs.declared.storing.StoreError.{StoreError}
+use Rattle.mc_items.specs.declared.storing.StoreError.TheVariants as store
+use Rattle.mc_items.specs.declared.within.comparing.CompareWithinError.{CompareWithinError}
+use Rattle.mc_items.specs.declared.within.comparing.CompareWithinError.TheVariants as compare
 use Rattle.mc_items.specs.declared.within.SetWithinError.{SetWithinError}
 use Rattle.mc_items.specs.declared.within.SetWithinError.TheVariants.{Refused, Held}
 
@@ -45,6 +51,16 @@ pub record StoresUnlinked (number tries key : ℕ) (words : List ℕ) (view now 
 abbrev pub RefusesWithin : ℕ → ℕ → ℕ → List ℕ → SetWithinError → View → View → Type 0
 RefusesWithin number tries key words (Refused error) view now = RefusesSet number key words error view now
 RefusesWithin number tries key words Held view now = MissesSlabsEachTime tries view now ⊎ StoresUnlinked number tries key words view now
+
+-- why a set that expects something was refused within this many tries: as a set within them, or the key has what isn't expected
+abbrev pub RefusesCompareWithin : Expected → ℕ → ℕ → ℕ → List ℕ → CompareWithinError → View → View → Type 0
+RefusesCompareWithin expected number tries key words (compare.Refused error) view now = RefusesWithin number tries key words error view now
+RefusesCompareWithin expected number tries key words (compare.Differs found) view now = StoresNone (HasOther expected found key) number key words view now
+
+-- the refusal of a set within n tries whose store was refused so
+abbrev pub store_refusal_within : StoreError → CompareWithinError
+store_refusal_within (store.NoMemory _) = compare.Refused (Refused (set_error.NoMemory tt))
+store_refusal_within (store.Differs found) = compare.Differs found
 
 -- each try for the lock of the key's stripe missed, and nothing else was done
 abbrev pub MissesKeyEachTime : Setup → ℕ → ℕ → Hand → Hand → Type 0

@@ -4,6 +4,7 @@
 //! fills no chunk and holds at most 255 chunks, and each call leaves it so.
 //!
 //! - [`set`] stores an item of n words under a key, and returns its stamp. [`set_within`] gives up after n tries for each lock.
+//!   [`compare_and_set`] stores only where the key has what is [`Expected`].
 //! - [`get`] returns a [`Ref`] to the key's item, and [`try_get`] does so without waiting. [`read`] and [`word`] read the item's
 //!   words, [`word_from`] one of several, and [`release`] gives the reference back.
 //! - [`hint`] makes a hint of a reference, and [`again`] gets the item by the hint with no lock, if it is there still.
@@ -30,6 +31,7 @@
 #![tactic(auto)]
 
 mod bumping;
+mod comparing;
 mod deleting;
 mod evicting;
 mod filling;
@@ -48,6 +50,7 @@ mod visiting;
 mod within;
 
 pub use bumping::bump;
+pub use comparing::{CompareError, Expected, compare_and_set};
 pub use deleting::delete;
 pub use evicting::Supply;
 pub use getting::{GetError, TryGetError, get, try_get};
@@ -60,6 +63,7 @@ pub use setting::{NewItem, SetError, set, set_hinted};
 pub use touching::touch;
 pub use visiting::{ROOM_ITEMS, ROOM_TRIES, Visit};
 pub use within::bumping::bump_within;
+pub use within::comparing::{CompareWithinError, compare_and_set_within};
 pub use within::deleting::delete_within;
 pub use within::error::WithinError;
 pub use within::getting::get_within;

@@ -16,8 +16,9 @@ ghost use Rattle.mc_items.specs.OnKeys.{ActsOnce};
 ghost use Rattle.mc_items.specs.Setting.{RefusesSet, SetsItem, SetsWithHint, RecordsSet};
 ghost use Rattle.mc_items.specs.Sources.{SuppliesChunk, SuppliesNone};
 ghost use Rattle.mc_items.specs.Storing.{IsOwnItem};
+ghost use Rattle.mc_items.specs.declared.comparing.Expected.TheVariants as expected;
 
-use crate::storing::store_words;
+use crate::comparing::{CompareError, Expected, compare_and_set};
 use crate::supplying::supply_chunk;
 use mc_classes::ClassId;
 use mc_memory::Refused;
@@ -65,8 +66,8 @@ pub fn set<R: Wait>(
 ) -> Result<Stamp, SetError>
     requires arena { IsHandOf arena.now hand.old }
     requires ready { IsReady (view hand.old) }
-    ensures sets { IfOk result (λ stamp. SetsItem (hand_number hand.old) key stamp words.now
-        (view hand.old) (view hand.new)) }
+    ensures sets { IfOk result (λ stamp. SetsItem expected.Anything (hand_number hand.old) key
+        stamp words.now (view hand.old) (view hand.new)) }
     ensures calls { IfOk result (λ stamp. RecordsSet (hand_number hand.old) key stamp
         (view hand.old) (view hand.new)) }
     ensures stores_words { IfOk result (λ stamp.
@@ -96,8 +97,8 @@ pub fn set_hinted<R: Wait>(
 ) -> Result<NewItem, SetError>
     requires arena { IsHandOf arena.now hand.old }
     requires ready { IsReady (view hand.old) }
-    ensures sets { IfOk result (λ stored. SetsWithHint (hand_number hand.old) key stored words.now
-        (view hand.old) (view hand.new)) }
+    ensures sets { IfOk result (λ stored. SetsWithHint expected.Anything (hand_number hand.old)
+        key stored words.now (view hand.old) (view hand.new)) }
     ensures calls { IfOk result (λ stored. RecordsSet (hand_number hand.old) key stored.stamp
         (view hand.old) (view hand.new)) }
     ensures stores_words { IfOk result (λ stored.
@@ -112,24 +113,15 @@ pub fn set_hinted<R: Wait>(
     ensures holdings { KeepsHoldings (view hand.old) (view hand.new) }
     ensures hand { StaysReady arena.now hand.old hand.new }
 {
-    let Some(class) = arena.classes().class_for(24 + 8 * words.len() as u64) else {
-        return Err(SetError::TooLarge);
-    };
-    let Some(stamp) = hand.next_stamp() else {
-        return Err(SetError::WornOut);
-    };
-    let fresh = match chunk_of(rt, arena, hand, class) {
-        Ok(fresh) => fresh,
-        Err(error) => return Err(error),
-    };
-    match store_words(rt, arena, hand, fresh, key, stamp, words) {
-        Ok(hint) => Ok(NewItem { stamp, hint }),
-        Err(refused) => Err(SetError::NoMemory(refused)),
+    match compare_and_set(rt, arena, hand, key, words, Expected::Anything) {
+        Ok(stored) => Ok(stored),
+        Err(CompareError::Refused(error)) => Err(error),
+        Err(CompareError::Differs(_found)) => unreachable!(),
     }
 }
 
 // Gets a chunk of the class under the lock of the slabs, which it waits for.
-fn chunk_of<R: Wait>(
+pub(crate) fn chunk_of<R: Wait>(
     rt: &R,
     arena: &Arena,
     hand: &mut Hand,

@@ -1,5 +1,5 @@
-//! Items that are linked to their keys, in place of those that were there.
-ghost use Rattle.std.specs.Prelude.{◌+◌, ◌≡◌, ◌≤◌, IfOk, None, OnErr, OnOk, Some, false, length, true};
+//! Items that are linked to their keys, in place of those that were there, where these are expected.
+ghost use Rattle.std.specs.Prelude.{◌+◌, ◌≡◌, ◌≤◌, IfErr, IfOk, IfSome, None, OnErr, OnOk, Some, false, length, true};
 ghost use Rattle.mc_core.specs.model.Holdings.{has_fresh, words_of_item, numbers_of_known};
 ghost use Rattle.mc_words.specs.hand.Arenas.{IsHandOf, setup_of, view};
 ghost use Rattle.mc_words.specs.item.Fresh.{IsFreshOf};
@@ -11,20 +11,31 @@ ghost use Rattle.mc_words.specs.hand.Observers.{stripe_number};
 ghost use Rattle.mc_words.specs.lock.Out.{without_stripe};
 ghost use Rattle.mc_words.specs.item.Refs.{IsRefOf};
 ghost use Rattle.mc_words.specs.hand.Tallies.{next_stamp};
-ghost use Rattle.mc_items.specs.Calls.{RecordsNoCall, IsFullToStore};
+ghost use Rattle.mc_items.specs.Calls.{RecordsNoCall};
 ghost use Rattle.mc_items.specs.FreshChunks.{GivesBackBoth, IsFilledWith, IsHintInto, IsRefInto, LosesFresh, StoresFresh, filled_with};
 ghost use Rattle.mc_items.specs.Keeping.{StoresWithStamp};
 ghost use Rattle.mc_items.specs.OnKeys.{StoresOn, RecordsOn, stripe_of_key};
-ghost use Rattle.mc_items.specs.Storing.{IsOwnItem, Stores, key_put_aside, stripe_lifted};
+ghost use Rattle.mc_items.specs.Storing.{HasOther, IsExpected, IsOwnItem, RefusesStore, Stores, key_put_aside, stripe_lifted};
+ghost use Rattle.mc_stripe.specs.StripeState.{stamp_of_key};
 ghost use Rattle.mc_stripe.specs.declared.history.Call.TheVariants as call;
 
+use crate::comparing::Expected;
 use crate::filling::fill_item;
-use mc_stripe::NoMemory;
+use mc_stripe::{NoMemory, Stamp};
 use mc_words::{Arena, Fresh, Hand, Hint, StripeHeld};
 use std::sync::Wait;
 
-// Writes an item into the fresh chunk, stores it under its key, and returns a hint of it. No reference is left. At want of memory the key is as before,
-// and the chunk is dead. (items.c's `do_item_alloc` from the chunk on, and then `do_store_item` of a set)
+// Why an item wasn't stored under its key. The key is as before, and the item's chunk is given up.
+#[derive(Debug, PartialEq, Eq, Drop)]
+pub(crate) enum StoreError {
+    // The stripe got no room for one more call and its entry.
+    NoMemory(NoMemory),
+    // The key has an item with this stamp, or none, and the store didn't expect that.
+    Differs(Option<Stamp>),
+}
+
+// Writes an item into the fresh chunk, stores it under its key, and returns a hint of it. No reference is left. (items.c's
+// `do_item_alloc` from the chunk on, and then `do_store_item`)
 pub(crate) fn store_words<R: Wait>(
     rt: &R,
     arena: &Arena,
@@ -33,7 +44,8 @@ pub(crate) fn store_words<R: Wait>(
     key: u64,
     stamp: u64,
     words: &[u64],
-) -> Result<Hint, NoMemory>
+    expected: Expected,
+) -> Result<Hint, StoreError>
     requires arena { IsHandOf arena.now hand.old }
     requires unlocked { is_unlocked (view hand.old) ≡ true }
     requires fresh { IsFreshOf (view hand.old) (fresh_chunk fresh) (fresh_room fresh) }
@@ -42,33 +54,34 @@ pub(crate) fn store_words<R: Wait>(
     requires stamp { next_stamp (view hand.old).row.ids ≡ Some stamp }
     ensures arena { IsHandOf arena.now hand.new }
     ensures locks { locks_of hand.new ≡ locks_of hand.old }
-    ensures stores { OnOk result (StoresFresh (setup_of arena.now) key stamp fresh
+    ensures stores { OnOk result (StoresFresh expected (setup_of arena.now) key stamp fresh
         (hand_number hand.old) (filled_with fresh key stamp words.now (view hand.old))
         (view hand.new)) }
     ensures calls { OnOk result (RecordsOn (setup_of arena.now) key (λ number.
         call.Set number key stamp) hand.old hand.new) }
     ensures stores_words { OnOk result (StoresWithStamp (item_with key stamp words.now) stamp
         (view hand.old) (view hand.new)) }
-    ensures no_memory { OnErr result (LosesFresh (setup_of arena.now) key fresh
+    ensures lost { IfErr result (λ error. LosesFresh error expected (setup_of arena.now) key fresh
         (filled_with fresh key stamp words.now (view hand.old)) (view hand.new)) }
     ensures refused { OnErr result (RecordsNoCall (view hand.old) (view hand.new)) }
     ensures hint { IfOk result (IsHintInto (view hand.old) fresh) }
 {
     let mut fresh = fresh;
     fill_item(arena, hand, &mut fresh, key, stamp, words);
-    store(rt, arena, hand, fresh, key)
+    store(rt, arena, hand, fresh, key, expected)
 }
 
 // Stores the item that the hand filled the chunk with under its key, and waits for the lock of the key's stripe. The item that the
-// key had is unlinked. No reference is left, and a hint of the item is returned. At want of memory the key is as before, and the
-// chunk is dead. (items.c's `item_replace`, or `do_item_link`, and then `do_item_remove`)
+// key had is unlinked. No reference is left, and a hint of the item is returned. (items.c's `item_replace`, or `do_item_link`, and
+// then `do_item_remove`)
 fn store<R: Wait>(
     rt: &R,
     arena: &Arena,
     hand: &mut Hand,
     fresh: Fresh,
     key: u64,
-) -> Result<Hint, NoMemory>
+    expected: Expected,
+) -> Result<Hint, StoreError>
     requires arena { IsHandOf arena.now hand.old }
     requires unlocked { is_unlocked (view hand.old) ≡ true }
     requires fresh { IsFreshOf (view hand.old) (fresh_chunk fresh) (fresh_room fresh) }
@@ -77,21 +90,21 @@ fn store<R: Wait>(
     requires stamp { next_stamp (view hand.old).row.ids ≡ Some (fresh_stamp fresh) }
     ensures arena { IsHandOf arena.now hand.new }
     ensures locks { locks_of hand.new ≡ locks_of hand.old }
-    ensures stores { OnOk result (StoresFresh (setup_of arena.now) key (fresh_stamp fresh) fresh
-        (hand_number hand.old) (view hand.old) (view hand.new)) }
+    ensures stores { OnOk result (StoresFresh expected (setup_of arena.now) key
+        (fresh_stamp fresh) fresh (hand_number hand.old) (view hand.old) (view hand.new)) }
     ensures calls { OnOk result (RecordsOn (setup_of arena.now) key (λ number.
         call.Set number key (fresh_stamp fresh)) hand.old hand.new) }
     ensures stores_words { OnOk result (StoresWithStamp
         (numbers_of_known (words_of_item (known_words_in (view hand.old) (fresh_chunk fresh))))
         (fresh_stamp fresh) (view hand.old) (view hand.new)) }
-    ensures no_memory { OnErr result (LosesFresh (setup_of arena.now) key fresh (view hand.old)
-        (view hand.new)) }
+    ensures lost { IfErr result (λ error. LosesFresh error expected (setup_of arena.now) key fresh
+        (view hand.old) (view hand.new)) }
     ensures refused { OnErr result (RecordsNoCall (view hand.old) (view hand.new)) }
     ensures hint { IfOk result (IsHintInto (view hand.old) fresh) }
 {
     let stripe = key % arena.config().stripes;
     let held = arena.lock_stripe(rt, hand, stripe);
-    match store_at(arena, hand, held, fresh, key) {
+    match store_at(arena, hand, held, fresh, key, expected) {
         Ok(reference) => {
             let hint = reference.hint();
             arena.release(hand, reference);
@@ -101,15 +114,16 @@ fn store<R: Wait>(
     }
 }
 
-// Links the item to its key in the key's stripe, and gives the stripe's lock back. At want of memory the stripe is as before, and
-// the chunk is given up.
+// Links the item to its key in the key's stripe, where the key has what is expected, and gives the stripe's lock back. Where it has
+// something else, and at want of memory, the stripe is as before, and the chunk is given up.
 pub(crate) fn store_at(
     arena: &Arena,
     hand: &mut Hand,
     held: StripeHeld,
     fresh: Fresh,
     key: u64,
-) -> Result<mc_words::Ref, NoMemory>
+    expected: Expected,
+) -> Result<mc_words::Ref, StoreError>
     requires arena { IsHandOf arena.now hand.old }
     requires lent { IsLentStripe (view hand.old) (stripe_number held) (stripe_lent held) }
     requires in_range { stripe_number held ≡ stripe_of_key (setup_of arena.now) key }
@@ -125,18 +139,45 @@ pub(crate) fn store_at(
     ensures same { IfOk result (IsRefInto (view hand.old) fresh) }
     ensures reference { IfOk result (λ r. IsRefOf (view hand.new) (ref_chunk r) (ref_room r)) }
     ensures given { OnErr result (GivesBackBoth hand.old held fresh hand.new) }
-    ensures full { OnErr result (IsFullToStore (stripe_lent held)) }
+    ensures met { OnOk result (IsExpected expected (stamp_of_key (stripe_lent held).state key)) }
+    ensures refused { IfErr result (λ error. RefusesStore error expected key (stripe_lent held)) }
 {
     let mut held = held;
+    if let Some(found) = other_stamp(&held, key, expected) {
+        arena.give_stripe(hand, held);
+        arena.discard(hand, fresh);
+        return Err(StoreError::Differs(found));
+    }
     if let Err(error) = arena.reserve(hand, &mut held) {
         arena.give_stripe(hand, held);
         arena.discard(hand, fresh);
-        return Err(error);
+        return Err(StoreError::NoMemory(error));
     }
     put_aside(arena, hand, &mut held, key);
     let reference = arena.link(hand, &mut held, fresh);
     arena.give_stripe(hand, held);
     Ok(reference)
+}
+
+// What the key has in the stripe, the stamp of an item or none, if a store doesn't expect that.
+fn other_stamp(held: &StripeHeld, key: u64, expected: Expected) -> Option<Option<Stamp>>
+    ensures met { result ≡ None →
+        IsExpected expected (stamp_of_key (stripe_lent held.now).state key) }
+    ensures other { IfSome result (λ found.
+        HasOther expected found key (stripe_lent held.now)) }
+{
+    if expected == Expected::Anything {
+        return None;
+    }
+    let found = match held.stripe().find(key) {
+        Some((_chunk, stamp)) => Some(stamp),
+        None => None,
+    };
+    if expected.is_met_by(found) {
+        None
+    } else {
+        Some(found)
+    }
 }
 
 // Unlinks the key's item, if it has one, and puts the key's entry aside, until the hand links the chunk that it fills.

@@ -21,22 +21,26 @@ ghost use Rattle.mc_items.specs.OnKeys.{ActsOnce, RecordsOn};
 ghost use Rattle.mc_items.specs.Setting.{SetsItem, SetsWithHint, RecordsSet};
 ghost use Rattle.mc_items.specs.Sources.{SuppliesChunk, SuppliesNone};
 ghost use Rattle.mc_items.specs.Storing.{IsOwnItem};
+ghost use Rattle.mc_items.specs.declared.comparing.Expected.TheVariants as expected;
 ghost use Rattle.mc_items.specs.Within.{MissesFor, RefusesWithin};
 ghost use Rattle.mc_stripe.specs.declared.history.Call.TheVariants as call;
 
 pub mod bumping;
+pub mod comparing;
 pub mod deleting;
 pub mod error;
 pub mod getting;
 pub mod making_room;
 pub mod touching;
 
+use crate::comparing::Expected;
 use crate::filling::fill_item;
 use crate::setting::{NewItem, SetError};
-use crate::storing::store_at;
+use crate::storing::{StoreError, store_at};
 use crate::supplying::supply_chunk;
+use crate::within::comparing::{CompareWithinError, compare_and_set_within};
 use mc_classes::ClassId;
-use mc_stripe::{NoMemory, Stamp};
+use mc_stripe::Stamp;
 use mc_words::{Arena, Fresh, Hand, Held, Hint};
 use thiserror::Error;
 
@@ -64,8 +68,8 @@ pub fn set_within(
 ) -> Result<Stamp, SetWithinError>
     requires arena { IsHandOf arena.now hand.old }
     requires ready { IsReady (view hand.old) }
-    ensures sets { IfOk result (λ stamp. SetsItem (hand_number hand.old) key stamp words.now
-        (view hand.old) (view hand.new)) }
+    ensures sets { IfOk result (λ stamp. SetsItem expected.Anything (hand_number hand.old) key
+        stamp words.now (view hand.old) (view hand.new)) }
     ensures calls { IfOk result (λ stamp. RecordsSet (hand_number hand.old) key stamp
         (view hand.old) (view hand.new)) }
     ensures stores_words { IfOk result (λ stamp.
@@ -95,8 +99,8 @@ pub fn set_hinted_within(
 ) -> Result<NewItem, SetWithinError>
     requires arena { IsHandOf arena.now hand.old }
     requires ready { IsReady (view hand.old) }
-    ensures sets { IfOk result (λ stored. SetsWithHint (hand_number hand.old) key stored words.now
-        (view hand.old) (view hand.new)) }
+    ensures sets { IfOk result (λ stored. SetsWithHint expected.Anything (hand_number hand.old)
+        key stored words.now (view hand.old) (view hand.new)) }
     ensures calls { IfOk result (λ stored. RecordsSet (hand_number hand.old) key stored.stamp
         (view hand.old) (view hand.new)) }
     ensures stores_words { IfOk result (λ stored.
@@ -111,26 +115,15 @@ pub fn set_hinted_within(
     ensures holdings { KeepsHoldings (view hand.old) (view hand.new) }
     ensures hand { StaysReady arena.now hand.old hand.new }
 {
-    let Some(class) = arena.classes().class_for(24 + 8 * words.len() as u64) else {
-        return Err(SetWithinError::Refused(SetError::TooLarge));
-    };
-    let Some(stamp) = hand.next_stamp() else {
-        return Err(SetWithinError::Refused(SetError::WornOut));
-    };
-    let fresh = match chunk_within(arena, hand, class, tries) {
-        Ok(Ok(fresh)) => fresh,
-        Ok(Err(error)) => return Err(SetWithinError::Refused(error)),
-        Err(_) => return Err(SetWithinError::Held),
-    };
-    match store_words_within(arena, hand, fresh, key, stamp, words, tries) {
-        Ok(Ok(hint)) => Ok(NewItem { stamp, hint }),
-        Ok(Err(refused)) => Err(SetWithinError::Refused(SetError::NoMemory(refused))),
-        Err(_) => Err(SetWithinError::Held),
+    match compare_and_set_within(arena, hand, key, words, Expected::Anything, tries) {
+        Ok(stored) => Ok(stored),
+        Err(CompareWithinError::Refused(error)) => Err(error),
+        Err(CompareWithinError::Differs(_found)) => unreachable!(),
     }
 }
 
 // Gets a chunk of the class under the lock of the slabs, for which it tries `tries` times at most.
-fn chunk_within(
+pub(crate) fn chunk_within(
     arena: &Arena,
     hand: &mut Hand,
     class: ClassId,
@@ -166,15 +159,16 @@ fn chunk_within(
 
 // Writes an item into the fresh chunk, and stores it under its key, for whose stripe's lock it tries `tries` times at most. Where that is held,
 // and at want of memory, the key is as before, and the chunk is given up.
-fn store_words_within(
+pub(crate) fn store_words_within(
     arena: &Arena,
     hand: &mut Hand,
     fresh: Fresh,
     key: u64,
     stamp: u64,
     words: &[u64],
+    expected: Expected,
     tries: u64,
-) -> Result<Result<Hint, NoMemory>, Held>
+) -> Result<Result<Hint, StoreError>, Held>
     requires arena { IsHandOf arena.now hand.old }
     requires unlocked { is_unlocked (view hand.old) ≡ true }
     requires fresh { IsFreshOf (view hand.old) (fresh_chunk fresh) (fresh_room fresh) }
@@ -184,7 +178,7 @@ fn store_words_within(
     ensures arena { IsHandOf arena.now hand.new }
     ensures locks { locks_of hand.new ≡ locks_of hand.old }
     ensures stores { IfOk result (λ stored. OnOk stored
-        (StoresFresh (setup_of arena.now) key stamp fresh (hand_number hand.old)
+        (StoresFresh expected (setup_of arena.now) key stamp fresh (hand_number hand.old)
         (filled_with fresh key stamp words.now (view hand.old)) (view hand.new))) }
     ensures calls { IfOk result (λ stored. OnOk stored
         (RecordsOn (setup_of arena.now) key (λ number.
@@ -192,8 +186,8 @@ fn store_words_within(
     ensures stores_words { IfOk result (λ stored.
         OnOk stored (StoresWithStamp (item_with key stamp words.now) stamp (view hand.old)
         (view hand.new))) }
-    ensures no_memory { IfOk result (λ stored. OnErr stored
-        (LosesFresh (setup_of arena.now) key fresh
+    ensures lost { IfOk result (λ stored. IfErr stored (λ error.
+        LosesFresh error expected (setup_of arena.now) key fresh
         (filled_with fresh key stamp words.now (view hand.old)) (view hand.new))) }
     ensures refused { IfOk result (λ stored. OnErr stored
         (RecordsNoCall (view hand.old) (view hand.new))) }
@@ -203,7 +197,7 @@ fn store_words_within(
 {
     let mut fresh = fresh;
     fill_item(arena, hand, &mut fresh, key, stamp, words);
-    store_within(arena, hand, fresh, key, tries)
+    store_within(arena, hand, fresh, key, expected, tries)
 }
 
 // Stores the item that the hand filled the chunk with under its key, for whose stripe's lock it tries `tries` times at most.
@@ -212,8 +206,9 @@ fn store_within(
     hand: &mut Hand,
     fresh: Fresh,
     key: u64,
+    expected: Expected,
     tries: u64,
-) -> Result<Result<Hint, NoMemory>, Held>
+) -> Result<Result<Hint, StoreError>, Held>
     requires arena { IsHandOf arena.now hand.old }
     requires unlocked { is_unlocked (view hand.old) ≡ true }
     requires fresh { IsFreshOf (view hand.old) (fresh_chunk fresh) (fresh_room fresh) }
@@ -223,8 +218,8 @@ fn store_within(
     ensures arena { IsHandOf arena.now hand.new }
     ensures locks { locks_of hand.new ≡ locks_of hand.old }
     ensures stores { IfOk result (λ stored. OnOk stored
-        (StoresFresh (setup_of arena.now) key (fresh_stamp fresh) fresh (hand_number hand.old)
-        (view hand.old) (view hand.new))) }
+        (StoresFresh expected (setup_of arena.now) key (fresh_stamp fresh) fresh
+        (hand_number hand.old) (view hand.old) (view hand.new))) }
     ensures calls { IfOk result (λ stored. OnOk stored
         (RecordsOn (setup_of arena.now) key (λ number.
         call.Set number key (fresh_stamp fresh)) hand.old hand.new)) }
@@ -232,8 +227,9 @@ fn store_within(
         OnOk stored (StoresWithStamp (numbers_of_known
         (words_of_item (known_words_in (view hand.old) (fresh_chunk fresh)))) (fresh_stamp fresh)
         (view hand.old) (view hand.new))) }
-    ensures no_memory { IfOk result (λ stored. OnErr stored
-        (LosesFresh (setup_of arena.now) key fresh (view hand.old) (view hand.new))) }
+    ensures lost { IfOk result (λ stored. IfErr stored (λ error.
+        LosesFresh error expected (setup_of arena.now) key fresh (view hand.old)
+        (view hand.new))) }
     ensures refused { IfOk result (λ stored. OnErr stored
         (RecordsNoCall (view hand.old) (view hand.new))) }
     ensures missed { OnErr result (MissesFor (setup_of arena.now) tries key fresh (view hand.old)
@@ -245,7 +241,7 @@ fn store_within(
         arena.discard(hand, fresh);
         return Err(Held);
     };
-    match store_at(arena, hand, held, fresh, key) {
+    match store_at(arena, hand, held, fresh, key, expected) {
         Ok(reference) => {
             let hint = reference.hint();
             arena.release(hand, reference);

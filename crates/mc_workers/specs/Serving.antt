@@ -15,6 +15,7 @@ use Rattle.mc_items.specs.ItemRefs.{item_chunk, item_len, item_stamp, item_words
 use Rattle.mc_items.specs.OnKeys.{ActsOn, Gets, RecordsGet, RecordsOn, stripe_of_key}
 use Rattle.mc_items.specs.Reading.{words_seen}
 use Rattle.mc_items.specs.Setting.{RefusesSet, SetsItem, RecordsSet}
+use Rattle.mc_items.specs.declared.comparing.Expected.TheVariants.{Anything}
 use Rattle.mc_serial_spec.specs.Item.{counting_words}
 use Rattle.mc_script.specs.declared.command.Command.{Command}
 use Rattle.mc_script.specs.declared.command.Command.TheVariants as command
@@ -25,7 +26,7 @@ use Rattle.mc_workers.specs.Kept.{KeptReference, IsLastOf, IsOfOther, hold_of}
 -- the words were stored under the key, and the hand's own calls have the set with its stamp
 abbrev pub StoresWords : ℕ → List ℕ → Hand → Hand → Type 0
 StoresWords key words before now =
-    (stamp : ℕ) × SetsItem (hand_number before) key stamp words (view before) (view now) × RecordsSet (hand_number before) key stamp (view before) (view now)
+    (stamp : ℕ) × SetsItem Anything (hand_number before) key stamp words (view before) (view now) × RecordsSet (hand_number before) key stamp (view before) (view now)
 
 -- a set, by its reply
 abbrev pub AnswersSet : ℕ → List ℕ → Reply → Hand → Hand → Type 0

@@ -31,6 +31,7 @@ use Rattle.mc_items.specs.Calls.{RecordsNoCall}
 use Rattle.mc_items.specs.Keeping.{StoresNothing}
 use Rattle.mc_items.specs.OnKeys.{RecordsOn, stripe_of_key}
 use Rattle.mc_items.specs.Storing.{StoresItem}
+use Rattle.mc_items.specs.declared.comparing.Expected.{Expected}
 use Rattle.mc_items.proofs.Stored.{stored_mine}
 use Rattle.mc_cache.specs.shard.Finding.{FindsWords}
 use Rattle.mc_cache.specs.shard.Hands.{IsUnused, WereStored, items_stored_by}
@@ -61,7 +62,7 @@ lengths_set : {X : Type 0} (xs : List X) (place : ℕ) (a b c : X) → length (s
 lengths_set xs place a b c = length-set (slice_set (slice_set xs place a) place b) place c ∙ (length-set (slice_set xs place a) place b ∙ length-set xs place a)
 
 -- what a hand stores leaves its stripes as many
-stripes_still : (number stripe key stamp : ℕ) (chunk : ChunkId) (room : ℕ) (before now : View) → (stored : StoresItem number stripe key stamp chunk room before now) → length now.stripes ≡ length stored.stores.taken.stripes
+stripes_still : {expected : Expected} (number stripe key stamp : ℕ) (chunk : ChunkId) (room : ℕ) (before now : View) → (stored : StoresItem expected number stripe key stamp chunk room before now) → length now.stripes ≡ length stored.stores.taken.stripes
 stripes_still number stripe key stamp chunk room before now stored =
     let count : View → ℕ = λ v. length v.stripes in
     ap count stored.dropped

@@ -1,17 +1,22 @@
 -- A set behind the room that was made for it.
-use Rattle.std.proofs.Common.{◌≡◌, ℕ, List, [], inl, inr, refl, subst}
+use Rattle.std.proofs.Common.{◌≡◌, ℕ, List, [], Option, inl, inr, refl, subst}
 use Rattle.mc_words.specs.declared.hand.Hand.{Hand}
 use Rattle.mc_words.specs.hand.Arenas.{view}
 use Rattle.mc_words.specs.hand.View.{View}
 use Rattle.mc_items.specs.Evicting.{RecordsEviction}
 use Rattle.mc_items.specs.MakingRoom.{RecordsSomeDeletes}
-use Rattle.mc_items.specs.Setting.{RecordsSet, RefusesSet, SetsItem}
-use Rattle.mc_items.specs.Within.{RefusesWithin}
+use Rattle.mc_items.specs.Setting.{RecordsSet, RefusesCompare, RefusesSet, SetsItem}
+use Rattle.mc_items.specs.Within.{RefusesCompareWithin, RefusesWithin}
+use Rattle.mc_items.specs.declared.comparing.CompareError.{CompareError}
+use Rattle.mc_items.specs.declared.comparing.CompareError.TheVariants as compare
+use Rattle.mc_items.specs.declared.comparing.Expected.{Expected}
+use Rattle.mc_items.specs.declared.within.comparing.CompareWithinError.{CompareWithinError}
+use Rattle.mc_items.specs.declared.within.comparing.CompareWithinError.TheVariants as compare_within
 use Rattle.mc_items.specs.declared.setting.SetError.{SetError}
 use Rattle.mc_items.specs.declared.within.SetWithinError.{SetWithinError}
 use Rattle.mc_items.specs.declared.within.SetWithinError.TheVariants.{Refused, Held}
-use Rattle.mc_cache.specs.shard.Within.{RefusesBytesWithin}
-use Rattle.mc_cache.specs.shard.Setting.{MakesRoomFor, RecordsEvictionsAlone, RecordsSetBehindRoom, RefusesBytes, SetsBehindRoom}
+use Rattle.mc_cache.specs.shard.Within.{RefusesBytesWithin, RefusesCompareBytesWithin}
+use Rattle.mc_cache.specs.shard.Setting.{DiffersBehindRoom, MakesRoomFor, RecordsEvictionsAlone, RecordsSetBehindRoom, RefusesBytes, RefusesCompareBytes, SetsBehindRoom}
 
 -- who did nothing recorded no delete
 pub no_deletes : (number : ℕ) (view : View) → RecordsSomeDeletes number view view
@@ -26,11 +31,11 @@ module _ (number own hash : ℕ) (same : own ≡ number) (first second words : L
   made : MakesRoomFor first before between → MakesRoomFor words before between
   made makes = subst (λ (ws : List ℕ). MakesRoomFor ws before between) is_first makes
 
-  pub sets_behind : (stamp : ℕ) → MakesRoomFor first before between → SetsItem own hash stamp second (view between) (view now) → SetsBehindRoom number hash stamp words before now
-  sets_behind stamp makes sets = record {
+  pub sets_behind : (expected : Expected) (stamp : ℕ) → MakesRoomFor first before between → SetsItem expected own hash stamp second (view between) (view now) → SetsBehindRoom expected number hash stamp words before now
+  sets_behind expected stamp makes sets = record {
     between = between;
     makes = made makes;
-    sets = subst (λ (ws : List ℕ). SetsItem number hash stamp ws (view between) (view now)) is_second (subst (λ (n : ℕ). SetsItem n hash stamp second (view between) (view now)) same sets);
+    sets = subst (λ (ws : List ℕ). SetsItem expected number hash stamp ws (view between) (view now)) is_second (subst (λ (n : ℕ). SetsItem expected n hash stamp second (view between) (view now)) same sets);
   }
 
   pub calls_behind : (stamp : ℕ) → RecordsSomeDeletes number (view before) (view between) → RecordsSet own hash stamp (view between) (view now) → RecordsSetBehindRoom number hash stamp before now
@@ -43,6 +48,13 @@ module _ (number own hash : ℕ) (same : own ≡ number) (first second words : L
     refuses = subst (λ (ws : List ℕ). RefusesSet number hash ws error (view between) (view now)) is_second (subst (λ (n : ℕ). RefusesSet n hash second error (view between) (view now)) same refuses);
   })
 
+  differs_behind : (expected : Expected) (found : Option ℕ) → MakesRoomFor first before between → RefusesCompare expected own hash second (compare.Differs found) (view between) (view now) → DiffersBehindRoom expected found number hash words before now
+  differs_behind expected found makes differs = record {
+    between = between;
+    makes = made makes;
+    differs = subst (λ (ws : List ℕ). RefusesCompare expected number hash ws (compare.Differs found) (view between) (view now)) is_second (subst (λ (n : ℕ). RefusesCompare expected n hash second (compare.Differs found) (view between) (view now)) same differs);
+  }
+
   pub refuses_within_behind : (tries : ℕ) (error : SetWithinError) → MakesRoomFor first before between → RefusesWithin own tries hash second error (view between) (view now) → RefusesBytesWithin number tries hash words error before now
   refuses_within_behind tries (Refused error) makes refuses = refuses_behind error makes refuses
   refuses_within_behind tries Held makes misses = inr (record {
@@ -50,6 +62,14 @@ module _ (number own hash : ℕ) (same : own ≡ number) (first second words : L
     makes = made makes;
     misses = subst (λ (ws : List ℕ). RefusesWithin number tries hash ws Held (view between) (view now)) is_second (subst (λ (n : ℕ). RefusesWithin n tries hash second Held (view between) (view now)) same misses);
   })
+
+  pub refuses_compare_behind : (expected : Expected) (error : CompareError) → MakesRoomFor first before between → RefusesCompare expected own hash second error (view between) (view now) → RefusesCompareBytes expected number hash words error before now
+  refuses_compare_behind expected (compare.Refused error) makes refuses = refuses_behind error makes refuses
+  refuses_compare_behind expected (compare.Differs found) makes refuses = differs_behind expected found makes refuses
+
+  pub refuses_compare_within_behind : (expected : Expected) (tries : ℕ) (error : CompareWithinError) → MakesRoomFor first before between → RefusesCompareWithin expected own tries hash second error (view between) (view now) → RefusesCompareBytesWithin expected number tries hash words error before now
+  refuses_compare_within_behind expected tries (compare_within.Refused error) makes refuses = refuses_within_behind tries error makes refuses
+  refuses_compare_within_behind expected tries (compare_within.Differs found) makes refuses = differs_behind expected found makes refuses
 
   pub evicts_behind : RecordsSomeDeletes number (view before) (view between) → RecordsEviction own (view between) (view now) → RecordsEvictionsAlone number before now
   evicts_behind deletes evicts = record { between = between; deletes = deletes; evicts = subst (λ (n : ℕ). RecordsEviction n (view between) (view now)) same evicts }

@@ -1,12 +1,15 @@
 -- How an item of bytes is stored, and why it isn't.
-use Rattle.std.specs.Prelude.{◌≡◌, ◌⊎◌, ℕ, List, None, Some}
+use Rattle.std.specs.Prelude.{◌≡◌, ◌⊎◌, ℕ, List, Option, None, Some}
 use Rattle.mc_words.specs.declared.hand.Hand.{Hand}
 use Rattle.mc_words.specs.hand.Arenas.{view}
 use Rattle.mc_words.specs.hand.Observers.{hand_number}
 use Rattle.mc_items.specs.Evicting.{RecordsEviction}
 use Rattle.mc_items.specs.MakingRoom.{LacksRoomMemory, MakesRoom, RecordsSomeDeletes}
 use Rattle.mc_items.specs.OnKeys.{ActsOnce}
-use Rattle.mc_items.specs.Setting.{RecordsSet, RefusesSet, SetsItem, class_for_words}
+use Rattle.mc_items.specs.Setting.{RecordsSet, RefusesCompare, RefusesSet, SetsItem, class_for_words}
+use Rattle.mc_items.specs.declared.comparing.CompareError.{CompareError}
+use Rattle.mc_items.specs.declared.comparing.CompareError.TheVariants.{Refused, Differs}
+use Rattle.mc_items.specs.declared.comparing.Expected.{Expected}
 use Rattle.mc_items.specs.declared.making_room.Room.{Room}
 use Rattle.mc_items.specs.declared.setting.SetError.{SetError}
 use Rattle.mc_items.specs.declared.setting.SetError.TheVariants.{NoMemory}
@@ -22,11 +25,12 @@ abbrev pub LacksRoomFor : List ℕ → Hand → Hand → Type 0
 LacksRoomFor words before now =
     (class : ℕ) × (class_for_words (view before) words ≡ Some class) × ActsOnce (LacksRoomMemory (hand_number before) class) before now
 
--- room was made in the class of these words, and then an item of them was stored under the hash, with this stamp
-pub record SetsBehindRoom (number hash stamp : ℕ) (words : List ℕ) (before now : Hand) : Type 0 where
+-- room was made in the class of these words, and then an item of them was stored under the hash, with this stamp, in place of what was
+-- expected
+pub record SetsBehindRoom (expected : Expected) (number hash stamp : ℕ) (words : List ℕ) (before now : Hand) : Type 0 where
   pub between : Hand
   pub makes : MakesRoomFor words before between
-  pub sets : SetsItem number hash stamp words (view between) (view now)
+  pub sets : SetsItem expected number hash stamp words (view between) (view now)
 
 -- the hand's own calls got deletes of keys that were there or none, and then the set, with an eviction before it at most
 pub record RecordsSetBehindRoom (number hash stamp : ℕ) (before now : Hand) : Type 0 where
@@ -51,3 +55,14 @@ abbrev pub RefusesBytes : ℕ → ℕ → List ℕ → SetError → Hand → Han
 RefusesBytes number hash words error before now =
     ((error ≡ NoMemory tt) × ((view now ≡ view before) ⊎ LacksRoomFor words before now))
     ⊎ RefusesBehindRoom number hash words error before now
+
+-- room was made in the class of these words, and then the hash had this stamp or none, which isn't expected, so nothing was stored
+pub record DiffersBehindRoom (expected : Expected) (found : Option ℕ) (number hash : ℕ) (words : List ℕ) (before now : Hand) : Type 0 where
+  pub between : Hand
+  pub makes : MakesRoomFor words before between
+  pub differs : RefusesCompare expected number hash words (Differs found) (view between) (view now)
+
+-- why a set that expects something was refused: as a set that expects nothing, or by what the hash had
+abbrev pub RefusesCompareBytes : Expected → ℕ → ℕ → List ℕ → CompareError → Hand → Hand → Type 0
+RefusesCompareBytes expected number hash words (Refused error) before now = RefusesBytes number hash words error before now
+RefusesCompareBytes expected number hash words (Differs found) before now = DiffersBehindRoom expected found number hash words before now

@@ -4,7 +4,10 @@ use Rattle.mc_words.specs.hand.Arenas.{view}
 use Rattle.mc_words.specs.lock.Wait.{MissesSlabsEachTime}
 use Rattle.mc_items.specs.declared.within.SetWithinError.{SetWithinError}
 use Rattle.mc_items.specs.declared.within.SetWithinError.TheVariants.{Refused, Held}
-use Rattle.mc_cache.specs.shard.Setting.{MakesRoomFor, RefusesBytes}
+use Rattle.mc_items.specs.declared.comparing.Expected.{Expected}
+use Rattle.mc_items.specs.declared.within.comparing.CompareWithinError.{CompareWithinError}
+use Rattle.mc_items.specs.declared.within.comparing.CompareWithinError.TheVariants as compare
+use Rattle.mc_cache.specs.shard.Setting.{DiffersBehindRoom, MakesRoomFor, RefusesBytes}
 use Rattle.mc_words.specs.declared.hand.Hand.{Hand}
 use Rattle.mc_words.specs.hand.View.{Setup}
 use Rattle.mc_items.specs.Within.{MissesKeyEachTime, RefusesWithin}
@@ -41,3 +44,8 @@ pub record MissesBehindRoom (number tries hash : ℕ) (words : List ℕ) (before
 abbrev pub RefusesBytesWithin : ℕ → ℕ → ℕ → List ℕ → SetWithinError → Hand → Hand → Type 0
 RefusesBytesWithin number tries hash words (Refused error) before now = RefusesBytes number hash words error before now
 RefusesBytesWithin number tries hash words Held before now = MissesSlabsEachTime tries (view before) (view now) ⊎ MissesBehindRoom number tries hash words before now
+
+-- why a set that expects something was refused within this many tries: as a set within them, or by what the hash had
+abbrev pub RefusesCompareBytesWithin : Expected → ℕ → ℕ → ℕ → List ℕ → CompareWithinError → Hand → Hand → Type 0
+RefusesCompareBytesWithin expected number tries hash words (compare.Refused error) before now = RefusesBytesWithin number tries hash words error before now
+RefusesCompareBytesWithin expected number tries hash words (compare.Differs found) before now = DiffersBehindRoom expected found number hash words before now

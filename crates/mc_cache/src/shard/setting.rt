@@ -6,14 +6,15 @@ ghost use Rattle.mc_words.specs.item.Items.{item_with};
 ghost use Rattle.mc_words.specs.hand.Observers.{hand_number};
 ghost use Rattle.mc_items.specs.Keeping.{StoresWithStamp, StoresNothing};
 ghost use Rattle.mc_items.specs.MakingRoom.{RecordsSomeDeletes};
+ghost use Rattle.mc_items.specs.declared.comparing.Expected.TheVariants as expected;
 ghost use Rattle.mc_cache.specs.shard.Hands.{IsIdleHandOf};
 ghost use Rattle.mc_cache.specs.shard.Setting.{LacksRoomFor, MakesRoomFor, RecordsEvictionsAlone, RecordsSetBehindRoom, RefusesBytes, SetsBehindRoom};
 
+use crate::shard::comparing::set_where;
 use crate::shard::hints::HintTable;
 use crate::shard::label::Label;
-use mc_items::{Marks, SetError, make_room, set_hinted};
+use mc_items::{CompareError, Expected, Marks, SetError, make_room};
 use mc_memory::Refused;
-use mc_packing::pack;
 use mc_stripe::Stamp;
 use mc_words::{Arena, Hand};
 use std::cell::Cell;
@@ -64,8 +65,8 @@ pub fn set<R: Wait>(
     words: &mut Vec<u64>,
 ) -> Result<Stamp, SetError>
     requires { IsIdleHandOf arena.now hand.old }
-    ensures sets { IfOk result (λ stamp. SetsBehindRoom (hand_number hand.old) at.entry.hash stamp
-        (packed_item at.entry.key.now value.now) hand.old hand.new) }
+    ensures sets { IfOk result (λ stamp. SetsBehindRoom expected.Anything (hand_number hand.old)
+        at.entry.hash stamp (packed_item at.entry.key.now value.now) hand.old hand.new) }
     ensures stores_words { IfOk result (λ stamp.
         StoresWithStamp (item_with at.entry.hash stamp (packed_item at.entry.key.now value.now))
         stamp (view hand.old) (view hand.new)) }
@@ -79,23 +80,15 @@ pub fn set<R: Wait>(
     ensures number { hand_number hand.new ≡ hand_number hand.old }
     ensures idle { IsIdleHandOf arena.now hand.new }
 {
-    if let Err(refused) = pack(words, at.key, value) {
-        return Err(SetError::NoMemory(refused));
-    }
-    if let Err(refused) = make_room_for(rt, arena, hints, hand, words) {
-        return Err(SetError::NoMemory(refused));
-    }
-    match set_hinted(rt, arena, hand, at.hash, words) {
-        Ok(item) => {
-            hints.note(at.hash, item.hint);
-            Ok(item.stamp)
-        }
-        Err(error) => Err(error),
+    match set_where(rt, arena, hints, hand, at, value, words, Expected::Anything) {
+        Ok(stamp) => Ok(stamp),
+        Err(CompareError::Refused(error)) => Err(error),
+        Err(CompareError::Differs(_found)) => unreachable!(),
     }
 }
 
 // Makes room in the class of these words, if it has none. Where no class has such chunks, nothing is done.
-fn make_room_for<R: Wait>(
+pub(crate) fn make_room_for<R: Wait>(
     rt: &R,
     arena: &Arena,
     hints: &HintTable,

@@ -7,16 +7,17 @@ ghost use Rattle.mc_words.specs.item.Items.{item_with};
 ghost use Rattle.mc_words.specs.lock.Wait.{MissesSlabsEachTime};
 ghost use Rattle.mc_items.specs.Keeping.{StoresNothing, StoresWithStamp};
 ghost use Rattle.mc_items.specs.MakingRoom.{RecordsSomeDeletes};
+ghost use Rattle.mc_items.specs.declared.comparing.Expected.TheVariants as expected;
 ghost use Rattle.mc_items.specs.declared.within.error.WithinError.TheVariants as within_error;
 ghost use Rattle.mc_cache.specs.shard.Hands.{IsIdleHandOf};
 ghost use Rattle.mc_cache.specs.shard.Setting.{LacksRoomFor, MakesRoomFor, RecordsEvictionsAlone, RecordsSetBehindRoom, SetsBehindRoom};
 ghost use Rattle.mc_cache.specs.shard.Within.{RefusesBytesWithin};
 
+use crate::shard::comparing::set_where_within;
 use crate::shard::hints::HintTable;
 use crate::shard::label::Label;
 use crate::shard::setting::Chances;
-use mc_items::{SetError, SetWithinError, WithinError, make_room_within, set_hinted_within};
-use mc_packing::pack;
+use mc_items::{CompareWithinError, Expected, SetWithinError, WithinError, make_room_within};
 use mc_stripe::Stamp;
 use mc_words::{Arena, Hand};
 
@@ -32,8 +33,8 @@ pub fn set_within(
     tries: u64,
 ) -> Result<Stamp, SetWithinError>
     requires { IsIdleHandOf arena.now hand.old }
-    ensures sets { IfOk result (λ stamp. SetsBehindRoom (hand_number hand.old) at.entry.hash stamp
-        (packed_item at.entry.key.now value.now) hand.old hand.new) }
+    ensures sets { IfOk result (λ stamp. SetsBehindRoom expected.Anything (hand_number hand.old)
+        at.entry.hash stamp (packed_item at.entry.key.now value.now) hand.old hand.new) }
     ensures stores_words { IfOk result (λ stamp.
         StoresWithStamp (item_with at.entry.hash stamp (packed_item at.entry.key.now value.now))
         stamp (view hand.old) (view hand.new)) }
@@ -47,27 +48,24 @@ pub fn set_within(
     ensures number { hand_number hand.new ≡ hand_number hand.old }
     ensures idle { IsIdleHandOf arena.now hand.new }
 {
-    if let Err(refused) = pack(words, at.key, value) {
-        return Err(SetWithinError::Refused(SetError::NoMemory(refused)));
-    }
-    match room_within(arena, hints, hand, words, tries) {
-        Ok(()) => {}
-        Err(WithinError::NoMemory(refused)) => {
-            return Err(SetWithinError::Refused(SetError::NoMemory(refused)));
-        }
-        Err(WithinError::Held) => return Err(SetWithinError::Held),
-    }
-    match set_hinted_within(arena, hand, at.hash, words, tries) {
-        Ok(item) => {
-            hints.note(at.hash, item.hint);
-            Ok(item.stamp)
-        }
-        Err(error) => Err(error),
+    match set_where_within(
+        arena,
+        hints,
+        hand,
+        at,
+        value,
+        words,
+        Expected::Anything,
+        tries,
+    ) {
+        Ok(stamp) => Ok(stamp),
+        Err(CompareWithinError::Refused(error)) => Err(error),
+        Err(CompareWithinError::Differs(_found)) => unreachable!(),
     }
 }
 
 // Makes room in the class of these words, if it has none and one of `tries` tries gets the slabs lock.
-fn room_within(
+pub(crate) fn room_within(
     arena: &Arena,
     hints: &HintTable,
     hand: &mut Hand,

@@ -12,13 +12,13 @@ use Rattle.mc_items.proofs.storing.store_at.Goals as goal
 pub put_aside-requires-clause-fresh : goal.put_aside-requires-clause-fresh
 put_aside-requires-clause-fresh c =
     let view : View = c.args.hand.now.seat.me.0 in
-    ap (λ (v : View). has_fresh v.row.holdings) c.in_default.ensures.view ∙ fresh_among c.args.fresh.chunk view.row.holdings c.requires.fresh.holding c.requires.fresh.found c.requires.fresh.fresh
+    ap (λ (v : View). has_fresh v.row.holdings) c.in_default-reserve.ensures.view ∙ fresh_among c.args.fresh.chunk view.row.holdings c.requires.fresh.holding c.requires.fresh.found c.requires.fresh.fresh
 
 pub link-reference-requires-clause-new : goal.link-reference-requires-clause-new
 link-reference-requires-clause-new c =
     let key : ℕ = c.args.key in
     let value : ReadyStripe = c.reserve.new.held.stripe in
-    let rising : AreRising value.state.index = subst AreRising (ap (λ (h : StripeHeld). h.stripe.state.index) (sym c.in_default.ensures.reserved)) c.requires.lent.legal.rising in
+    let rising : AreRising value.state.index = subst AreRising (ap (λ (h : StripeHeld). h.stripe.state.index) (sym c.in_default-reserve.ensures.reserved)) c.requires.lent.legal.rising in
     ap (chunk_and_stamp c.put_aside.new.held.stripe.state) c.requires.key ∙ (ap (λ (v : ReadyStripe). chunk_and_stamp v.state key) c.put_aside.ensures.lifted ∙ lifted_nowhere value key rising)
 
 pub link-reference-requires-clause-aside : goal.link-reference-requires-clause-aside
@@ -27,5 +27,5 @@ link-reference-requires-clause-aside c =
     let value : ReadyStripe = c.reserve.new.held.stripe in
     ap (is_none_else_aside c.put_aside.new.held.stripe.state) c.requires.key ∙ (ap (λ (v : ReadyStripe). is_none_else_aside v.state key) c.put_aside.ensures.lifted ∙ lifted_alone value key)
 
-pub returns-in-Err-clause-full : goal.returns-in-Err-clause-full
-returns-in-Err-clause-full c = full_from (can_store c.args.held.stripe) c.reserve.result c.in-Err.error c.in-Err.is c.reserve.ensures.succeeds
+pub returns-in-Err-clause-refused : goal.returns-in-Err-clause-refused
+returns-in-Err-clause-refused c = full_from (can_store c.args.held.stripe) c.reserve.result c.in-Err.error c.in-Err.is c.reserve.ensures.succeeds

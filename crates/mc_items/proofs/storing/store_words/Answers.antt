@@ -20,7 +20,7 @@ returns-clause-stores g c =
     let stripe = c.args.key % c.args.arena.now.table.shared.key.config.stripes in
     let number = number_stays c.args.hand.now fill.new.hand (ap (λ (v : View). v.row.ids) fill.ensures.filled) in
     let freshes : fill.new.fresh ≡ record c.args.fresh { key = c.args.key; stamp = c.args.stamp } = λ k. record { chunk = fill.ensures.same.0 k; room = fill.ensures.same.1 k; key = fill.ensures.key k; stamp = fill.ensures.stamp k } in
-    subst (λ (p : ℕ × Fresh × View). OnOk c.store.result (StoresItem p.0 stripe c.args.key p.1.stamp p.1.chunk p.1.room p.2 last)) (λ k. (number k, freshes k, fill.ensures.filled k)) c.store.ensures.stores
+    subst (λ (p : ℕ × Fresh × View). OnOk c.store.result (StoresItem c.args.expected p.0 stripe c.args.key p.1.stamp p.1.chunk p.1.room p.2 last)) (λ k. (number k, freshes k, fill.ensures.filled k)) c.store.ensures.stores
 
 pub returns-clause-stores_words : goal.returns-clause-stores_words
 returns-clause-stores_words g c =

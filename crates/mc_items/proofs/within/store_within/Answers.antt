@@ -11,8 +11,8 @@ use Rattle.mc_words.specs.hand.Tallies.{next_stamp}
 use Rattle.mc_words.specs.hand.View.{View}
 use Rattle.mc_words.specs.hand.Views.{chunk_released, stripe_given}
 use Rattle.mc_words.specs.lock.Wait.{WaitsForStripe}
-use Rattle.mc_items.specs.Storing.{LeavesDead, Stores, StoresItem}
-use Rattle.mc_items.proofs.Gets.{called_on, only_waits}
+use Rattle.mc_items.specs.Storing.{LeavesDead, RefusesStore, StoresItem}
+use Rattle.mc_items.proofs.Gets.{only_waits, stored_on}
 use Rattle.mc_words.proofs.Hands.HandNumbers.{number_stays}
 use Rattle.mc_words.proofs.Locks.Waited.{misses_keep}
 use Rattle.mc_items.proofs.Locks.{locks_back, waits_keep}
@@ -68,11 +68,9 @@ returns-in-Ok-store_at-clause-stores c =
     let number = number_stays hand c.stripe_within.new.hand (waits_keep (λ (v : View). v.row.ids) (c.args.key % c.config.result.now.stripes) (λ word v. refl) (λ value v. refl) before held.held.stripe taken held.ensures.within.waits) in
     let waits = subst (λ (n : ℕ). WaitsForStripe n before held.held.stripe taken) at held.ensures.within.waits in
     let lent = subst (λ (n : ℕ). IsLentStripe taken n held.held.stripe) at held.ensures.whole in
-    let stored : StoresItem hand.number stripe c.args.key c.args.fresh.stamp c.args.fresh.chunk c.args.fresh.room before now = record {
-      linked = linked;
-      stores = called_on (λ number stripe. Stores number stripe c.args.key c.args.fresh.stamp c.args.fresh.chunk c.args.fresh.room) hand.number stripe c.stripe_within.new.hand.number held.held.number held.held.stripe before taken linked number (held.ensures.number ∙ at) waits lent c.in-Ok-store_at.ensures.done;
-      dropped = c.release.ensures.dropped ∙ ap (λ (chunk : ChunkId). chunk_released chunk linked) c.in-Ok-store_at.ensures.same.0;
-    } in
+    let stored : StoresItem c.args.expected hand.number stripe c.args.key c.args.fresh.stamp c.args.fresh.chunk c.args.fresh.room before now =
+      stored_on c.args.expected hand.number stripe c.args.key c.args.fresh.stamp c.args.fresh.chunk c.args.fresh.room c.stripe_within.new.hand.number held.held.number held.held.stripe before taken linked now number (held.ensures.number ∙ at) waits lent c.in-Ok-store_at.ensures.done c.in-Ok-store_at.ensures.met
+      (c.release.ensures.dropped ∙ ap (λ (chunk : ChunkId). chunk_released chunk linked) c.in-Ok-store_at.ensures.same.0) in
     stored
 
 pub returns-in-Ok-store_at-clause-calls : goal.returns-in-Ok-store_at-clause-calls
@@ -88,11 +86,9 @@ returns-in-Ok-store_at-clause-calls c =
     let number = number_stays hand c.stripe_within.new.hand (waits_keep (λ (v : View). v.row.ids) (c.args.key % c.config.result.now.stripes) (λ word v. refl) (λ value v. refl) before held.held.stripe taken held.ensures.within.waits) in
     let waits = subst (λ (n : ℕ). WaitsForStripe n before held.held.stripe taken) at held.ensures.within.waits in
     let lent = subst (λ (n : ℕ). IsLentStripe taken n held.held.stripe) at held.ensures.whole in
-    let stored : StoresItem hand.number stripe c.args.key c.args.fresh.stamp c.args.fresh.chunk c.args.fresh.room before now = record {
-      linked = linked;
-      stores = called_on (λ number stripe. Stores number stripe c.args.key c.args.fresh.stamp c.args.fresh.chunk c.args.fresh.room) hand.number stripe c.stripe_within.new.hand.number held.held.number held.held.stripe before taken linked number (held.ensures.number ∙ at) waits lent c.in-Ok-store_at.ensures.done;
-      dropped = c.release.ensures.dropped ∙ ap (λ (chunk : ChunkId). chunk_released chunk linked) c.in-Ok-store_at.ensures.same.0;
-    } in
+    let stored : StoresItem c.args.expected hand.number stripe c.args.key c.args.fresh.stamp c.args.fresh.chunk c.args.fresh.room before now =
+      stored_on c.args.expected hand.number stripe c.args.key c.args.fresh.stamp c.args.fresh.chunk c.args.fresh.room c.stripe_within.new.hand.number held.held.number held.held.stripe before taken linked now number (held.ensures.number ∙ at) waits lent c.in-Ok-store_at.ensures.done c.in-Ok-store_at.ensures.met
+      (c.release.ensures.dropped ∙ ap (λ (chunk : ChunkId). chunk_released chunk linked) c.in-Ok-store_at.ensures.same.0) in
     stored_mine hand.number stripe c.args.key c.args.fresh.stamp c.args.fresh.chunk c.args.fresh.room before now stored
 
 pub returns-in-Ok-store_at-clause-stores_words : goal.returns-in-Ok-store_at-clause-stores_words
@@ -108,11 +104,9 @@ returns-in-Ok-store_at-clause-stores_words c =
     let number = number_stays hand c.stripe_within.new.hand (waits_keep (λ (v : View). v.row.ids) (c.args.key % c.config.result.now.stripes) (λ word v. refl) (λ value v. refl) before held.held.stripe taken held.ensures.within.waits) in
     let waits = subst (λ (n : ℕ). WaitsForStripe n before held.held.stripe taken) at held.ensures.within.waits in
     let lent = subst (λ (n : ℕ). IsLentStripe taken n held.held.stripe) at held.ensures.whole in
-    let stored : StoresItem hand.number stripe c.args.key c.args.fresh.stamp c.args.fresh.chunk c.args.fresh.room before now = record {
-      linked = linked;
-      stores = called_on (λ number stripe. Stores number stripe c.args.key c.args.fresh.stamp c.args.fresh.chunk c.args.fresh.room) hand.number stripe c.stripe_within.new.hand.number held.held.number held.held.stripe before taken linked number (held.ensures.number ∙ at) waits lent c.in-Ok-store_at.ensures.done;
-      dropped = c.release.ensures.dropped ∙ ap (λ (chunk : ChunkId). chunk_released chunk linked) c.in-Ok-store_at.ensures.same.0;
-    } in
+    let stored : StoresItem c.args.expected hand.number stripe c.args.key c.args.fresh.stamp c.args.fresh.chunk c.args.fresh.room before now =
+      stored_on c.args.expected hand.number stripe c.args.key c.args.fresh.stamp c.args.fresh.chunk c.args.fresh.room c.stripe_within.new.hand.number held.held.number held.held.stripe before taken linked now number (held.ensures.number ∙ at) waits lent c.in-Ok-store_at.ensures.done c.in-Ok-store_at.ensures.met
+      (c.release.ensures.dropped ∙ ap (λ (chunk : ChunkId). chunk_released chunk linked) c.in-Ok-store_at.ensures.same.0) in
     stored_said hand.number stripe c.args.key c.args.fresh.stamp c.args.fresh.chunk c.args.fresh.room before now stored
 
 pub returns-in-Ok-store_at-clause-hint : goal.returns-in-Ok-store_at-clause-hint
@@ -127,8 +121,8 @@ pub returns-in-Err-clause-locks : goal.returns-in-Err-clause-locks
 returns-in-Err-clause-locks c =
     (c.store_at.ensures.locks ∙ (ap without_stripe c.in-Ok.ensures.locks ∙ locks_back c.args.hand.now (c.args.key % c.config.result.now.stripes) c.requires.unlocked))
 
-pub returns-in-Err-clause-no_memory : goal.returns-in-Err-clause-no_memory
-returns-in-Err-clause-no_memory c =
+pub returns-in-Err-clause-lost : goal.returns-in-Err-clause-lost
+returns-in-Err-clause-lost c =
     let hand = c.args.hand.now in
     let held = c.in-Ok in
     let before : View = hand.seat.me.0 in
@@ -138,7 +132,7 @@ returns-in-Err-clause-no_memory c =
     let given : View = stripe_given held.held.number held.held.stripe taken in
     record {
       given = given;
-      waits = only_waits stripe held.held.number held.held.stripe before taken given (held.ensures.number ∙ at) (subst (λ (n : ℕ). WaitsForStripe n before held.held.stripe taken) at held.ensures.within.waits) (subst (λ (n : ℕ). IsLentStripe taken n held.held.stripe) at held.ensures.whole) c.in-Err.ensures.full refl;
+      waits = only_waits stripe held.held.number held.held.stripe before taken given (held.ensures.number ∙ at) (subst (λ (n : ℕ). WaitsForStripe n before held.held.stripe taken) at held.ensures.within.waits) (subst (λ (n : ℕ). IsLentStripe taken n held.held.stripe) at held.ensures.whole) c.in-Err.ensures.refused refl;
       dropped = c.in-Err.ensures.given;
     }
 
@@ -151,9 +145,9 @@ returns-in-Err-clause-refused c =
     let at : c.args.key % c.config.result.now.stripes ≡ c.args.key % c.args.arena.now.table.shared.key.config.stripes = ap (λ (f : Config). c.args.key % f.stripes) c.config.ensures.config in
     let stripe = c.args.key % c.args.arena.now.table.shared.key.config.stripes in
     let given : View = stripe_given held.held.number held.held.stripe taken in
-    let dead : LeavesDead stripe c.args.fresh.chunk before c.store_at.new.hand.seat.me.0 = record {
+    let dead : LeavesDead (RefusesStore c.in-Err.error c.args.expected c.args.key) stripe c.args.fresh.chunk before c.store_at.new.hand.seat.me.0 = record {
       given = given;
-      waits = only_waits stripe held.held.number held.held.stripe before taken given (held.ensures.number ∙ at) (subst (λ (n : ℕ). WaitsForStripe n before held.held.stripe taken) at held.ensures.within.waits) (subst (λ (n : ℕ). IsLentStripe taken n held.held.stripe) at held.ensures.whole) c.in-Err.ensures.full refl;
+      waits = only_waits stripe held.held.number held.held.stripe before taken given (held.ensures.number ∙ at) (subst (λ (n : ℕ). WaitsForStripe n before held.held.stripe taken) at held.ensures.within.waits) (subst (λ (n : ℕ). IsLentStripe taken n held.held.stripe) at held.ensures.whole) c.in-Err.ensures.refused refl;
       dropped = c.in-Err.ensures.given;
     } in
     dead_told stripe c.args.fresh.chunk before c.store_at.new.hand.seat.me.0 dead

@@ -1,9 +1,9 @@
-use Rattle.std.proofs.Common.{◌≡◌, ◌%◌, ℕ, List, [], ◌∷◌, ◌++◌, IfOk, OnErr, OnOk, ap, subst, ◌∙◌}
+use Rattle.std.proofs.Common.{◌≡◌, ◌%◌, ℕ, List, [], ◌∷◌, ◌++◌, IfOk, IfErr, OnErr, OnOk, ap, subst, ◌∙◌}
 use Rattle.mc_core.specs.model.Holdings.{numbers_of_known}
 use Rattle.mc_core.specs.past.Past.{Own, StoredItem}
 use Rattle.mc_words.specs.hand.View.{View}
 use Rattle.mc_words.specs.declared.hand.held.Fresh.{Fresh}
-use Rattle.mc_items.specs.Storing.{LeavesDead, StoresItem}
+use Rattle.mc_items.specs.Storing.{LeavesDead, RefusesStore, StoresItem}
 use Rattle.mc_items.specs.Within.{LeavesUnlinked}
 use Rattle.mc_pages.specs.declared.ids.ChunkId.{ChunkId}
 use Rattle.mc_words.proofs.Hands.HandNumbers.{number_stays}
@@ -21,7 +21,7 @@ returns-clause-stores c =
     let stripe = c.args.key % c.args.arena.now.table.shared.key.config.stripes in
     let number = number_stays c.args.hand.now fill.new.hand (ap (λ (v : View). v.row.ids) fill.ensures.filled) in
     let freshes : fill.new.fresh ≡ record c.args.fresh { key = c.args.key; stamp = c.args.stamp } = λ k. record { chunk = fill.ensures.same.0 k; room = fill.ensures.same.1 k; key = fill.ensures.key k; stamp = fill.ensures.stamp k } in
-    subst (λ (p : ℕ × Fresh × View). IfOk c.store_within.result (λ stored. OnOk stored (StoresItem p.0 stripe c.args.key p.1.stamp p.1.chunk p.1.room p.2 last))) (λ k. (number k, freshes k, fill.ensures.filled k)) c.store_within.ensures.stores
+    subst (λ (p : ℕ × Fresh × View). IfOk c.store_within.result (λ stored. OnOk stored (StoresItem c.args.expected p.0 stripe c.args.key p.1.stamp p.1.chunk p.1.room p.2 last))) (λ k. (number k, freshes k, fill.ensures.filled k)) c.store_within.ensures.stores
 
 pub returns-clause-stores_words : goal.returns-clause-stores_words
 returns-clause-stores_words c =
@@ -44,12 +44,12 @@ returns-clause-missed c =
     let stripe = c.args.key % c.args.arena.now.table.shared.key.config.stripes in
     subst (λ (p : ChunkId × View). OnErr c.store_within.result (LeavesUnlinked c.args.tries stripe p.0 p.1 last)) (λ k. (fill.ensures.same.0 k, fill.ensures.filled k)) c.store_within.ensures.missed
 
-pub returns-clause-no_memory : goal.returns-clause-no_memory
-returns-clause-no_memory c =
+pub returns-clause-lost : goal.returns-clause-lost
+returns-clause-lost c =
     let fill = c.fill_item in
     let last : View = c.store_within.new.hand.seat.me.0 in
     let stripe = c.args.key % c.args.arena.now.table.shared.key.config.stripes in
-    subst (λ (p : ChunkId × View). IfOk c.store_within.result (λ stored. OnErr stored (LeavesDead stripe p.0 p.1 last))) (λ k. (fill.ensures.same.0 k, fill.ensures.filled k)) c.store_within.ensures.no_memory
+    subst (λ (p : ChunkId × View). IfOk c.store_within.result (λ stored. IfErr stored (λ error. LeavesDead (RefusesStore error c.args.expected c.args.key) stripe p.0 p.1 last))) (λ k. (fill.ensures.same.0 k, fill.ensures.filled k)) c.store_within.ensures.lost
 
 pub returns-clause-hint : goal.returns-clause-hint
 returns-clause-hint c =

@@ -13,7 +13,9 @@ use Rattle.mc_words.specs.declared.item.refs.Hint.{Hint}
 use Rattle.mc_items.specs.FreshChunks.{IsFreshFor, IsHintInto}
 use Rattle.mc_items.specs.declared.setting.SetError.{SetError}
 use Rattle.mc_words.specs.declared.hand.held.Fresh.{Fresh}
-use Rattle.mc_items.specs.Storing.{IsOwnItem, LeavesDead, StoresItem, item_filled}
+use Rattle.mc_stripe.specs.StripeState.{ReadyStripe}
+use Rattle.mc_items.specs.declared.storing.StoreError.{StoreError}
+use Rattle.mc_items.specs.Storing.{IsOwnItem, LeavesDead, RefusesStore, StoresItem, item_filled}
 use Rattle.mc_words.proofs.Hands.HandNumbers.{number_stays}
 use Rattle.mc_words.specs.item.Items.{item_with}
 use Rattle.mc_core.specs.declared.ids.Ids.{Ids}
@@ -22,10 +24,11 @@ use Rattle.mc_items.proofs.Chains.{hand_still, holdings_stay, number_kept, ready
 use Rattle.mc_items.proofs.StoredRows.{dead_keeps, stored_ids, stored_keeps}
 use Rattle.mc_items.proofs.Locks.{still_unlocked}
 use Rattle.mc_items.proofs.Made.{Tells, refused_tells, supplied_tells, tells_before, refused_holds, supplied_gains}
-use Rattle.mc_items.proofs.Sets.{class_there, dead_tells, refuses_so, words_fit}
-use Rattle.mc_items.specs.Within.{LeavesUnlinked}
+use Rattle.mc_items.proofs.Sets.{class_there, dead_tells, refuses_so, refuses_store_within, words_fit}
+use Rattle.mc_items.specs.Within.{LeavesUnlinked, RefusesCompareWithin}
+use Rattle.mc_items.specs.declared.within.comparing.CompareWithinError.{CompareWithinError}
 use Rattle.mc_items.proofs.Missed.{missed_holds, missed_tells, unlinked_keeps, unlinked_tells}
-use Rattle.mc_items.proofs.within.set_hinted_within.Goals as goal
+use Rattle.mc_items.proofs.within.comparing.compare_and_set_within.Goals as goal
 
 -- what an answer within an answer says
 ok_of : {A E : Type 0} (P : A → Type 0) (r : Result A E) (a : A) → r ≡ Ok a → IfOk r P → P a
@@ -95,8 +98,8 @@ returns-in-Ok-Ok-store_words_within-clause-sets c =
         room = fresh.room;
         between = between;
         supplies = (ok_of (λ (fresh : Fresh). HoldsSlabs (SuppliesChunk c.args.hand.now.number c.in-Some.class fresh.chunk) c.args.hand.now.seat.me.0 c.chunk_within.new.hand.seat.me.0) c.in-Ok-Ok.field-0 c.in-Ok-Ok.fresh c.in-Ok-Ok.field-0-is c.in-Ok-Ok.ensures.supplies);
-        stores = subst (λ (p : ℕ × Setup). StoresItem p.0 (c.args.key % p.1.config.stripes) c.args.key c.in-Some-next_stamp.stamp fresh.chunk fresh.room (item_filled fresh.chunk (item_with c.args.key c.in-Some-next_stamp.stamp c.args.words.now) between) now)
-            (λ k. (number k, sym setup k)) (on_ok (StoresItem c.chunk_within.new.hand.number (c.args.key % c.args.arena.now.table.shared.key.config.stripes) c.args.key c.in-Some-next_stamp.stamp c.in-Ok-Ok.fresh.chunk c.in-Ok-Ok.fresh.room (item_filled c.in-Ok-Ok.fresh.chunk (item_with c.args.key c.in-Some-next_stamp.stamp c.args.words.now) c.chunk_within.new.hand.seat.me.0) c.store_words_within.new.hand.seat.me.0) c.in-Ok-Ok-store_words_within.field-0 _ c.in-Ok-Ok-store_words_within.field-0-is c.in-Ok-Ok-store_words_within.ensures.stores);
+        stores = subst (λ (p : ℕ × Setup). StoresItem c.args.expected p.0 (c.args.key % p.1.config.stripes) c.args.key c.in-Some-next_stamp.stamp fresh.chunk fresh.room (item_filled fresh.chunk (item_with c.args.key c.in-Some-next_stamp.stamp c.args.words.now) between) now)
+            (λ k. (number k, sym setup k)) (on_ok (StoresItem c.args.expected c.chunk_within.new.hand.number (c.args.key % c.args.arena.now.table.shared.key.config.stripes) c.args.key c.in-Some-next_stamp.stamp c.in-Ok-Ok.fresh.chunk c.in-Ok-Ok.fresh.room (item_filled c.in-Ok-Ok.fresh.chunk (item_with c.args.key c.in-Some-next_stamp.stamp c.args.words.now) c.chunk_within.new.hand.seat.me.0) c.store_words_within.new.hand.seat.me.0) c.in-Ok-Ok-store_words_within.field-0 _ c.in-Ok-Ok-store_words_within.field-0-is c.in-Ok-Ok-store_words_within.ensures.stores);
       },
       (hint.0, hint.1),
     )
@@ -125,7 +128,7 @@ returns-in-Ok-Err-store_words_within-clause-refused c =
     let between : View = c.chunk_within.new.hand.seat.me.0 in
     let fresh = c.in-Ok-Ok.fresh in
     let setup = c.requires.arena.setup in
-    inr (record {
+    subst (λ (error : CompareWithinError). RefusesCompareWithin c.args.expected c.args.hand.now.number c.args.tries c.args.key c.args.words.now error view c.store_words_within.new.hand.seat.me.0) (sym c.refusal_of.ensures) (refuses_store_within c.args.expected c.args.hand.now.number c.args.tries c.args.key c.args.words.now c.in-Ok-Err-store_words_within.error view c.store_words_within.new.hand.seat.me.0 (record {
       class = c.in-Some.class;
       fits = class_is view c.args.arena.now.table.shared.key c.classes.result.now c.args.words.now c.in-Some.class c.class_for.result setup c.classes.ensures.classes c.class_for.ensures.class c.in-Some.is;
       stamp = c.in-Some-next_stamp.stamp;
@@ -133,25 +136,25 @@ returns-in-Ok-Err-store_words_within-clause-refused c =
       chunk = fresh.chunk;
       between = between;
       supplies = (ok_of (λ (fresh : Fresh). HoldsSlabs (SuppliesChunk c.args.hand.now.number c.in-Some.class fresh.chunk) c.args.hand.now.seat.me.0 c.chunk_within.new.hand.seat.me.0) c.in-Ok-Ok.field-0 c.in-Ok-Ok.fresh c.in-Ok-Ok.field-0-is c.in-Ok-Ok.ensures.supplies);
-      dead = subst (λ (s : Setup). LeavesDead (c.args.key % s.config.stripes) fresh.chunk (item_filled fresh.chunk (item_with c.args.key c.in-Some-next_stamp.stamp c.args.words.now) between) c.store_words_within.new.hand.seat.me.0) (sym setup) (on_err (LeavesDead (c.args.key % c.args.arena.now.table.shared.key.config.stripes) c.in-Ok-Ok.fresh.chunk (item_filled c.in-Ok-Ok.fresh.chunk (item_with c.args.key c.in-Some-next_stamp.stamp c.args.words.now) c.chunk_within.new.hand.seat.me.0) c.store_words_within.new.hand.seat.me.0) c.in-Ok-Err-store_words_within.field-0 _ c.in-Ok-Err-store_words_within.field-0-is c.in-Ok-Err-store_words_within.ensures.no_memory);
-    })
+      dead = subst (λ (s : Setup). LeavesDead (RefusesStore c.in-Ok-Err-store_words_within.error c.args.expected c.args.key) (c.args.key % s.config.stripes) fresh.chunk (item_filled fresh.chunk (item_with c.args.key c.in-Some-next_stamp.stamp c.args.words.now) between) c.store_words_within.new.hand.seat.me.0) (sym setup) (err_of (λ (error : StoreError). LeavesDead (RefusesStore error c.args.expected c.args.key) (c.args.key % c.args.arena.now.table.shared.key.config.stripes) c.in-Ok-Ok.fresh.chunk (item_filled c.in-Ok-Ok.fresh.chunk (item_with c.args.key c.in-Some-next_stamp.stamp c.args.words.now) c.chunk_within.new.hand.seat.me.0) c.store_words_within.new.hand.seat.me.0) c.in-Ok-Err-store_words_within.field-0 c.in-Ok-Err-store_words_within.error c.in-Ok-Err-store_words_within.field-0-is c.in-Ok-Err-store_words_within.ensures.lost);
+    }))
 
 -- what was told until then is all
-told_here : (number class key stamp stripe : ℕ) (chunk : ChunkId) (words : List ℕ) (view between now : View) → HoldsSlabs (SuppliesChunk number class chunk) view between → LeavesDead stripe chunk (item_filled chunk (item_with key stamp words) between) now → Tells number view now
+told_here : {Is : ReadyStripe → Type 0} (number class key stamp stripe : ℕ) (chunk : ChunkId) (words : List ℕ) (view between now : View) → HoldsSlabs (SuppliesChunk number class chunk) view between → LeavesDead Is stripe chunk (item_filled chunk (item_with key stamp words) between) now → Tells number view now
 told_here number class key stamp stripe chunk words view between now supplies dead =
     tells_before number view between now (supplied_tells number class chunk view between supplies) (dead_tells stripe chunk (item_filled chunk (item_with key stamp words) between) now dead)
 
 pub returns-in-Ok-Err-store_words_within-clause-evicts : goal.returns-in-Ok-Err-store_words_within-clause-evicts
 returns-in-Ok-Err-store_words_within-clause-evicts c =
-    (told_here c.args.hand.now.number c.in-Some.class c.args.key c.in-Some-next_stamp.stamp _ c.in-Ok-Ok.fresh.chunk c.args.words.now c.args.hand.now.seat.me.0 c.chunk_within.new.hand.seat.me.0 c.store_words_within.new.hand.seat.me.0 (ok_of (λ (fresh : Fresh). HoldsSlabs (SuppliesChunk c.args.hand.now.number c.in-Some.class fresh.chunk) c.args.hand.now.seat.me.0 c.chunk_within.new.hand.seat.me.0) c.in-Ok-Ok.field-0 c.in-Ok-Ok.fresh c.in-Ok-Ok.field-0-is c.in-Ok-Ok.ensures.supplies) (on_err (LeavesDead (c.args.key % c.args.arena.now.table.shared.key.config.stripes) c.in-Ok-Ok.fresh.chunk (item_filled c.in-Ok-Ok.fresh.chunk (item_with c.args.key c.in-Some-next_stamp.stamp c.args.words.now) c.chunk_within.new.hand.seat.me.0) c.store_words_within.new.hand.seat.me.0) c.in-Ok-Err-store_words_within.field-0 _ c.in-Ok-Err-store_words_within.field-0-is c.in-Ok-Err-store_words_within.ensures.no_memory)).calls
+    (told_here c.args.hand.now.number c.in-Some.class c.args.key c.in-Some-next_stamp.stamp _ c.in-Ok-Ok.fresh.chunk c.args.words.now c.args.hand.now.seat.me.0 c.chunk_within.new.hand.seat.me.0 c.store_words_within.new.hand.seat.me.0 (ok_of (λ (fresh : Fresh). HoldsSlabs (SuppliesChunk c.args.hand.now.number c.in-Some.class fresh.chunk) c.args.hand.now.seat.me.0 c.chunk_within.new.hand.seat.me.0) c.in-Ok-Ok.field-0 c.in-Ok-Ok.fresh c.in-Ok-Ok.field-0-is c.in-Ok-Ok.ensures.supplies) (err_of (λ (error : StoreError). LeavesDead (RefusesStore error c.args.expected c.args.key) (c.args.key % c.args.arena.now.table.shared.key.config.stripes) c.in-Ok-Ok.fresh.chunk (item_filled c.in-Ok-Ok.fresh.chunk (item_with c.args.key c.in-Some-next_stamp.stamp c.args.words.now) c.chunk_within.new.hand.seat.me.0) c.store_words_within.new.hand.seat.me.0) c.in-Ok-Err-store_words_within.field-0 c.in-Ok-Err-store_words_within.error c.in-Ok-Err-store_words_within.field-0-is c.in-Ok-Err-store_words_within.ensures.lost)).calls
 
 pub returns-in-Ok-Err-store_words_within-clause-stores_nothing : goal.returns-in-Ok-Err-store_words_within-clause-stores_nothing
 returns-in-Ok-Err-store_words_within-clause-stores_nothing c =
-    (told_here c.args.hand.now.number c.in-Some.class c.args.key c.in-Some-next_stamp.stamp _ c.in-Ok-Ok.fresh.chunk c.args.words.now c.args.hand.now.seat.me.0 c.chunk_within.new.hand.seat.me.0 c.store_words_within.new.hand.seat.me.0 (ok_of (λ (fresh : Fresh). HoldsSlabs (SuppliesChunk c.args.hand.now.number c.in-Some.class fresh.chunk) c.args.hand.now.seat.me.0 c.chunk_within.new.hand.seat.me.0) c.in-Ok-Ok.field-0 c.in-Ok-Ok.fresh c.in-Ok-Ok.field-0-is c.in-Ok-Ok.ensures.supplies) (on_err (LeavesDead (c.args.key % c.args.arena.now.table.shared.key.config.stripes) c.in-Ok-Ok.fresh.chunk (item_filled c.in-Ok-Ok.fresh.chunk (item_with c.args.key c.in-Some-next_stamp.stamp c.args.words.now) c.chunk_within.new.hand.seat.me.0) c.store_words_within.new.hand.seat.me.0) c.in-Ok-Err-store_words_within.field-0 _ c.in-Ok-Err-store_words_within.field-0-is c.in-Ok-Err-store_words_within.ensures.no_memory)).stored
+    (told_here c.args.hand.now.number c.in-Some.class c.args.key c.in-Some-next_stamp.stamp _ c.in-Ok-Ok.fresh.chunk c.args.words.now c.args.hand.now.seat.me.0 c.chunk_within.new.hand.seat.me.0 c.store_words_within.new.hand.seat.me.0 (ok_of (λ (fresh : Fresh). HoldsSlabs (SuppliesChunk c.args.hand.now.number c.in-Some.class fresh.chunk) c.args.hand.now.seat.me.0 c.chunk_within.new.hand.seat.me.0) c.in-Ok-Ok.field-0 c.in-Ok-Ok.fresh c.in-Ok-Ok.field-0-is c.in-Ok-Ok.ensures.supplies) (err_of (λ (error : StoreError). LeavesDead (RefusesStore error c.args.expected c.args.key) (c.args.key % c.args.arena.now.table.shared.key.config.stripes) c.in-Ok-Ok.fresh.chunk (item_filled c.in-Ok-Ok.fresh.chunk (item_with c.args.key c.in-Some-next_stamp.stamp c.args.words.now) c.chunk_within.new.hand.seat.me.0) c.store_words_within.new.hand.seat.me.0) c.in-Ok-Err-store_words_within.field-0 c.in-Ok-Err-store_words_within.error c.in-Ok-Err-store_words_within.field-0-is c.in-Ok-Err-store_words_within.ensures.lost)).stored
 
 pub returns-in-Ok-Err-store_words_within-clause-stamps : goal.returns-in-Ok-Err-store_words_within-clause-stamps
 returns-in-Ok-Err-store_words_within-clause-stamps c =
-    (told_here c.args.hand.now.number c.in-Some.class c.args.key c.in-Some-next_stamp.stamp _ c.in-Ok-Ok.fresh.chunk c.args.words.now c.args.hand.now.seat.me.0 c.chunk_within.new.hand.seat.me.0 c.store_words_within.new.hand.seat.me.0 (ok_of (λ (fresh : Fresh). HoldsSlabs (SuppliesChunk c.args.hand.now.number c.in-Some.class fresh.chunk) c.args.hand.now.seat.me.0 c.chunk_within.new.hand.seat.me.0) c.in-Ok-Ok.field-0 c.in-Ok-Ok.fresh c.in-Ok-Ok.field-0-is c.in-Ok-Ok.ensures.supplies) (on_err (LeavesDead (c.args.key % c.args.arena.now.table.shared.key.config.stripes) c.in-Ok-Ok.fresh.chunk (item_filled c.in-Ok-Ok.fresh.chunk (item_with c.args.key c.in-Some-next_stamp.stamp c.args.words.now) c.chunk_within.new.hand.seat.me.0) c.store_words_within.new.hand.seat.me.0) c.in-Ok-Err-store_words_within.field-0 _ c.in-Ok-Err-store_words_within.field-0-is c.in-Ok-Err-store_words_within.ensures.no_memory)).ids
+    (told_here c.args.hand.now.number c.in-Some.class c.args.key c.in-Some-next_stamp.stamp _ c.in-Ok-Ok.fresh.chunk c.args.words.now c.args.hand.now.seat.me.0 c.chunk_within.new.hand.seat.me.0 c.store_words_within.new.hand.seat.me.0 (ok_of (λ (fresh : Fresh). HoldsSlabs (SuppliesChunk c.args.hand.now.number c.in-Some.class fresh.chunk) c.args.hand.now.seat.me.0 c.chunk_within.new.hand.seat.me.0) c.in-Ok-Ok.field-0 c.in-Ok-Ok.fresh c.in-Ok-Ok.field-0-is c.in-Ok-Ok.ensures.supplies) (err_of (λ (error : StoreError). LeavesDead (RefusesStore error c.args.expected c.args.key) (c.args.key % c.args.arena.now.table.shared.key.config.stripes) c.in-Ok-Ok.fresh.chunk (item_filled c.in-Ok-Ok.fresh.chunk (item_with c.args.key c.in-Some-next_stamp.stamp c.args.words.now) c.chunk_within.new.hand.seat.me.0) c.store_words_within.new.hand.seat.me.0) c.in-Ok-Err-store_words_within.field-0 c.in-Ok-Err-store_words_within.error c.in-Ok-Err-store_words_within.field-0-is c.in-Ok-Err-store_words_within.ensures.lost)).ids
 
 pub returns-in-Ok-Err-clause-holdings : goal.returns-in-Ok-Err-clause-holdings
 returns-in-Ok-Err-clause-holdings c =
@@ -176,7 +179,7 @@ returns-in-Ok-Ok-store_words_within-clause-holdings c =
     let words = item_with c.args.key stamp c.args.words.now in
     let gains = supplied_gains hand.number c.in-Some.class fresh.chunk view between (ok_of (λ (fresh : Fresh). HoldsSlabs (SuppliesChunk c.args.hand.now.number c.in-Some.class fresh.chunk) c.args.hand.now.seat.me.0 c.chunk_within.new.hand.seat.me.0) c.in-Ok-Ok.field-0 c.in-Ok-Ok.fresh c.in-Ok-Ok.field-0-is c.in-Ok-Ok.ensures.supplies) in
     let told = supplied_tells hand.number c.in-Some.class fresh.chunk view between (ok_of (λ (fresh : Fresh). HoldsSlabs (SuppliesChunk c.args.hand.now.number c.in-Some.class fresh.chunk) c.args.hand.now.seat.me.0 c.chunk_within.new.hand.seat.me.0) c.in-Ok-Ok.field-0 c.in-Ok-Ok.fresh c.in-Ok-Ok.field-0-is c.in-Ok-Ok.ensures.supplies) in
-    stored_keeps fresh.chunk words view between c.requires.ready.unfilled gains (ok_of (λ (fresh : Fresh). IsOwnItem c.chunk_within.new.hand.seat.me.0 fresh.chunk) c.in-Ok-Ok.field-0 c.in-Ok-Ok.fresh c.in-Ok-Ok.field-0-is c.in-Ok-Ok.ensures.own) c.chunk_within.new.hand.number _ c.args.key stamp fresh.room now.seat.me.0 (on_ok (StoresItem c.chunk_within.new.hand.number (c.args.key % c.args.arena.now.table.shared.key.config.stripes) c.args.key c.in-Some-next_stamp.stamp c.in-Ok-Ok.fresh.chunk c.in-Ok-Ok.fresh.room (item_filled c.in-Ok-Ok.fresh.chunk (item_with c.args.key c.in-Some-next_stamp.stamp c.args.words.now) c.chunk_within.new.hand.seat.me.0) c.store_words_within.new.hand.seat.me.0) c.in-Ok-Ok-store_words_within.field-0 _ c.in-Ok-Ok-store_words_within.field-0-is c.in-Ok-Ok-store_words_within.ensures.stores) told.known
+    stored_keeps fresh.chunk words view between c.requires.ready.unfilled gains (ok_of (λ (fresh : Fresh). IsOwnItem c.chunk_within.new.hand.seat.me.0 fresh.chunk) c.in-Ok-Ok.field-0 c.in-Ok-Ok.fresh c.in-Ok-Ok.field-0-is c.in-Ok-Ok.ensures.own) c.chunk_within.new.hand.number _ c.args.key stamp fresh.room now.seat.me.0 (on_ok (StoresItem c.args.expected c.chunk_within.new.hand.number (c.args.key % c.args.arena.now.table.shared.key.config.stripes) c.args.key c.in-Some-next_stamp.stamp c.in-Ok-Ok.fresh.chunk c.in-Ok-Ok.fresh.room (item_filled c.in-Ok-Ok.fresh.chunk (item_with c.args.key c.in-Some-next_stamp.stamp c.args.words.now) c.chunk_within.new.hand.seat.me.0) c.store_words_within.new.hand.seat.me.0) c.in-Ok-Ok-store_words_within.field-0 _ c.in-Ok-Ok-store_words_within.field-0-is c.in-Ok-Ok-store_words_within.ensures.stores) told.known
 
 pub returns-in-Ok-Ok-store_words_within-clause-hand : goal.returns-in-Ok-Ok-store_words_within-clause-hand
 returns-in-Ok-Ok-store_words_within-clause-hand c =
@@ -192,7 +195,7 @@ returns-in-Ok-Ok-store_words_within-clause-hand c =
       arena = c.store_words_within.ensures.arena;
       ready = ready_still hand now (c.store_words_within.ensures.locks ∙ c.chunk_within.ensures.locks) (returns-in-Ok-Ok-store_words_within-clause-holdings c).same c.requires.ready;
       locks = c.store_words_within.ensures.locks ∙ c.chunk_within.ensures.locks;
-      number = number_kept hand now (ap (λ (i : Ids). i.number) (stored_ids fresh.chunk words view between c.requires.ready.unfilled gains (ok_of (λ (fresh : Fresh). IsOwnItem c.chunk_within.new.hand.seat.me.0 fresh.chunk) c.in-Ok-Ok.field-0 c.in-Ok-Ok.fresh c.in-Ok-Ok.field-0-is c.in-Ok-Ok.ensures.own) c.chunk_within.new.hand.number _ c.args.key stamp fresh.room now.seat.me.0 (on_ok (StoresItem c.chunk_within.new.hand.number (c.args.key % c.args.arena.now.table.shared.key.config.stripes) c.args.key c.in-Some-next_stamp.stamp c.in-Ok-Ok.fresh.chunk c.in-Ok-Ok.fresh.room (item_filled c.in-Ok-Ok.fresh.chunk (item_with c.args.key c.in-Some-next_stamp.stamp c.args.words.now) c.chunk_within.new.hand.seat.me.0) c.store_words_within.new.hand.seat.me.0) c.in-Ok-Ok-store_words_within.field-0 _ c.in-Ok-Ok-store_words_within.field-0-is c.in-Ok-Ok-store_words_within.ensures.stores) ∙ ap ids_after_stamp told.ids));
+      number = number_kept hand now (ap (λ (i : Ids). i.number) (stored_ids fresh.chunk words view between c.requires.ready.unfilled gains (ok_of (λ (fresh : Fresh). IsOwnItem c.chunk_within.new.hand.seat.me.0 fresh.chunk) c.in-Ok-Ok.field-0 c.in-Ok-Ok.fresh c.in-Ok-Ok.field-0-is c.in-Ok-Ok.ensures.own) c.chunk_within.new.hand.number _ c.args.key stamp fresh.room now.seat.me.0 (on_ok (StoresItem c.args.expected c.chunk_within.new.hand.number (c.args.key % c.args.arena.now.table.shared.key.config.stripes) c.args.key c.in-Some-next_stamp.stamp c.in-Ok-Ok.fresh.chunk c.in-Ok-Ok.fresh.room (item_filled c.in-Ok-Ok.fresh.chunk (item_with c.args.key c.in-Some-next_stamp.stamp c.args.words.now) c.chunk_within.new.hand.seat.me.0) c.store_words_within.new.hand.seat.me.0) c.in-Ok-Ok-store_words_within.field-0 _ c.in-Ok-Ok-store_words_within.field-0-is c.in-Ok-Ok-store_words_within.ensures.stores) ∙ ap ids_after_stamp told.ids));
     }
 
 pub returns-in-Ok-Err-store_words_within-clause-holdings : goal.returns-in-Ok-Err-store_words_within-clause-holdings
@@ -206,7 +209,7 @@ returns-in-Ok-Err-store_words_within-clause-holdings c =
     let words = item_with c.args.key stamp c.args.words.now in
     let gains = supplied_gains hand.number c.in-Some.class fresh.chunk view between (ok_of (λ (fresh : Fresh). HoldsSlabs (SuppliesChunk c.args.hand.now.number c.in-Some.class fresh.chunk) c.args.hand.now.seat.me.0 c.chunk_within.new.hand.seat.me.0) c.in-Ok-Ok.field-0 c.in-Ok-Ok.fresh c.in-Ok-Ok.field-0-is c.in-Ok-Ok.ensures.supplies) in
     let told = supplied_tells hand.number c.in-Some.class fresh.chunk view between (ok_of (λ (fresh : Fresh). HoldsSlabs (SuppliesChunk c.args.hand.now.number c.in-Some.class fresh.chunk) c.args.hand.now.seat.me.0 c.chunk_within.new.hand.seat.me.0) c.in-Ok-Ok.field-0 c.in-Ok-Ok.fresh c.in-Ok-Ok.field-0-is c.in-Ok-Ok.ensures.supplies) in
-    dead_keeps fresh.chunk words view between c.requires.ready.unfilled gains (ok_of (λ (fresh : Fresh). IsOwnItem c.chunk_within.new.hand.seat.me.0 fresh.chunk) c.in-Ok-Ok.field-0 c.in-Ok-Ok.fresh c.in-Ok-Ok.field-0-is c.in-Ok-Ok.ensures.own) _ now.seat.me.0 (on_err (LeavesDead (c.args.key % c.args.arena.now.table.shared.key.config.stripes) c.in-Ok-Ok.fresh.chunk (item_filled c.in-Ok-Ok.fresh.chunk (item_with c.args.key c.in-Some-next_stamp.stamp c.args.words.now) c.chunk_within.new.hand.seat.me.0) c.store_words_within.new.hand.seat.me.0) c.in-Ok-Err-store_words_within.field-0 _ c.in-Ok-Err-store_words_within.field-0-is c.in-Ok-Err-store_words_within.ensures.no_memory) told.known
+    dead_keeps fresh.chunk words view between c.requires.ready.unfilled gains (ok_of (λ (fresh : Fresh). IsOwnItem c.chunk_within.new.hand.seat.me.0 fresh.chunk) c.in-Ok-Ok.field-0 c.in-Ok-Ok.fresh c.in-Ok-Ok.field-0-is c.in-Ok-Ok.ensures.own) _ now.seat.me.0 (err_of (λ (error : StoreError). LeavesDead (RefusesStore error c.args.expected c.args.key) (c.args.key % c.args.arena.now.table.shared.key.config.stripes) c.in-Ok-Ok.fresh.chunk (item_filled c.in-Ok-Ok.fresh.chunk (item_with c.args.key c.in-Some-next_stamp.stamp c.args.words.now) c.chunk_within.new.hand.seat.me.0) c.store_words_within.new.hand.seat.me.0) c.in-Ok-Err-store_words_within.field-0 c.in-Ok-Err-store_words_within.error c.in-Ok-Err-store_words_within.field-0-is c.in-Ok-Err-store_words_within.ensures.lost) told.known
 
 pub returns-in-Ok-Err-store_words_within-clause-hand : goal.returns-in-Ok-Err-store_words_within-clause-hand
 returns-in-Ok-Err-store_words_within-clause-hand c =

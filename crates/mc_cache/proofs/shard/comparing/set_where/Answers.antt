@@ -3,8 +3,8 @@ use Rattle.mc_packing.specs.Packing.{packed_item}
 use Rattle.mc_words.specs.hand.Arenas.{view}
 use Rattle.mc_words.specs.hand.Observers.{hand_number}
 use Rattle.mc_cache.specs.shard.Setting.{LacksRoomFor}
-use Rattle.mc_cache.proofs.Shards.Stored.{calls_behind, evicts_behind, no_deletes, refuses_behind, room_alone, sets_behind}
-use Rattle.mc_cache.proofs.shard.setting.set.Goals as goal
+use Rattle.mc_cache.proofs.Shards.Stored.{calls_behind, evicts_behind, no_deletes, refuses_compare_behind, room_alone, sets_behind}
+use Rattle.mc_cache.proofs.shard.comparing.set_where.Goals as goal
 
 pub returns-in-Err-clause-evicts : goal.returns-in-Err-clause-evicts
 returns-in-Err-clause-evicts g c = room_alone (hand_number c.args.hand.now) c.args.hand.now c.args.hand.now (no_deletes (hand_number c.args.hand.now) (view c.args.hand.now))
@@ -18,19 +18,19 @@ returns-in-Err-make_room_for-clause-evicts g c = room_alone (hand_number c.args.
 pub returns-in-Ok-clause-sets : goal.returns-in-Ok-clause-sets
 returns-in-Ok-clause-sets g c =
     sets_behind (hand_number c.args.hand.now) (hand_number c.make_room_for.new.hand) c.args.at.hash c.make_room_for.ensures.number c.deref.result.now c.deref-2.result.now (packed_item c.args.at.key.now c.args.value.now) (c.deref.ensures.value ∙ c.in_default.ensures.packed) (c.deref-2.ensures.value ∙ c.in_default.ensures.packed)
-    c.args.hand.now c.make_room_for.new.hand c.set_hinted.new.hand c.in-Ok.item.stamp c.in_default-make_room_for.ensures.makes c.in-Ok.ensures.sets.0
+    c.args.hand.now c.make_room_for.new.hand c.compare_and_set.new.hand c.args.expected c.in-Ok.item.stamp c.in_default-make_room_for.ensures.makes c.in-Ok.ensures.sets.0
 
 pub returns-in-Ok-clause-calls : goal.returns-in-Ok-clause-calls
 returns-in-Ok-clause-calls g c =
     calls_behind (hand_number c.args.hand.now) (hand_number c.make_room_for.new.hand) c.args.at.hash c.make_room_for.ensures.number c.deref.result.now c.deref-2.result.now (packed_item c.args.at.key.now c.args.value.now) (c.deref.ensures.value ∙ c.in_default.ensures.packed) (c.deref-2.ensures.value ∙ c.in_default.ensures.packed)
-    c.args.hand.now c.make_room_for.new.hand c.set_hinted.new.hand c.in-Ok.item.stamp c.make_room_for.ensures.calls c.in-Ok.ensures.calls
+    c.args.hand.now c.make_room_for.new.hand c.compare_and_set.new.hand c.in-Ok.item.stamp c.make_room_for.ensures.calls c.in-Ok.ensures.calls
 
-pub returns-in-Err-set_hinted-clause-refused : goal.returns-in-Err-set_hinted-clause-refused
-returns-in-Err-set_hinted-clause-refused g c =
-    refuses_behind (hand_number c.args.hand.now) (hand_number c.make_room_for.new.hand) c.args.at.hash c.make_room_for.ensures.number c.deref.result.now c.deref-2.result.now (packed_item c.args.at.key.now c.args.value.now) (c.deref.ensures.value ∙ c.in_default.ensures.packed) (c.deref-2.ensures.value ∙ c.in_default.ensures.packed)
-    c.args.hand.now c.make_room_for.new.hand c.set_hinted.new.hand c.in-Err-set_hinted.error c.in_default-make_room_for.ensures.makes c.in-Err-set_hinted.ensures.refused
+pub returns-in-Err-compare_and_set-clause-refused : goal.returns-in-Err-compare_and_set-clause-refused
+returns-in-Err-compare_and_set-clause-refused g c =
+    refuses_compare_behind (hand_number c.args.hand.now) (hand_number c.make_room_for.new.hand) c.args.at.hash c.make_room_for.ensures.number c.deref.result.now c.deref-2.result.now (packed_item c.args.at.key.now c.args.value.now) (c.deref.ensures.value ∙ c.in_default.ensures.packed) (c.deref-2.ensures.value ∙ c.in_default.ensures.packed)
+    c.args.hand.now c.make_room_for.new.hand c.compare_and_set.new.hand c.args.expected c.in-Err-compare_and_set.error c.in_default-make_room_for.ensures.makes c.in-Err-compare_and_set.ensures.refused
 
-pub returns-in-Err-set_hinted-clause-evicts : goal.returns-in-Err-set_hinted-clause-evicts
-returns-in-Err-set_hinted-clause-evicts g c =
+pub returns-in-Err-compare_and_set-clause-evicts : goal.returns-in-Err-compare_and_set-clause-evicts
+returns-in-Err-compare_and_set-clause-evicts g c =
     evicts_behind (hand_number c.args.hand.now) (hand_number c.make_room_for.new.hand) c.args.at.hash c.make_room_for.ensures.number c.deref.result.now c.deref-2.result.now (packed_item c.args.at.key.now c.args.value.now) (c.deref.ensures.value ∙ c.in_default.ensures.packed) (c.deref-2.ensures.value ∙ c.in_default.ensures.packed)
-    c.args.hand.now c.make_room_for.new.hand c.set_hinted.new.hand c.make_room_for.ensures.calls c.in-Err-set_hinted.ensures.evicts
+    c.args.hand.now c.make_room_for.new.hand c.compare_and_set.new.hand c.make_room_for.ensures.calls c.in-Err-compare_and_set.ensures.evicts

@@ -1,4 +1,4 @@
-use Rattle.std.proofs.Common.{◌≡◌, ◌+◌, ◌*◌, ◌≤◌, ◌%◌, ℕ, ◌∷◌, ◌++◌, [], List, length, Some, Option, IfSome, ap, sym, subst, ◌∙◌, inr}
+use Rattle.std.proofs.Common.{◌≡◌, ◌+◌, ◌*◌, ◌≤◌, ◌%◌, ℕ, ◌∷◌, ◌++◌, [], List, length, Some, Option, IfSome, ap, sym, subst, ◌∙◌}
 use Rattle.mc_classes.specs.Classes.{Classes, IsClass, class_of, size_of}
 use Rattle.mc_core.specs.past.Past.{StoredItem}
 use Rattle.mc_stripe.specs.declared.history.Call.TheVariants.{Set}
@@ -7,9 +7,11 @@ use Rattle.mc_words.specs.hand.View.{Setup, View}
 use Rattle.mc_words.specs.hand.Tallies.{next_stamp}
 use Rattle.mc_items.specs.Calls.{RecordsCall}
 use Rattle.mc_pages.specs.declared.ids.ChunkId.{ChunkId}
-use Rattle.mc_items.specs.Setting.{class_for_words}
+use Rattle.mc_items.specs.Setting.{RefusesCompare, class_for_words}
+use Rattle.mc_items.specs.declared.comparing.CompareError.{CompareError}
 use Rattle.mc_items.specs.Sources.{SuppliesChunk}
-use Rattle.mc_items.specs.Storing.{LeavesDead, StoresItem, item_filled}
+use Rattle.mc_stripe.specs.StripeState.{ReadyStripe}
+use Rattle.mc_items.specs.Storing.{LeavesDead, RefusesStore, StoresItem, item_filled}
 use Rattle.mc_words.proofs.Hands.HandNumbers.{number_stays}
 use Rattle.mc_words.specs.item.Items.{item_with}
 use Rattle.mc_core.specs.declared.ids.Ids.{Ids}
@@ -18,8 +20,8 @@ use Rattle.mc_items.proofs.Chains.{hand_still, holdings_stay, number_kept, ready
 use Rattle.mc_items.proofs.StoredRows.{dead_keeps, stored_ids, stored_keeps}
 use Rattle.mc_items.proofs.Locks.{still_unlocked}
 use Rattle.mc_items.proofs.Made.{Tells, refused_tells, supplied_tells, tells_before, refused_holds, supplied_gains}
-use Rattle.mc_items.proofs.Sets.{class_there, dead_tells, refuses_so, words_fit}
-use Rattle.mc_items.proofs.setting.set_hinted.Goals as goal
+use Rattle.mc_items.proofs.Sets.{class_there, dead_tells, refuses_so, refuses_store, words_fit}
+use Rattle.mc_items.proofs.comparing.compare_and_set.Goals as goal
 
 -- the class is the words'
 class_is : (view : View) (setup : Setup) (table : Classes) (words : List ℕ) (class : ℕ) (found : Option ℕ) → view.setup ≡ setup → table ≡ setup.table → found ≡ class_of table (24 + 8 * length words) → found ≡ Some class → class_for_words view words ≡ Some class
@@ -75,7 +77,7 @@ returns-in-Ok-store_words-clause-sets g c =
         room = fresh.room;
         between = between;
         supplies = c.in-Ok.ensures.supplies;
-        stores = subst (λ (p : ℕ × Setup). StoresItem p.0 (c.args.key % p.1.config.stripes) c.args.key c.in-Some-next_stamp.stamp fresh.chunk fresh.room (item_filled fresh.chunk (item_with c.args.key c.in-Some-next_stamp.stamp c.args.words.now) between) now)
+        stores = subst (λ (p : ℕ × Setup). StoresItem c.args.expected p.0 (c.args.key % p.1.config.stripes) c.args.key c.in-Some-next_stamp.stamp fresh.chunk fresh.room (item_filled fresh.chunk (item_with c.args.key c.in-Some-next_stamp.stamp c.args.words.now) between) now)
             (λ k. (number k, sym setup k)) c.in-Ok-store_words.ensures.stores;
       },
       (c.in-Ok-store_words.ensures.hint.0, c.in-Ok-store_words.ensures.hint.1),
@@ -105,7 +107,7 @@ returns-in-Err-store_words-clause-refused g c =
     let between : View = c.chunk_of.new.hand.seat.me.0 in
     let fresh = c.in-Ok.fresh in
     let setup = c.requires.arena.setup in
-    inr (record {
+    subst (λ (error : CompareError). RefusesCompare c.args.expected c.args.hand.now.number c.args.key c.args.words.now error view c.store_words.new.hand.seat.me.0) (sym c.refusal_of.ensures) (refuses_store c.args.expected c.args.hand.now.number c.args.key c.args.words.now c.in-Err-store_words.error view c.store_words.new.hand.seat.me.0 (record {
       class = c.in-Some.class;
       fits = class_is view c.args.arena.now.table.shared.key c.classes.result.now c.args.words.now c.in-Some.class c.class_for.result setup c.classes.ensures.classes c.class_for.ensures.class c.in-Some.is;
       stamp = c.in-Some-next_stamp.stamp;
@@ -113,25 +115,25 @@ returns-in-Err-store_words-clause-refused g c =
       chunk = fresh.chunk;
       between = between;
       supplies = c.in-Ok.ensures.supplies;
-      dead = subst (λ (s : Setup). LeavesDead (c.args.key % s.config.stripes) fresh.chunk (item_filled fresh.chunk (item_with c.args.key c.in-Some-next_stamp.stamp c.args.words.now) between) c.store_words.new.hand.seat.me.0) (sym setup) c.in-Err-store_words.ensures.no_memory;
-    })
+      dead = subst (λ (s : Setup). LeavesDead (RefusesStore c.in-Err-store_words.error c.args.expected c.args.key) (c.args.key % s.config.stripes) fresh.chunk (item_filled fresh.chunk (item_with c.args.key c.in-Some-next_stamp.stamp c.args.words.now) between) c.store_words.new.hand.seat.me.0) (sym setup) c.in-Err-store_words.ensures.lost;
+    }))
 
 -- what was told until then is all
-told_here : (number class key stamp stripe : ℕ) (chunk : ChunkId) (words : List ℕ) (view between now : View) → HoldsSlabs (SuppliesChunk number class chunk) view between → LeavesDead stripe chunk (item_filled chunk (item_with key stamp words) between) now → Tells number view now
+told_here : {Is : ReadyStripe → Type 0} (number class key stamp stripe : ℕ) (chunk : ChunkId) (words : List ℕ) (view between now : View) → HoldsSlabs (SuppliesChunk number class chunk) view between → LeavesDead Is stripe chunk (item_filled chunk (item_with key stamp words) between) now → Tells number view now
 told_here number class key stamp stripe chunk words view between now supplies dead =
     tells_before number view between now (supplied_tells number class chunk view between supplies) (dead_tells stripe chunk (item_filled chunk (item_with key stamp words) between) now dead)
 
 pub returns-in-Err-store_words-clause-evicts : goal.returns-in-Err-store_words-clause-evicts
 returns-in-Err-store_words-clause-evicts g c =
-    (told_here c.args.hand.now.number c.in-Some.class c.args.key c.in-Some-next_stamp.stamp _ c.in-Ok.fresh.chunk c.args.words.now c.args.hand.now.seat.me.0 c.chunk_of.new.hand.seat.me.0 c.store_words.new.hand.seat.me.0 c.in-Ok.ensures.supplies c.in-Err-store_words.ensures.no_memory).calls
+    (told_here c.args.hand.now.number c.in-Some.class c.args.key c.in-Some-next_stamp.stamp _ c.in-Ok.fresh.chunk c.args.words.now c.args.hand.now.seat.me.0 c.chunk_of.new.hand.seat.me.0 c.store_words.new.hand.seat.me.0 c.in-Ok.ensures.supplies c.in-Err-store_words.ensures.lost).calls
 
 pub returns-in-Err-store_words-clause-stores_nothing : goal.returns-in-Err-store_words-clause-stores_nothing
 returns-in-Err-store_words-clause-stores_nothing g c =
-    (told_here c.args.hand.now.number c.in-Some.class c.args.key c.in-Some-next_stamp.stamp _ c.in-Ok.fresh.chunk c.args.words.now c.args.hand.now.seat.me.0 c.chunk_of.new.hand.seat.me.0 c.store_words.new.hand.seat.me.0 c.in-Ok.ensures.supplies c.in-Err-store_words.ensures.no_memory).stored
+    (told_here c.args.hand.now.number c.in-Some.class c.args.key c.in-Some-next_stamp.stamp _ c.in-Ok.fresh.chunk c.args.words.now c.args.hand.now.seat.me.0 c.chunk_of.new.hand.seat.me.0 c.store_words.new.hand.seat.me.0 c.in-Ok.ensures.supplies c.in-Err-store_words.ensures.lost).stored
 
 pub returns-in-Err-store_words-clause-stamps : goal.returns-in-Err-store_words-clause-stamps
 returns-in-Err-store_words-clause-stamps g c =
-    (told_here c.args.hand.now.number c.in-Some.class c.args.key c.in-Some-next_stamp.stamp _ c.in-Ok.fresh.chunk c.args.words.now c.args.hand.now.seat.me.0 c.chunk_of.new.hand.seat.me.0 c.store_words.new.hand.seat.me.0 c.in-Ok.ensures.supplies c.in-Err-store_words.ensures.no_memory).ids
+    (told_here c.args.hand.now.number c.in-Some.class c.args.key c.in-Some-next_stamp.stamp _ c.in-Ok.fresh.chunk c.args.words.now c.args.hand.now.seat.me.0 c.chunk_of.new.hand.seat.me.0 c.store_words.new.hand.seat.me.0 c.in-Ok.ensures.supplies c.in-Err-store_words.ensures.lost).ids
 
 pub returns-in-Err-clause-holdings : goal.returns-in-Err-clause-holdings
 returns-in-Err-clause-holdings g c =
@@ -186,7 +188,7 @@ returns-in-Err-store_words-clause-holdings g c =
     let words = item_with c.args.key stamp c.args.words.now in
     let gains = supplied_gains hand.number c.in-Some.class fresh.chunk view between c.in-Ok.ensures.supplies in
     let told = supplied_tells hand.number c.in-Some.class fresh.chunk view between c.in-Ok.ensures.supplies in
-    dead_keeps fresh.chunk words view between c.requires.ready.unfilled gains c.in-Ok.ensures.own _ now.seat.me.0 c.in-Err-store_words.ensures.no_memory told.known
+    dead_keeps fresh.chunk words view between c.requires.ready.unfilled gains c.in-Ok.ensures.own _ now.seat.me.0 c.in-Err-store_words.ensures.lost told.known
 
 pub returns-in-Err-store_words-clause-hand : goal.returns-in-Err-store_words-clause-hand
 returns-in-Err-store_words-clause-hand g c =

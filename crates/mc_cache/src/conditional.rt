@@ -1,0 +1,130 @@
+//! The calls of a worker that store only on a condition.
+use crate::cache::{Cache, Worker};
+use crate::shard;
+use crate::shard::{Label, Outcome, When};
+use crate::working::{MOST_VALUE_BYTES, SetError};
+use mc_stripe::Stamp;
+use std::sync::Wait;
+
+impl Worker {
+    ghost use Rattle.std.specs.Prelude.{◌≡◌, ◌<◌, ◌≤◌, ◌↔◌, ◌⊎◌, Err, length};
+    ghost use Rattle.mc_classes.specs.Limits.{most_page_bytes};
+    ghost use Rattle.mc_cache.specs.Belonging.{ActsOnKey, BelongsTo, KeepsHands, hash_in};
+    ghost use Rattle.mc_cache.specs.Conditional.{SetsValueIf};
+    ghost use Rattle.mc_cache.specs.Shards.{IsKey};
+    ghost use Rattle.mc_cache.specs.declared.shard.conditions.When.TheVariants as when;
+    ghost use Rattle.mc_cache.specs.declared.working.SetError.TheVariants as set_error;
+
+    /// Stores the value under the key as [`Worker::set`] does, where the key has none, and returns `Exists` where it has one. (memcached's
+    /// `add`)
+    pub fn add<R: Wait>(
+        &mut self,
+        rt: &R,
+        cache: &Cache,
+        key: &[u8],
+        value: &[u8],
+    ) -> Result<Outcome, SetError>
+        requires { BelongsTo cache.now self.old }
+        ensures belongs { BelongsTo cache.now self.new }
+        ensures key { (result ≡ Err set_error.KeyLength) ↔ ¬ IsKey key.now }
+        ensures value { (result ≡ Err set_error.ValueLength) ↔ IsKey key.now
+            × (most_page_bytes < length value.now) }
+        ensures same { ¬ IsKey key.now ⊎ (most_page_bytes < length value.now) →
+            KeepsHands self.old self.new }
+        ensures acts { IsKey key.now → length value.now ≤ most_page_bytes →
+            ActsOnKey cache.now key.now (SetsValueIf (hash_in cache.now key.now) key.now value.now
+            when.Absent result) self.old self.new }
+    {
+        self.set_if(rt, cache, key, value, When::Absent)
+    }
+
+    /// Stores the value under the key as [`Worker::set`] does, where the key has one, and returns `Missing` where it has none. (memcached's
+    /// `replace`)
+    pub fn replace<R: Wait>(
+        &mut self,
+        rt: &R,
+        cache: &Cache,
+        key: &[u8],
+        value: &[u8],
+    ) -> Result<Outcome, SetError>
+        requires { BelongsTo cache.now self.old }
+        ensures belongs { BelongsTo cache.now self.new }
+        ensures key { (result ≡ Err set_error.KeyLength) ↔ ¬ IsKey key.now }
+        ensures value { (result ≡ Err set_error.ValueLength) ↔ IsKey key.now
+            × (most_page_bytes < length value.now) }
+        ensures same { ¬ IsKey key.now ⊎ (most_page_bytes < length value.now) →
+            KeepsHands self.old self.new }
+        ensures acts { IsKey key.now → length value.now ≤ most_page_bytes →
+            ActsOnKey cache.now key.now (SetsValueIf (hash_in cache.now key.now) key.now value.now
+            when.Present result) self.old self.new }
+    {
+        self.set_if(rt, cache, key, value, When::Present)
+    }
+
+    /// Stores the value under the key as [`Worker::set`] does, where the key's value has this version. It returns `Exists` where the key's
+    /// value has another, and `Missing` where the key has none. (memcached's `cas`)
+    pub fn compare_and_set<R: Wait>(
+        &mut self,
+        rt: &R,
+        cache: &Cache,
+        key: &[u8],
+        value: &[u8],
+        version: Stamp,
+    ) -> Result<Outcome, SetError>
+        requires { BelongsTo cache.now self.old }
+        ensures belongs { BelongsTo cache.now self.new }
+        ensures key { (result ≡ Err set_error.KeyLength) ↔ ¬ IsKey key.now }
+        ensures value { (result ≡ Err set_error.ValueLength) ↔ IsKey key.now
+            × (most_page_bytes < length value.now) }
+        ensures same { ¬ IsKey key.now ⊎ (most_page_bytes < length value.now) →
+            KeepsHands self.old self.new }
+        ensures acts { IsKey key.now → length value.now ≤ most_page_bytes →
+            ActsOnKey cache.now key.now (SetsValueIf (hash_in cache.now key.now) key.now value.now
+            (when.Version version) result) self.old self.new }
+    {
+        self.set_if(rt, cache, key, value, When::Version(version))
+    }
+
+    /// Stores the value under the key as [`Worker::set`] does, where the key's value meets the condition. A look at the key comes first, so
+    /// a set that isn't met evicts nothing. (own)
+    pub fn set_if<R: Wait>(
+        &mut self,
+        rt: &R,
+        cache: &Cache,
+        key: &[u8],
+        value: &[u8],
+        when: When,
+    ) -> Result<Outcome, SetError>
+        requires { BelongsTo cache.now self.old }
+        ensures belongs { BelongsTo cache.now self.new }
+        ensures key { (result ≡ Err set_error.KeyLength) ↔ ¬ IsKey key.now }
+        ensures value { (result ≡ Err set_error.ValueLength) ↔ IsKey key.now
+            × (most_page_bytes < length value.now) }
+        ensures same { ¬ IsKey key.now ⊎ (most_page_bytes < length value.now) →
+            KeepsHands self.old self.new }
+        ensures acts { IsKey key.now → length value.now ≤ most_page_bytes →
+            ActsOnKey cache.now key.now (SetsValueIf (hash_in cache.now key.now) key.now value.now
+            when result) self.old self.new }
+    {
+        let Some(at) = cache.place_of(key) else {
+            return Err(SetError::KeyLength);
+        };
+        if value.len() > MOST_VALUE_BYTES {
+            return Err(SetError::ValueLength);
+        }
+        let arena = &cache.arenas[at.shard];
+        let hand = &mut self.hands[at.shard];
+        let label = Label { hash: at.hash, key };
+        shard::set_if(
+            rt,
+            arena,
+            &cache.hints,
+            hand,
+            label,
+            value,
+            &mut self.words,
+            when,
+        )
+        .map_err(SetError::Item)
+    }
+}
