@@ -1,5 +1,5 @@
 -- What one call does on one shard.
-use Rattle.std.proofs.Common.{None, Some, ◌≡◌, ◌<◌, ◌∙◌, ℕ, List, Err, MatchResult, Ok, OnErr, Result, ap, arith, get_or, is_ok, length, refl, set, subst, sym, true≢false}
+use Rattle.std.proofs.Common.{IfSome, None, Option, Some, ◌≡◌, ◌<◌, ◌∙◌, ℕ, List, Err, MatchResult, Ok, OnErr, Result, ap, arith, get_or, is_ok, length, refl, set, subst, sym, true≢false}
 use Rattle.std.proofs.lemmas.Option.{slice_get_read}
 use Rattle.mc_words.specs.declared.arena.Arena.{Arena}
 use Rattle.mc_words.specs.declared.hand.Hand.{Hand}
@@ -51,6 +51,11 @@ refused_so P R (Ok y) (Ok x) variant p next = tt
 refused_so P R (Ok y) (Err e) variant p next = absurd (true≢false (sym variant))
 refused_so P R (Err e) (Ok x) variant p next = tt
 refused_so P R (Err e) (Err d) variant p next = next p
+
+-- what follows from what is there
+pub some_map : {A : Type 0} (P Q : A → Type 0) (o : Option A) → ((x : A) → P x → Q x) → IfSome o P → IfSome o Q
+some_map P Q None next p = tt
+some_map P Q (Some x) next p = next x p
 
 -- what holds anyhow holds of a refusal
 pub on_refusal : {T E P : Type 0} (r : Result T E) → P → OnErr r P

@@ -1,20 +1,58 @@
 -- What a set on a condition stored took the place of.
-use Rattle.std.proofs.Common.{◌≡◌, ◌==◌, ℕ, Bool, true, false, List, None, Option, Some, Result, Ok, Err, if◌then◌else◌, eqb-true, inl, inr, refl, subst}
+use Rattle.std.proofs.Common.{◌≡◌, ◌⊎◌, ◌==◌, ℕ, Bool, true, false, List, None, Some, Result, Ok, Err, IfOk, IfErr, OnErr, if◌then◌else◌, eqb-true, ap, inl, inr, refl, subst}
 use Rattle.mc_words.specs.declared.hand.Hand.{Hand}
 use Rattle.mc_words.specs.hand.Observers.{hand_number}
 use Rattle.mc_words.specs.hand.View.{Setup}
+use Rattle.mc_words.specs.declared.arena.Arena.{Arena}
+use Rattle.mc_words.specs.hand.Arenas.{setup_of, view}
+use Rattle.mc_words.specs.item.Items.{item_with}
+use Rattle.mc_packing.specs.Packing.{packed_item}
+use Rattle.mc_items.specs.Keeping.{StoresNothing, StoresWithStamp}
+use Rattle.mc_items.specs.declared.within.comparing.CompareWithinError.{CompareWithinError}
+use Rattle.mc_cache.specs.shard.Setting.{RecordsEvictionsAlone, RecordsSetBehindRoom, RefusesCompareBytes, SetsBehindRoom}
+use Rattle.mc_cache.specs.shard.Within.{RefusesCompareBytesWithin}
+use Rattle.mc_items.specs.declared.setting.SetError as items
 use Rattle.mc_items.specs.declared.comparing.CompareError.{CompareError}
 use Rattle.mc_items.specs.declared.comparing.CompareError.TheVariants as compare
 use Rattle.mc_items.specs.declared.comparing.Expected.{Expected}
 use Rattle.mc_items.specs.declared.comparing.Expected.TheVariants as expected
 use Rattle.mc_cache.specs.declared.shard.conditions.Outcome.{Outcome}
 use Rattle.mc_cache.specs.declared.shard.conditions.Outcome.TheVariants.{Stored, Exists}
+use Rattle.mc_cache.specs.declared.working.SetError.{SetError}
+use Rattle.mc_cache.specs.declared.shard.conditions.When.{When}
 use Rattle.mc_cache.specs.declared.shard.conditions.When.TheVariants.{Absent, Present, Version}
 use Rattle.mc_cache.specs.declared.shard.looking.Seen.{Seen}
 use Rattle.mc_cache.specs.declared.shard.looking.Seen.TheVariants.{Nothing, OtherKey, Key}
-use Rattle.mc_cache.specs.Conditional.{AddsFindNone, ReplacesFindOne, StoresBehindLook, VersionsAreReplaced}
-use Rattle.mc_cache.specs.shard.Conditions.{DoesBehindLook, FindsOtherStamp, FindsVersion, Sees, StoresExpected, TriesStore, expected_by, outcome_of}
+use Rattle.mc_cache.specs.Conditional.{AddsFindNone, ReplacesFindOne, SetsValueIf, StoresBehindLook, VersionsAreReplaced, of_item}
+use Rattle.mc_cache.specs.shard.Conditions.{DoesBehindLook, FindsOtherStamp, FindsVersion, Sees, SetsBehindLook, SetsIf, StoresExpected, StoresNoItem, TriesStore, TriesStoreWithin, expected_by, outcome_of}
 use Rattle.mc_cache.specs.shard.Finding.{FindsKey, FindsWords}
+
+-- a store was tried behind a look, by the hand of this number
+module _ (number own hash : ℕ) (same : own ≡ number) (key value : List ℕ) (before now : Hand) where
+  nothing_stored : RecordsEvictionsAlone own before now → StoresNothing (view before) (view now) → StoresNoItem number before now
+  nothing_stored evicts none = record { evicts = subst (λ (n : ℕ). RecordsEvictionsAlone n before now) same evicts; stores_nothing = none }
+
+  was_stored : (expected : Expected) (stamp : ℕ) → SetsBehindRoom expected own hash stamp (packed_item key value) before now → StoresWithStamp (item_with hash stamp (packed_item key value)) stamp (view before) (view now) → RecordsSetBehindRoom own hash stamp before now
+      → StoresExpected expected number hash stamp key value before now
+  was_stored expected stamp sets words calls = record {
+    stores_words = words;
+    sets = subst (λ (n : ℕ). SetsBehindRoom expected n hash stamp (packed_item key value) before now) same sets;
+    calls = subst (λ (n : ℕ). RecordsSetBehindRoom n hash stamp before now) same calls;
+  }
+
+  pub tried : (expected : Expected) (stored : Result ℕ CompareError) → IfOk stored (λ stamp. SetsBehindRoom expected own hash stamp (packed_item key value) before now) → IfOk stored (λ stamp. StoresWithStamp (item_with hash stamp (packed_item key value)) stamp (view before) (view now))
+      → IfOk stored (λ stamp. RecordsSetBehindRoom own hash stamp before now) → IfErr stored (λ error. RefusesCompareBytes expected own hash (packed_item key value) error before now) → OnErr stored (RecordsEvictionsAlone own before now) → OnErr stored (StoresNothing (view before) (view now))
+      → TriesStore expected number hash key value stored before now
+  tried expected (Ok stamp) sets words calls refused evicts none = was_stored expected stamp sets words calls
+  tried expected (Err error) sets words calls refused evicts none =
+      (subst (λ (n : ℕ). RefusesCompareBytes expected n hash (packed_item key value) error before now) same refused, nothing_stored evicts none)
+
+  pub tried_within : (tries : ℕ) (expected : Expected) (stored : Result ℕ CompareWithinError) → IfOk stored (λ stamp. SetsBehindRoom expected own hash stamp (packed_item key value) before now) → IfOk stored (λ stamp. StoresWithStamp (item_with hash stamp (packed_item key value)) stamp (view before) (view now))
+      → IfOk stored (λ stamp. RecordsSetBehindRoom own hash stamp before now) → IfErr stored (λ error. RefusesCompareBytesWithin expected own tries hash (packed_item key value) error before now) → OnErr stored (RecordsEvictionsAlone own before now) → OnErr stored (StoresNothing (view before) (view now))
+      → TriesStoreWithin tries expected number hash key value stored before now
+  tried_within tries expected (Ok stamp) sets words calls refused evicts none = was_stored expected stamp sets words calls
+  tried_within tries expected (Err error) sets words calls refused evicts none =
+      (subst (λ (n : ℕ). RefusesCompareBytesWithin expected n tries hash (packed_item key value) error before now) same refused, nothing_stored evicts none)
 
 -- a store whose set returned that it stored did so
 stored_so : (expected : Expected) (number hash stamp : ℕ) (key value : List ℕ) (between now : Hand) (stored : Result ℕ CompareError) → Ok (Stored stamp) ≡ outcome_of stored → TriesStore expected number hash key value stored between now → StoresExpected expected number hash stamp key value between now
@@ -56,14 +94,31 @@ module _ (setup : Setup) (hash : ℕ) (key value : List ℕ) (stamp : ℕ) (befo
   one_of (OtherKey other) sees does = let wrong = does.0 in absurd (cc)
   one_of (Key seen) sees does = ((sees.0, sees.1.0), stores expected.Something does)
 
+-- a set whose result is that it stored returned so on its shard
+returned_stored : (stamp : ℕ) (returned : Result Outcome items.SetError) → ◌≡◌ {A = Result Outcome SetError} (Ok (Stored stamp)) (of_item returned) → returned ≡ Ok (Stored stamp)
+returned_stored stamp (Ok outcome) is = let same : outcome ≡ Stored stamp = cc in ap Ok same
+returned_stored stamp (Err error) is = absurd (cc)
+
+module _ (arena : Arena) (hash : ℕ) (key value : List ℕ) (stamp : ℕ) (before now : Hand) where
+  -- it looked, and then did this
+  behind : (when : When) → SetsValueIf hash key value when (Ok (Stored stamp)) arena before now → SetsBehindLook (setup_of arena) hash key value when (Ok (Stored stamp)) before now
+  behind when sets = looked (subst (λ (r : Result Outcome items.SetError). SetsIf (setup_of arena) hash key value when r before now) (returned_stored stamp sets.returned sets.result_is) sets.sets)
+    where
+      looked : SetsIf (setup_of arena) hash key value when (Ok (Stored stamp)) before now → SetsBehindLook (setup_of arena) hash key value when (Ok (Stored stamp)) before now
+      looked (inl found) = found
+      looked (inr refused) = let wrong = refused.0 in absurd (cc)
+
 pub versions_are_replaced : VersionsAreReplaced
-versions_are_replaced setup hash key value version stamp before now (inl sets) = version_of setup hash key value stamp before sets.between now version sets.seen sets.sees sets.does
-versions_are_replaced setup hash key value version stamp before now (inr refused) = let wrong = refused.0 in absurd (cc)
+versions_are_replaced arena hash key value version stamp before now sets =
+    let found = behind arena hash key value stamp before now (Version version) sets in
+    version_of (setup_of arena) hash key value stamp before found.between now version found.seen found.sees found.does
 
 pub adds_find_none : AddsFindNone
-adds_find_none setup hash key value stamp before now (inl sets) = none_of setup hash key value stamp before sets.between now sets.seen sets.sees sets.does
-adds_find_none setup hash key value stamp before now (inr refused) = let wrong = refused.0 in absurd (cc)
+adds_find_none arena hash key value stamp before now sets =
+    let found = behind arena hash key value stamp before now Absent sets in
+    none_of (setup_of arena) hash key value stamp before found.between now found.seen found.sees found.does
 
 pub replaces_find_one : ReplacesFindOne
-replaces_find_one setup hash key value stamp before now (inl sets) = one_of setup hash key value stamp before sets.between now sets.seen sets.sees sets.does
-replaces_find_one setup hash key value stamp before now (inr refused) = let wrong = refused.0 in absurd (cc)
+replaces_find_one arena hash key value stamp before now sets =
+    let found = behind arena hash key value stamp before now Present sets in
+    one_of (setup_of arena) hash key value stamp before found.between now found.seen found.sees found.does

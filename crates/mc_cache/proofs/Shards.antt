@@ -8,3 +8,4 @@ pub mod Appended
 pub mod Slabs
 pub mod Recorded
 pub mod Stored
+pub mod Versions

@@ -15,7 +15,6 @@ use Rattle.mc_cache.specs.declared.working.SetError.{SetError}
 use Rattle.mc_cache.specs.declared.working.SetError.TheVariants as set_error
 use Rattle.mc_cache.specs.declared.working_within.SetWithinError.{SetWithinError}
 use Rattle.mc_cache.specs.declared.working_within.SetWithinError.TheVariants as set_within_error
-use Rattle.mc_words.specs.hand.View.{Setup}
 use Rattle.mc_items.specs.declared.comparing.Expected.TheVariants as expected
 use Rattle.mc_items.specs.declared.comparing.Expected.{Expected}
 use Rattle.mc_cache.specs.shard.Conditions.{FindsOtherStamp, FindsVersion, SetsIf, SetsIfWithin, StoresExpected}
@@ -53,18 +52,18 @@ StoresBehindLook expected hash stamp key value before now = (between : Hand) × 
 -- *a set that stores over a version takes the place of the value that has this version*
 abbrev pub VersionsAreReplaced : Type 0
 VersionsAreReplaced =
-    (setup : Setup) (hash : ℕ) (key value : List ℕ) (version stamp : ℕ) (before now : Hand) → SetsIf setup hash key value (Version version) (Ok (Stored stamp)) before now
-    → ((old : List ℕ) × FindsVersion setup hash key old version before) × StoresBehindLook (expected.Item version) hash stamp key value before now
+    (arena : Arena) (hash : ℕ) (key value : List ℕ) (version stamp : ℕ) (before now : Hand) → SetsValueIf hash key value (Version version) (Ok (Stored stamp)) arena before now
+    → ((old : List ℕ) × FindsVersion (setup_of arena) hash key old version before) × StoresBehindLook (expected.Item version) hash stamp key value before now
 
 -- *an add stores where the key has no value: no item is under the hash until the store, or the item of another key is there until then*
 abbrev pub AddsFindNone : Type 0
 AddsFindNone =
-    (setup : Setup) (hash : ℕ) (key value : List ℕ) (stamp : ℕ) (before now : Hand) → SetsIf setup hash key value Absent (Ok (Stored stamp)) before now
-    → (FindsWords setup hash before None × StoresBehindLook expected.Nothing hash stamp key value before now)
-    ⊎ ((other : ℕ) × FindsOtherStamp setup hash key other before × StoresBehindLook (expected.Item other) hash stamp key value before now)
+    (arena : Arena) (hash : ℕ) (key value : List ℕ) (stamp : ℕ) (before now : Hand) → SetsValueIf hash key value Absent (Ok (Stored stamp)) arena before now
+    → (FindsWords (setup_of arena) hash before None × StoresBehindLook expected.Nothing hash stamp key value before now)
+    ⊎ ((other : ℕ) × FindsOtherStamp (setup_of arena) hash key other before × StoresBehindLook (expected.Item other) hash stamp key value before now)
 
 -- *a replace stores where the key has a value, and an item is under its hash at the store*
 abbrev pub ReplacesFindOne : Type 0
 ReplacesFindOne =
-    (setup : Setup) (hash : ℕ) (key value : List ℕ) (stamp : ℕ) (before now : Hand) → SetsIf setup hash key value Present (Ok (Stored stamp)) before now
-    → FindsKey setup hash key before × StoresBehindLook expected.Something hash stamp key value before now
+    (arena : Arena) (hash : ℕ) (key value : List ℕ) (stamp : ℕ) (before now : Hand) → SetsValueIf hash key value Present (Ok (Stored stamp)) arena before now
+    → FindsKey (setup_of arena) hash key before × StoresBehindLook expected.Something hash stamp key value before now

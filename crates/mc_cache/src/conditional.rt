@@ -115,16 +115,10 @@ impl Worker {
         let arena = &cache.arenas[at.shard];
         let hand = &mut self.hands[at.shard];
         let label = Label { hash: at.hash, key };
-        shard::set_if(
-            rt,
-            arena,
-            &cache.hints,
-            hand,
-            label,
-            value,
-            &mut self.words,
-            when,
-        )
-        .map_err(SetError::Item)
+        let words = &mut self.words;
+        match shard::set_if(rt, arena, &cache.hints, hand, label, value, words, when) {
+            Ok(outcome) => Ok(outcome),
+            Err(error) => Err(SetError::Item(error)),
+        }
     }
 }

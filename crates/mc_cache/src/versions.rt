@@ -50,9 +50,10 @@ impl Worker {
         let arena = &cache.arenas[at.shard];
         let hand = &mut self.hands[at.shard];
         let label = Label { hash: at.hash, key };
-        shard::get_with_version(rt, arena, &cache.hints, hand, label, into).map_err(
-            CallError::NoMemory,
-        )
+        match shard::get_with_version(rt, arena, &cache.hints, hand, label, into) {
+            Ok(found) => Ok(found),
+            Err(refused) => Err(CallError::NoMemory(refused)),
+        }
     }
 
     /// The same as [`Worker::get_with_version`], but the worker tries for the lock of the key's stripe `tries` times at most, and doesn't

@@ -1,6 +1,8 @@
 //! Packings of bytes; keys and values that are drawn, threads among them.
 mod clients;
 mod collided;
+mod conditional;
+mod counted;
 mod drawn;
 mod eight;
 mod made;

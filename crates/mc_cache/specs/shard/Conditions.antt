@@ -1,5 +1,5 @@
 -- Sets of bytes that store only on a condition: what a look saw, what the store expected then, and what was done.
-use Rattle.std.specs.Prelude.{◌≡◌, ◌⊎◌, ◌==◌, if◌then◌else◌, ℕ, List, ◌++◌, Option, None, Some, Result, Ok, Err}
+use Rattle.std.specs.Prelude.{◌≡◌, ◌⊎◌, ◌==◌, if◌then◌else◌, ℕ, List, ◌++◌, None, Some, Result, Ok, Err}
 use Rattle.std.specs.Option.{option_map}
 use Rattle.mc_packing.specs.Packing.{IsPackingOf, packed_item}
 use Rattle.mc_words.specs.declared.hand.Hand.{Hand}

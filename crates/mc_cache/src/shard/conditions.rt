@@ -42,15 +42,21 @@ impl When {
     fn expected_behind(self, seen: Seen) -> Result<Expected, Outcome>
         ensures { result ≡ expected_by self seen }
     {
-        match (self, seen) {
-            (When::Absent, Seen::Nothing) => Ok(Expected::Nothing),
-            (When::Absent, Seen::OtherKey(stamp)) => Ok(Expected::Item(stamp)),
-            (When::Present, Seen::Key(_stamp)) => Ok(Expected::Something),
-            (When::Version(version), Seen::Key(stamp)) if stamp == version => {
-                Ok(Expected::Item(version))
-            }
-            (When::Absent | When::Version(_), Seen::Key(_stamp)) => Err(Outcome::Exists),
-            (When::Present | When::Version(_), _) => Err(Outcome::Missing),
+        match self {
+            When::Absent => match seen {
+                Seen::Nothing => Ok(Expected::Nothing),
+                Seen::OtherKey(stamp) => Ok(Expected::Item(stamp)),
+                Seen::Key(_stamp) => Err(Outcome::Exists),
+            },
+            When::Present => match seen {
+                Seen::Key(_stamp) => Ok(Expected::Something),
+                Seen::Nothing | Seen::OtherKey(_) => Err(Outcome::Missing),
+            },
+            When::Version(version) => match seen {
+                Seen::Key(stamp) if stamp == version => Ok(Expected::Item(version)),
+                Seen::Key(_stamp) => Err(Outcome::Exists),
+                Seen::Nothing | Seen::OtherKey(_) => Err(Outcome::Missing),
+            },
         }
     }
 }

@@ -76,6 +76,14 @@ impl Trial {
         }
     }
 
+    /// Whether the key has a version.
+    pub fn has(&self, number: u64) -> bool {
+        match self.versions.get(number as usize) {
+            Some(Some(_version)) => true,
+            _ => false,
+        }
+    }
+
     /// Whether these bytes are the key's value.
     pub fn is_value(&self, number: u64, bytes: &[u8]) -> Result<bool, AllocError> {
         match self.versions.get(number as usize) {
