@@ -1,11 +1,18 @@
 -- What callers of a cache of bytes did and found.
-use Rattle.std.specs.Prelude.{◌⊎◌, ◌≡◌, ℕ, ◌∷◌, [], List}
+use Rattle.std.specs.Prelude.{◌⊎◌, ◌≡◌, ◌++◌, ℕ, ◌∷◌, [], List}
+use Rattle.mc_words.specs.hand.Arenas.{setup_of}
+use Rattle.mc_words.specs.declared.arena.Arena.{Arena}
+use Rattle.mc_words.specs.declared.hand.Hand.{Hand}
+use Rattle.mc_items.specs.declared.comparing.Expected.TheVariants.{Item}
+use Rattle.mc_cache.specs.Conditional.{StoresBehindLook}
+use Rattle.mc_cache.specs.Versions.{ReadsVersion}
+use Rattle.mc_cache.specs.shard.Conditions.{FindsVersion}
 use Rattle.mc_cache.specs.declared.cache.Cache.{Cache}
 use Rattle.mc_cache.specs.declared.cache.Worker.{Worker}
 use Rattle.mc_cache.specs.declared.stats.CacheStats.{CacheStats}
 use Rattle.mc_cache.specs.declared.tended.Tended.{Tended}
 use Rattle.mc_cache.specs.declared.tending.Tender.{Tender}
-use Rattle.mc_cache.specs.Belonging.{BelongsTo, GivesValueOf}
+use Rattle.mc_cache.specs.Belonging.{ActsOnKey, BelongsTo, GivesValueOf, hash_in}
 use Rattle.mc_cache.specs.Newest.{GivesValueOfOther}
 use Rattle.mc_cache.specs.Stats.{CountsCache, SetsModes}
 use Rattle.mc_cache.specs.Tending.{TendsCache}
@@ -30,3 +37,18 @@ pub record TendsAndTells (cache : Cache) (before now : Tender) (stats : CacheSta
   pub done : Tended
   pub tends : TendsCache cache done set tended
   pub counts : CountsCache cache stats tended now
+
+-- the hand stored the value under the key in place of the value of this version, which the key had still
+abbrev pub StoresOverVersion : ℕ → List ℕ → List ℕ → ℕ → ℕ → Arena → Hand → Hand → Type 0
+StoresOverVersion hash key value version stamp arena before now =
+    ((old : List ℕ) × FindsVersion (setup_of arena) hash key old version before) × StoresBehindLook (Item version) hash stamp key value before now
+
+-- the worker found the key with a value, which was added behind the old bytes, and stored another one with this stamp in place of that very
+-- value
+pub record Exchanges (cache : Cache) (key value old new : List ℕ) (stamp : ℕ) (before now : Worker) : Type 0 where
+  pub found : List ℕ
+  pub added : new ≡ old ++ found
+  pub version : ℕ
+  pub between : Worker
+  pub finds : ActsOnKey cache key (ReadsVersion (hash_in cache key) key found version) before between
+  pub stores : ActsOnKey cache key (StoresOverVersion (hash_in cache key) key value version stamp) between now

@@ -1,6 +1,7 @@
 //! Callers of a cache of bytes: how a server would use it.
 
 mod chained;
+mod exchanged;
 mod newest;
 mod opened;
 mod remembered;
@@ -11,6 +12,7 @@ mod unused;
 mod watched;
 
 pub use chained::call_twice;
+pub use exchanged::exchange;
 pub use newest::{RefusedStep, set_twice_and_get};
 pub use opened::{OpenError, Opened, open_within};
 pub use remembered::{Answer, remember};

@@ -1,10 +1,9 @@
 -- Another worker of a client's cache.
 use Rattle.std.specs.Prelude.{◌≡◌, ◌⊎◌, ◌++◌, ◌∷◌, [], ℕ, Some}
-use Rattle.mc_c.specs.declared.client.Client.{Client}
 use Rattle.mc_c.specs.declared.client.WorkerClient.{WorkerClient}
 use Rattle.mc_c.specs.declared.handle.Handle.{Handle}
 use Rattle.mc_c.specs.Calls.{cache_of}
-use Rattle.mc_c.specs.Handles.{worker_in, worker_of}
+use Rattle.mc_c.specs.Handles.{worker_of}
 
 -- the client kept its cache and its worker
 pub record KeepsWorker (before now : WorkerClient) : Type 0 where

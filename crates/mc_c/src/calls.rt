@@ -1,7 +1,7 @@
 //! The calls of a worker: each result has its code.
 ghost use Rattle.std.specs.Prelude.{◌≡◌, Ok, true};
 ghost use Rattle.mc_c.specs.Calls.{DeletesAs, GetsAs, GetsVersionAs, SetsAs, SetsIfAs, TouchesAs, WritesValue};
-ghost use Rattle.mc_c.specs.Codes.{outcome_code, within_code};
+ghost use Rattle.mc_c.specs.Codes.{outcome_code, set_code, within_code};
 
 use crate::client::WorkerClient;
 use crate::codes::{
@@ -49,7 +49,14 @@ fn copy(value: &[u8], out: &mut [u8], len: &mut u64) -> u32
 pub(crate) fn set(client: &mut WorkerClient, key: &[u8], value: &[u8], tries: u64) -> u32
     ensures { SetsAs result tries key.now value.now client.old client.new }
 {
-    match client.worker.set_within(&client.cache, key, value, tries) {
+    code_of_set(client.worker.set_within(&client.cache, key, value, tries))
+}
+
+// The code of a set's result.
+fn code_of_set(done: Result<(), SetWithinError>) -> u32
+    ensures { result ≡ set_code done }
+{
+    match done {
         Ok(()) => OK,
         Err(SetWithinError::KeyLength) => BAD_KEY,
         Err(SetWithinError::ValueLength) | Err(SetWithinError::Item(SetError::TooLarge)) => {
@@ -87,14 +94,7 @@ fn code_of_outcome(done: Result<Outcome, SetWithinError>) -> u32
         Ok(Outcome::Stored(_version)) => OK,
         Ok(Outcome::Exists) => EXISTS,
         Ok(Outcome::Missing) => MISSING,
-        Err(SetWithinError::KeyLength) => BAD_KEY,
-        Err(SetWithinError::ValueLength) | Err(SetWithinError::Item(SetError::TooLarge)) => {
-            TOO_LARGE
-        }
-        Err(SetWithinError::Item(SetError::NoRoom)) => NO_ROOM,
-        Err(SetWithinError::Item(SetError::WornOut)) => WORN_OUT,
-        Err(SetWithinError::Item(SetError::NoMemory(_))) => NO_MEMORY,
-        Err(SetWithinError::Held) => HELD,
+        Err(error) => code_of_set(Err(error)),
     }
 }
 
