@@ -1,5 +1,5 @@
 //! A value that is replaced where it is still the one that was got.
-ghost use Rattle.std.specs.Prelude.{◌≡◌, ◌≤◌, Ok, length};
+ghost use Rattle.std.specs.Prelude.{◌≡◌, ◌≤◌, ℕ, Ok, length};
 ghost use Rattle.mc_classes.specs.Limits.{most_page_bytes};
 ghost use Rattle.mc_cache.specs.Belonging.{BelongsTo};
 ghost use Rattle.mc_cache.specs.Shards.{IsKey};

@@ -62,8 +62,8 @@ returns-in-Ok-clause-stores g c =
     let waits = subst (λ (n : ℕ). WaitsForStripe n before held.result.stripe taken) at held.ensures.waits in
     let lent = subst (λ (n : ℕ). IsLentStripe taken n held.result.stripe) at held.ensures.whole in
     let stored : StoresItem c.args.expected hand.number stripe c.args.key c.args.fresh.stamp c.args.fresh.chunk c.args.fresh.room before now =
-      stored_on c.args.expected hand.number stripe c.args.key c.args.fresh.stamp c.args.fresh.chunk c.args.fresh.room held.new.hand.number held.result.number held.result.stripe before taken linked now number (held.ensures.number ∙ at) waits lent c.in-Ok.ensures.done c.in-Ok.ensures.met
-      (c.release.ensures.dropped ∙ ap (λ (chunk : ChunkId). chunk_released chunk linked) c.in-Ok.ensures.same.0) in
+    stored_on c.args.expected hand.number stripe c.args.key c.args.fresh.stamp c.args.fresh.chunk c.args.fresh.room held.new.hand.number held.result.number held.result.stripe before taken linked now number (held.ensures.number ∙ at) waits lent c.in-Ok.ensures.done c.in-Ok.ensures.met
+    (c.release.ensures.dropped ∙ ap (λ (chunk : ChunkId). chunk_released chunk linked) c.in-Ok.ensures.same.0) in
     stored
 
 pub returns-in-Ok-clause-calls : goal.returns-in-Ok-clause-calls
@@ -80,8 +80,8 @@ returns-in-Ok-clause-calls g c =
     let waits = subst (λ (n : ℕ). WaitsForStripe n before held.result.stripe taken) at held.ensures.waits in
     let lent = subst (λ (n : ℕ). IsLentStripe taken n held.result.stripe) at held.ensures.whole in
     let stored : StoresItem c.args.expected hand.number stripe c.args.key c.args.fresh.stamp c.args.fresh.chunk c.args.fresh.room before now =
-      stored_on c.args.expected hand.number stripe c.args.key c.args.fresh.stamp c.args.fresh.chunk c.args.fresh.room held.new.hand.number held.result.number held.result.stripe before taken linked now number (held.ensures.number ∙ at) waits lent c.in-Ok.ensures.done c.in-Ok.ensures.met
-      (c.release.ensures.dropped ∙ ap (λ (chunk : ChunkId). chunk_released chunk linked) c.in-Ok.ensures.same.0) in
+    stored_on c.args.expected hand.number stripe c.args.key c.args.fresh.stamp c.args.fresh.chunk c.args.fresh.room held.new.hand.number held.result.number held.result.stripe before taken linked now number (held.ensures.number ∙ at) waits lent c.in-Ok.ensures.done c.in-Ok.ensures.met
+    (c.release.ensures.dropped ∙ ap (λ (chunk : ChunkId). chunk_released chunk linked) c.in-Ok.ensures.same.0) in
     stored_mine hand.number stripe c.args.key c.args.fresh.stamp c.args.fresh.chunk c.args.fresh.room before now stored
 
 pub returns-in-Ok-clause-stores_words : goal.returns-in-Ok-clause-stores_words
@@ -98,8 +98,8 @@ returns-in-Ok-clause-stores_words g c =
     let waits = subst (λ (n : ℕ). WaitsForStripe n before held.result.stripe taken) at held.ensures.waits in
     let lent = subst (λ (n : ℕ). IsLentStripe taken n held.result.stripe) at held.ensures.whole in
     let stored : StoresItem c.args.expected hand.number stripe c.args.key c.args.fresh.stamp c.args.fresh.chunk c.args.fresh.room before now =
-      stored_on c.args.expected hand.number stripe c.args.key c.args.fresh.stamp c.args.fresh.chunk c.args.fresh.room held.new.hand.number held.result.number held.result.stripe before taken linked now number (held.ensures.number ∙ at) waits lent c.in-Ok.ensures.done c.in-Ok.ensures.met
-      (c.release.ensures.dropped ∙ ap (λ (chunk : ChunkId). chunk_released chunk linked) c.in-Ok.ensures.same.0) in
+    stored_on c.args.expected hand.number stripe c.args.key c.args.fresh.stamp c.args.fresh.chunk c.args.fresh.room held.new.hand.number held.result.number held.result.stripe before taken linked now number (held.ensures.number ∙ at) waits lent c.in-Ok.ensures.done c.in-Ok.ensures.met
+    (c.release.ensures.dropped ∙ ap (λ (chunk : ChunkId). chunk_released chunk linked) c.in-Ok.ensures.same.0) in
     stored_said hand.number stripe c.args.key c.args.fresh.stamp c.args.fresh.chunk c.args.fresh.room before now stored
 
 pub returns-in-Ok-clause-hint : goal.returns-in-Ok-clause-hint

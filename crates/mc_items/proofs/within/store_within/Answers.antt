@@ -69,8 +69,8 @@ returns-in-Ok-store_at-clause-stores c =
     let waits = subst (λ (n : ℕ). WaitsForStripe n before held.held.stripe taken) at held.ensures.within.waits in
     let lent = subst (λ (n : ℕ). IsLentStripe taken n held.held.stripe) at held.ensures.whole in
     let stored : StoresItem c.args.expected hand.number stripe c.args.key c.args.fresh.stamp c.args.fresh.chunk c.args.fresh.room before now =
-      stored_on c.args.expected hand.number stripe c.args.key c.args.fresh.stamp c.args.fresh.chunk c.args.fresh.room c.stripe_within.new.hand.number held.held.number held.held.stripe before taken linked now number (held.ensures.number ∙ at) waits lent c.in-Ok-store_at.ensures.done c.in-Ok-store_at.ensures.met
-      (c.release.ensures.dropped ∙ ap (λ (chunk : ChunkId). chunk_released chunk linked) c.in-Ok-store_at.ensures.same.0) in
+    stored_on c.args.expected hand.number stripe c.args.key c.args.fresh.stamp c.args.fresh.chunk c.args.fresh.room c.stripe_within.new.hand.number held.held.number held.held.stripe before taken linked now number (held.ensures.number ∙ at) waits lent c.in-Ok-store_at.ensures.done c.in-Ok-store_at.ensures.met
+    (c.release.ensures.dropped ∙ ap (λ (chunk : ChunkId). chunk_released chunk linked) c.in-Ok-store_at.ensures.same.0) in
     stored
 
 pub returns-in-Ok-store_at-clause-calls : goal.returns-in-Ok-store_at-clause-calls
@@ -87,8 +87,8 @@ returns-in-Ok-store_at-clause-calls c =
     let waits = subst (λ (n : ℕ). WaitsForStripe n before held.held.stripe taken) at held.ensures.within.waits in
     let lent = subst (λ (n : ℕ). IsLentStripe taken n held.held.stripe) at held.ensures.whole in
     let stored : StoresItem c.args.expected hand.number stripe c.args.key c.args.fresh.stamp c.args.fresh.chunk c.args.fresh.room before now =
-      stored_on c.args.expected hand.number stripe c.args.key c.args.fresh.stamp c.args.fresh.chunk c.args.fresh.room c.stripe_within.new.hand.number held.held.number held.held.stripe before taken linked now number (held.ensures.number ∙ at) waits lent c.in-Ok-store_at.ensures.done c.in-Ok-store_at.ensures.met
-      (c.release.ensures.dropped ∙ ap (λ (chunk : ChunkId). chunk_released chunk linked) c.in-Ok-store_at.ensures.same.0) in
+    stored_on c.args.expected hand.number stripe c.args.key c.args.fresh.stamp c.args.fresh.chunk c.args.fresh.room c.stripe_within.new.hand.number held.held.number held.held.stripe before taken linked now number (held.ensures.number ∙ at) waits lent c.in-Ok-store_at.ensures.done c.in-Ok-store_at.ensures.met
+    (c.release.ensures.dropped ∙ ap (λ (chunk : ChunkId). chunk_released chunk linked) c.in-Ok-store_at.ensures.same.0) in
     stored_mine hand.number stripe c.args.key c.args.fresh.stamp c.args.fresh.chunk c.args.fresh.room before now stored
 
 pub returns-in-Ok-store_at-clause-stores_words : goal.returns-in-Ok-store_at-clause-stores_words
@@ -105,8 +105,8 @@ returns-in-Ok-store_at-clause-stores_words c =
     let waits = subst (λ (n : ℕ). WaitsForStripe n before held.held.stripe taken) at held.ensures.within.waits in
     let lent = subst (λ (n : ℕ). IsLentStripe taken n held.held.stripe) at held.ensures.whole in
     let stored : StoresItem c.args.expected hand.number stripe c.args.key c.args.fresh.stamp c.args.fresh.chunk c.args.fresh.room before now =
-      stored_on c.args.expected hand.number stripe c.args.key c.args.fresh.stamp c.args.fresh.chunk c.args.fresh.room c.stripe_within.new.hand.number held.held.number held.held.stripe before taken linked now number (held.ensures.number ∙ at) waits lent c.in-Ok-store_at.ensures.done c.in-Ok-store_at.ensures.met
-      (c.release.ensures.dropped ∙ ap (λ (chunk : ChunkId). chunk_released chunk linked) c.in-Ok-store_at.ensures.same.0) in
+    stored_on c.args.expected hand.number stripe c.args.key c.args.fresh.stamp c.args.fresh.chunk c.args.fresh.room c.stripe_within.new.hand.number held.held.number held.held.stripe before taken linked now number (held.ensures.number ∙ at) waits lent c.in-Ok-store_at.ensures.done c.in-Ok-store_at.ensures.met
+    (c.release.ensures.dropped ∙ ap (λ (chunk : ChunkId). chunk_released chunk linked) c.in-Ok-store_at.ensures.same.0) in
     stored_said hand.number stripe c.args.key c.args.fresh.stamp c.args.fresh.chunk c.args.fresh.room before now stored
 
 pub returns-in-Ok-store_at-clause-hint : goal.returns-in-Ok-store_at-clause-hint
