@@ -1,18 +1,15 @@
 -- A window of all shards in which no lock was missed is one of a tender that waits.
-use Rattle.std.proofs.Common.{◌≡◌, ◌<◌, zero, suc, ◌∙◌, ◌∷◌, [], ℕ, Bool, List, true, false, ap, arith, get_or, length, map, refl, subst, sym}
+use Rattle.std.proofs.Common.{◌≡◌, ◌<◌, zero, suc, ◌∙◌, ◌∷◌, [], ℕ, Bool, List, true, false, ap, arith, get_or, length, map, refl, sym}
 use Rattle.std.specs.Prelude.{fold, if◌then◌else◌}
 use Rattle.std.proofs.lemmas.List.{get_or-map, length-map}
-use Rattle.mc_words.specs.declared.hand.Hand.{Hand}
 use Rattle.mc_cache.specs.declared.cache.Cache.{Cache}
 use Rattle.mc_cache.specs.declared.tended.Tended.{Tended}
 use Rattle.mc_cache.specs.declared.tending.Tender.{Tender}
 use Rattle.mc_cache.specs.declared.tending_within.TendedWithin.{TendedWithin}
 use Rattle.mc_cache.specs.declared.window_within.Window.{Window}
-use Rattle.mc_cache.specs.Observers.{shard_count}
-use Rattle.mc_cache.specs.Tending.{TendsCache, TendsFirst, deciders_of, tended_with, tender_hands}
+use Rattle.mc_cache.specs.Tending.{TendsCache, tended_with}
 use Rattle.mc_cache.specs.TendingWithin.{TendsCacheWithin, nothing_within, with_shard_window}
-use Rattle.mc_cache.specs.Windows.{TendsShard, count_with, nothing_tended}
-use Rattle.mc_cache.specs.WindowsWithin.{TendsShardWithin}
+use Rattle.mc_cache.specs.Windows.{count_with}
 
 abbrev IsWhole : Window → Type 0
 IsWhole window = window.stopped ≡ false

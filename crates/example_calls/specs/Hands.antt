@@ -1,8 +1,8 @@
 -- Hands of an arena between two calls.
 use Rattle.mc_words.specs.declared.arena.Arena.{Arena}
 use Rattle.mc_words.specs.declared.hand.Hand.{Hand}
-use Rattle.mc_words.specs.hand.Arenas.{IsHandOf, view}
-use Rattle.mc_words.specs.hand.Ready.{IsReady, IsReadyHandOf}
+use Rattle.mc_words.specs.hand.Arenas.{view}
+use Rattle.mc_words.specs.hand.Ready.{IsReadyHandOf}
 use Rattle.mc_items.specs.declared.refs.Ref.{Ref}
 use Rattle.mc_items.specs.ItemRefs.{IsItemRef}
 

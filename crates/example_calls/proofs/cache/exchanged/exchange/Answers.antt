@@ -1,4 +1,4 @@
-use Rattle.std.proofs.Common.{ℕ, List, IfSome, Ok, Option, Some, subst}
+use Rattle.std.proofs.Common.{ℕ, List, IfSome, Ok, Option, subst}
 use Rattle.mc_cache.specs.declared.cache.Cache.{Cache}
 use Rattle.mc_cache.specs.declared.cache.Worker.{Worker}
 use Rattle.mc_cache.specs.declared.shard.conditions.Outcome.{Outcome}
