@@ -1,5 +1,5 @@
 -- A set behind the room that was made for it.
-use Rattle.std.proofs.Common.{◌≡◌, ℕ, List, [], Option, inl, inr, refl, subst}
+use Rattle.std.proofs.Common.{◌≡◌, ℕ, List, [], Option, ap, inl, inr, refl, subst}
 use Rattle.mc_words.specs.declared.hand.Hand.{Hand}
 use Rattle.mc_words.specs.hand.Arenas.{view}
 use Rattle.mc_words.specs.hand.View.{View}
@@ -15,8 +15,8 @@ use Rattle.mc_items.specs.declared.within.comparing.CompareWithinError.TheVarian
 use Rattle.mc_items.specs.declared.setting.SetError.{SetError}
 use Rattle.mc_items.specs.declared.within.SetWithinError.{SetWithinError}
 use Rattle.mc_items.specs.declared.within.SetWithinError.TheVariants.{Refused, Held}
-use Rattle.mc_cache.specs.shard.Within.{RefusesBytesWithin, RefusesCompareBytesWithin}
-use Rattle.mc_cache.specs.shard.Setting.{DiffersBehindRoom, MakesRoomFor, RecordsEvictionsAlone, RecordsSetBehindRoom, RefusesBytes, RefusesCompareBytes, SetsBehindRoom}
+use Rattle.mc_cache.specs.shard.Within.{LacksRoomWithin, RefusesBytesWithin, RefusesCompareBytesWithin}
+use Rattle.mc_cache.specs.shard.Setting.{DiffersBehindRoom, FindsClassFull, LacksRoom, LacksRoomFor, MakesRoomFor, RecordsEvictionsAlone, RecordsSetBehindRoom, RefusesBytes, RefusesCompareBytes, SetsBehindRoom}
 
 -- who did nothing recorded no delete
 pub no_deletes : (number : ℕ) (view : View) → RecordsSomeDeletes number view view
@@ -64,12 +64,21 @@ module _ (number own hash : ℕ) (same : own ≡ number) (first second words : L
   })
 
   pub refuses_compare_behind : (expected : Expected) (error : CompareError) → MakesRoomFor first before between → RefusesCompare expected own hash second error (view between) (view now) → RefusesCompareBytes expected number hash words error before now
-  refuses_compare_behind expected (compare.Refused error) makes refuses = refuses_behind error makes refuses
+  refuses_compare_behind expected (compare.Refused error) makes refuses = inl (refuses_behind error makes refuses)
   refuses_compare_behind expected (compare.Differs found) makes refuses = differs_behind expected found makes refuses
 
   pub refuses_compare_within_behind : (expected : Expected) (tries : ℕ) (error : CompareWithinError) → MakesRoomFor first before between → RefusesCompareWithin expected own tries hash second error (view between) (view now) → RefusesCompareBytesWithin expected number tries hash words error before now
-  refuses_compare_within_behind expected tries (compare_within.Refused error) makes refuses = refuses_within_behind tries error makes refuses
+  refuses_compare_within_behind expected tries (compare_within.Refused error) makes refuses = inl (refuses_within_behind tries error makes refuses)
   refuses_compare_within_behind expected tries (compare_within.Differs found) makes refuses = differs_behind expected found makes refuses
+
+  pub lacks_room : (expected : Expected) (error : SetError) → LacksRoom expected first error before now → RefusesCompareBytes expected number hash words (compare.Refused error) before now
+  lacks_room expected error (inl lacks) = inl (inl (lacks.0, inr (subst (λ (ws : List ℕ). LacksRoomFor ws before now) is_first lacks.1)))
+  lacks_room expected error (inr full) = inr (full.0, full.1, subst (λ (ws : List ℕ). FindsClassFull ws before now) is_first full.2)
+
+  pub lacks_room_within : (expected : Expected) (tries : ℕ) (error : SetWithinError) → LacksRoomWithin expected tries first error before now → RefusesCompareBytesWithin expected number tries hash words (compare_within.Refused error) before now
+  lacks_room_within expected tries (Refused error) (inl lacks) = inl (inl (lacks.0, inr (subst (λ (ws : List ℕ). LacksRoomFor ws before now) is_first lacks.1)))
+  lacks_room_within expected tries (Refused error) (inr full) = inr (ap Refused full.0, full.1, subst (λ (ws : List ℕ). FindsClassFull ws before now) is_first full.2)
+  lacks_room_within expected tries Held missed = inl (inl missed)
 
   pub evicts_behind : RecordsSomeDeletes number (view before) (view between) → RecordsEviction own (view between) (view now) → RecordsEvictionsAlone number before now
   evicts_behind deletes evicts = record { between = between; deletes = deletes; evicts = subst (λ (n : ℕ). RecordsEviction n (view between) (view now)) same evicts }

@@ -10,9 +10,11 @@ use Rattle.mc_items.specs.Setting.{RecordsSet, RefusesCompare, RefusesSet, SetsI
 use Rattle.mc_items.specs.declared.comparing.CompareError.{CompareError}
 use Rattle.mc_items.specs.declared.comparing.CompareError.TheVariants.{Refused, Differs}
 use Rattle.mc_items.specs.declared.comparing.Expected.{Expected}
+use Rattle.mc_items.specs.declared.comparing.Expected.TheVariants.{Anything, Nothing, Something, Item}
 use Rattle.mc_items.specs.declared.making_room.Room.{Room}
+use Rattle.mc_items.specs.declared.making_room.Room.TheVariants.{Full}
 use Rattle.mc_items.specs.declared.setting.SetError.{SetError}
-use Rattle.mc_items.specs.declared.setting.SetError.TheVariants.{NoMemory}
+use Rattle.mc_items.specs.declared.setting.SetError.TheVariants.{NoMemory, NoRoom}
 
 -- room was made in the class of these words; or no class has such chunks, and nothing was done
 abbrev pub MakesRoomFor : List ℕ → Hand → Hand → Type 0
@@ -62,7 +64,26 @@ pub record DiffersBehindRoom (expected : Expected) (found : Option ℕ) (number 
   pub makes : MakesRoomFor words before between
   pub differs : RefusesCompare expected number hash words (Differs found) (view between) (view now)
 
--- why a set that expects something was refused: as a set that expects nothing, or by what the hash had
+-- room was wanted in the class of these words, and none was found or made
+abbrev pub FindsClassFull : List ℕ → Hand → Hand → Type 0
+FindsClassFull words before now =
+    (class : ℕ) × (class_for_words (view before) words ≡ Some class) × ActsOnce (MakesRoom (hand_number before) class Full) before now
+
+-- a set expects an item, which is to stay until the set stores over it
+abbrev pub AsksForItem : Expected → Type 0
+AsksForItem Anything = ⊥
+AsksForItem Nothing = ⊥
+AsksForItem Something = Unit {0}
+AsksForItem (Item stamp) = Unit {0}
+
+-- why a set that expects something got no room: there was no memory; or it expects an item, which is to stay, and no other room was found
+abbrev pub LacksRoom : Expected → List ℕ → SetError → Hand → Hand → Type 0
+LacksRoom expected words error before now =
+    ((error ≡ NoMemory tt) × LacksRoomFor words before now) ⊎ ((error ≡ NoRoom) × AsksForItem expected × FindsClassFull words before now)
+
+-- why a set that expects something was refused: as a set that expects nothing; where it expects an item, by a class with no other room; or by
+-- what the hash had
 abbrev pub RefusesCompareBytes : Expected → ℕ → ℕ → List ℕ → CompareError → Hand → Hand → Type 0
-RefusesCompareBytes expected number hash words (Refused error) before now = RefusesBytes number hash words error before now
+RefusesCompareBytes expected number hash words (Refused error) before now =
+    RefusesBytes number hash words error before now ⊎ ((error ≡ NoRoom) × AsksForItem expected × FindsClassFull words before now)
 RefusesCompareBytes expected number hash words (Differs found) before now = DiffersBehindRoom expected found number hash words before now

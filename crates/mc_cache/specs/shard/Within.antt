@@ -1,5 +1,5 @@
 -- Calls on bytes that try for each lock n times, and what is left where each try missed.
-use Rattle.std.specs.Prelude.{◌⊎◌, ℕ, List}
+use Rattle.std.specs.Prelude.{◌≡◌, ◌⊎◌, ℕ, List}
 use Rattle.mc_words.specs.hand.Arenas.{view}
 use Rattle.mc_words.specs.lock.Wait.{MissesSlabsEachTime}
 use Rattle.mc_items.specs.declared.within.SetWithinError.{SetWithinError}
@@ -7,7 +7,8 @@ use Rattle.mc_items.specs.declared.within.SetWithinError.TheVariants.{Refused, H
 use Rattle.mc_items.specs.declared.comparing.Expected.{Expected}
 use Rattle.mc_items.specs.declared.within.comparing.CompareWithinError.{CompareWithinError}
 use Rattle.mc_items.specs.declared.within.comparing.CompareWithinError.TheVariants as compare
-use Rattle.mc_cache.specs.shard.Setting.{DiffersBehindRoom, MakesRoomFor, RefusesBytes}
+use Rattle.mc_items.specs.declared.setting.SetError.TheVariants.{NoRoom}
+use Rattle.mc_cache.specs.shard.Setting.{AsksForItem, DiffersBehindRoom, FindsClassFull, LacksRoom, MakesRoomFor, RefusesBytes}
 use Rattle.mc_words.specs.declared.hand.Hand.{Hand}
 use Rattle.mc_words.specs.hand.View.{Setup}
 use Rattle.mc_items.specs.Within.{MissesKeyEachTime, RefusesWithin}
@@ -45,7 +46,14 @@ abbrev pub RefusesBytesWithin : ℕ → ℕ → ℕ → List ℕ → SetWithinEr
 RefusesBytesWithin number tries hash words (Refused error) before now = RefusesBytes number hash words error before now
 RefusesBytesWithin number tries hash words Held before now = MissesSlabsEachTime tries (view before) (view now) ⊎ MissesBehindRoom number tries hash words before now
 
--- why a set that expects something was refused within this many tries: as a set within them, or by what the hash had
+-- why a set that expects something got no room within this many tries: as one that waits, or each try for the slabs lock missed
+abbrev pub LacksRoomWithin : Expected → ℕ → List ℕ → SetWithinError → Hand → Hand → Type 0
+LacksRoomWithin expected tries words (Refused error) before now = LacksRoom expected words error before now
+LacksRoomWithin expected tries words Held before now = MissesSlabsEachTime tries (view before) (view now)
+
+-- why a set that expects something was refused within this many tries: as a set within them; where it expects an item, by a class with no
+-- other room; or by what the hash had
 abbrev pub RefusesCompareBytesWithin : Expected → ℕ → ℕ → ℕ → List ℕ → CompareWithinError → Hand → Hand → Type 0
-RefusesCompareBytesWithin expected number tries hash words (compare.Refused error) before now = RefusesBytesWithin number tries hash words error before now
+RefusesCompareBytesWithin expected number tries hash words (compare.Refused error) before now =
+    RefusesBytesWithin number tries hash words error before now ⊎ ((error ≡ Refused NoRoom) × AsksForItem expected × FindsClassFull words before now)
 RefusesCompareBytesWithin expected number tries hash words (compare.Differs found) before now = DiffersBehindRoom expected found number hash words before now

@@ -14,16 +14,16 @@ use crate::shard::label::Label;
 use crate::shard::setting::make_room_for;
 use crate::shard::setting_within::room_within;
 use mc_items::{
-    CompareError, CompareWithinError, Expected, SetError, SetWithinError, WithinError,
-    compare_and_set, compare_and_set_within,
+    CompareError, CompareWithinError, Expected, SetError, SetWithinError, compare_and_set,
+    compare_and_set_within,
 };
 use mc_packing::pack;
 use mc_stripe::Stamp;
 use mc_words::{Arena, Hand};
 use std::sync::Wait;
 
-/// Stores an item as `set` does, but only where the hash has what is expected at the moment of the store. (memcached's
-/// `process_update_command`, with `do_store_item`)
+/// Stores an item as `set` does, but only where the hash has what is expected at the moment of the store. Where an item is expected, it isn't
+/// evicted for the new one: without other room the set is refused. (memcached's `process_update_command`, with `do_store_item`)
 pub(crate) fn set_where<R: Wait>(
     rt: &R,
     arena: &Arena,
@@ -53,8 +53,8 @@ pub(crate) fn set_where<R: Wait>(
     if let Err(refused) = pack(words, at.key, value) {
         return Err(CompareError::Refused(SetError::NoMemory(refused)));
     }
-    if let Err(refused) = make_room_for(rt, arena, hints, hand, words) {
-        return Err(CompareError::Refused(SetError::NoMemory(refused)));
+    if let Err(error) = make_room_for(rt, arena, hints, hand, words, expected, at.hash) {
+        return Err(CompareError::Refused(error));
     }
     match compare_and_set(rt, arena, hand, at.hash, words, expected) {
         Ok(item) => {
@@ -95,18 +95,11 @@ pub(crate) fn set_where_within(
     ensures idle { IsIdleHandOf arena.now hand.new }
 {
     if let Err(refused) = pack(words, at.key, value) {
-        return Err(CompareWithinError::Refused(SetWithinError::Refused(SetError::NoMemory(
-            refused,
-        ))));
+        let error = SetError::NoMemory(refused);
+        return Err(CompareWithinError::Refused(SetWithinError::Refused(error)));
     }
-    match room_within(arena, hints, hand, words, tries) {
-        Ok(()) => {}
-        Err(WithinError::NoMemory(refused)) => {
-            return Err(CompareWithinError::Refused(SetWithinError::Refused(SetError::NoMemory(
-                refused,
-            ))));
-        }
-        Err(WithinError::Held) => return Err(CompareWithinError::Refused(SetWithinError::Held)),
+    if let Err(error) = room_within(arena, hints, hand, words, expected, at.hash, tries) {
+        return Err(CompareWithinError::Refused(error));
     }
     match compare_and_set_within(arena, hand, at.hash, words, expected, tries) {
         Ok(item) => {

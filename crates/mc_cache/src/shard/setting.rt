@@ -1,5 +1,5 @@
 //! The set of an item of bytes.
-ghost use Rattle.std.specs.Prelude.{◌≡◌, IfErr, IfOk, OnErr, OnOk};
+ghost use Rattle.std.specs.Prelude.{◌≡◌, IfErr, IfOk, OnErr, OnOk, is_some, true};
 ghost use Rattle.mc_packing.specs.Packing.{packed_item};
 ghost use Rattle.mc_words.specs.hand.Arenas.{view};
 ghost use Rattle.mc_words.specs.item.Items.{item_with};
@@ -8,13 +8,12 @@ ghost use Rattle.mc_items.specs.Keeping.{StoresWithStamp, StoresNothing};
 ghost use Rattle.mc_items.specs.MakingRoom.{RecordsSomeDeletes};
 ghost use Rattle.mc_items.specs.declared.comparing.Expected.TheVariants as expected;
 ghost use Rattle.mc_cache.specs.shard.Hands.{IsIdleHandOf};
-ghost use Rattle.mc_cache.specs.shard.Setting.{LacksRoomFor, MakesRoomFor, RecordsEvictionsAlone, RecordsSetBehindRoom, RefusesBytes, SetsBehindRoom};
+ghost use Rattle.mc_cache.specs.shard.Setting.{AsksForItem, LacksRoom, MakesRoomFor, RecordsEvictionsAlone, RecordsSetBehindRoom, RefusesBytes, SetsBehindRoom};
 
 use crate::shard::comparing::set_where;
 use crate::shard::hints::HintTable;
 use crate::shard::label::Label;
-use mc_items::{CompareError, Expected, Marks, SetError, make_room};
-use mc_memory::Refused;
+use mc_items::{CompareError, Expected, Marks, Room, SetError, make_room};
 use mc_stripe::Stamp;
 use mc_words::{Arena, Hand};
 use std::cell::Cell;
@@ -29,18 +28,23 @@ pub(crate) struct Chances<'a> {
     hints: &'a HintTable,
     /// How many items it let stay.
     count: Cell<u64>,
+    /// The hash whose item stays in any case, as the set is to store over that very item.
+    kept: Option<u64>,
 }
 
 impl<'a> Chances<'a> {
-    /// Those of a set that let no item stay yet.
-    pub(crate) fn new(hints: &'a HintTable) -> Chances<'a> {
+    /// Those of a set that let no item stay yet. It lets the item of one hash stay in any case.
+    pub(crate) fn new(hints: &'a HintTable, kept: Option<u64>) -> Chances<'a> {
         let count = Cell::new(0);
-        Chances { hints, count }
+        Chances { hints, count, kept }
     }
 }
 
 impl Marks for Chances<'_> {
     fn take(&self, key: u64) -> bool {
+        if self.kept == Some(key) {
+            return true;
+        }
         let count = self.count.get();
         if count >= MOST_CHANCES || !self.hints.take_mark(key) {
             return false;
@@ -87,17 +91,21 @@ pub fn set<R: Wait>(
     }
 }
 
-// Makes room in the class of these words, if it has none. Where no class has such chunks, nothing is done.
+// Makes room in the class of these words, if it has none. Where an item is expected under the hash, it isn't evicted, and without other room
+// the set is refused. Where no class has such chunks, nothing is done.
 pub(crate) fn make_room_for<R: Wait>(
     rt: &R,
     arena: &Arena,
     hints: &HintTable,
     hand: &mut Hand,
     words: &[u64],
-) -> Result<(), Refused>
+    expected: Expected,
+    hash: u64,
+) -> Result<(), SetError>
     requires { IsIdleHandOf arena.now hand.old }
     ensures makes { OnOk result (MakesRoomFor words.now hand.old hand.new) }
-    ensures refused { OnErr result (LacksRoomFor words.now hand.old hand.new) }
+    ensures refused { IfErr result (λ error.
+        LacksRoom expected words.now error hand.old hand.new) }
     ensures calls { RecordsSomeDeletes (hand_number hand.old) (view hand.old) (view hand.new) }
     ensures stores_nothing { StoresNothing (view hand.old) (view hand.new) }
     ensures number { hand_number hand.new ≡ hand_number hand.old }
@@ -106,10 +114,27 @@ pub(crate) fn make_room_for<R: Wait>(
     let Some(class) = arena.classes().class_for(24 + 8 * words.len() as u64) else {
         return Ok(());
     };
-    let count = Cell::new(0);
-    let chances = Chances { hints, count };
+    let kept = kept_for(expected, hash);
+    let chances = Chances::new(hints, kept);
     match make_room(rt, arena, hand, class, &chances) {
+        Ok(Room::Full) => {
+            if kept.is_some() {
+                Err(SetError::NoRoom)
+            } else {
+                Ok(())
+            }
+        }
         Ok(_room) => Ok(()),
-        Err(refused) => Err(refused),
+        Err(refused) => Err(SetError::NoMemory(refused)),
+    }
+}
+
+// The hash whose item a set is to store over, if it expects an item there.
+pub(crate) fn kept_for(expected: Expected, hash: u64) -> Option<u64>
+    ensures item { is_some result ≡ true → AsksForItem expected }
+{
+    match expected {
+        Expected::Anything | Expected::Nothing => None,
+        Expected::Something | Expected::Item(_) => Some(hash),
     }
 }

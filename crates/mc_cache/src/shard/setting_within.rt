@@ -1,23 +1,23 @@
 //! The set of an item of bytes that tries for each lock n times, and doesn't wait. (own)
-ghost use Rattle.std.specs.Prelude.{◌≡◌, Err, IfErr, IfOk, OnErr, OnOk};
+ghost use Rattle.std.specs.Prelude.{◌≡◌, IfErr, IfOk, OnErr, OnOk};
 ghost use Rattle.mc_packing.specs.Packing.{packed_item};
 ghost use Rattle.mc_words.specs.hand.Arenas.{view};
 ghost use Rattle.mc_words.specs.hand.Observers.{hand_number};
 ghost use Rattle.mc_words.specs.item.Items.{item_with};
-ghost use Rattle.mc_words.specs.lock.Wait.{MissesSlabsEachTime};
 ghost use Rattle.mc_items.specs.Keeping.{StoresNothing, StoresWithStamp};
 ghost use Rattle.mc_items.specs.MakingRoom.{RecordsSomeDeletes};
 ghost use Rattle.mc_items.specs.declared.comparing.Expected.TheVariants as expected;
-ghost use Rattle.mc_items.specs.declared.within.error.WithinError.TheVariants as within_error;
 ghost use Rattle.mc_cache.specs.shard.Hands.{IsIdleHandOf};
-ghost use Rattle.mc_cache.specs.shard.Setting.{LacksRoomFor, MakesRoomFor, RecordsEvictionsAlone, RecordsSetBehindRoom, SetsBehindRoom};
-ghost use Rattle.mc_cache.specs.shard.Within.{RefusesBytesWithin};
+ghost use Rattle.mc_cache.specs.shard.Setting.{MakesRoomFor, RecordsEvictionsAlone, RecordsSetBehindRoom, SetsBehindRoom};
+ghost use Rattle.mc_cache.specs.shard.Within.{LacksRoomWithin, RefusesBytesWithin};
 
 use crate::shard::comparing::set_where_within;
 use crate::shard::hints::HintTable;
 use crate::shard::label::Label;
-use crate::shard::setting::Chances;
-use mc_items::{CompareWithinError, Expected, SetWithinError, WithinError, make_room_within};
+use crate::shard::setting::{Chances, kept_for};
+use mc_items::{
+    CompareWithinError, Expected, Room, SetError, SetWithinError, WithinError, make_room_within,
+};
 use mc_stripe::Stamp;
 use mc_words::{Arena, Hand};
 
@@ -64,20 +64,21 @@ pub fn set_within(
     }
 }
 
-// Makes room in the class of these words, if it has none and one of `tries` tries gets the slabs lock.
+// Makes room in the class of these words, if it has none and one of `tries` tries gets the slabs lock. Where an item is expected under the
+// hash, it isn't evicted, and without other room the set is refused.
 pub(crate) fn room_within(
     arena: &Arena,
     hints: &HintTable,
     hand: &mut Hand,
     words: &[u64],
+    expected: Expected,
+    hash: u64,
     tries: u64,
-) -> Result<(), WithinError>
+) -> Result<(), SetWithinError>
     requires { IsIdleHandOf arena.now hand.old }
     ensures makes { OnOk result (MakesRoomFor words.now hand.old hand.new) }
-    ensures refused { result ≡ Err (within_error.NoMemory tt) →
-        LacksRoomFor words.now hand.old hand.new }
-    ensures held { result ≡ Err within_error.Held →
-        MissesSlabsEachTime tries (view hand.old) (view hand.new) }
+    ensures refused { IfErr result (λ error.
+        LacksRoomWithin expected tries words.now error hand.old hand.new) }
     ensures calls { RecordsSomeDeletes (hand_number hand.old) (view hand.old) (view hand.new) }
     ensures stores_nothing { StoresNothing (view hand.old) (view hand.new) }
     ensures number { hand_number hand.new ≡ hand_number hand.old }
@@ -86,10 +87,20 @@ pub(crate) fn room_within(
     let Some(class) = arena.classes().class_for(24 + 8 * words.len() as u64) else {
         return Ok(());
     };
-    let chances = Chances::new(hints);
+    let kept = kept_for(expected, hash);
+    let chances = Chances::new(hints, kept);
     match make_room_within(arena, hand, class, &chances, tries) {
+        Ok(Room::Full) => {
+            if kept.is_some() {
+                Err(SetWithinError::Refused(SetError::NoRoom))
+            } else {
+                Ok(())
+            }
+        }
         Ok(_room) => Ok(()),
-        Err(WithinError::NoMemory(refused)) => Err(WithinError::NoMemory(refused)),
-        Err(WithinError::Held) => Err(WithinError::Held),
+        Err(WithinError::NoMemory(none)) => {
+            Err(SetWithinError::Refused(SetError::NoMemory(none)))
+        }
+        Err(WithinError::Held) => Err(SetWithinError::Held),
     }
 }

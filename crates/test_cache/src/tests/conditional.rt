@@ -1,9 +1,11 @@
 //! Sets on a condition, in worked rows and in drawn calls of one worker.
+ghost use Rattle.std.specs.Prelude.{IfOk};
 ghost use Rattle.mc_cache.specs.Belonging.{BelongsTo};
 
-use super::made::{HASH_KEY, config_of, with_one_worker};
+use super::made::{HASH_KEY, SMALL, config_of, next_worker, with_one_worker};
 use super::values::{Call, Trial, key_of, value_of};
-use mc_cache::{Cache, Outcome, SetError, SetWithinError, When, Worker};
+use mc_cache::{Cache, CacheConfig, Outcome, SetError, SetWithinError, When, Worker};
+use mc_classes::Config;
 use std::alloc::Global;
 use std::sync::Wait;
 use std::test::Fail;
@@ -144,6 +146,81 @@ fn sets_within_one_try_are_compared(rt: HostRuntime) -> Result<(), Fail> {
         worker.set_if_within(&cache, b"street", b"Chur", When::Absent, 0)
             == Err(SetWithinError::Held),
         "a set without a try wasn't held"
+    );
+    Ok(())
+}
+
+/// A cache of one shard with so many pages, whose chunks for long values fill a page each.
+fn with_pages<R: Wait>(rt: &R, alloc: Global, pages: u64) -> Result<(Cache, Worker), Fail>
+    ensures { IfOk result (λ made. BelongsTo made.0 made.1) }
+{
+    let limit = pages.wrapping_mul(1024);
+    let arena = Config { limit, ..SMALL };
+    let config = CacheConfig {
+        arena,
+        ..config_of(1, 1)
+    };
+    let (cache, mut workers, _tender) = Cache::new(rt, alloc, &config, HASH_KEY)?;
+    match next_worker(&cache, &mut workers) {
+        Some(worker) => Ok((cache, worker)),
+        None => Err(Fail::new("there is a worker")),
+    }
+}
+
+/// Where the class has one chunk, a value that is to be replaced stays, and the set is refused.
+#[test]
+fn a_value_stays_without_other_room(rt: HostRuntime) -> Result<(), Fail> {
+    let (cache, mut worker) = with_pages(&rt, rt.alloc(), 1)?;
+    let value = vec![in rt.alloc(); 1; 800]?;
+    assert!(rt;
+        worker.set(&rt, &cache, b"city", &value).is_ok(),
+        "it isn't stored"
+    );
+    let mut bytes = Vec::new(rt.alloc());
+    let Ok(Some(version)) = worker.get_with_version(&rt, &cache, b"city", &mut bytes) else {
+        return Err(Fail::new("it isn't found"));
+    };
+    assert!(rt;
+        worker.compare_and_set(&rt, &cache, b"city", &value, version)
+            == Err(SetError::Item(mc_items::SetError::NoRoom)),
+        "it found other room"
+    );
+    assert!(rt;
+        worker.replace(&rt, &cache, b"city", &value)
+            == Err(SetError::Item(mc_items::SetError::NoRoom)),
+        "it found other room"
+    );
+    bytes.clear();
+    assert!(rt;
+        worker.get(&rt, &cache, b"city", &mut bytes) == Ok(true),
+        "it was evicted"
+    );
+    assert!(rt;
+        bytes.as_slice() == value.as_slice(),
+        "another value was found"
+    );
+    Ok(())
+}
+
+/// Where the class has other chunks, their items go, and not the one that is to be replaced, though it is the oldest.
+#[test]
+fn others_go_for_a_new_value(rt: HostRuntime) -> Result<(), Fail> {
+    let (cache, mut worker) = with_pages(&rt, rt.alloc(), 3)?;
+    let value = vec![in rt.alloc(); 1; 800]?;
+    let Ok(Outcome::Stored(version)) = worker.add(&rt, &cache, b"city", &value) else {
+        return Err(Fail::new("it isn't stored"));
+    };
+    assert!(rt;
+        worker.set(&rt, &cache, b"river", &value).is_ok(),
+        "it isn't stored"
+    );
+    assert!(rt;
+        worker.set(&rt, &cache, b"lake", &value).is_ok(),
+        "it isn't stored"
+    );
+    assert!(rt;
+        is_stored(worker.compare_and_set(&rt, &cache, b"city", &value, version)),
+        "its own item was evicted for it"
     );
     Ok(())
 }

@@ -1,16 +1,19 @@
-use Rattle.std.proofs.Common.{List, ℕ, ◌∙◌, inl, inr, refl, subst}
+use Rattle.std.proofs.Common.{◌∙◌, inl, refl}
 use Rattle.mc_packing.specs.Packing.{packed_item}
 use Rattle.mc_words.specs.hand.Arenas.{view}
 use Rattle.mc_words.specs.hand.Observers.{hand_number}
-use Rattle.mc_cache.specs.shard.Setting.{LacksRoomFor}
-use Rattle.mc_cache.proofs.Shards.Stored.{calls_behind, evicts_behind, no_deletes, refuses_compare_behind, room_alone, sets_behind}
+use Rattle.mc_cache.proofs.Shards.Stored.{calls_behind, evicts_behind, lacks_room, no_deletes, refuses_compare_behind, room_alone, sets_behind}
 use Rattle.mc_cache.proofs.shard.comparing.set_where.Goals as goal
 
 pub returns-in-Err-clause-evicts : goal.returns-in-Err-clause-evicts
 returns-in-Err-clause-evicts g c = room_alone (hand_number c.args.hand.now) c.args.hand.now c.args.hand.now (no_deletes (hand_number c.args.hand.now) (view c.args.hand.now))
 
+pub returns-in-Err-clause-refused : goal.returns-in-Err-clause-refused
+returns-in-Err-clause-refused g c = inl (inl (refl, inl refl))
+
 pub returns-in-Err-make_room_for-clause-refused : goal.returns-in-Err-make_room_for-clause-refused
-returns-in-Err-make_room_for-clause-refused g c = inl (refl, inr (subst (λ (ws : List ℕ). LacksRoomFor ws c.args.hand.now c.make_room_for.new.hand) (c.deref.ensures.value ∙ c.in_default.ensures.packed) c.in-Err-make_room_for.ensures.refused))
+returns-in-Err-make_room_for-clause-refused g c =
+    lacks_room (hand_number c.args.hand.now) (hand_number c.args.hand.now) c.args.at.hash refl c.deref.result.now c.deref.result.now (packed_item c.args.at.key.now c.args.value.now) (c.deref.ensures.value ∙ c.in_default.ensures.packed) (c.deref.ensures.value ∙ c.in_default.ensures.packed) c.args.hand.now c.make_room_for.new.hand c.make_room_for.new.hand c.args.expected c.in-Err-make_room_for.error c.in-Err-make_room_for.ensures.refused
 
 pub returns-in-Err-make_room_for-clause-evicts : goal.returns-in-Err-make_room_for-clause-evicts
 returns-in-Err-make_room_for-clause-evicts g c = room_alone (hand_number c.args.hand.now) c.args.hand.now c.make_room_for.new.hand c.make_room_for.ensures.calls

@@ -1,8 +1,12 @@
-use Rattle.std.proofs.Common.{◌≡◌, ◌+◌, ◌*◌, ◌≤◌, ◌∙◌, ℕ, List, Option, Some, IfSome, ap, inr, length, subst, sym}
+use Rattle.std.proofs.Common.{◌≡◌, ◌+◌, ◌*◌, ◌≤◌, ◌∙◌, ℕ, List, Option, Some, IfSome, ap, inl, inr, length, refl, subst, sym}
 use Rattle.mc_classes.specs.Classes.{Classes, IsClass, class_of, size_of}
 use Rattle.mc_words.specs.hand.Arenas.{setup_of, view}
 use Rattle.mc_words.specs.hand.View.{Setup, View}
 use Rattle.mc_items.specs.Setting.{class_for_words}
+use Rattle.mc_words.specs.hand.Observers.{hand_number}
+use Rattle.mc_items.specs.MakingRoom.{MakesRoom}
+use Rattle.mc_items.specs.OnKeys.{ActsOnce}
+use Rattle.mc_items.specs.declared.making_room.Room.{Room}
 use Rattle.mc_items.proofs.Sets.{class_there}
 use Rattle.mc_cache.proofs.shard.setting.make_room_for.Goals as goal
 
@@ -16,9 +20,14 @@ make_room-requires-clause-class g c =
     class_there (setup_of c.args.arena.now).table c.in-Some.class (subst (λ (t : Classes). IsClass t c.in-Some.class) c.classes.ensures.classes fits.0)
 
 pub returns-in-Ok-clause-makes : goal.returns-in-Ok-clause-makes
-returns-in-Ok-clause-makes g c =
-    inr (c.in-Some.class, class_is (view c.args.hand.now) (setup_of c.args.arena.now) c.classes.result.now c.args.words.now c.class_for.result (Some c.in-Some.class) c.requires.of_arena.setup c.classes.ensures.classes c.class_for.ensures.class c.in-Some.is, c.in-Ok._room, c.in-Ok.ensures.makes)
+returns-in-Ok-clause-makes g c = inr (c.in-Some.class, class_is (view c.args.hand.now) (setup_of c.args.arena.now) c.classes.result.now c.args.words.now c.class_for.result (Some c.in-Some.class) c.requires.of_arena.setup c.classes.ensures.classes c.class_for.ensures.class c.in-Some.is, c.in-Ok._room, c.in-Ok.ensures.makes)
+
+pub returns-then-is_some-clause-refused : goal.returns-then-is_some-clause-refused
+returns-then-is_some-clause-refused g c =
+    inr (refl, c.kept_for-kept.ensures.item (sym c.is_some.ensures ∙ c.if-is_some.true), (c.in-Some.class, class_is (view c.args.hand.now) (setup_of c.args.arena.now) c.classes.result.now c.args.words.now c.class_for.result (Some c.in-Some.class) c.requires.of_arena.setup c.classes.ensures.classes c.class_for.ensures.class c.in-Some.is, subst (λ (room : Room). ActsOnce (MakesRoom (hand_number c.args.hand.now) c.in-Some.class room) c.args.hand.now c.make_room.new.hand) c.in-Ok-Full.field-0-is c.in-Ok-Full.ensures.makes))
+
+pub returns-else-is_some-clause-makes : goal.returns-else-is_some-clause-makes
+returns-else-is_some-clause-makes g c = inr (c.in-Some.class, class_is (view c.args.hand.now) (setup_of c.args.arena.now) c.classes.result.now c.args.words.now c.class_for.result (Some c.in-Some.class) c.requires.of_arena.setup c.classes.ensures.classes c.class_for.ensures.class c.in-Some.is, c.in-Ok-Full.field-0, c.in-Ok-Full.ensures.makes)
 
 pub returns-in-Err-clause-refused : goal.returns-in-Err-clause-refused
-returns-in-Err-clause-refused g c =
-    (c.in-Some.class, class_is (view c.args.hand.now) (setup_of c.args.arena.now) c.classes.result.now c.args.words.now c.class_for.result (Some c.in-Some.class) c.requires.of_arena.setup c.classes.ensures.classes c.class_for.ensures.class c.in-Some.is, c.in-Err.ensures.refused)
+returns-in-Err-clause-refused g c = inl (refl, (c.in-Some.class, class_is (view c.args.hand.now) (setup_of c.args.arena.now) c.classes.result.now c.args.words.now c.class_for.result (Some c.in-Some.class) c.requires.of_arena.setup c.classes.ensures.classes c.class_for.ensures.class c.in-Some.is, c.in-Err.ensures.refused))

@@ -1,8 +1,12 @@
-use Rattle.std.proofs.Common.{Err, ◌≡◌, ◌+◌, ◌*◌, ◌≤◌, ◌∙◌, ℕ, List, Option, Some, IfSome, ap, inr, length, subst, sym}
+use Rattle.std.proofs.Common.{Err, ◌≡◌, ◌+◌, ◌*◌, ◌≤◌, ◌∙◌, ℕ, List, Option, Some, IfSome, ap, inl, inr, length, refl, subst, sym}
 use Rattle.mc_classes.specs.Classes.{Classes, IsClass, class_of, size_of}
 use Rattle.mc_words.specs.hand.Arenas.{setup_of, view}
 use Rattle.mc_words.specs.hand.View.{Setup, View}
 use Rattle.mc_items.specs.Setting.{class_for_words}
+use Rattle.mc_words.specs.hand.Observers.{hand_number}
+use Rattle.mc_items.specs.MakingRoom.{MakesRoom}
+use Rattle.mc_items.specs.OnKeys.{ActsOnce}
+use Rattle.mc_items.specs.declared.making_room.Room.{Room}
 use Rattle.mc_items.proofs.Sets.{class_there}
 use Rattle.mc_cache.proofs.shard.setting_within.room_within.Goals as goal
 
@@ -16,12 +20,17 @@ make_room_within-requires-clause-class c =
     class_there (setup_of c.args.arena.now).table c.in-Some.class (subst (λ (t : Classes). IsClass t c.in-Some.class) c.classes.ensures.classes fits.0)
 
 pub returns-in-Ok-clause-makes : goal.returns-in-Ok-clause-makes
-returns-in-Ok-clause-makes c =
-    inr (c.in-Some.class, class_is (view c.args.hand.now) (setup_of c.args.arena.now) c.classes.result.now c.args.words.now c.class_for.result (Some c.in-Some.class) c.requires.of_arena.setup c.classes.ensures.classes c.class_for.ensures.class c.in-Some.is, c.in-Ok._room, c.in-Ok.ensures.makes)
+returns-in-Ok-clause-makes c = inr (c.in-Some.class, class_is (view c.args.hand.now) (setup_of c.args.arena.now) c.classes.result.now c.args.words.now c.class_for.result (Some c.in-Some.class) c.requires.of_arena.setup c.classes.ensures.classes c.class_for.ensures.class c.in-Some.is, c.in-Ok._room, c.in-Ok.ensures.makes)
+
+pub returns-then-is_some-clause-refused : goal.returns-then-is_some-clause-refused
+returns-then-is_some-clause-refused c =
+    inr (refl, c.kept_for-kept.ensures.item (sym c.is_some.ensures ∙ c.if-is_some.true), (c.in-Some.class, class_is (view c.args.hand.now) (setup_of c.args.arena.now) c.classes.result.now c.args.words.now c.class_for.result (Some c.in-Some.class) c.requires.of_arena.setup c.classes.ensures.classes c.class_for.ensures.class c.in-Some.is, subst (λ (room : Room). ActsOnce (MakesRoom (hand_number c.args.hand.now) c.in-Some.class room) c.args.hand.now c.make_room_within.new.hand) c.in-Ok-Full.field-0-is c.in-Ok-Full.ensures.makes))
+
+pub returns-else-is_some-clause-makes : goal.returns-else-is_some-clause-makes
+returns-else-is_some-clause-makes c = inr (c.in-Some.class, class_is (view c.args.hand.now) (setup_of c.args.arena.now) c.classes.result.now c.args.words.now c.class_for.result (Some c.in-Some.class) c.requires.of_arena.setup c.classes.ensures.classes c.class_for.ensures.class c.in-Some.is, c.in-Ok-Full.field-0, c.in-Ok-Full.ensures.makes)
 
 pub returns-in-Err-NoMemory-clause-refused : goal.returns-in-Err-NoMemory-clause-refused
-returns-in-Err-NoMemory-clause-refused c = λ is.
-    (c.in-Some.class, class_is (view c.args.hand.now) (setup_of c.args.arena.now) c.classes.result.now c.args.words.now c.class_for.result (Some c.in-Some.class) c.requires.of_arena.setup c.classes.ensures.classes c.class_for.ensures.class c.in-Some.is, c.in-Err-NoMemory.ensures.refused (ap Err c.in-Err-NoMemory.field-0-is))
+returns-in-Err-NoMemory-clause-refused c = inl (refl, (c.in-Some.class, class_is (view c.args.hand.now) (setup_of c.args.arena.now) c.classes.result.now c.args.words.now c.class_for.result (Some c.in-Some.class) c.requires.of_arena.setup c.classes.ensures.classes c.class_for.ensures.class c.in-Some.is, c.in-Err-NoMemory.ensures.refused (ap Err c.in-Err-NoMemory.field-0-is)))
 
-pub returns-in-Err-Held-clause-held : goal.returns-in-Err-Held-clause-held
-returns-in-Err-Held-clause-held c = λ is. c.in-Err-Held.ensures.held (ap Err c.in-Err-Held.field-0-is)
+pub returns-in-Err-Held-clause-refused : goal.returns-in-Err-Held-clause-refused
+returns-in-Err-Held-clause-refused c = c.in-Err-Held.ensures.held (ap Err c.in-Err-Held.field-0-is)
