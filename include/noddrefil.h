@@ -21,6 +21,10 @@
  * Threads. A handle is given to one call at a time. Another thread may have it later, if the program orders the two calls by a lock, by the start
  * or the end of a thread. Calls with different handles need no order.
  *
+ * Versions. Each store has a number, the version of the value that it stored. No other store of the same key ever has that number.
+ * mc_get_with_version writes the version, and mc_compare_and_set stores only where the key's value has it. A program that changes a value
+ * makes these two calls, and makes both again at MC_EXISTS. So no change by another thread is lost.
+ *
  * Waiting. No call waits or sleeps. A call tries for a lock n times, and spins between two tries; `tries` is that number. Where other threads
  * had the lock at each try, the call returns MC_HELD, and the caller tries again, best behind sched_yield(). The helpers at the end of this file
  * do so.
@@ -56,6 +60,7 @@ enum mc_code {
     MC_NO_SPARE = 13,      /* the source has fewer than two pages */
     MC_SAME_CLASS = 14,    /* source and destination are one class */
     MC_OUT_OF_RANGE = 15,  /* there is no such shard, or no such mode */
+    MC_EXISTS = 27,        /* the key has a value, or one of another version */
 
     /* why a configuration is refused: the first test that it fails */
     MC_BAD_SHARDS = 16,    /* from 1 to 4096 */
@@ -140,9 +145,27 @@ uint32_t mc_join(mc_worker *first, mc_worker *out);
  * length alone is written; MC_HELD, MC_NO_MEMORY, MC_BAD_KEY, MC_CLOSED. */
 uint32_t mc_get(mc_worker *worker, const uint8_t *key, size_t key_len, uint64_t tries, uint8_t *out, size_t room, uint64_t *len);
 
+/* Does what mc_get does, and writes the version of the key's value to *version, also at MC_TOO_SMALL. The codes of mc_get. */
+uint32_t mc_get_with_version(mc_worker *worker, const uint8_t *key, size_t key_len, uint64_t tries, uint8_t *out, size_t room, uint64_t *len,
+                             uint64_t *version);
+
 /* Stores the value under the key, in place of what the key had. Items that nobody used lately go, where there is no room. MC_HELD; MC_TOO_LARGE,
  * MC_NO_ROOM, MC_WORN_OUT, MC_NO_MEMORY: the key has what it had, unless its item was evicted; MC_BAD_KEY, MC_CLOSED. */
 uint32_t mc_set(mc_worker *worker, const uint8_t *key, size_t key_len, const uint8_t *value, size_t value_len, uint64_t tries);
+
+/* The next three calls look at the key first, and then store only where it still has what they saw. A value that the look refuses takes no memory,
+ * and nothing is evicted for it. A store makes room as mc_set does, and may evict the key's own item for it. Each call also returns the codes of
+ * mc_set. */
+
+/* Stores the value where the key has none. MC_EXISTS where it has one, or where another worker stored under the key behind the look. */
+uint32_t mc_add(mc_worker *worker, const uint8_t *key, size_t key_len, const uint8_t *value, size_t value_len, uint64_t tries);
+
+/* Stores the value where the key has one. MC_MISSING where it has none. */
+uint32_t mc_replace(mc_worker *worker, const uint8_t *key, size_t key_len, const uint8_t *value, size_t value_len, uint64_t tries);
+
+/* Stores the value where the key's value has this version. MC_EXISTS where it has another one; MC_MISSING where the key has no value. */
+uint32_t mc_compare_and_set(mc_worker *worker, const uint8_t *key, size_t key_len, const uint8_t *value, size_t value_len, uint64_t version,
+                            uint64_t tries);
 
 /* Deletes the key. MC_MISSING where it had no value; MC_HELD, MC_NO_MEMORY, MC_BAD_KEY, MC_CLOSED. */
 uint32_t mc_delete(mc_worker *worker, const uint8_t *key, size_t key_len, uint64_t tries);
@@ -185,10 +208,44 @@ static inline uint32_t mc_get_again(mc_worker *worker, const uint8_t *key, size_
     return code;
 }
 
+static inline uint32_t mc_get_with_version_again(mc_worker *worker, const uint8_t *key, size_t key_len, uint8_t *out, size_t room, uint64_t *len,
+                                                 uint64_t *version)
+{
+    uint32_t code;
+    while ((code = mc_get_with_version(worker, key, key_len, MC_TRIES, out, room, len, version)) == MC_HELD)
+        sched_yield();
+    return code;
+}
+
 static inline uint32_t mc_set_again(mc_worker *worker, const uint8_t *key, size_t key_len, const uint8_t *value, size_t value_len)
 {
     uint32_t code;
     while ((code = mc_set(worker, key, key_len, value, value_len, MC_TRIES)) == MC_HELD)
+        sched_yield();
+    return code;
+}
+
+static inline uint32_t mc_add_again(mc_worker *worker, const uint8_t *key, size_t key_len, const uint8_t *value, size_t value_len)
+{
+    uint32_t code;
+    while ((code = mc_add(worker, key, key_len, value, value_len, MC_TRIES)) == MC_HELD)
+        sched_yield();
+    return code;
+}
+
+static inline uint32_t mc_replace_again(mc_worker *worker, const uint8_t *key, size_t key_len, const uint8_t *value, size_t value_len)
+{
+    uint32_t code;
+    while ((code = mc_replace(worker, key, key_len, value, value_len, MC_TRIES)) == MC_HELD)
+        sched_yield();
+    return code;
+}
+
+static inline uint32_t mc_compare_and_set_again(mc_worker *worker, const uint8_t *key, size_t key_len, const uint8_t *value, size_t value_len,
+                                                uint64_t version)
+{
+    uint32_t code;
+    while ((code = mc_compare_and_set(worker, key, key_len, value, value_len, version, MC_TRIES)) == MC_HELD)
         sched_yield();
     return code;
 }

@@ -96,6 +96,7 @@ enum Answer {
     Missing,
     Held,
     TooSmall,
+    Exists,
 }
 
 fn answer(code: u32) -> Result<Answer, Error> {
@@ -104,6 +105,7 @@ fn answer(code: u32) -> Result<Answer, Error> {
         1 => Ok(Answer::Missing),
         2 => Ok(Answer::Held),
         7 => Ok(Answer::TooSmall),
+        27 => Ok(Answer::Exists),
         3 => Err(Error::TooLarge),
         4 => Err(Error::NoRoom),
         5 => Err(Error::WornOut),
@@ -204,39 +206,83 @@ pub struct Worker {
     handle: Handle,
 }
 
+/// What a call did that stores a value in place of one version.
+#[derive(Clone, Copy, Debug, PartialEq, Eq)]
+#[must_use = "the value isn't stored unless this is `Stored`"]
+pub enum Swap {
+    /// The value is stored.
+    Stored,
+    /// The key's value has another version. The key has what it had.
+    Exists,
+    /// The key has no value. It may have lost it to the room that the new one takes.
+    Missing,
+}
+
 impl Worker {
     /// Puts the key's value behind the bytes that are there, and returns whether the key has one.
     pub fn get(&mut self, key: &[u8], into: &mut Vec<u8>) -> Result<bool, Error> {
-        let begin = into.len();
-        let mut room = FIRST_ROOM;
-        loop {
-            into.resize(begin + room, 0);
-            let mut len = 0;
-            let found = until_done(|| unsafe {
-                raw::mc_get(&mut self.handle, key.as_ptr(), key.len(), TRIES, into[begin..].as_mut_ptr(), room, &mut len)
-            });
-            match found {
-                Ok(Answer::TooSmall) => room = len as usize,
-                Ok(Answer::Done) => {
-                    into.truncate(begin + len as usize);
-                    return Ok(true);
-                }
-                Ok(_) => {
-                    into.truncate(begin);
-                    return Ok(false);
-                }
-                Err(error) => {
-                    into.truncate(begin);
-                    return Err(error);
-                }
-            }
-        }
+        read(into, |out, room, len| unsafe { raw::mc_get(&mut self.handle, key.as_ptr(), key.len(), TRIES, out, room, len) })
+    }
+
+    /// The same, and it returns the version of the value, or `None` where the key has no value. The version is the number of the store that
+    /// stored the value: no other store of the key ever has it.
+    pub fn get_with_version(&mut self, key: &[u8], into: &mut Vec<u8>) -> Result<Option<u64>, Error> {
+        let mut version = 0;
+        let found = read(into, |out, room, len| unsafe {
+            raw::mc_get_with_version(&mut self.handle, key.as_ptr(), key.len(), TRIES, out, room, len, &mut version)
+        })?;
+        Ok(found.then_some(version))
     }
 
     /// Stores the value under the key, in place of what the key had.
     pub fn set(&mut self, key: &[u8], value: &[u8]) -> Result<(), Error> {
         until_done(|| unsafe { raw::mc_set(&mut self.handle, key.as_ptr(), key.len(), value.as_ptr(), value.len(), TRIES) })?;
         Ok(())
+    }
+
+    /// Stores the value if the key has none, and returns whether it is stored. Of several threads that add one key, one alone stores.
+    ///
+    /// A value that isn't stored as the key has one takes no memory, and nothing is evicted for it.
+    pub fn add(&mut self, key: &[u8], value: &[u8]) -> Result<bool, Error> {
+        let done = until_done(|| unsafe { raw::mc_add(&mut self.handle, key.as_ptr(), key.len(), value.as_ptr(), value.len(), TRIES) })?;
+        Ok(done == Answer::Done)
+    }
+
+    /// Stores the value if the key has one, and returns whether it is stored. The key may lose its value to the room that the new one takes:
+    /// then nothing is stored.
+    pub fn replace(&mut self, key: &[u8], value: &[u8]) -> Result<bool, Error> {
+        let done = until_done(|| unsafe { raw::mc_replace(&mut self.handle, key.as_ptr(), key.len(), value.as_ptr(), value.len(), TRIES) })?;
+        Ok(done == Answer::Done)
+    }
+
+    /// Stores the value if the key's value has this version. So a thread changes a value, and no other thread's change is lost.
+    ///
+    /// ```
+    /// use noddrefil::{Cache, Config, Swap};
+    ///
+    /// let cache = Cache::open(&Config::for_bytes(16 << 20, 100, 1)?.with_hash_key(1, 2))?;
+    /// let mut worker = cache.worker()?;
+    /// worker.set(b"list", b"one")?;
+    /// let mut value = Vec::new();
+    /// while let Some(version) = worker.get_with_version(b"list", &mut value)? {
+    ///     value.extend_from_slice(b", two");
+    ///     if worker.compare_and_set(b"list", &value, version)? == Swap::Stored {
+    ///         break;
+    ///     }
+    ///     value.clear();
+    /// }
+    /// assert_eq!(value, b"one, two");
+    /// # Ok::<(), noddrefil::Error>(())
+    /// ```
+    pub fn compare_and_set(&mut self, key: &[u8], value: &[u8], version: u64) -> Result<Swap, Error> {
+        let done = until_done(|| unsafe {
+            raw::mc_compare_and_set(&mut self.handle, key.as_ptr(), key.len(), value.as_ptr(), value.len(), version, TRIES)
+        })?;
+        Ok(match done {
+            Answer::Done => Swap::Stored,
+            Answer::Missing => Swap::Missing,
+            _ => Swap::Exists,
+        })
     }
 
     /// Deletes the key, and returns whether it had a value.
@@ -249,6 +295,32 @@ impl Worker {
     pub fn touch(&mut self, key: &[u8]) -> Result<bool, Error> {
         let done = until_done(|| unsafe { raw::mc_touch(&mut self.handle, key.as_ptr(), key.len(), TRIES) })?;
         Ok(done == Answer::Done)
+    }
+}
+
+/// Puts the value that the call writes behind the bytes that are there, and returns whether there is one. The call gets room, and is made again
+/// where that is too little.
+fn read(into: &mut Vec<u8>, mut call: impl FnMut(*mut u8, usize, &mut u64) -> u32) -> Result<bool, Error> {
+    let begin = into.len();
+    let mut room = FIRST_ROOM;
+    loop {
+        into.resize(begin + room, 0);
+        let mut len = 0;
+        match until_done(|| call(into[begin..].as_mut_ptr(), room, &mut len)) {
+            Ok(Answer::TooSmall) => room = len as usize,
+            Ok(Answer::Done) => {
+                into.truncate(begin + len as usize);
+                return Ok(true);
+            }
+            Ok(_) => {
+                into.truncate(begin);
+                return Ok(false);
+            }
+            Err(error) => {
+                into.truncate(begin);
+                return Err(error);
+            }
+        }
     }
 }
 

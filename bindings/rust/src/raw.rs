@@ -99,7 +99,28 @@ extern "C" {
     pub(crate) fn mc_open(config: *const Config, workers: u64, first: *mut Handle, tender: *mut Handle) -> u32;
     pub(crate) fn mc_join(first: *mut Handle, out: *mut Handle) -> u32;
     pub(crate) fn mc_get(worker: *mut Handle, key: *const u8, key_len: usize, tries: u64, out: *mut u8, room: usize, len: *mut u64) -> u32;
+    pub(crate) fn mc_get_with_version(
+        worker: *mut Handle,
+        key: *const u8,
+        key_len: usize,
+        tries: u64,
+        out: *mut u8,
+        room: usize,
+        len: *mut u64,
+        version: *mut u64,
+    ) -> u32;
     pub(crate) fn mc_set(worker: *mut Handle, key: *const u8, key_len: usize, value: *const u8, value_len: usize, tries: u64) -> u32;
+    pub(crate) fn mc_add(worker: *mut Handle, key: *const u8, key_len: usize, value: *const u8, value_len: usize, tries: u64) -> u32;
+    pub(crate) fn mc_replace(worker: *mut Handle, key: *const u8, key_len: usize, value: *const u8, value_len: usize, tries: u64) -> u32;
+    pub(crate) fn mc_compare_and_set(
+        worker: *mut Handle,
+        key: *const u8,
+        key_len: usize,
+        value: *const u8,
+        value_len: usize,
+        version: u64,
+        tries: u64,
+    ) -> u32;
     pub(crate) fn mc_delete(worker: *mut Handle, key: *const u8, key_len: usize, tries: u64) -> u32;
     pub(crate) fn mc_touch(worker: *mut Handle, key: *const u8, key_len: usize, tries: u64) -> u32;
     pub(crate) fn mc_tend(tender: *mut Handle, tries: u64, done: *mut Tended) -> u32;
