@@ -90,7 +90,7 @@ impl Session {
         let length = usize::try_from(signed(words[4], FORMAT)?).ok().filter(|length| *length <= LONGEST_DATA).ok_or(FORMAT)?;
         self.length += length + 2;
         if HEAD + length > PAGE {
-            return Err(store.refuse(key));
+            return Err(store.refuse(words[0], key));
         }
         let Some(data) = behind.get(..length + 2) else { return Ok(None) };
         let data = data.strip_suffix(b"\r\n").ok_or("CLIENT_ERROR bad data chunk")?;

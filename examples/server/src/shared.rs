@@ -1,4 +1,4 @@
-//! What all connections share: workers of the cache, its pages, and a lock for each share of the keys.
+//! What all connections share: workers of the cache, its pages, and their counts.
 use crate::counts::{self, Counts};
 use crate::options::Options;
 use crate::pages::Pages;
@@ -10,9 +10,6 @@ use std::sync::atomic::{AtomicU32, AtomicU64, Ordering::Relaxed};
 use std::sync::{Arc, Mutex, MutexGuard, PoisonError};
 use std::time::{Instant, SystemTime};
 
-/// How many locks there are. A change of a key holds its lock, so that one that looks at the old item is whole.
-const LOCKS: usize = 1024;
-
 /// The bytes of a page, and so the most that an item has with its head.
 pub const PAGE: usize = 16_384;
 
@@ -20,8 +17,6 @@ pub struct Shared {
     workers: Vec<Mutex<Worker>>,
     pub counts: Vec<Counts>,
     pub pages: Mutex<Pages>,
-    changes: Vec<Mutex<()>>,
-    hasher: RandomState,
     /// The unique number of the last store.
     pub unique: AtomicU64,
     /// The highest unique number that a flush took.
@@ -43,8 +38,6 @@ impl Shared {
             workers: (0..options.workers).map(|_| cache.worker().map(Mutex::new)).collect::<Result<_, _>>()?,
             counts: (0..options.workers).map(|_| Counts::default()).collect(),
             pages: Mutex::new(Pages::new(cache.tender().expect("nobody took it"), config.shards())),
-            changes: (0..LOCKS).map(|_| Mutex::new(())).collect(),
-            hasher,
             unique: AtomicU64::new(0),
             flushed: AtomicU64::new(0),
             next_flush: AtomicU32::new(0),
@@ -59,11 +52,6 @@ impl Shared {
         let (before, behind) = self.workers.split_at(number % self.workers.len());
         let free = behind.iter().chain(before).find_map(|worker| worker.try_lock().ok());
         free.unwrap_or_else(|| lock(&behind[0]))
-    }
-
-    /// The lock that a change of this key holds.
-    pub fn lock_of(&self, key: &[u8]) -> MutexGuard<'_, ()> {
-        lock(&self.changes[self.hasher.hash_one(key) as usize % LOCKS])
     }
 
     /// Does the flush whose second has come: all that was stored before is gone.
