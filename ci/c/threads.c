@@ -1,13 +1,14 @@
 /* Threads store, read, delete and touch the same keys. Each value is a function of its key and of a number that it begins with, so a wrong byte
- * shows. One thread more has the tender: it does windows, counts pages, and begins moves, until the others have ended. Every handle that is
- * wrong is answered. Usage: threads THREADS CALLS. The status is 0 where no byte was wrong. */
+ * shows. They also add 1 to one counter, by its versions, and no addition is lost. One thread more has the tender: it does windows, counts pages,
+ * and begins moves, until the others have ended. Every handle that is wrong is answered. Usage: threads THREADS CALLS. The status is 0 where no
+ * byte and no sum was wrong. */
 #include "noddrefil.h"
 #include <pthread.h>
 #include <stdio.h>
 #include <stdlib.h>
 #include <string.h>
 
-enum { KEYS = 2048, MOST = 63, LONGEST = 1500, CLASSES = 256 };
+enum { KEYS = 2048, MOST = 63, LONGEST = 1500, CLASSES = 256, LIVES = 1 << 16 };
 static uint64_t calls;
 
 /* What the thread with the tender has, and whether it is to end. */
@@ -17,6 +18,18 @@ static struct tending {
     uint64_t shards, windows, held, begun, wrong;
     int ends;
 } tending = {.lock = PTHREAD_MUTEX_INITIALIZER};
+
+/* The value of the counter. An eviction ends a life of the counter, and a thread that misses it begins another life at 1. */
+struct counter {
+    uint64_t life, sum;
+};
+
+/* How many lives began, how many additions each one had, and its highest sum. */
+static struct counting {
+    pthread_mutex_t lock;
+    uint64_t lives, wrong, additions[LIVES], highest[LIVES];
+} counting = {.lock = PTHREAD_MUTEX_INITIALIZER};
+static const uint8_t counter_key[] = "counter";
 
 struct thread {
     mc_worker worker;
@@ -54,6 +67,63 @@ static int is_right(uint64_t number, const uint8_t *value, uint64_t len)
     return len == value_of(number, version, wanted) && !memcmp(value, wanted, len);
 }
 
+static uint64_t new_life(void)
+{
+    pthread_mutex_lock(&counting.lock);
+    uint64_t life = counting.lives++;
+    pthread_mutex_unlock(&counting.lock);
+    return life;
+}
+
+/* Notes an addition that was stored. */
+static void note(const struct counter *counter)
+{
+    pthread_mutex_lock(&counting.lock);
+    if (counter->life < counting.lives && counter->life < LIVES) {
+        counting.additions[counter->life]++;
+        if (counting.highest[counter->life] < counter->sum)
+            counting.highest[counter->life] = counter->sum;
+    } else {
+        counting.wrong++;
+    }
+    pthread_mutex_unlock(&counting.lock);
+}
+
+/* Adds 1 to the counter, until no other thread stores between look and store, and returns the code. */
+static uint32_t count_up(mc_worker *worker)
+{
+    struct counter counter;
+    uint8_t *value = (uint8_t *)&counter;
+    uint64_t len = 0, version = 0;
+    uint32_t code;
+    do {
+        code = mc_get_with_version_again(worker, counter_key, sizeof counter_key, value, sizeof counter, &len, &version);
+        if (code == MC_OK) {
+            counter.sum++;
+            code = mc_compare_and_set_again(worker, counter_key, sizeof counter_key, value, sizeof counter, version);
+        } else if (code == MC_MISSING) {
+            counter = (struct counter){new_life(), 1};
+            code = mc_add_again(worker, counter_key, sizeof counter_key, value, sizeof counter);
+        }
+    } while (code == MC_EXISTS || code == MC_MISSING);
+    if (code == MC_OK)
+        note(&counter);
+    return code;
+}
+
+/* How many lives lost an addition, or had one too many. The last one may be there still, and has its highest sum. */
+static uint64_t wrong_sums(mc_worker *worker)
+{
+    struct counter counter = {0};
+    uint64_t len = 0, version = 0, wrong = counting.wrong;
+    uint32_t code = mc_get_with_version_again(worker, counter_key, sizeof counter_key, (uint8_t *)&counter, sizeof counter, &len, &version);
+    for (uint64_t life = 0; life < counting.lives && life < LIVES; life++)
+        wrong += counting.additions[life] != counting.highest[life];
+    wrong += code != MC_OK && code != MC_MISSING;
+    wrong += code == MC_OK && (counter.life >= LIVES || counter.sum != counting.highest[counter.life]);
+    return wrong;
+}
+
 static void *work(void *arg)
 {
     struct thread *own = arg;
@@ -64,6 +134,10 @@ static void *work(void *arg)
         size_t key_len = key_of(number, key);
         uint64_t len = 0;
         uint32_t code;
+        if (kind == 0) {
+            own->refused += count_up(&own->worker) != MC_OK;
+            continue;
+        }
         if (kind < 70) {
             code = mc_get_again(&own->worker, key, key_len, value, sizeof value, &len);
             if (code == MC_OK)
@@ -189,6 +263,45 @@ static uint64_t wrong_codes(mc_worker *worker, mc_tender *tender)
     return wrong;
 }
 
+/* The codes of the calls that look at what the key has, and at its version, before they store. */
+static uint64_t wrong_versions(mc_worker *worker, mc_tender *tender)
+{
+    static const uint8_t large[20000];
+    mc_worker none = {0}, *others[] = {&none, tender};
+    uint8_t out[LONGEST] = {0}, key[251] = {0};
+    uint64_t len = 7, version = UINT64_MAX, before, wrong = 0;
+    for (size_t place = 0; place < 2; place++) {
+        size_t bad_len = place ? 251 : 0;
+        wrong += mc_get_with_version(others[place], key, 1, 1, out, 1, &len, &version) != MC_CLOSED;
+        wrong += mc_add(others[place], key, 1, out, 1, 1) != MC_CLOSED;
+        wrong += mc_replace(others[place], key, 1, out, 1, 1) != MC_CLOSED;
+        wrong += mc_compare_and_set(others[place], key, 1, out, 1, version, 1) != MC_CLOSED;
+        wrong += mc_get_with_version(worker, key, bad_len, 1, out, 1, &len, &version) != MC_BAD_KEY;
+        wrong += mc_add(worker, key, bad_len, out, 1, 1) != MC_BAD_KEY;
+        wrong += mc_replace(worker, key, bad_len, out, 1, 1) != MC_BAD_KEY;
+        wrong += mc_compare_and_set(worker, key, bad_len, out, 1, version, 1) != MC_BAD_KEY;
+    }
+    wrong += mc_get_with_version(worker, key, 250, 1, out, 100, &len, &version) != MC_MISSING || len != 7 || version != UINT64_MAX;
+    wrong += mc_replace(worker, key, 250, out, 100, 1) != MC_MISSING;
+    wrong += mc_compare_and_set(worker, key, 250, out, 100, version, 1) != MC_MISSING;
+    wrong += mc_add(worker, key, 250, large, sizeof large, 1) != MC_TOO_LARGE;
+    wrong += mc_add(worker, key, 250, out, 100, 1) != MC_OK;
+    wrong += mc_add(worker, key, 250, out, 99, 1) != MC_EXISTS;
+    wrong += mc_compare_and_set(worker, key, 250, out, 99, version, 1) != MC_EXISTS;
+    wrong += mc_get_with_version(worker, key, 250, 1, out, 99, &len, &version) != MC_TOO_SMALL || len != 100 || version == UINT64_MAX;
+    before = version, version = UINT64_MAX;
+    wrong += mc_get_with_version(worker, key, 250, 1, out, 100, &len, &version) != MC_OK || len != 100 || version != before;
+    wrong += mc_compare_and_set(worker, key, 250, out, 98, before, 1) != MC_OK;
+    wrong += mc_compare_and_set(worker, key, 250, out, 97, before, 1) != MC_EXISTS;
+    wrong += mc_get_with_version(worker, key, 250, 1, out, 100, &len, &version) != MC_OK || len != 98 || version == before;
+    wrong += mc_replace(worker, key, 250, large, sizeof large, 1) != MC_TOO_LARGE;
+    wrong += mc_replace(worker, key, 250, out, 96, 1) != MC_OK;
+    wrong += mc_get(worker, key, 250, 1, out, 100, &len) != MC_OK || len != 96;
+    wrong += mc_delete(worker, key, 250, 1) != MC_OK;
+    wrong += mc_compare_and_set(worker, key, 250, out, 95, version, 1) != MC_MISSING;
+    return wrong;
+}
+
 /* What the tender's calls answer once its handle is closed. */
 static uint64_t wrong_behind_close(mc_tender *tender)
 {
@@ -216,13 +329,16 @@ int main(int count, char **words)
         if (mc_join(&threads[0].worker, &threads[place].worker))
             return 2;
     wrong += wrong_tending(&threads[0].worker, &tending.tender) + wrong_codes(&threads[0].worker, &tending.tender);
+    wrong += wrong_versions(&threads[0].worker, &tending.tender);
     pthread_create(&tends, NULL, tend, NULL);
     for (uint64_t place = 0; place < number; place++) {
         threads[place].number = place;
         pthread_create(&ids[place], NULL, work, &threads[place]);
     }
-    for (uint64_t place = 0; place < number; place++) {
+    for (uint64_t place = 0; place < number; place++)
         pthread_join(ids[place], NULL);
+    wrong += wrong_sums(&threads[0].worker);
+    for (uint64_t place = 0; place < number; place++) {
         wrong += threads[place].wrong, refused += threads[place].refused;
         wrong += mc_close(&threads[place].worker) != MC_OK;
         wrong += mc_close(&threads[place].worker) != MC_CLOSED;
@@ -231,7 +347,7 @@ int main(int count, char **words)
     pthread_join(tends, NULL);
     wrong += tending.wrong + wrong_behind_close(&tending.tender);
     printf("wrong %llu\n", (unsigned long long)wrong);
-    fprintf(stderr, "refused %llu\n", (unsigned long long)refused);
+    fprintf(stderr, "refused %llu, lives of the counter %llu\n", (unsigned long long)refused, (unsigned long long)counting.lives);
     fprintf(stderr, "windows %llu, of shards held %llu, moves %llu\n", (unsigned long long)tending.windows, (unsigned long long)tending.held,
             (unsigned long long)tending.begun);
     return wrong != 0;
