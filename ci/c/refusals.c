@@ -1,7 +1,7 @@
-/* Each request for memory is refused in turn, while one thread opens a cache, joins a worker, stores, reads, deletes, moves pages, counts them,
- * and closes all. Behind a refusal the key has what it had, a handle that wasn't filled is closed, what a call was to write is left alone, and
- * at the end no memory is left. It is linked with the wrappers of malloc, realloc and free that stand here. The status is 0 where nothing was
- * wrong. */
+/* Each request for memory is refused in turn, while one thread opens a cache, joins a worker, stores, adds, replaces, compares versions, reads,
+ * deletes, moves pages, counts them, and closes all. Behind a refusal the key has what it had, a handle that wasn't filled is closed, what a call
+ * was to write is left alone, and at the end no memory is left. It is linked with the wrappers of malloc, realloc and free that stand here. The
+ * status is 0 where nothing was wrong. */
 #include "noddrefil.h"
 #include <stdio.h>
 #include <stdlib.h>
@@ -67,6 +67,33 @@ static uint64_t wrong_calls(mc_worker *worker, uint8_t begin)
     return wrong;
 }
 
+/* Adds, replaces and compares the value of each key in turn. A refused call leaves what there was, or nothing where an item was evicted. */
+static uint64_t wrong_conditions(mc_worker *worker, uint8_t begin)
+{
+    uint64_t wrong = 0, len = 0, version = 0;
+    uint8_t value[LEN], out[LEN];
+    for (int step = 0; step < 3 * KEYS; step++) {
+        uint8_t key = (uint8_t)(step / 3);
+        uint32_t code, other, found = mc_get_with_version(worker, &key, 1, 1, out, LEN, &len, &version);
+        memset(value, begin + step, sizeof value);
+        if (step % 3 == 0)
+            code = mc_add(worker, &key, 1, value, LEN, 1), other = MC_EXISTS;
+        else if (step % 3 == 1)
+            code = mc_replace(worker, &key, 1, value, LEN, 1), other = MC_MISSING;
+        else
+            code = mc_compare_and_set(worker, &key, 1, value, LEN, version, 1), other = MC_MISSING;
+        if (code == MC_OK)
+            stored[key] = value[0];
+        wrong += code != MC_OK && code != other && code != MC_NO_MEMORY;
+        wrong += found == MC_OK && code == MC_OK && other == MC_EXISTS;
+        wrong += found == MC_MISSING && code == MC_OK && other == MC_MISSING;
+        uint32_t got = mc_get_with_version(worker, &key, 1, 1, out, LEN, &len, &version);
+        wrong += got != MC_OK && got != MC_NO_MEMORY && !(got == MC_MISSING && (code == MC_MISSING || code == MC_NO_MEMORY));
+        wrong += got == MC_OK && (len != LEN || out[0] != stored[key] || out[LEN - 1] != stored[key]);
+    }
+    return wrong;
+}
+
 /* Windows, counts and moves. What is refused memory writes nothing. */
 static uint64_t wrong_tending(mc_tender *tender)
 {
@@ -102,6 +129,7 @@ static uint64_t wrong_codes(void)
         return (opened != MC_NO_MEMORY) + (mc_close(&first) != MC_CLOSED) + (mc_close(&tender) != MC_CLOSED);
     uint32_t joined = mc_join(&first, &second);
     uint64_t wrong = wrong_calls(&first, 1) + wrong_tending(&tender) + wrong_calls(&first, 50) + wrong_tending(&tender);
+    wrong += wrong_conditions(&first, 150);
     if (joined == MC_OK)
         wrong += wrong_calls(&second, 100) + (mc_close(&second) != MC_OK);
     else
