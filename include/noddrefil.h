@@ -145,7 +145,7 @@ uint32_t mc_join(mc_worker *first, mc_worker *out);
  * length alone is written; MC_HELD, MC_NO_MEMORY, MC_BAD_KEY, MC_CLOSED. */
 uint32_t mc_get(mc_worker *worker, const uint8_t *key, size_t key_len, uint64_t tries, uint8_t *out, size_t room, uint64_t *len);
 
-/* Does what mc_get does, and writes the version of the key's value to *version, also at MC_TOO_SMALL. The codes of mc_get. */
+/* Copies the key's value as mc_get does, and writes its version to *version, also at MC_TOO_SMALL. The codes of mc_get. */
 uint32_t mc_get_with_version(mc_worker *worker, const uint8_t *key, size_t key_len, uint64_t tries, uint8_t *out, size_t room, uint64_t *len,
                              uint64_t *version);
 
@@ -154,7 +154,7 @@ uint32_t mc_get_with_version(mc_worker *worker, const uint8_t *key, size_t key_l
 uint32_t mc_set(mc_worker *worker, const uint8_t *key, size_t key_len, const uint8_t *value, size_t value_len, uint64_t tries);
 
 /* The next three calls look at the key first, and then store only where it still has what they saw. A value that the look refuses takes no memory,
- * and nothing is evicted for it. A store makes room as mc_set does, and may evict the key's own item for it. Each call also returns the codes of
+ * and nothing is evicted for it. A store makes room as mc_set does, so it may evict the key's own item. Each call also returns the codes of
  * mc_set. */
 
 /* Stores the value where the key has none. MC_EXISTS where it has one, or where another worker stored under the key behind the look. */

@@ -214,7 +214,7 @@ pub enum Swap {
     Stored,
     /// The key's value has another version. The key has what it had.
     Exists,
-    /// The key has no value. It may have lost it to the room that the new one takes.
+    /// The key has no value. Its old item may have been evicted to make room.
     Missing,
 }
 
@@ -224,8 +224,8 @@ impl Worker {
         read(into, |out, room, len| unsafe { raw::mc_get(&mut self.handle, key.as_ptr(), key.len(), TRIES, out, room, len) })
     }
 
-    /// The same, and it returns the version of the value, or `None` where the key has no value. The version is the number of the store that
-    /// stored the value: no other store of the key ever has it.
+    /// Puts the key's value behind the bytes that are there, and returns its version, or `None` where the key has no value. A version is the
+    /// number of the store that stored the value. No other store of the key ever has it.
     pub fn get_with_version(&mut self, key: &[u8], into: &mut Vec<u8>) -> Result<Option<u64>, Error> {
         let mut version = 0;
         let found = read(into, |out, room, len| unsafe {
@@ -242,20 +242,20 @@ impl Worker {
 
     /// Stores the value if the key has none, and returns whether it is stored. Of several threads that add one key, one alone stores.
     ///
-    /// A value that isn't stored as the key has one takes no memory, and nothing is evicted for it.
+    /// Where the key has a value, nothing is evicted for the new one.
     pub fn add(&mut self, key: &[u8], value: &[u8]) -> Result<bool, Error> {
         let done = until_done(|| unsafe { raw::mc_add(&mut self.handle, key.as_ptr(), key.len(), value.as_ptr(), value.len(), TRIES) })?;
         Ok(done == Answer::Done)
     }
 
-    /// Stores the value if the key has one, and returns whether it is stored. The key may lose its value to the room that the new one takes:
-    /// then nothing is stored.
+    /// Stores the value if the key has one, and returns whether it is stored. The key's old item may be evicted to make room: then nothing is
+    /// stored.
     pub fn replace(&mut self, key: &[u8], value: &[u8]) -> Result<bool, Error> {
         let done = until_done(|| unsafe { raw::mc_replace(&mut self.handle, key.as_ptr(), key.len(), value.as_ptr(), value.len(), TRIES) })?;
         Ok(done == Answer::Done)
     }
 
-    /// Stores the value if the key's value has this version. So a thread changes a value, and no other thread's change is lost.
+    /// Stores the value if the key's value has this version. A thread changes a value by this call, and no other thread's change is lost.
     ///
     /// ```
     /// use noddrefil::{Cache, Config, Swap};
