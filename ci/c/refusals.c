@@ -119,8 +119,8 @@ static uint64_t wrong_tending(mc_tender *tender)
     return wrong;
 }
 
-/* A run from the first call to the last. */
-static uint64_t wrong_codes(void)
+/* A run from the first call to the last. The given calls store first, so they ask for most of the memory. */
+static uint64_t wrong_codes(uint64_t (*wrong_stores)(mc_worker *, uint8_t))
 {
     mc_worker first = {0}, second = {0};
     mc_tender tender = {0};
@@ -128,10 +128,10 @@ static uint64_t wrong_codes(void)
     if (opened != MC_OK)
         return (opened != MC_NO_MEMORY) + (mc_close(&first) != MC_CLOSED) + (mc_close(&tender) != MC_CLOSED);
     uint32_t joined = mc_join(&first, &second);
-    uint64_t wrong = wrong_calls(&first, 1) + wrong_tending(&tender) + wrong_calls(&first, 50) + wrong_tending(&tender);
+    uint64_t wrong = wrong_stores(&first, 1) + wrong_tending(&tender) + wrong_calls(&first, 50) + wrong_tending(&tender);
     wrong += wrong_conditions(&first, 150);
     if (joined == MC_OK)
-        wrong += wrong_calls(&second, 100) + (mc_close(&second) != MC_OK);
+        wrong += wrong_stores(&second, 100) + (mc_close(&second) != MC_OK);
     else
         wrong += (joined != MC_NO_MEMORY) + (mc_close(&second) != MC_CLOSED);
     return wrong + (mc_close(&first) != MC_OK) + (mc_close(&tender) != MC_OK);
@@ -139,13 +139,21 @@ static uint64_t wrong_codes(void)
 
 int main(void)
 {
-    uint64_t wrong = wrong_codes(), number = requests;
-    for (refused = 1; refused <= number; refused++) {
-        requests = 0;
-        uint64_t found = wrong_codes() + (live != 0);
-        if (found)
-            printf("request %llu refused: %llu wrong, %llu blocks left\n", (unsigned long long)refused, (unsigned long long)found, (unsigned long long)live);
-        wrong += found, live = 0;
+    uint64_t (*const stores[])(mc_worker *, uint8_t) = {wrong_calls, wrong_conditions};
+    uint64_t wrong = 0, number = 0;
+    for (size_t place = 0; place < 2; place++) {
+        refused = requests = 0;
+        wrong += wrong_codes(stores[place]);
+        uint64_t all = requests;
+        for (refused = 1; refused <= all; refused++) {
+            requests = 0;
+            uint64_t found = wrong_codes(stores[place]) + (live != 0);
+            if (found)
+                printf("request %llu refused: %llu wrong, %llu blocks left\n", (unsigned long long)refused, (unsigned long long)found,
+                       (unsigned long long)live);
+            wrong += found, live = 0;
+        }
+        number += all;
     }
     printf("%llu requests refused in turn, %llu wrong\n", (unsigned long long)number, (unsigned long long)wrong);
     return wrong != 0 || number == 0;
