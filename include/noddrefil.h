@@ -157,7 +157,8 @@ uint32_t mc_set(mc_worker *worker, const uint8_t *key, size_t key_len, const uin
  * and nothing is evicted for it. A store makes room as mc_set does, so it may evict the key's own item. Each call also returns the codes of
  * mc_set. */
 
-/* Stores the value where the key has none. MC_EXISTS where it has one, or where another worker stored under the key behind the look. */
+/* Stores the value where the key has none. MC_EXISTS where it has one, or where another worker stored under the key behind the look. MC_MISSING,
+ * where an item of another key with the same hash went behind the look: call again. */
 uint32_t mc_add(mc_worker *worker, const uint8_t *key, size_t key_len, const uint8_t *value, size_t value_len, uint64_t tries);
 
 /* Stores the value where the key has one. MC_MISSING where it has none. */
@@ -196,7 +197,7 @@ uint32_t mc_reassign(mc_tender *tender, uint64_t shard, uint64_t src, uint64_t d
 /* Closes a handle. What only it led to is freed. MC_CLOSED where it was closed. */
 uint32_t mc_close(mc_handle *handle);
 
-/* Helpers that call again where other threads had the lock, behind a yield. */
+/* Helpers that call again where other threads had the lock, behind a yield. That of mc_add also does so at MC_MISSING. */
 #include <sched.h>
 enum { MC_TRIES = 64 };
 
@@ -228,7 +229,7 @@ static inline uint32_t mc_set_again(mc_worker *worker, const uint8_t *key, size_
 static inline uint32_t mc_add_again(mc_worker *worker, const uint8_t *key, size_t key_len, const uint8_t *value, size_t value_len)
 {
     uint32_t code;
-    while ((code = mc_add(worker, key, key_len, value, value_len, MC_TRIES)) == MC_HELD)
+    while ((code = mc_add(worker, key, key_len, value, value_len, MC_TRIES)) == MC_HELD || code == MC_MISSING)
         sched_yield();
     return code;
 }

@@ -244,8 +244,13 @@ impl Worker {
     ///
     /// Where the key has a value, nothing is evicted for the new one.
     pub fn add(&mut self, key: &[u8], value: &[u8]) -> Result<bool, Error> {
-        let done = until_done(|| unsafe { raw::mc_add(&mut self.handle, key.as_ptr(), key.len(), value.as_ptr(), value.len(), TRIES) })?;
-        Ok(done == Answer::Done)
+        loop {
+            let done = until_done(|| unsafe { raw::mc_add(&mut self.handle, key.as_ptr(), key.len(), value.as_ptr(), value.len(), TRIES) })?;
+            // Where an item of another key with the same hash went behind the look, the answer is `Missing`.
+            if done != Answer::Missing {
+                return Ok(done == Answer::Done);
+            }
+        }
     }
 
     /// Stores the value if the key has one, and returns whether it is stored. The key's old item may be evicted to make room: then nothing is
