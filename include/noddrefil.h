@@ -154,8 +154,8 @@ uint32_t mc_get_with_version(mc_worker *worker, const uint8_t *key, size_t key_l
 uint32_t mc_set(mc_worker *worker, const uint8_t *key, size_t key_len, const uint8_t *value, size_t value_len, uint64_t tries);
 
 /* The next three calls look at the key first, and then store only where it still has what they saw. A value that the look refuses takes no memory,
- * and nothing is evicted for it. A store makes room as mc_set does. Where its class has few chunks, the key's own item may be evicted for it: then
- * nothing is stored, and the code is MC_MISSING. Each call also returns the codes of mc_set. */
+ * and nothing is evicted for it. A store makes room as mc_set does, but mc_replace and mc_compare_and_set don't evict the item that they are to
+ * replace: without other room they return MC_NO_ROOM, and the value stays. Each call also returns the codes of mc_set. */
 
 /* Stores the value where the key has none. MC_EXISTS where it has one, or where another worker stored under the key behind the look. MC_MISSING,
  * where an item of another key with the same hash went behind the look: call again. */

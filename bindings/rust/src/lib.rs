@@ -214,7 +214,7 @@ pub enum Swap {
     Stored,
     /// The key's value has another version. The key has what it had.
     Exists,
-    /// The key has no value. Its old item may have been evicted to make room.
+    /// The key has no value.
     Missing,
 }
 
@@ -253,8 +253,7 @@ impl Worker {
         }
     }
 
-    /// Stores the value if the key has one, and returns whether it is stored. The key's old item may be evicted to make room: then nothing is
-    /// stored.
+    /// Stores the value if the key has one, and returns whether it is stored. The old value stays where there is no other room: `NoRoom`.
     pub fn replace(&mut self, key: &[u8], value: &[u8]) -> Result<bool, Error> {
         let done = until_done(|| unsafe { raw::mc_replace(&mut self.handle, key.as_ptr(), key.len(), value.as_ptr(), value.len(), TRIES) })?;
         Ok(done == Answer::Done)
