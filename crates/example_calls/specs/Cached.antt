@@ -6,7 +6,7 @@ use Rattle.mc_words.specs.declared.hand.Hand.{Hand}
 use Rattle.mc_items.specs.declared.comparing.Expected.TheVariants.{Item}
 use Rattle.mc_cache.specs.Conditional.{StoresBehindLook}
 use Rattle.mc_cache.specs.Versions.{ReadsVersion}
-use Rattle.mc_cache.specs.shard.Conditions.{FindsVersion}
+use Rattle.mc_shard.specs.Conditions.{FindsVersion}
 use Rattle.mc_cache.specs.declared.cache.Cache.{Cache}
 use Rattle.mc_cache.specs.declared.cache.Worker.{Worker}
 use Rattle.mc_cache.specs.declared.stats.CacheStats.{CacheStats}

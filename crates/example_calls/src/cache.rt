@@ -2,6 +2,7 @@
 
 mod chained;
 mod exchanged;
+mod fitted;
 mod newest;
 mod opened;
 mod remembered;
@@ -13,6 +14,7 @@ mod watched;
 
 pub use chained::call_twice;
 pub use exchanged::exchange;
+pub use fitted::store_begin;
 pub use newest::{RefusedStep, set_twice_and_get};
 pub use opened::{OpenError, Opened, open_within};
 pub use remembered::{Answer, remember};

@@ -1,13 +1,14 @@
 -- What one call does on one shard.
-use Rattle.std.proofs.Common.{IfSome, None, Option, Some, ◌≡◌, ◌<◌, ◌∙◌, ℕ, List, Err, MatchResult, Ok, OnErr, Result, ap, arith, get_or, is_ok, length, refl, set, subst, sym, true≢false}
+use Rattle.std.proofs.lemmas.Bool.{leb-false, leb-true}
+use Rattle.std.proofs.Common.{◌⊎◌, Bool, true, false, inl, inr, nat_le, IfSome, None, Option, Some, ◌≡◌, ◌<◌, ◌∙◌, ℕ, List, Err, MatchResult, Ok, OnErr, Result, ap, arith, get_or, is_ok, length, refl, set, subst, sym, true≢false}
 use Rattle.std.proofs.lemmas.Option.{slice_get_read}
 use Rattle.mc_words.specs.declared.arena.Arena.{Arena}
 use Rattle.mc_words.specs.declared.hand.Hand.{Hand}
-use Rattle.mc_cache.specs.shard.Hands.{IsIdleHandOf}
+use Rattle.mc_shard.specs.Hands.{IsIdleHandOf}
 use Rattle.mc_cache.specs.declared.cache.Cache.{Cache}
 use Rattle.mc_cache.specs.declared.place.Place.{Place}
 use Rattle.mc_cache.specs.Belonging.{hash_in, shard_in}
-use Rattle.mc_cache.specs.Shards.{ActsOnShard, AreIdleHands}
+use Rattle.mc_cache.specs.Shards.{ActsOnShard, AreIdleHands, IsKey}
 use Rattle.mc_cache.proofs.Pairs.{pair_set}
 
 -- the hand of a shard is idle
@@ -74,3 +75,18 @@ acted cache key hands at arena hand after Does are is_hash is_shard in_range is_
 -- a place that was found is one
 pub no_none : {T : Type 0} (x : T) → Some x ≡ None → ⊥
 no_none x is = cc
+
+-- what isn't known to be no key is one
+pub is_key : (key : List ℕ) → (¬ IsKey key → ⊥) → IsKey key
+is_key key so = test (nat_le 1 (length key)) (nat_le (length key) 250) refl refl
+  where
+    test : (some few : Bool) → nat_le 1 (length key) ≡ some → nat_le (length key) 250 ≡ few → IsKey key
+    test true true some few = (leb-true 1 (length key) some, leb-true (length key) 250 few)
+    test false few none is = absurd (so (λ key_is. omega (arith, key_is.0, leb-false 1 (length key) none)))
+    test true false some many = absurd (so (λ key_is. omega (arith, key_is.1, leb-false (length key) 250 many)))
+
+-- a delete found the key, or it didn't, or it was refused
+pub deleted_any : {E : Type 0} (A B C K : Type 0) (r : Result Bool E) → K → (r ≡ Ok true → A) → (r ≡ Ok false → B) → OnErr r (K → C) → A ⊎ B ⊎ C
+deleted_any A B C K (Ok true) key deletes none refused = inl (deletes refl)
+deleted_any A B C K (Ok false) key deletes none refused = inr (inl (none refl))
+deleted_any A B C K (Err e) key deletes none refused = inr (inr (refused key))

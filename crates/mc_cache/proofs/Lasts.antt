@@ -10,9 +10,9 @@ use Rattle.mc_words.specs.hand.Arenas.{setup_of}
 use Rattle.mc_cache.specs.Belonging.{hash_in, shard_in}
 use Rattle.mc_cache.specs.Newest.{GetsKeepLast, LastIsFound, SetsAreLast, UnusedFindOthers}
 use Rattle.mc_cache.specs.Shards.{ActsOnShard, AreIdleHands, GetsAtMost, StoresNoMore, StoresValue}
-use Rattle.mc_cache.specs.shard.Hands.{IsIdleHandOf, IsUnusedHandOf}
-use Rattle.mc_cache.specs.shard.Newest.{HasStoredLast, WasStoredByOther}
-use Rattle.mc_cache.proofs.Shards.LastStored.{finds_last, finds_others, keeps_last, stores_last}
+use Rattle.mc_shard.specs.Hands.{IsIdleHandOf, IsUnusedHandOf}
+use Rattle.mc_shard.specs.Newest.{HasStoredLast, WasStoredByOther}
+use Rattle.mc_cache.proofs.LastStored.{finds_last, finds_others, keeps_last, stores_last}
 
 -- the hand of a shard after a call there
 hand_after : (arenas : List Arena) (shard : ℕ) (Does : Arena → Hand → Hand → Type 0) (before now : List Hand) → (acts : ActsOnShard arenas shard Does before now) → slice_get now shard ≡ Some acts.after

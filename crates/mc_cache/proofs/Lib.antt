@@ -1,4 +1,4 @@
-pub mod Shards
+pub mod LastStored
 pub mod Pairs
 pub mod Dealt
 pub mod Acts
@@ -16,3 +16,4 @@ pub mod EachShard
 pub mod Counted
 pub mod Accepts
 pub mod Sized
+pub mod Classes

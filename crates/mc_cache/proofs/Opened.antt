@@ -7,7 +7,7 @@ use Rattle.mc_words.specs.hand.Arenas.{IsHandOf, view}
 use Rattle.mc_words.specs.hand.Hands.{AreHandsFrom, AreNewHands, IsNewHand}
 use Rattle.mc_words.specs.hand.Ready.{IsReady}
 use Rattle.mc_words.specs.hand.View.{Setup, View}
-use Rattle.mc_cache.specs.shard.Hands.{IsIdleHandOf, IsUnused, IsUnusedHandOf}
+use Rattle.mc_shard.specs.Hands.{IsIdleHandOf, IsUnused, IsUnusedHandOf}
 use Rattle.mc_cache.specs.declared.cache.Worker.{Worker}
 use Rattle.mc_cache.specs.declared.opening.CacheConfig.{CacheConfig}
 use Rattle.mc_cache.specs.Belonging.{HaveIdleHands, HaveUnusedHands}

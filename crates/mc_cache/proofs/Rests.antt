@@ -12,7 +12,7 @@ use Rattle.mc_cache.specs.Belonging.{hash_in, shard_in}
 use Rattle.mc_cache.specs.Pairs.{ArePaired}
 use Rattle.mc_cache.specs.Resting.{IsRestingHandOf, ActsWhenRecalled}
 use Rattle.mc_cache.specs.Shards.{ActsOnShard}
-use Rattle.mc_cache.specs.shard.Hands.{IsIdleHandOf}
+use Rattle.mc_shard.specs.Hands.{IsIdleHandOf}
 use Rattle.mc_cache.proofs.Acts.{acts}
 use Rattle.mc_cache.proofs.Pairs.{pair_set}
 

@@ -1,12 +1,12 @@
 -- A cache and its workers: who belongs to whom, and what a call of a worker does on the shard of its key.
-use Rattle.std.specs.Prelude.{◌≡◌, ◌⊎◌, ℕ, false, List, ◌++◌, All, length}
+use Rattle.std.specs.Prelude.{◌≡◌, ◌⊎◌, ℕ, false, true, List, ◌++◌, All, length}
 use Rattle.mc_words.specs.declared.arena.Arena.{Arena}
 use Rattle.mc_words.specs.declared.hand.Hand.{Hand}
 use Rattle.mc_items.specs.declared.setting.SetError.{SetError}
 use Rattle.mc_cache.specs.declared.cache.Cache.{Cache}
 use Rattle.mc_cache.specs.declared.cache.Worker.{Worker}
 use Rattle.mc_cache.specs.Hashing.{hash_of, shard_of}
-use Rattle.mc_cache.specs.Shards.{ActsOnShard, AreIdleHands, AreUnusedHands, DeletesThere, ReadsOther, ReadsValue, RefusesValue}
+use Rattle.mc_cache.specs.Shards.{ActsOnShard, AreIdleHands, AreUnusedHands, DeletesAtMost, DeletesThere, LooksInVain, ReadsOther, ReadsValue, RefusesValue, TouchesNothing}
 
 -- the worker has an idle hand of each of the cache's arenas
 abbrev pub BelongsTo : Cache → Worker → Type 0
@@ -51,3 +51,17 @@ DeletesNoneOf cache key before now = ActsOnKey cache key (ReadsOther (hash_in ca
 -- the store of the value was refused
 abbrev pub RefusesValueOf : Cache → List ℕ → List ℕ → SetError → Worker → Worker → Type 0
 RefusesValueOf cache key value error before now = ActsOnKey cache key (RefusesValue (hash_in cache key) key value error) before now
+
+-- the worker deleted the key's value; or found none; or its stripe records calls and has no room for one more
+abbrev pub DeletesAnyOf : Cache → List ℕ → Worker → Worker → Type 0
+DeletesAnyOf cache key before now =
+    ActsOnKey cache key (DeletesThere (hash_in cache key) key true) before now ⊎ DeletesNoneOf cache key before now ⊎ ActsOnKey cache key (LooksInVain (hash_in cache key)) before now
+
+-- the store of the value was refused, and then the key's old value was deleted
+pub record RefusesAndDeletes (cache : Cache) (key value : List ℕ) (error : SetError) (before now : Worker) : Type 0 where
+  pub between : Worker
+  pub refuses : RefusesValueOf cache key value error before between
+  pub deletes : DeletesAnyOf cache key between now
+  -- and the hand did no more behind the refusal: it got a delete at most, behind a get at most, and didn't take the slabs lock
+  pub calls : ActsOnKey cache key (DeletesAtMost (hash_in cache key)) between now
+  pub untouched : ActsOnKey cache key TouchesNothing between now

@@ -7,18 +7,18 @@ use Rattle.mc_words.specs.hand.Observers.{hand_number}
 use Rattle.mc_items.specs.declared.setting.SetError as items
 use Rattle.mc_items.specs.declared.within.SetWithinError as items_within
 use Rattle.mc_items.specs.declared.within.SetWithinError.TheVariants as within
-use Rattle.mc_cache.specs.declared.shard.conditions.Outcome.{Outcome}
-use Rattle.mc_cache.specs.declared.shard.conditions.Outcome.TheVariants.{Stored}
-use Rattle.mc_cache.specs.declared.shard.conditions.When.{When}
-use Rattle.mc_cache.specs.declared.shard.conditions.When.TheVariants.{Absent, Present, Version}
+use Rattle.mc_shard.specs.declared.conditions.Outcome.{Outcome}
+use Rattle.mc_shard.specs.declared.conditions.Outcome.TheVariants.{Stored}
+use Rattle.mc_shard.specs.declared.conditions.When.{When}
+use Rattle.mc_shard.specs.declared.conditions.When.TheVariants.{Absent, Present, Version}
 use Rattle.mc_cache.specs.declared.working.SetError.{SetError}
 use Rattle.mc_cache.specs.declared.working.SetError.TheVariants as set_error
 use Rattle.mc_cache.specs.declared.working_within.SetWithinError.{SetWithinError}
 use Rattle.mc_cache.specs.declared.working_within.SetWithinError.TheVariants as set_within_error
 use Rattle.mc_items.specs.declared.comparing.Expected.TheVariants as expected
 use Rattle.mc_items.specs.declared.comparing.Expected.{Expected}
-use Rattle.mc_cache.specs.shard.Conditions.{FindsOtherStamp, FindsVersion, SetsIf, SetsIfWithin, StoresExpected}
-use Rattle.mc_cache.specs.shard.Finding.{FindsKey, FindsWords}
+use Rattle.mc_shard.specs.Conditions.{FindsOtherStamp, FindsVersion, SetsIf, SetsIfWithin, StoresExpected}
+use Rattle.mc_shard.specs.Finding.{FindsKey, FindsWords}
 
 -- the result of a worker's set where that on the shard returned this
 abbrev pub of_item : Result Outcome items.SetError → Result Outcome SetError

@@ -1,4 +1,3 @@
-pub mod shard
 pub mod Hashing
 pub mod HasherInside
 pub mod Pairs
@@ -20,3 +19,4 @@ pub mod WorkingWithin
 pub mod Conditional
 pub mod Versions
 pub mod OpeningWithin
+pub mod Sizes

@@ -8,7 +8,7 @@ use Rattle.mc_cache.specs.declared.cache.Cache.{Cache}
 use Rattle.mc_cache.specs.declared.cache.Worker.{Worker}
 use Rattle.mc_cache.specs.Belonging.{ActsOnKey, BelongsTo, IsUnusedWorker, hash_in, shard_in}
 use Rattle.mc_cache.specs.Shards.{GetsAtMost, ReadsValue, StoresNoMore, StoresValue}
-use Rattle.mc_cache.specs.shard.Newest.{HasStoredLast, WasStoredByOther}
+use Rattle.mc_shard.specs.Newest.{HasStoredLast, WasStoredByOther}
 
 -- the worker's hand of the key's shard stored this value under the key, and no call of this worker came after this that set, deleted or
 -- evicted the key's hash

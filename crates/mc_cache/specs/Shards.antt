@@ -8,12 +8,12 @@ use Rattle.mc_words.specs.item.Items.{item_with}
 use Rattle.mc_words.specs.hand.Observers.{hand_number}
 use Rattle.mc_items.specs.Keeping.{StoresWithStamp, StoresNothing}
 use Rattle.mc_items.specs.declared.setting.SetError.{SetError}
-use Rattle.mc_cache.specs.shard.Finding.{DeletesKey, FindsFull, FindsKey, FindsLockTaken, FindsOtherKey, FindsValue, TouchesKey}
-use Rattle.mc_cache.specs.shard.Hands.{IsIdleHandOf, IsUnusedHandOf}
-use Rattle.mc_cache.specs.shard.Reading.{LeavesSlabs, TakesSlabsOnce}
-use Rattle.mc_cache.specs.shard.Recording.{RecordsDeleteAtMost, RecordsGetAtMost}
+use Rattle.mc_shard.specs.Finding.{DeletesKey, FindsFull, FindsKey, FindsLockTaken, FindsOtherKey, FindsValue, TouchesKey}
+use Rattle.mc_shard.specs.Hands.{IsIdleHandOf, IsUnusedHandOf}
+use Rattle.mc_shard.specs.Reading.{LeavesSlabs, TakesSlabsOnce}
+use Rattle.mc_shard.specs.Recording.{RecordsDeleteAtMost, RecordsGetAtMost}
 use Rattle.mc_items.specs.declared.comparing.Expected.TheVariants.{Anything}
-use Rattle.mc_cache.specs.shard.Setting.{RecordsEvictionsAlone, RecordsSetBehindRoom, RefusesBytes, SetsBehindRoom}
+use Rattle.mc_shard.specs.Setting.{RecordsEvictionsAlone, RecordsSetBehindRoom, RefusesBytes, SetsBehindRoom}
 use Rattle.mc_cache.specs.Pairs.{ArePaired}
 
 -- the list has one hand for each arena, an idle hand of that arena
@@ -23,6 +23,11 @@ AreIdleHands arenas hands = ArePaired IsIdleHandOf arenas hands
 -- the list has one hand for each arena, an idle hand of that arena that did nothing yet
 abbrev pub AreUnusedHands : List Arena → List Hand → Type 0
 AreUnusedHands arenas hands = ArePaired IsUnusedHandOf arenas hands
+
+-- the arenas have the same size classes
+abbrev pub HaveOneTable : List Arena → Type 0
+HaveOneTable arenas =
+    (first second : Arena) (low high : ℕ) → slice_get arenas low ≡ Some first → slice_get arenas high ≡ Some second → (setup_of first).table ≡ (setup_of second).table
 
 -- each of these hands is an idle one of the arena that did nothing yet
 abbrev pub AreUnusedHandsOf : Arena → List Hand → Type 0

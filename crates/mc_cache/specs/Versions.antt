@@ -10,10 +10,10 @@ use Rattle.mc_cache.specs.declared.working.TryGetError.{TryGetError}
 use Rattle.mc_cache.specs.declared.working.TryGetError.TheVariants as try_error
 use Rattle.mc_cache.specs.Belonging.{ActsOnKey, hash_in}
 use Rattle.mc_cache.specs.Shards.{GetsAtMost}
-use Rattle.mc_cache.specs.shard.Conditions.{FindsVersion, ReturnsVersion}
-use Rattle.mc_cache.specs.shard.Finding.{FindsFull, FindsOtherKey, FindsSome}
-use Rattle.mc_cache.specs.shard.Reading.{LeavesSlabs}
-use Rattle.mc_cache.specs.shard.Within.{MissesLock}
+use Rattle.mc_shard.specs.Conditions.{FindsVersion, ReturnsVersion}
+use Rattle.mc_shard.specs.Finding.{FindsFull, FindsOtherKey, FindsSome}
+use Rattle.mc_shard.specs.Reading.{LeavesSlabs}
+use Rattle.mc_shard.specs.Within.{MissesLock}
 
 -- the hand found the key with this value of this version, and stored nothing
 abbrev pub ReadsVersion : ℕ → List ℕ → List ℕ → ℕ → Arena → Hand → Hand → Type 0

@@ -15,12 +15,15 @@ use Rattle.mc_cache.specs.declared.working_within.SetWithinError.{SetWithinError
 use Rattle.mc_cache.specs.declared.working_within.SetWithinError.TheVariants as set_error
 use Rattle.mc_cache.specs.declared.working_within.WithinError.{WithinError}
 use Rattle.mc_cache.specs.declared.working_within.WithinError.TheVariants as within_error
+use Rattle.mc_cache.specs.declared.cache.Cache.{Cache}
+use Rattle.mc_cache.specs.declared.cache.Worker.{Worker}
+use Rattle.mc_cache.specs.Resting.{ActsAgain}
 use Rattle.mc_cache.specs.Shards.{DeletesAtMost, GetsAtMost}
-use Rattle.mc_cache.specs.shard.Finding.{DeletesKey, DeletesNone, FindsFull, FindsOtherKey, FindsSome, ReturnsValue, TouchesKey}
-use Rattle.mc_cache.specs.shard.Reading.{LeavesSlabs, TakesSlabsOnce}
+use Rattle.mc_shard.specs.Finding.{DeletesKey, DeletesNone, FindsFull, FindsOtherKey, FindsSome, ReturnsValue, TouchesKey}
+use Rattle.mc_shard.specs.Reading.{LeavesSlabs, TakesSlabsOnce}
 use Rattle.mc_items.specs.declared.comparing.Expected.TheVariants.{Anything}
-use Rattle.mc_cache.specs.shard.Setting.{RecordsEvictionsAlone, RecordsSetBehindRoom, RefusesBytes, SetsBehindRoom}
-use Rattle.mc_cache.specs.shard.Within.{MissesDelete, MissesLock, MissesKeyTouch, RefusesBytesWithin}
+use Rattle.mc_shard.specs.Setting.{RecordsEvictionsAlone, RecordsSetBehindRoom, RefusesBytes, SetsBehindRoom}
+use Rattle.mc_shard.specs.Within.{MissesDelete, MissesLock, MissesKeyTouch, RefusesBytesWithin}
 
 -- a set of the value under the key
 pub record SetsWithin (tries hash : ℕ) (key value : List ℕ) (result : Result (Unit {0}) SetWithinError) (arena : Arena) (before now : Hand) : Type 0 where
@@ -71,3 +74,32 @@ pub record TouchesWithin (tries hash : ℕ) (key : List ℕ) (result : Result Bo
   pub slabs : (result ≡ Ok true → ⊥) → LeavesSlabs (view before) (view now)
   pub calls : GetsAtMost hash arena before now
   pub stores_nothing : StoresNothing (view before) (view now)
+
+-- the set was done, or held; so it wasn't refused
+abbrev pub IsDoneOrHeld : Result (Unit {0}) SetWithinError → Type 0
+IsDoneOrHeld (Ok done) = Unit {0}
+IsDoneOrHeld (Err set_error.Held) = Unit {0}
+IsDoneOrHeld (Err set_error.KeyLength) = ⊥
+IsDoneOrHeld (Err (set_error.Item error)) = ⊥
+
+-- what a set returns that was refused, and whose delete returned this
+abbrev pub refusal_behind : Result Bool WithinError → SetError → Result (Unit {0}) SetWithinError
+refusal_behind (Err within_error.Held) error = Err set_error.Held
+refusal_behind (Err within_error.KeyLength) error = Err (set_error.Item error)
+refusal_behind (Err (within_error.NoMemory refused)) error = Err (set_error.Item error)
+refusal_behind (Ok there) error = Err (set_error.Item error)
+
+-- the store was refused, and then the key's old value was deleted, or each try for that missed
+pub record RefusesAndDeletesWithin (cache : Cache) (tries : ℕ) (key value : List ℕ) (result : Result (Unit {0}) SetWithinError) (before now : Worker) : Type 0 where
+  pub error : SetError
+  pub between : Worker
+  pub refuses : ActsAgain cache key (λ hash. SetsWithin tries hash key value (Err (set_error.Item error))) before between
+  pub deleted : Result Bool WithinError
+  pub deletes : ActsAgain cache key (λ hash. DeletesWithin tries hash key deleted) between now
+  pub result_is : result ≡ refusal_behind deleted error
+
+-- a set that deletes the key's old value where it is refused
+abbrev pub SetsOrDeletesWithin : Cache → ℕ → List ℕ → List ℕ → Result (Unit {0}) SetWithinError → Worker → Worker → Type 0
+SetsOrDeletesWithin cache tries key value result before now =
+    (IsDoneOrHeld result × ActsAgain cache key (λ hash. SetsWithin tries hash key value result) before now)
+    ⊎ RefusesAndDeletesWithin cache tries key value result before now

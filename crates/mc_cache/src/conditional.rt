@@ -1,18 +1,18 @@
 //! The calls of a worker that store only on a condition.
 use crate::cache::{Cache, Worker};
-use crate::shard;
-use crate::shard::{Label, Outcome, When};
-use crate::working::{MOST_VALUE_BYTES, SetError};
+use crate::working::SetError;
+use mc_shard::{Label, Outcome, When};
 use mc_stripe::Stamp;
 use std::sync::Wait;
 
 impl Worker {
-    ghost use Rattle.std.specs.Prelude.{◌≡◌, ◌<◌, ◌≤◌, ◌↔◌, ◌⊎◌, Err, length};
-    ghost use Rattle.mc_classes.specs.Limits.{most_page_bytes};
+    ghost use Rattle.std.specs.Prelude.{◌≡◌, ◌↔◌, Err, length};
+    ghost use Rattle.mc_items.specs.declared.setting.SetError.TheVariants as item_error;
     ghost use Rattle.mc_cache.specs.Belonging.{ActsOnKey, BelongsTo, KeepsHands, hash_in};
     ghost use Rattle.mc_cache.specs.Conditional.{SetsValueIf};
     ghost use Rattle.mc_cache.specs.Shards.{IsKey};
-    ghost use Rattle.mc_cache.specs.declared.shard.conditions.When.TheVariants as when;
+    ghost use Rattle.mc_cache.specs.Sizes.{LacksClassIn};
+    ghost use Rattle.mc_shard.specs.declared.conditions.When.TheVariants as when;
     ghost use Rattle.mc_cache.specs.declared.working.SetError.TheVariants as set_error;
 
     /// Stores the value under the key as [`Worker::set`] does, where the key has none, and returns `Exists` where it has one. (memcached's
@@ -27,11 +27,10 @@ impl Worker {
         requires { BelongsTo cache.now self.old }
         ensures belongs { BelongsTo cache.now self.new }
         ensures key { (result ≡ Err set_error.KeyLength) ↔ ¬ IsKey key.now }
-        ensures value { (result ≡ Err set_error.ValueLength) ↔ IsKey key.now
-            × (most_page_bytes < length value.now) }
-        ensures same { ¬ IsKey key.now ⊎ (most_page_bytes < length value.now) →
-            KeepsHands self.old self.new }
-        ensures acts { IsKey key.now → length value.now ≤ most_page_bytes →
+        ensures too_large { result ≡ Err (set_error.Item item_error.TooLarge) →
+            LacksClassIn cache.now (length key.now) (length value.now) }
+        ensures same { ¬ IsKey key.now → KeepsHands self.old self.new }
+        ensures acts { IsKey key.now →
             ActsOnKey cache.now key.now (SetsValueIf (hash_in cache.now key.now) key.now value.now
             when.Absent result) self.old self.new }
     {
@@ -50,11 +49,10 @@ impl Worker {
         requires { BelongsTo cache.now self.old }
         ensures belongs { BelongsTo cache.now self.new }
         ensures key { (result ≡ Err set_error.KeyLength) ↔ ¬ IsKey key.now }
-        ensures value { (result ≡ Err set_error.ValueLength) ↔ IsKey key.now
-            × (most_page_bytes < length value.now) }
-        ensures same { ¬ IsKey key.now ⊎ (most_page_bytes < length value.now) →
-            KeepsHands self.old self.new }
-        ensures acts { IsKey key.now → length value.now ≤ most_page_bytes →
+        ensures too_large { result ≡ Err (set_error.Item item_error.TooLarge) →
+            LacksClassIn cache.now (length key.now) (length value.now) }
+        ensures same { ¬ IsKey key.now → KeepsHands self.old self.new }
+        ensures acts { IsKey key.now →
             ActsOnKey cache.now key.now (SetsValueIf (hash_in cache.now key.now) key.now value.now
             when.Present result) self.old self.new }
     {
@@ -74,11 +72,10 @@ impl Worker {
         requires { BelongsTo cache.now self.old }
         ensures belongs { BelongsTo cache.now self.new }
         ensures key { (result ≡ Err set_error.KeyLength) ↔ ¬ IsKey key.now }
-        ensures value { (result ≡ Err set_error.ValueLength) ↔ IsKey key.now
-            × (most_page_bytes < length value.now) }
-        ensures same { ¬ IsKey key.now ⊎ (most_page_bytes < length value.now) →
-            KeepsHands self.old self.new }
-        ensures acts { IsKey key.now → length value.now ≤ most_page_bytes →
+        ensures too_large { result ≡ Err (set_error.Item item_error.TooLarge) →
+            LacksClassIn cache.now (length key.now) (length value.now) }
+        ensures same { ¬ IsKey key.now → KeepsHands self.old self.new }
+        ensures acts { IsKey key.now →
             ActsOnKey cache.now key.now (SetsValueIf (hash_in cache.now key.now) key.now value.now
             (when.Version version) result) self.old self.new }
     {
@@ -98,25 +95,21 @@ impl Worker {
         requires { BelongsTo cache.now self.old }
         ensures belongs { BelongsTo cache.now self.new }
         ensures key { (result ≡ Err set_error.KeyLength) ↔ ¬ IsKey key.now }
-        ensures value { (result ≡ Err set_error.ValueLength) ↔ IsKey key.now
-            × (most_page_bytes < length value.now) }
-        ensures same { ¬ IsKey key.now ⊎ (most_page_bytes < length value.now) →
-            KeepsHands self.old self.new }
-        ensures acts { IsKey key.now → length value.now ≤ most_page_bytes →
+        ensures too_large { result ≡ Err (set_error.Item item_error.TooLarge) →
+            LacksClassIn cache.now (length key.now) (length value.now) }
+        ensures same { ¬ IsKey key.now → KeepsHands self.old self.new }
+        ensures acts { IsKey key.now →
             ActsOnKey cache.now key.now (SetsValueIf (hash_in cache.now key.now) key.now value.now
             when result) self.old self.new }
     {
         let Some(at) = cache.place_of(key) else {
             return Err(SetError::KeyLength);
         };
-        if value.len() > MOST_VALUE_BYTES {
-            return Err(SetError::ValueLength);
-        }
         let arena = &cache.arenas[at.shard];
         let hand = &mut self.hands[at.shard];
         let label = Label { hash: at.hash, key };
         let words = &mut self.words;
-        match shard::set_if(rt, arena, &cache.hints, hand, label, value, words, when) {
+        match mc_shard::set_if(rt, arena, &cache.hints, hand, label, value, words, when) {
             Ok(outcome) => Ok(outcome),
             Err(error) => Err(SetError::Item(error)),
         }

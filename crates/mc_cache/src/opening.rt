@@ -15,11 +15,11 @@ ghost use Rattle.mc_cache.specs.declared.opening.NewError.TheVariants as refused
 use crate::bytes::hint_place_count;
 use crate::cache::{Cache, Worker};
 use crate::hashing::{HashKey, KeyedHasher};
-use crate::shard::HintTable;
 use crate::tending::Tender;
 use mc_classes::{Config, ConfigError, MOST_WORKERS};
 use mc_memory::{Refused, push, with_capacity};
 use mc_mover::forget;
+use mc_shard::HintTable;
 use mc_watch::Decider;
 use mc_words::{Arena, Hand};
 use std::alloc::Global;

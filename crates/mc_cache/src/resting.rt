@@ -3,7 +3,7 @@ ghost use Rattle.std.specs.Prelude.{◌≡◌};
 ghost use Rattle.mc_words.specs.hand.Arenas.{view};
 ghost use Rattle.mc_words.specs.hand.Observers.{hand_number};
 ghost use Rattle.mc_cache.specs.Resting.{IsRestingHandOf};
-ghost use Rattle.mc_cache.specs.shard.Hands.{IsIdleHandOf};
+ghost use Rattle.mc_shard.specs.Hands.{IsIdleHandOf};
 
 use mc_words::{Arena, Hand};
 

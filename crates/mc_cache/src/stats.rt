@@ -5,7 +5,7 @@ ghost use Rattle.mc_items.specs.Keeping.{StoresNothing};
 ghost use Rattle.mc_mover.specs.declared.within.SurveyWithin.TheVariants as survey_error;
 ghost use Rattle.mc_cache.specs.Resting.{IsRestingHandOf};
 ghost use Rattle.mc_cache.specs.WindowsWithin.{MissesEachTime};
-ghost use Rattle.mc_cache.specs.shard.Hands.{IsIdleHandOf};
+ghost use Rattle.mc_shard.specs.Hands.{IsIdleHandOf};
 ghost use Rattle.mc_cache.specs.Stats.{AddsNumbers, AddsSurvey, CountsShard, SumsSurveys, class_in_all, class_with, most_classes_of_shards, no_statistics, sum_in_all};
 
 use crate::resting::recall;

@@ -1,9 +1,8 @@
 //! The gets of a worker that return the version of the value, by which a later set can tell whether it changed.
 use crate::cache::{Cache, Worker};
 use crate::resting::recall;
-use crate::shard;
-use crate::shard::Label;
 use crate::working::{CallError, TryGetError};
+use mc_shard::Label;
 use mc_stripe::Stamp;
 use std::sync::Wait;
 
@@ -50,7 +49,7 @@ impl Worker {
         let arena = &cache.arenas[at.shard];
         let hand = &mut self.hands[at.shard];
         let label = Label { hash: at.hash, key };
-        match shard::get_with_version(rt, arena, &cache.hints, hand, label, into) {
+        match mc_shard::get_with_version(rt, arena, &cache.hints, hand, label, into) {
             Ok(found) => Ok(found),
             Err(refused) => Err(CallError::NoMemory(refused)),
         }
@@ -82,10 +81,10 @@ impl Worker {
         let hand = &mut self.hands[at.shard];
         recall(arena, hand);
         let label = Label { hash: at.hash, key };
-        match shard::get_with_version_within(arena, &cache.hints, hand, label, tries, into) {
+        match mc_shard::get_with_version_within(arena, &cache.hints, hand, label, tries, into) {
             Ok(found) => Ok(found),
-            Err(shard::TryGetError::NoMemory(refused)) => { Err(TryGetError::NoMemory(refused)) }
-            Err(shard::TryGetError::Held) => Err(TryGetError::Held),
+            Err(mc_shard::TryGetError::NoMemory(refused)) => { Err(TryGetError::NoMemory(refused)) }
+            Err(mc_shard::TryGetError::Held) => Err(TryGetError::Held),
         }
     }
 }

@@ -2,7 +2,7 @@
 ghost use Rattle.std.specs.Prelude.{◌≡◌, IfOk, OnErr, OnOk};
 ghost use Rattle.mc_words.specs.hand.Arenas.{view};
 ghost use Rattle.mc_items.specs.Keeping.{StoresNothing};
-ghost use Rattle.mc_cache.specs.shard.Hands.{IsIdleHandOf};
+ghost use Rattle.mc_shard.specs.Hands.{IsIdleHandOf};
 ghost use Rattle.mc_cache.specs.Windows.{DoesWindowTurns, EndsWindow, TendsShard, began_by, decider_after, decision_after, is_under_way};
 
 use crate::tended::Tended;

@@ -4,7 +4,7 @@ ghost use Rattle.mc_words.specs.hand.Arenas.{view};
 ghost use Rattle.mc_items.specs.Keeping.{StoresNothing};
 ghost use Rattle.mc_cache.specs.Resting.{IsRestingHandOf};
 ghost use Rattle.mc_cache.specs.WindowsWithin.{DoesTurnsWithin, EndsWindowWithin, TendsShardWithin};
-ghost use Rattle.mc_cache.specs.shard.Hands.{IsIdleHandOf};
+ghost use Rattle.mc_shard.specs.Hands.{IsIdleHandOf};
 
 use crate::resting::recall;
 use crate::tended::Tended;

@@ -1,9 +1,7 @@
 //! The calls of a worker.
 use crate::cache::{Cache, Worker};
-use crate::shard;
-use crate::shard::Label;
-use mc_classes::MOST_PAGE_BYTES;
 use mc_memory::Refused;
+use mc_shard::Label;
 use std::sync::Wait;
 use thiserror::Error;
 
@@ -13,10 +11,7 @@ pub enum SetError {
     /// The key has no byte, or more than 250. Nothing was done.
     #[error("a key must have from 1 to 250 bytes; nothing was done")]
     KeyLength,
-    /// The value has more than 16,384 bytes, as no chunk has. Nothing was done.
-    #[error("a value must have at most 16384 bytes; nothing was done")]
-    ValueLength,
-    /// The item isn't stored. The key has what it had, unless its item was among those that were evicted.
+    /// The item isn't stored. Where it is too large, [`Cache::max_value`] returns the most bytes that a value may have.
     #[error("the value isn't stored: {0}")]
     Item(mc_items::SetError),
 }
@@ -46,21 +41,20 @@ pub enum TryGetError {
     Held,
 }
 
-/// The most bytes of a value: as many as the largest chunk has. (own)
-pub(crate) const MOST_VALUE_BYTES: usize = MOST_PAGE_BYTES as usize;
-
 impl Worker {
-    ghost use Rattle.std.specs.Prelude.{◌≡◌, ◌<◌, ◌↔◌, ◌⊎◌, Err, Ok, OnErr, OnOk, false, length, true};
-    ghost use Rattle.mc_classes.specs.Limits.{most_page_bytes};
+    ghost use Rattle.std.specs.Prelude.{◌≡◌, ◌↔◌, Err, Ok, OnErr, OnOk, false, length, true};
     ghost use Rattle.mc_items.specs.declared.setting.SetError as items;
-    ghost use Rattle.mc_cache.specs.Belonging.{ActsOnKey, BelongsTo, DeletesNoneOf, GivesValueOf, KeepsHands, RefusesValueOf, hash_in};
+    ghost use Rattle.mc_items.specs.declared.setting.SetError.TheVariants as item_error;
+    ghost use Rattle.mc_cache.specs.Belonging.{ActsOnKey, BelongsTo, DeletesNoneOf, GivesValueOf, KeepsHands, RefusesAndDeletes, RefusesValueOf, hash_in};
+    ghost use Rattle.mc_cache.specs.Sizes.{LacksClassIn};
     ghost use Rattle.mc_cache.specs.Shards.{DeletesAtMost, DeletesThere, FindsStripeLocked, FindsKeyInShard, GetsAtMost, IsKey, LooksInVain, ReadsOther, StoresNoMore, StoresValue, TouchesNothing, TouchesOnce, TouchesThere};
     ghost use Rattle.mc_cache.specs.declared.working.CallError.TheVariants as call_error;
     ghost use Rattle.mc_cache.specs.declared.working.SetError.TheVariants as set_error;
     ghost use Rattle.mc_cache.specs.declared.working.TryGetError.TheVariants as try_error;
 
     /// Stores the value under the key, in the place of what the key had. An item of another key with the same hash goes, as by an
-    /// eviction. Where its class is full, some of the oldest items are evicted first. It waits for locks of the key's shard. (memcached's `set`)
+    /// eviction. Where its class is full, some of the oldest items are evicted first. Where the store is refused, the key's old value is
+    /// deleted, so that no get finds it any more. It waits for locks of the key's shard. (memcached's `set`)
     pub fn set<R: Wait>(
         &mut self,
         rt: &R,
@@ -71,10 +65,35 @@ impl Worker {
         requires { BelongsTo cache.now self.old }
         ensures belongs { BelongsTo cache.now self.new }
         ensures key { (result ≡ Err set_error.KeyLength) ↔ ¬ IsKey key.now }
-        ensures value { (result ≡ Err set_error.ValueLength) ↔ IsKey key.now
-            × (most_page_bytes < length value.now) }
-        ensures same { ¬ IsKey key.now ⊎ (most_page_bytes < length value.now) →
-            KeepsHands self.old self.new }
+        ensures too_large { (result ≡ Err (set_error.Item item_error.TooLarge)) ↔ IsKey key.now
+            × LacksClassIn cache.now (length key.now) (length value.now) }
+        ensures same { ¬ IsKey key.now → KeepsHands self.old self.new }
+        ensures stores { OnOk result (ActsOnKey cache.now key.now
+            (StoresValue (hash_in cache.now key.now) key.now value.now) self.old self.new) }
+        ensures refused { (error : items.SetError) → result ≡ Err (set_error.Item error) →
+            RefusesAndDeletes cache.now key.now value.now error self.old self.new }
+    {
+        let stored = self.set_or_keep(rt, cache, key, value);
+        if stored.is_err() {
+            let _deleted = self.delete(rt, cache, key);
+        }
+        stored
+    }
+
+    /// The same as `set`, but where the store is refused, the key has what it had, unless its item was among those that were evicted. (own)
+    pub fn set_or_keep<R: Wait>(
+        &mut self,
+        rt: &R,
+        cache: &Cache,
+        key: &[u8],
+        value: &[u8],
+    ) -> Result<(), SetError>
+        requires { BelongsTo cache.now self.old }
+        ensures belongs { BelongsTo cache.now self.new }
+        ensures key { (result ≡ Err set_error.KeyLength) ↔ ¬ IsKey key.now }
+        ensures too_large { (result ≡ Err (set_error.Item item_error.TooLarge)) ↔ IsKey key.now
+            × LacksClassIn cache.now (length key.now) (length value.now) }
+        ensures same { ¬ IsKey key.now → KeepsHands self.old self.new }
         ensures stores { OnOk result (ActsOnKey cache.now key.now
             (StoresValue (hash_in cache.now key.now) key.now value.now) self.old self.new) }
         ensures refused { (error : items.SetError) → result ≡ Err (set_error.Item error) →
@@ -83,13 +102,10 @@ impl Worker {
         let Some(at) = cache.place_of(key) else {
             return Err(SetError::KeyLength);
         };
-        if value.len() > MOST_VALUE_BYTES {
-            return Err(SetError::ValueLength);
-        }
         let arena = &cache.arenas[at.shard];
         let hand = &mut self.hands[at.shard];
         let label = Label { hash: at.hash, key };
-        match shard::set(rt, arena, &cache.hints, hand, label, value, &mut self.words) {
+        match mc_shard::set(rt, arena, &cache.hints, hand, label, value, &mut self.words) {
             Ok(_stamp) => Ok(()),
             Err(error) => Err(SetError::Item(error)),
         }
@@ -127,7 +143,7 @@ impl Worker {
         let arena = &cache.arenas[at.shard];
         let hand = &mut self.hands[at.shard];
         let label = Label { hash: at.hash, key };
-        shard::get(rt, arena, &cache.hints, hand, label, into).map_err(CallError::NoMemory)
+        mc_shard::get(rt, arena, &cache.hints, hand, label, into).map_err(CallError::NoMemory)
     }
 
     /// Puts the key's value behind the bytes that are there, and returns whether the key has one. Where it has none, or the call
@@ -163,7 +179,7 @@ impl Worker {
         let arena = &cache.arenas[at.shard];
         let hand = &mut self.hands[at.shard];
         let label = Label { hash: at.hash, key };
-        shard::peek(rt, arena, &cache.hints, hand, label, into).map_err(CallError::NoMemory)
+        mc_shard::peek(rt, arena, &cache.hints, hand, label, into).map_err(CallError::NoMemory)
     }
 
     /// The same as `get`, but refused where another hand has the lock that it wants. It doesn't wait. (own)
@@ -199,10 +215,10 @@ impl Worker {
         let arena = &cache.arenas[at.shard];
         let hand = &mut self.hands[at.shard];
         let label = Label { hash: at.hash, key };
-        match shard::try_get(arena, &cache.hints, hand, label, into) {
+        match mc_shard::try_get(arena, &cache.hints, hand, label, into) {
             Ok(found) => Ok(found),
-            Err(shard::TryGetError::NoMemory(refused)) => { Err(TryGetError::NoMemory(refused)) }
-            Err(shard::TryGetError::Held) => Err(TryGetError::Held),
+            Err(mc_shard::TryGetError::NoMemory(refused)) => { Err(TryGetError::NoMemory(refused)) }
+            Err(mc_shard::TryGetError::Held) => Err(TryGetError::Held),
         }
     }
 
@@ -237,7 +253,7 @@ impl Worker {
         let arena = &cache.arenas[at.shard];
         let hand = &mut self.hands[at.shard];
         let label = Label { hash: at.hash, key };
-        shard::contains(rt, arena, &cache.hints, hand, label).map_err(CallError::NoMemory)
+        mc_shard::contains(rt, arena, &cache.hints, hand, label).map_err(CallError::NoMemory)
     }
 
     /// Deletes the key, and returns whether it had a value. An item of another key with the same hash stays; where one is stored
@@ -266,7 +282,7 @@ impl Worker {
         let arena = &cache.arenas[at.shard];
         let hand = &mut self.hands[at.shard];
         let label = Label { hash: at.hash, key };
-        shard::delete(rt, arena, &cache.hints, hand, label).map_err(CallError::NoMemory)
+        mc_shard::delete(rt, arena, &cache.hints, hand, label).map_err(CallError::NoMemory)
     }
 
     /// Makes the key's item the one of its class that is evicted last, and returns whether the key has a value. It waits for
@@ -298,6 +314,6 @@ impl Worker {
         let arena = &cache.arenas[at.shard];
         let hand = &mut self.hands[at.shard];
         let label = Label { hash: at.hash, key };
-        shard::touch(rt, arena, &cache.hints, hand, label).map_err(CallError::NoMemory)
+        mc_shard::touch(rt, arena, &cache.hints, hand, label).map_err(CallError::NoMemory)
     }
 }

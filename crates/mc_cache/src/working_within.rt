@@ -1,21 +1,21 @@
 //! The calls of a worker that try for each lock n times, and don't wait. A worker may lie in a struct between them. A caller that can't wait uses
 //! these calls: a static library can't. (own)
-ghost use Rattle.std.specs.Prelude.{◌≡◌, ◌↔◌, ◌⊎◌, ◌<◌, ◌≤◌, Err, Ok, length, true};
-ghost use Rattle.mc_classes.specs.Limits.{most_page_bytes};
+ghost use Rattle.std.specs.Prelude.{◌≡◌, ◌↔◌, Err, Ok, length, true};
+ghost use Rattle.mc_items.specs.declared.setting.SetError.TheVariants as item_error;
 ghost use Rattle.mc_cache.specs.Belonging.{KeepsHands};
 ghost use Rattle.mc_cache.specs.Resting.{ActsAgain, RestsIn};
 ghost use Rattle.mc_cache.specs.Shards.{IsKey};
-ghost use Rattle.mc_cache.specs.WorkingWithin.{DeletesWithin, GetsWithin, SetsWithin, TouchesWithin};
+ghost use Rattle.mc_cache.specs.Sizes.{LacksClassIn};
+ghost use Rattle.mc_cache.specs.WorkingWithin.{DeletesWithin, GetsWithin, SetsOrDeletesWithin, SetsWithin, TouchesWithin, refusal_behind};
 ghost use Rattle.mc_cache.specs.declared.working.TryGetError.TheVariants as try_error;
 ghost use Rattle.mc_cache.specs.declared.working_within.SetWithinError.TheVariants as set_error;
 ghost use Rattle.mc_cache.specs.declared.working_within.WithinError.TheVariants as within_error;
 
 use crate::cache::{Cache, Worker};
 use crate::resting::recall;
-use crate::shard;
-use crate::shard::Label;
-use crate::working::{MOST_VALUE_BYTES, TryGetError};
+use crate::working::TryGetError;
 use mc_memory::Refused;
+use mc_shard::Label;
 use thiserror::Error;
 
 /// Why a delete or a touch that doesn't wait was refused. The key has what it had.
@@ -38,10 +38,7 @@ pub enum SetWithinError {
     /// The key has no byte, or more than 250. Nothing was done.
     #[error("a key must have from 1 to 250 bytes; nothing was done")]
     KeyLength,
-    /// The value has more than 16,384 bytes, as no chunk has. Nothing was done.
-    #[error("a value must have at most 16384 bytes; nothing was done")]
-    ValueLength,
-    /// The item isn't stored. The key has what it had, unless its item was among those that were evicted.
+    /// The item isn't stored. Where it is too large, [`Cache::max_value`] returns the most bytes that a value may have.
     #[error("the value isn't stored: {0}")]
     Item(mc_items::SetError),
     /// Other workers had a lock of the key's shard at each try. The key has what it had, unless its item was among those that were evicted.
@@ -49,8 +46,24 @@ pub enum SetWithinError {
     Held,
 }
 
+// What a set returns that was refused, and whose delete returned this.
+fn refusal_behind(
+    deleted: Result<bool, WithinError>,
+    error: mc_items::SetError,
+) -> Result<(), SetWithinError>
+    ensures { result ≡ refusal_behind deleted error }
+{
+    match deleted {
+        Err(WithinError::Held) => Err(SetWithinError::Held),
+        Ok(_) | Err(WithinError::KeyLength) | Err(WithinError::NoMemory(_)) => {
+            Err(SetWithinError::Item(error))
+        }
+    }
+}
+
 impl Worker {
-    /// The same as `set`, but the worker tries for each lock `tries` times at most, and doesn't wait. (own)
+    /// The same as `set`, but the worker tries for each lock `tries` times at most, and doesn't wait. `Held` also where the store was refused
+    /// and then each try of the delete missed: the key has what it had then. (own)
     pub fn set_within(
         &mut self,
         cache: &Cache,
@@ -61,25 +74,49 @@ impl Worker {
         requires { RestsIn cache.now self.old }
         ensures rests { RestsIn cache.now self.new }
         ensures key { (result ≡ Err set_error.KeyLength) ↔ ¬ IsKey key.now }
-        ensures value { (result ≡ Err set_error.ValueLength) ↔ IsKey key.now
-            × (most_page_bytes < length value.now) }
-        ensures same { ¬ IsKey key.now ⊎ (most_page_bytes < length value.now) →
-            KeepsHands self.old self.new }
-        ensures acts { IsKey key.now → length value.now ≤ most_page_bytes → ActsAgain
+        ensures too_large { result ≡ Err (set_error.Item item_error.TooLarge) →
+            LacksClassIn cache.now (length key.now) (length value.now) }
+        ensures same { ¬ IsKey key.now → KeepsHands self.old self.new }
+        ensures acts { IsKey key.now →
+            SetsOrDeletesWithin cache.now tries key.now value.now result self.old self.new }
+    {
+        match self.set_or_keep_within(cache, key, value, tries) {
+            Ok(()) => Ok(()),
+            Err(SetWithinError::KeyLength) => Err(SetWithinError::KeyLength),
+            Err(SetWithinError::Held) => Err(SetWithinError::Held),
+            Err(SetWithinError::Item(error)) => {
+                let deleted = self.delete_within(cache, key, tries);
+                refusal_behind(deleted, error)
+            }
+        }
+    }
+
+    /// The same as `set_or_keep`, but the worker tries for each lock `tries` times at most, and doesn't wait. (own)
+    pub fn set_or_keep_within(
+        &mut self,
+        cache: &Cache,
+        key: &[u8],
+        value: &[u8],
+        tries: u64,
+    ) -> Result<(), SetWithinError>
+        requires { RestsIn cache.now self.old }
+        ensures rests { RestsIn cache.now self.new }
+        ensures key { (result ≡ Err set_error.KeyLength) ↔ ¬ IsKey key.now }
+        ensures too_large { (result ≡ Err (set_error.Item item_error.TooLarge)) ↔ IsKey key.now
+            × LacksClassIn cache.now (length key.now) (length value.now) }
+        ensures same { ¬ IsKey key.now → KeepsHands self.old self.new }
+        ensures acts { IsKey key.now → ActsAgain
             cache.now key.now (λ hash. SetsWithin tries hash key.now value.now result) self.old
             self.new }
     {
         let Some(at) = cache.place_of(key) else {
             return Err(SetWithinError::KeyLength);
         };
-        if value.len() > MOST_VALUE_BYTES {
-            return Err(SetWithinError::ValueLength);
-        }
         let arena = &cache.arenas[at.shard];
         let hand = &mut self.hands[at.shard];
         recall(arena, hand);
         let label = Label { hash: at.hash, key };
-        match shard::set_within(
+        match mc_shard::set_within(
             arena,
             &cache.hints,
             hand,
@@ -118,10 +155,10 @@ impl Worker {
         let hand = &mut self.hands[at.shard];
         recall(arena, hand);
         let label = Label { hash: at.hash, key };
-        match shard::get_within(arena, &cache.hints, hand, label, tries, into) {
+        match mc_shard::get_within(arena, &cache.hints, hand, label, tries, into) {
             Ok(found) => Ok(found),
-            Err(shard::TryGetError::NoMemory(refused)) => { Err(TryGetError::NoMemory(refused)) }
-            Err(shard::TryGetError::Held) => Err(TryGetError::Held),
+            Err(mc_shard::TryGetError::NoMemory(refused)) => { Err(TryGetError::NoMemory(refused)) }
+            Err(mc_shard::TryGetError::Held) => Err(TryGetError::Held),
         }
     }
 
@@ -147,7 +184,7 @@ impl Worker {
         let hand = &mut self.hands[at.shard];
         recall(arena, hand);
         let label = Label { hash: at.hash, key };
-        match shard::delete_within(arena, &cache.hints, hand, label, tries) {
+        match mc_shard::delete_within(arena, &cache.hints, hand, label, tries) {
             Ok(there) => Ok(there),
             Err(mc_items::WithinError::NoMemory(refused)) => { Err(WithinError::NoMemory(refused)) }
             Err(mc_items::WithinError::Held) => Err(WithinError::Held),
@@ -176,7 +213,7 @@ impl Worker {
         let hand = &mut self.hands[at.shard];
         recall(arena, hand);
         let label = Label { hash: at.hash, key };
-        match shard::touch_within(arena, &cache.hints, hand, label, tries) {
+        match mc_shard::touch_within(arena, &cache.hints, hand, label, tries) {
             Ok(there) => Ok(there),
             Err(mc_items::WithinError::NoMemory(refused)) => { Err(WithinError::NoMemory(refused)) }
             Err(mc_items::WithinError::Held) => Err(WithinError::Held),

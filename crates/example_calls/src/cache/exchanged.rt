@@ -1,9 +1,8 @@
 //! A value that is replaced where it is still the one that was got.
-ghost use Rattle.std.specs.Prelude.{◌≡◌, ◌≤◌, ℕ, Ok, length};
-ghost use Rattle.mc_classes.specs.Limits.{most_page_bytes};
+ghost use Rattle.std.specs.Prelude.{◌≡◌, ℕ, Ok};
 ghost use Rattle.mc_cache.specs.Belonging.{BelongsTo};
 ghost use Rattle.mc_cache.specs.Shards.{IsKey};
-ghost use Rattle.mc_cache.specs.declared.shard.conditions.Outcome.TheVariants as outcome;
+ghost use Rattle.mc_shard.specs.declared.conditions.Outcome.TheVariants as outcome;
 ghost use Rattle.example_calls.specs.Cached.{Exchanges};
 
 use crate::cache::newest::RefusedStep;
@@ -22,7 +21,6 @@ pub fn exchange<R: Wait>(
 ) -> Result<Outcome, RefusedStep>
     requires belongs { BelongsTo cache.now worker.old }
     requires key { IsKey key.now }
-    requires fits { length value.now ≤ most_page_bytes }
     ensures belongs { BelongsTo cache.now worker.new }
     ensures exchanges { (stamp : ℕ) → result ≡ Ok (outcome.Stored stamp) →
         Exchanges cache.now key.now value.now into.old.items into.new.items stamp worker.old

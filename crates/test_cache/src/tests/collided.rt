@@ -1,9 +1,9 @@
 //! Keys that share a few hashes: of those of one hash the last that was stored is there, and the others are missed.
-ghost use Rattle.mc_cache.specs.shard.Hands.{IsIdleHandOf};
+ghost use Rattle.mc_shard.specs.Hands.{IsIdleHandOf};
 
 use super::made::SMALL;
 use super::values::{Call, Trial, key_of, value_of};
-use mc_cache::shard::{HintTable, Label, contains, delete, get, set, touch};
+use mc_shard::{HintTable, Label, contains, delete, get, set, touch};
 use mc_words::{Arena, Hand};
 use std::alloc::Global;
 use std::sync::Wait;

@@ -2,9 +2,11 @@
 ghost use Rattle.std.specs.Prelude.{IfOk};
 ghost use Rattle.mc_cache.specs.Belonging.{BelongsTo};
 
-use super::made::{HASH_KEY, SMALL, config_of, next_worker, with_one_worker};
-use super::values::{Call, Trial, key_of, value_of};
-use mc_cache::{Cache, CacheConfig, Outcome, SetError, SetWithinError, When, Worker};
+use super::made::{HASH_KEY, SMALL, config_of, next_worker, with_one_worker, with_resting_worker};
+use super::rows::{Call, Reply, Row, play};
+use super::rows_within::play_within;
+use super::values::{Call as Drawn, Trial, key_of, value_of};
+use mc_cache::{Cache, CacheConfig, Outcome, SetError, When, Worker};
 use mc_classes::Config;
 use std::alloc::Global;
 use std::sync::Wait;
@@ -22,74 +24,106 @@ fn is_stored(done: Result<Outcome, SetError>) -> bool {
 }
 
 /// A key has no value, then one by an add, and then another one by a replace.
-#[test]
-fn adds_and_replaces_look_first(rt: HostRuntime) -> Result<(), Fail> {
-    let (cache, mut worker, _tender) = with_one_worker(&rt, rt.alloc(), 2)?;
-    assert!(rt;
-        worker.replace(&rt, &cache, b"city", b"Bern") == Ok(Outcome::Missing),
-        "a replace stored where there is none"
-    );
-    assert!(rt;
-        is_stored(worker.add(&rt, &cache, b"city", b"Bern")),
-        "an add didn't store"
-    );
-    assert!(rt;
-        worker.add(&rt, &cache, b"city", b"Basel") == Ok(Outcome::Exists),
-        "an add stored over a value"
-    );
-    assert!(rt;
-        is_stored(worker.replace(&rt, &cache, b"city", b"Chur")),
-        "a replace didn't store"
-    );
-    let mut bytes = Vec::new(rt.alloc());
-    assert!(rt;
-        worker.get(&rt, &cache, b"city", &mut bytes) == Ok(true),
-        "it isn't found"
-    );
-    assert!(rt;
-        bytes.as_slice() == b"Chur".as_slice(),
-        "another value was found"
-    );
-    Ok(())
-}
+const ADDS_AND_REPLACES: [Row<'static>; 5] = [
+    (
+        Call::Replace,
+        b"city",
+        b"Bern",
+        Reply::Missing,
+        "a replace stored where there is none",
+    ),
+    (
+        Call::Add,
+        b"city",
+        b"Bern",
+        Reply::Stored,
+        "an add didn't store",
+    ),
+    (
+        Call::Add,
+        b"city",
+        b"Basel",
+        Reply::Exists,
+        "an add stored over a value",
+    ),
+    (
+        Call::Replace,
+        b"city",
+        b"Chur",
+        Reply::Stored,
+        "a replace didn't store",
+    ),
+    (
+        Call::Get,
+        b"city",
+        b"Chur",
+        Reply::Done,
+        "another value was found",
+    ),
+];
 
 /// A version is that of the last store. An older one stores nothing, and neither does one of a key that was deleted.
+const VERSIONS: [Row<'static>; 6] = [
+    (
+        Call::Add,
+        b"city",
+        b"Bern",
+        Reply::Stored,
+        "an add didn't store",
+    ),
+    (
+        Call::OverLast,
+        b"city",
+        b"Chur",
+        Reply::Stored,
+        "it didn't store over its version",
+    ),
+    (
+        Call::OverOlder,
+        b"city",
+        b"Basel",
+        Reply::Exists,
+        "it stored over an older version",
+    ),
+    (
+        Call::Get,
+        b"city",
+        b"Chur",
+        Reply::Done,
+        "another value was found",
+    ),
+    (Call::Delete, b"city", b"", Reply::Done, "it isn't deleted"),
+    (
+        Call::OverLast,
+        b"city",
+        b"Basel",
+        Reply::Missing,
+        "it stored over no value",
+    ),
+];
+
 #[test]
-fn versions_are_compared(rt: HostRuntime) -> Result<(), Fail> {
+fn conditions_are_met_row_by_row(rt: HostRuntime) -> Result<(), Fail> {
+    let (cache, mut worker, _tender) = with_one_worker(&rt, rt.alloc(), 2)?;
+    play(&rt, rt.alloc(), &cache, &mut worker, &ADDS_AND_REPLACES)?;
+    worker.delete(&rt, &cache, b"city")?;
+    play(&rt, rt.alloc(), &cache, &mut worker, &VERSIONS)
+}
+
+/// A version that a get returns is that of the store.
+#[test]
+fn versions_are_found(rt: HostRuntime) -> Result<(), Fail> {
     let (cache, mut worker, _tender) = with_one_worker(&rt, rt.alloc(), 2)?;
     let mut bytes = Vec::new(rt.alloc());
-    assert!(rt;
-        worker.get_with_version(&rt, &cache, b"city", &mut bytes) == Ok(None),
-        "a version was found of no value"
-    );
-    let Ok(Outcome::Stored(first)) = worker.add(&rt, &cache, b"city", b"Bern") else {
+    let none = worker.get_with_version(&rt, &cache, b"city", &mut bytes);
+    assert!(rt; none == Ok(None), "a version was found of no value");
+    let Ok(Outcome::Stored(version)) = worker.add(&rt, &cache, b"city", b"Bern") else {
         return Err(Fail::new("an add didn't store"));
     };
-    assert!(rt;
-        worker.get_with_version(&rt, &cache, b"city", &mut bytes) == Ok(Some(first)),
-        "another version was found"
-    );
-    assert!(rt;
-        bytes.as_slice() == b"Bern".as_slice(),
-        "another value was found"
-    );
-    let Ok(Outcome::Stored(second)) = worker.compare_and_set(&rt, &cache, b"city", b"Chur", first)
-    else {
-        return Err(Fail::new("it didn't store over its version"));
-    };
-    assert!(rt; second != first, "two values have one version");
-    assert!(rt;
-        worker.compare_and_set(&rt, &cache, b"city", b"Basel", first) == Ok(Outcome::Exists),
-        "it stored over an older version"
-    );
-    assert!(rt;
-        worker.delete(&rt, &cache, b"city") == Ok(true),
-        "it isn't deleted"
-    );
-    assert!(rt;
-        worker.compare_and_set(&rt, &cache, b"city", b"Basel", second) == Ok(Outcome::Missing),
-        "it stored over no value"
-    );
+    let found = worker.get_with_version(&rt, &cache, b"city", &mut bytes);
+    assert!(rt; found == Ok(Some(version)), "another version was found");
+    let right = bytes.as_slice() == b"Bern".as_slice();
+    assert!(rt; right, "another value was found");
     Ok(())
 }
 
@@ -98,55 +132,96 @@ fn versions_are_compared(rt: HostRuntime) -> Result<(), Fail> {
 fn lengths_are_tested_first(rt: HostRuntime) -> Result<(), Fail> {
     let (cache, mut worker, _tender) = with_one_worker(&rt, rt.alloc(), 1)?;
     let long = vec![in rt.alloc(); 0; 16385]?;
-    assert!(rt;
-        worker.add(&rt, &cache, b"", b"Bern") == Err(SetError::KeyLength),
-        "a key of no byte was taken"
-    );
-    assert!(rt;
-        worker.replace(&rt, &cache, b"city", &long) == Err(SetError::ValueLength),
-        "a value was taken that no chunk has room for"
-    );
-    Ok(())
+    let rows = [
+        (
+            Call::Add,
+            b"".as_slice(),
+            b"Bern".as_slice(),
+            Reply::KeyLength,
+            "a key of no byte was taken",
+        ),
+        (
+            Call::Add,
+            b"city".as_slice(),
+            long.as_slice(),
+            Reply::TooLarge,
+            "a value was taken that no chunk has room for",
+        ),
+    ];
+    play(&rt, rt.alloc(), &cache, &mut worker, &rows)
 }
 
-/// The same rows within one try for each lock, and a set that is held without a try.
-#[test]
-fn sets_within_one_try_are_compared(rt: HostRuntime) -> Result<(), Fail> {
-    let made = Cache::new_within(rt.alloc(), &config_of(2, 1), HASH_KEY, 1);
-    let Ok((cache, mut workers, _tender)) = made else {
-        return Err(Fail::new("no cache was made"));
-    };
-    let Some(mut worker) = workers.pop() else {
-        return Err(Fail::new("there is no worker"));
-    };
-    let Ok(Outcome::Stored(first)) = worker.set_if_within(&cache, b"city", b"Bern", When::Absent, 1)
-    else {
-        return Err(Fail::new("an add didn't store"));
-    };
-    let mut bytes = Vec::new(rt.alloc());
-    assert!(rt;
-        worker.get_with_version_within(&cache, b"city", 1, &mut bytes) == Ok(Some(first)),
-        "another version was found"
-    );
-    assert!(rt;
-        worker.set_if_within(
-            &cache,
+/// The same calls within one try for each lock, and a set that is held without a try.
+const WITHIN: [(u64, Row<'static>); 6] = [
+    (
+        1,
+        (
+            Call::Add,
+            b"city",
+            b"Bern",
+            Reply::Stored,
+            "an add didn't store",
+        ),
+    ),
+    (
+        1,
+        (
+            Call::OverLast,
             b"city",
             b"Chur",
-            When::Version(first.wrapping_add(1)),
-            1
-        ) == Ok(Outcome::Exists),
-        "it stored over another version"
-    );
-    assert!(rt;
-        worker.set_if_within(&cache, b"street", b"Chur", When::Present, 1) == Ok(Outcome::Missing),
-        "it stored where there is none"
-    );
-    assert!(rt;
-        worker.set_if_within(&cache, b"street", b"Chur", When::Absent, 0)
-            == Err(SetWithinError::Held),
-        "a set without a try wasn't held"
-    );
+            Reply::Stored,
+            "it didn't store over its version",
+        ),
+    ),
+    (
+        1,
+        (
+            Call::OverOlder,
+            b"city",
+            b"Basel",
+            Reply::Exists,
+            "it stored over another version",
+        ),
+    ),
+    (
+        1,
+        (
+            Call::Replace,
+            b"street",
+            b"Chur",
+            Reply::Missing,
+            "it stored where there is none",
+        ),
+    ),
+    (
+        0,
+        (
+            Call::Add,
+            b"street",
+            b"Chur",
+            Reply::Held,
+            "a set without a try wasn't held",
+        ),
+    ),
+    (
+        1,
+        (
+            Call::Get,
+            b"city",
+            b"Chur",
+            Reply::Done,
+            "another value was found",
+        ),
+    ),
+];
+
+#[test]
+fn sets_within_one_try_are_compared(rt: HostRuntime) -> Result<(), Fail> {
+    let (cache, mut worker) = with_resting_worker(rt.alloc(), 2)?;
+    play_within(rt.alloc(), &cache, &mut worker, &WITHIN)?;
+    let mut bytes = Vec::new(rt.alloc());
+    let found = worker.get_with_version_within(&cache, b"city", 1, &mut bytes);
+    assert!(rt; matches!(found, Ok(Some(_))), "no version was found");
     Ok(())
 }
 
@@ -167,62 +242,53 @@ fn with_pages<R: Wait>(rt: &R, alloc: Global, pages: u64) -> Result<(Cache, Work
     }
 }
 
+/// A value of which a page of 1,024 bytes has one.
+const WIDE: [u8; 800] = [1; 800];
+
 /// Where the class has one chunk, a value that is to be replaced stays, and the set is refused.
+const ALONE: [Row<'static>; 4] = [
+    (Call::Add, b"city", &WIDE, Reply::Stored, "it isn't stored"),
+    (
+        Call::OverLast,
+        b"city",
+        &WIDE,
+        Reply::NoRoom,
+        "it found other room",
+    ),
+    (
+        Call::Replace,
+        b"city",
+        &WIDE,
+        Reply::NoRoom,
+        "it found other room",
+    ),
+    (Call::Get, b"city", &WIDE, Reply::Done, "it was evicted"),
+];
+
 #[test]
 fn a_value_stays_without_other_room(rt: HostRuntime) -> Result<(), Fail> {
     let (cache, mut worker) = with_pages(&rt, rt.alloc(), 1)?;
-    let value = vec![in rt.alloc(); 1; 800]?;
-    assert!(rt;
-        worker.set(&rt, &cache, b"city", &value).is_ok(),
-        "it isn't stored"
-    );
-    let mut bytes = Vec::new(rt.alloc());
-    let Ok(Some(version)) = worker.get_with_version(&rt, &cache, b"city", &mut bytes) else {
-        return Err(Fail::new("it isn't found"));
-    };
-    assert!(rt;
-        worker.compare_and_set(&rt, &cache, b"city", &value, version)
-            == Err(SetError::Item(mc_items::SetError::NoRoom)),
-        "it found other room"
-    );
-    assert!(rt;
-        worker.replace(&rt, &cache, b"city", &value)
-            == Err(SetError::Item(mc_items::SetError::NoRoom)),
-        "it found other room"
-    );
-    bytes.clear();
-    assert!(rt;
-        worker.get(&rt, &cache, b"city", &mut bytes) == Ok(true),
-        "it was evicted"
-    );
-    assert!(rt;
-        bytes.as_slice() == value.as_slice(),
-        "another value was found"
-    );
-    Ok(())
+    play(&rt, rt.alloc(), &cache, &mut worker, &ALONE)
 }
 
 /// Where the class has other chunks, their items go, and not the one that is to be replaced, though it is the oldest.
+const BESIDE_OTHERS: [Row<'static>; 4] = [
+    (Call::Add, b"city", &WIDE, Reply::Stored, "it isn't stored"),
+    (Call::Set, b"river", &WIDE, Reply::Stored, "it isn't stored"),
+    (Call::Set, b"lake", &WIDE, Reply::Stored, "it isn't stored"),
+    (
+        Call::OverLast,
+        b"city",
+        &WIDE,
+        Reply::Stored,
+        "its own item was evicted for it",
+    ),
+];
+
 #[test]
 fn others_go_for_a_new_value(rt: HostRuntime) -> Result<(), Fail> {
     let (cache, mut worker) = with_pages(&rt, rt.alloc(), 3)?;
-    let value = vec![in rt.alloc(); 1; 800]?;
-    let Ok(Outcome::Stored(version)) = worker.add(&rt, &cache, b"city", &value) else {
-        return Err(Fail::new("it isn't stored"));
-    };
-    assert!(rt;
-        worker.set(&rt, &cache, b"river", &value).is_ok(),
-        "it isn't stored"
-    );
-    assert!(rt;
-        worker.set(&rt, &cache, b"lake", &value).is_ok(),
-        "it isn't stored"
-    );
-    assert!(rt;
-        is_stored(worker.compare_and_set(&rt, &cache, b"city", &value, version)),
-        "its own item was evicted for it"
-    );
-    Ok(())
+    play(&rt, rt.alloc(), &cache, &mut worker, &BESIDE_OTHERS)
 }
 
 /// Adds or replaces the call's version of its key. True if the outcome is one that the key's value allows.
@@ -232,7 +298,7 @@ fn store_if<R: Wait>(
     worker: &mut Worker,
     trial: &mut Trial,
     key: &[u8],
-    call: Call,
+    call: Drawn,
     when: When,
 ) -> Result<bool, Fail>
     requires { BelongsTo cache.now worker.old }
@@ -259,7 +325,7 @@ fn store_over<R: Wait>(
     worker: &mut Worker,
     trial: &mut Trial,
     key: &[u8],
-    call: Call,
+    call: Drawn,
 ) -> Result<bool, Fail>
     requires { BelongsTo cache.now worker.old }
     ensures { BelongsTo cache.now worker.new }
@@ -287,7 +353,7 @@ fn act<R: Wait>(rt: &R, cache: &Cache, worker: &mut Worker, trial: &mut Trial) -
 {
     let drawn = trial.draw();
     let kind = drawn.kind % 4;
-    let call = Call { kind, ..drawn };
+    let call = Drawn { kind, ..drawn };
     let key = key_of(trial.alloc, call.number)?;
     match kind {
         0 => store_if(rt, cache, worker, trial, &key, call, When::Absent),

@@ -1,6 +1,7 @@
 //! Caches that are made, and their workers.
 ghost use Rattle.std.specs.Prelude.{◌≡◌, All, IfOk, IfSome};
 ghost use Rattle.mc_cache.specs.Belonging.{BelongsTo};
+ghost use Rattle.mc_cache.specs.Resting.{RestsIn};
 ghost use Rattle.mc_cache.specs.Tending.{IsTenderOf};
 
 use example_calls::cache::share;
@@ -65,6 +66,20 @@ pub fn with_one_worker<R: Wait>(
     match next_worker(&cache, &mut workers) {
         Some(worker) => Ok((cache, worker, tender)),
         None => Err(Fail::new("there is a worker")),
+    }
+}
+
+/// A cache of n shards that has one worker, made without waiting.
+pub fn with_resting_worker(alloc: Global, shards: u64) -> Result<(Cache, Worker), Fail>
+    ensures { IfOk result (λ made. RestsIn made.0 made.1) }
+{
+    let made = Cache::new_within(alloc, &config_of(shards, 1), HASH_KEY, 1);
+    let Ok((cache, mut workers, _tender)) = made else {
+        return Err(Fail::new("no cache was made"));
+    };
+    match workers.pop() {
+        Some(worker) => Ok((cache, worker)),
+        None => Err(Fail::new("there is no worker")),
     }
 }
 

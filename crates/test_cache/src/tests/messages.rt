@@ -10,6 +10,9 @@ use testlib_values::too_much;
 /// What every call reports of a key that is too short or too long.
 const KEY_LENGTH: &str = "a key must have from 1 to 250 bytes; nothing was done";
 
+/// The text of an error by the lengths of key and value.
+const LARGE: &str = "the value isn't stored: no class has chunks of that size";
+
 /// The refusal has this text.
 fn assert_told<E: Display + Drop>(
     rt: &impl Abort,
@@ -46,12 +49,8 @@ fn assert_new_told(rt: &impl Abort, alloc: Global) -> Result<(), Fail> {
 /// Why a value isn't stored.
 fn assert_set_told(rt: &impl Abort, alloc: Global) -> Result<(), Fail> {
     assert_told(rt, alloc, SetError::KeyLength, KEY_LENGTH)?;
-    assert_told(
-        rt,
-        alloc,
-        SetError::ValueLength,
-        "a value must have at most 16384 bytes; nothing was done",
-    )?;
+    let large = mc_items::SetError::TooLarge;
+    assert_told(rt, alloc, SetError::Item(large), LARGE)?;
     let memory = mc_items::SetError::NoMemory(too_much(alloc)?);
     assert_told(
         rt,

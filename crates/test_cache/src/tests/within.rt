@@ -1,107 +1,127 @@
 //! Calls that try for each lock n times, by a worker or a tender that lies in a struct.
-use super::made::{HASH_KEY, config_of};
+use super::made::{HASH_KEY, config_of, with_resting_worker};
+use super::rows::{Call, Reply, Row};
+use super::rows_within::play_within;
 use example_calls::cache::Client;
-use mc_cache::{Cache, SetWithinError, TryGetError, WithinError};
+use mc_cache::Cache;
 use std::test::Fail;
 
 /// What was stored is found, touched and deleted, and then isn't there.
-#[test]
-fn calls_within_one_try_find_what_was_stored(rt: HostRuntime) -> Result<(), Fail> {
-    let made = Cache::new_within(rt.alloc(), &config_of(2, 1), HASH_KEY, 1);
-    let Ok((cache, mut workers, _tender)) = made else {
-        return Err(Fail::new("no cache was made"));
-    };
-    let Some(mut worker) = workers.pop() else {
-        return Err(Fail::new("there is no worker"));
-    };
-    let mut bytes = Vec::new(rt.alloc());
-    assert!(rt;
-        worker.set_within(&cache, b"city", b"Bern", 1).is_ok(),
-        "it isn't stored"
-    );
-    assert!(rt;
-        worker.get_within(&cache, b"city", 1, &mut bytes) == Ok(true),
-        "it isn't found"
-    );
-    assert!(rt;
-        bytes.as_slice() == b"Bern".as_slice(),
-        "another value was found"
-    );
-    assert!(rt;
-        worker.touch_within(&cache, b"city", 1) == Ok(true),
-        "it isn't touched"
-    );
-    assert!(rt;
-        worker.delete_within(&cache, b"city", 1) == Ok(true),
-        "it isn't deleted"
-    );
-    assert!(rt;
-        worker.delete_within(&cache, b"city", 1) == Ok(false),
-        "it is deleted again"
-    );
-    assert!(rt;
-        worker.touch_within(&cache, b"city", 1) == Ok(false),
-        "it is touched again"
-    );
-    assert!(rt;
-        worker.get_within(&cache, b"city", 1, &mut bytes) == Ok(false),
-        "it is there"
-    );
-    Ok(())
-}
+const STORED: [(u64, Row<'static>); 7] = [
+    (
+        1,
+        (
+            Call::Set,
+            b"city",
+            b"Bern",
+            Reply::Stored,
+            "it isn't stored",
+        ),
+    ),
+    (
+        1,
+        (Call::Get, b"city", b"Bern", Reply::Done, "it isn't found"),
+    ),
+    (
+        1,
+        (Call::Touch, b"city", b"", Reply::Done, "it isn't touched"),
+    ),
+    (
+        1,
+        (Call::Delete, b"city", b"", Reply::Done, "it isn't deleted"),
+    ),
+    (
+        1,
+        (
+            Call::Delete,
+            b"city",
+            b"",
+            Reply::Absent,
+            "it is deleted again",
+        ),
+    ),
+    (
+        1,
+        (
+            Call::Touch,
+            b"city",
+            b"",
+            Reply::Absent,
+            "it is touched again",
+        ),
+    ),
+    (1, (Call::Get, b"city", b"", Reply::Absent, "it is there")),
+];
 
 /// Without a try each call that wants a lock is held. A get follows its hint all the same.
+const UNTRIED: [(u64, Row<'static>); 6] = [
+    (
+        0,
+        (
+            Call::Set,
+            b"city",
+            b"Bern",
+            Reply::Held,
+            "it is stored without a lock",
+        ),
+    ),
+    (
+        0,
+        (
+            Call::Get,
+            b"city",
+            b"",
+            Reply::Held,
+            "a get without a lock answers",
+        ),
+    ),
+    (
+        1,
+        (
+            Call::Set,
+            b"city",
+            b"Bern",
+            Reply::Stored,
+            "it isn't stored",
+        ),
+    ),
+    (
+        0,
+        (Call::Get, b"city", b"Bern", Reply::Done, "the hint fails"),
+    ),
+    (
+        0,
+        (
+            Call::Touch,
+            b"city",
+            b"",
+            Reply::Held,
+            "it is touched without a lock",
+        ),
+    ),
+    (
+        0,
+        (
+            Call::Delete,
+            b"city",
+            b"",
+            Reply::Held,
+            "it is deleted without a lock",
+        ),
+    ),
+];
+
 #[test]
-fn calls_without_a_try_are_held(rt: HostRuntime) -> Result<(), Fail> {
-    let made = Cache::new_within(rt.alloc(), &config_of(1, 1), HASH_KEY, 1);
-    let Ok((cache, mut workers, _tender)) = made else {
-        return Err(Fail::new("no cache was made"));
-    };
-    let Some(mut worker) = workers.pop() else {
-        return Err(Fail::new("there is no worker"));
-    };
-    let mut bytes = Vec::new(rt.alloc());
-    let stored = worker.set_within(&cache, b"city", b"Bern", 0);
-    assert!(rt;
-        stored == Err(SetWithinError::Held),
-        "it is stored without a lock"
-    );
-    let found = worker.get_within(&cache, b"city", 0, &mut bytes);
-    assert!(rt;
-        found == Err(TryGetError::Held),
-        "a get without a lock answers"
-    );
-    assert!(rt;
-        worker.set_within(&cache, b"city", b"Bern", 1).is_ok(),
-        "it isn't stored"
-    );
-    assert!(rt;
-        worker.get_within(&cache, b"city", 0, &mut bytes) == Ok(true),
-        "the hint fails"
-    );
-    let touched = worker.touch_within(&cache, b"city", 0);
-    assert!(rt;
-        touched == Err(WithinError::Held),
-        "it is touched without a lock"
-    );
-    let deleted = worker.delete_within(&cache, b"city", 0);
-    assert!(rt;
-        deleted == Err(WithinError::Held),
-        "it is deleted without a lock"
-    );
-    Ok(())
+fn calls_within_tries_are_done_or_held(rt: HostRuntime) -> Result<(), Fail> {
+    let (cache, mut worker) = with_resting_worker(rt.alloc(), 2)?;
+    play_within(rt.alloc(), &cache, &mut worker, &STORED)?;
+    play_within(rt.alloc(), &cache, &mut worker, &UNTRIED)
 }
 
 /// A client that has cache and worker in one struct finds what it stored, and keeps the bytes where it finds nothing.
 #[test]
 fn a_struct_has_cache_and_worker(rt: HostRuntime) -> Result<(), Fail> {
-    let made = Cache::new_within(rt.alloc(), &config_of(2, 1), HASH_KEY, 1);
-    let Ok((cache, mut workers, _tender)) = made else {
-        return Err(Fail::new("no cache was made"));
-    };
-    let Some(worker) = workers.pop() else {
-        return Err(Fail::new("there is no worker"));
-    };
+    let (cache, worker) = with_resting_worker(rt.alloc(), 2)?;
     let mut client = Client::new(cache, worker);
     let mut bytes = Vec::new(rt.alloc());
     assert!(rt; client.store(b"river", b"Aare"), "it isn't stored");

@@ -1,5 +1,5 @@
 use Rattle.std.proofs.Common.{◌++◌, ◌∷◌, ◌∙◌, [], ap, arith, sym}
-use Rattle.mc_cache.specs.shard.Hands.{IsUnusedHandOf}
+use Rattle.mc_shard.specs.Hands.{IsUnusedHandOf}
 use Rattle.mc_cache.specs.declared.cache.Worker.{Worker}
 use Rattle.mc_cache.proofs.Dealt.{deal_all, deal_more, deal_none}
 use Rattle.mc_cache.proofs.opening.deal.Goals as goal

@@ -1,4 +1,4 @@
-use Rattle.mc_cache.specs.shard.Hands.{IsUnusedHandOf}
+use Rattle.mc_shard.specs.Hands.{IsUnusedHandOf}
 use Rattle.mc_cache.specs.declared.cache.Worker.{Worker}
 use Rattle.mc_cache.proofs.Dealt.{AreDealt}
 use Rattle.mc_cache.proofs.opening.deal.Given as goal

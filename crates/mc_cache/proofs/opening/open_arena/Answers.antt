@@ -1,6 +1,6 @@
 use Rattle.std.proofs.Common.{◌<◌, length, rules, subst, sym}
 use Rattle.mc_words.specs.hand.Hands.{IsNewHand}
-use Rattle.mc_cache.specs.shard.Hands.{IsUnusedHandOf}
+use Rattle.mc_shard.specs.Hands.{IsUnusedHandOf}
 use Rattle.mc_cache.proofs.Dealt.{each_set}
 use Rattle.mc_cache.proofs.Opened.{first_is_new, new_hands_are_unused, stays_unused}
 use Rattle.mc_cache.proofs.opening.open_arena.Goals as goal

@@ -1,6 +1,6 @@
 use Rattle.std.proofs.Common.{◌≡◌}
 use Rattle.mc_words.specs.hand.Arenas.{view}
-use Rattle.mc_cache.specs.shard.Hands.{IsIdleHandOf}
+use Rattle.mc_shard.specs.Hands.{IsIdleHandOf}
 use Rattle.mc_cache.proofs.TurnsDone.{AreDone}
 use Rattle.mc_cache.proofs.window.do_turns.Given as goal
 

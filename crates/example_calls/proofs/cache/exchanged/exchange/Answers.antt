@@ -1,9 +1,9 @@
 use Rattle.std.proofs.Common.{ℕ, List, IfSome, Ok, Option, subst}
 use Rattle.mc_cache.specs.declared.cache.Cache.{Cache}
 use Rattle.mc_cache.specs.declared.cache.Worker.{Worker}
-use Rattle.mc_cache.specs.declared.shard.conditions.Outcome.{Outcome}
-use Rattle.mc_cache.specs.declared.shard.conditions.Outcome.TheVariants.{Stored}
-use Rattle.mc_cache.specs.declared.shard.conditions.When.TheVariants.{Version}
+use Rattle.mc_shard.specs.declared.conditions.Outcome.{Outcome}
+use Rattle.mc_shard.specs.declared.conditions.Outcome.TheVariants.{Stored}
+use Rattle.mc_shard.specs.declared.conditions.When.TheVariants.{Version}
 use Rattle.mc_cache.specs.Belonging.{ActsOnKey, hash_in}
 use Rattle.mc_cache.specs.Conditional.{SetsValueIf, VersionsAreReplaced}
 use Rattle.mc_cache.specs.Versions.{GivesVersionOf}
@@ -36,5 +36,5 @@ returns-in-Ok-compare_and_set-clause-exchanges g c = λ stamp is.
       between = between;
       finds = found.1;
       stores = stored_over cache key c.args.value.now c.in-Some.version stamp between c.compare_and_set.new.self c.conditions_are_met.ensures.versions
-          (subst (λ (o : Outcome). ActsOnKey cache key (SetsValueIf (hash_in cache key) key c.args.value.now (Version c.in-Some.version) (Ok o)) between c.compare_and_set.new.self) (same_ok c.in-Ok-compare_and_set.outcome (Stored stamp) is) (c.in-Ok-compare_and_set.ensures.acts c.requires.key c.requires.fits));
+          (subst (λ (o : Outcome). ActsOnKey cache key (SetsValueIf (hash_in cache key) key c.args.value.now (Version c.in-Some.version) (Ok o)) between c.compare_and_set.new.self) (same_ok c.in-Ok-compare_and_set.outcome (Stored stamp) is) (c.in-Ok-compare_and_set.ensures.acts c.requires.key));
     }

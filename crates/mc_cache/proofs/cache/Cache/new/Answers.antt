@@ -1,3 +1,5 @@
+use Rattle.std.proofs.Common.{rules}
+use Rattle.mc_cache.proofs.Classes.{have_one_table}
 use Rattle.mc_cache.proofs.Opened.{idle_hands, idle_workers}
 use Rattle.mc_cache.proofs.TableWords.{arena_accepted, bytes_are}
 use Rattle.mc_cache.proofs.cache.Cache.new.Goals as goal
@@ -13,3 +15,6 @@ returns-in-Ok-clause-tender g c = record {
   hands = idle_hands c.in-Ok.arenas.items c.in-Ok.tender.worker.hands.items c.in-Ok.ensures.tender;
   deciders = c.in-Ok.ensures.deciders.count;
 }
+
+pub invariant_of-cache : goal.invariant_of-cache
+invariant_of-cache g c = record { some = search rules; within_limit = search rules; alike = have_one_table c.args.config.now c.in-Ok.arenas.items c.in-Ok.ensures.new }

@@ -1,9 +1,10 @@
-use Rattle.std.proofs.Common.{◌≡◌, All, length, get_or}
+use Rattle.std.proofs.Common.{rules, ◌≡◌, All, length, get_or}
 use Rattle.mc_cache.specs.Belonging.{HaveUnusedHands}
 use Rattle.mc_cache.specs.Opening.{IsNewShard}
 use Rattle.mc_cache.specs.Pairs.{ArePaired}
 use Rattle.mc_cache.specs.Shards.{AreUnusedHands}
 use Rattle.mc_cache.specs.Tending.{IsFreshDecider, deciders_of, tender_hands}
+use Rattle.mc_cache.proofs.Classes.{have_one_table}
 use Rattle.mc_cache.proofs.Opened.{idle_hands, idle_workers}
 use Rattle.mc_cache.proofs.Rests.{rests_all, some_of}
 use Rattle.mc_cache.proofs.TableWords.{arena_accepted, bytes_are}
@@ -24,3 +25,6 @@ returns-in-Ok-Some-clause-bytes c =
     bytes_are c.args.config.now c.in-Ok-Some.arenas.items (arena_accepted c.args.config.now c.in_default.ensures.accepted)
     (some_of (λ made. length made.0.items ≡ c.args.config.now.shards) c.in-Ok-Some.field-0 (c.in-Ok-Some.arenas, c.in-Ok-Some.workers, c.in-Ok-Some.tender) c.in-Ok-Some.field-0-is c.in-Ok-Some.ensures.shards)
     (some_of (λ made. All (IsNewShard c.args.config.now) made.0.items) c.in-Ok-Some.field-0 (c.in-Ok-Some.arenas, c.in-Ok-Some.workers, c.in-Ok-Some.tender) c.in-Ok-Some.field-0-is c.in-Ok-Some.ensures.new)
+
+pub invariant_of-cache : goal.invariant_of-cache
+invariant_of-cache c = record { some = search rules; within_limit = search rules; alike = have_one_table c.args.config.now c.in-Ok-Some.arenas.items (some_of (λ made. All (IsNewShard c.args.config.now) made.0.items) c.in-Ok-Some.field-0 (c.in-Ok-Some.arenas, c.in-Ok-Some.workers, c.in-Ok-Some.tender) c.in-Ok-Some.field-0-is c.in-Ok-Some.ensures.new) }

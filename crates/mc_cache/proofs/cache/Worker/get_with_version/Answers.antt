@@ -2,7 +2,7 @@ use Rattle.std.proofs.Common.{ℕ, None, Ok, ap}
 use Rattle.mc_words.specs.hand.Arenas.{setup_of}
 use Rattle.mc_cache.specs.Shards.{GetsAtMost, ReadsOther, StoresNoMore, TouchesNothing}
 use Rattle.mc_cache.specs.Versions.{ReadsVersion}
-use Rattle.mc_cache.specs.shard.Conditions.{ReturnsVersion}
+use Rattle.mc_shard.specs.Conditions.{ReturnsVersion}
 use Rattle.mc_cache.proofs.Acts.{acted, idle_after, same_ok, some_map}
 use Rattle.mc_cache.proofs.cache.Worker.get_with_version.Goals as goal
 

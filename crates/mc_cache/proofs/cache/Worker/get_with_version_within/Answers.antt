@@ -2,7 +2,7 @@ use Rattle.std.proofs.Common.{ℕ, Err, None, Ok, Some, ap}
 use Rattle.mc_words.specs.hand.Arenas.{setup_of}
 use Rattle.mc_cache.specs.Versions.{GetsVersionWithin}
 use Rattle.mc_cache.specs.declared.working.TryGetError.TheVariants as try_error
-use Rattle.mc_cache.specs.shard.Conditions.{ReturnsVersion}
+use Rattle.mc_shard.specs.Conditions.{ReturnsVersion}
 use Rattle.mc_cache.proofs.Acts.{same_ok}
 use Rattle.mc_cache.proofs.Rests.{acted_again, rests_after, some_of}
 use Rattle.mc_cache.proofs.cache.Worker.get_with_version_within.Goals as goal

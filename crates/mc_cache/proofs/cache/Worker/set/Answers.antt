@@ -1,25 +1,21 @@
-use Rattle.std.proofs.Common.{◌≡◌, ℕ, subst, arith, ⊎_elim}
-use Rattle.mc_items.specs.declared.setting.SetError.{SetError}
-use Rattle.mc_cache.specs.Shards.{RefusesValue, StoresValue}
-use Rattle.mc_cache.proofs.Acts.{acted, idle_after, no_none}
+use Rattle.std.proofs.Common.{true}
+use Rattle.mc_cache.specs.Belonging.{ActsOnKey, DeletesNoneOf, hash_in}
+use Rattle.mc_cache.specs.Shards.{DeletesThere, IsKey, LooksInVain}
+use Rattle.mc_cache.proofs.Acts.{deleted_any, is_key}
 use Rattle.mc_cache.proofs.cache.Worker.set.Goals as goal
 
-pub returns-in-Ok-clause-belongs : goal.returns-in-Ok-clause-belongs
-returns-in-Ok-clause-belongs g c = idle_after c.args.cache.now.arenas.items c.args.self.now.hands.items c.in-Some.at.shard c.index-arena.result.now c.set.new.hand c.in-Some.ensures.in_range c.index-arena.ensures c.set.ensures.idle c.requires
-
-pub returns-in-Err-clause-belongs : goal.returns-in-Err-clause-belongs
-returns-in-Err-clause-belongs g c = idle_after c.args.cache.now.arenas.items c.args.self.now.hands.items c.in-Some.at.shard c.index-arena.result.now c.set.new.hand c.in-Some.ensures.in_range c.index-arena.ensures c.set.ensures.idle c.requires
-
-pub returns-in-Ok-clause-key : goal.returns-in-Ok-clause-key
-returns-in-Ok-clause-key g c = (λ is. cc, λ no. absurd (no_none c.in-Some.at (c.in-Some.ensures.key.1 no)))
-
-pub returns-in-Ok-clause-same : goal.returns-in-Ok-clause-same
-returns-in-Ok-clause-same g c = λ either. absurd (⊎_elim (λ no. no_none c.in-Some.at (c.in-Some.ensures.key.1 no)) (λ long. omega arith) either)
-
-pub returns-in-Ok-clause-stores : goal.returns-in-Ok-clause-stores
-returns-in-Ok-clause-stores g c = acted c.args.cache.now c.args.key.now c.args.self.now.hands.items c.in-Some.at c.index-arena.result.now c.index_mut-hand.result.now c.set.new.hand (λ (hash : ℕ). StoresValue hash c.args.key.now c.args.value.now) c.requires c.in-Some.ensures.hash c.in-Some.ensures.shard c.in-Some.ensures.in_range c.index-arena.ensures c.index_mut-hand.ensures.value (c.set.ensures.number, (c.in-Ok._stamp, c.in-Ok.ensures.stores_words, c.in-Ok.ensures.sets, c.in-Ok.ensures.calls))
-
-pub returns-in-Err-clause-refused : goal.returns-in-Err-clause-refused
-returns-in-Err-clause-refused g c = λ error is.
-    let same : c.in-Err.error ≡ error = cc in
-    acted c.args.cache.now c.args.key.now c.args.self.now.hands.items c.in-Some.at c.index-arena.result.now c.index_mut-hand.result.now c.set.new.hand (λ (hash : ℕ). RefusesValue hash c.args.key.now c.args.value.now error) c.requires c.in-Some.ensures.hash c.in-Some.ensures.shard c.in-Some.ensures.in_range c.index-arena.ensures c.index_mut-hand.ensures.value (subst (λ (e : SetError). RefusesValue c.in-Some.at.hash c.args.key.now c.args.value.now e c.index-arena.result.now c.index_mut-hand.result.now c.set.new.hand) same (c.set.ensures.number, c.in-Err.ensures.refused, c.in-Err.ensures.evicts))
+pub returns-then-is_err-clause-refused : goal.returns-then-is_err-clause-refused
+returns-then-is_err-clause-refused g c = λ error is.
+    let cache = c.args.cache.now in
+    let key = c.args.key.now in
+    let between = c.set_or_keep-stored.new.self in
+    let now = c.delete-deleted.new.self in
+    let own : IsKey key = is_key key (λ no. let wrong = c.set_or_keep-stored.ensures.key.1 no in absurd (cc)) in
+    record {
+      between = between;
+      refuses = c.set_or_keep-stored.ensures.refused error is;
+      deletes = deleted_any (ActsOnKey cache key (DeletesThere (hash_in cache key) key true) between now) (DeletesNoneOf cache key between now) (ActsOnKey cache key (LooksInVain (hash_in cache key)) between now) (IsKey key) c.delete-deleted.result
+          own c.delete-deleted.ensures.deletes c.delete-deleted.ensures.none c.delete-deleted.ensures.refused;
+      calls = c.delete-deleted.ensures.calls own;
+      untouched = c.delete-deleted.ensures.untouched own;
+    }

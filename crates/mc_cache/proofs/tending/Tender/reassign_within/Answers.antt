@@ -3,7 +3,7 @@ use Rattle.std.proofs.lemmas.Result.{IfOk-weaker, on_err_weaker}
 use Rattle.mc_words.specs.hand.View.{View}
 use Rattle.mc_words.specs.page.Moves.{Reassigns}
 use Rattle.mc_mover.specs.Acting.{ActsOnceByNumber}
-use Rattle.mc_cache.specs.shard.Hands.{IsIdleHandOf}
+use Rattle.mc_shard.specs.Hands.{IsIdleHandOf}
 use Rattle.mc_cache.specs.Tending.{tender_hands}
 use Rattle.mc_cache.specs.WindowsWithin.{MissesEachTime}
 use Rattle.mc_cache.proofs.Acts.{acts}

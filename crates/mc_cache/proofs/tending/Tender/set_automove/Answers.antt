@@ -1,6 +1,6 @@
 use Rattle.std.proofs.Common.{◌<◌, arith, length}
 use Rattle.std.proofs.lemmas.List.{length-set}
-use Rattle.mc_cache.specs.shard.Hands.{IsIdleHandOf}
+use Rattle.mc_shard.specs.Hands.{IsIdleHandOf}
 use Rattle.mc_cache.specs.Stats.{SetsShardsMode}
 use Rattle.mc_cache.specs.Tending.{tender_hands}
 use Rattle.mc_cache.proofs.Acts.{idle_after, idle_at}

@@ -2,7 +2,7 @@ use Rattle.std.proofs.Common.{◌<◌, ◌∙◌, ap, arith, length}
 use Rattle.std.proofs.lemmas.List.{length-set}
 use Rattle.mc_words.specs.hand.View.{View}
 use Rattle.mc_mover.specs.Reassigning.{SetsMode}
-use Rattle.mc_cache.specs.shard.Hands.{IsIdleHandOf}
+use Rattle.mc_shard.specs.Hands.{IsIdleHandOf}
 use Rattle.mc_cache.specs.Stats.{SetsShardsMode}
 use Rattle.mc_cache.specs.Tending.{tender_hands}
 use Rattle.mc_cache.specs.WindowsWithin.{MissesEachTime}

@@ -1,4 +1,4 @@
-use Rattle.mc_cache.specs.shard.Hands.{IsIdleHandOf}
+use Rattle.mc_shard.specs.Hands.{IsIdleHandOf}
 use Rattle.test_cache.proofs.tests.collided.act_often.Given as goal
 
 abbrev pub invariant-loop : goal.invariant-loop

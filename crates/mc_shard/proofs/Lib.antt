@@ -1,0 +1,12 @@
+pub mod Idle
+pub mod Newest
+pub mod Found
+pub mod WordsRead
+pub mod Appended
+pub mod Slabs
+pub mod Recorded
+pub mod Stored
+pub mod Stamps
+pub mod Tried
+pub mod Fits
+pub mod Lengths
