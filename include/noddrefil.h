@@ -149,13 +149,14 @@ uint32_t mc_get(mc_worker *worker, const uint8_t *key, size_t key_len, uint64_t 
 uint32_t mc_get_with_version(mc_worker *worker, const uint8_t *key, size_t key_len, uint64_t tries, uint8_t *out, size_t room, uint64_t *len,
                              uint64_t *version);
 
-/* Stores the value under the key, in place of what the key had. Items that nobody used lately go, where there is no room. MC_HELD; MC_TOO_LARGE,
- * MC_NO_ROOM, MC_WORN_OUT, MC_NO_MEMORY: the key has what it had, unless its item was evicted; MC_BAD_KEY, MC_CLOSED. */
+/* Stores the value under the key, in place of what the key had. Items that nobody used lately go, where there is no room. At MC_TOO_LARGE,
+ * MC_NO_ROOM, MC_WORN_OUT and MC_NO_MEMORY the key has no value any more: the old one is deleted. MC_HELD, MC_BAD_KEY, MC_CLOSED. */
 uint32_t mc_set(mc_worker *worker, const uint8_t *key, size_t key_len, const uint8_t *value, size_t value_len, uint64_t tries);
 
 /* The next three calls look at the key first, and then store only where it still has what they saw. A value that the look refuses takes no memory,
  * and nothing is evicted for it. A store makes room as mc_set does, but mc_replace and mc_compare_and_set don't evict the item that they are to
- * replace: without other room they return MC_NO_ROOM, and the value stays. Each call also returns the codes of mc_set. */
+ * replace: without other room they return MC_NO_ROOM, and the value stays. Each call also returns the codes of mc_set. None of these deletes
+ * the old value. */
 
 /* Stores the value where the key has none. MC_EXISTS where it has one, or where another worker stored under the key behind the look. MC_MISSING,
  * where an item of another key with the same hash went behind the look: call again. */

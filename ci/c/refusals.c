@@ -44,7 +44,7 @@ enum { KEYS = 24, LEN = 100, CLASSES = 4 };
 /* The first byte that was stored last under each key. */
 static uint8_t stored[KEYS];
 
-/* Stores each key twice, and reads it: a refused set leaves what there was, or nothing where an item was evicted. */
+/* Stores each key twice, and reads it: behind a refused set the key has no value. */
 static uint64_t wrong_calls(mc_worker *worker, uint8_t begin)
 {
     uint64_t wrong = 0, len = 0;
@@ -57,7 +57,7 @@ static uint64_t wrong_calls(mc_worker *worker, uint8_t begin)
         if (set == MC_OK)
             stored[key] = value[0];
         wrong += set != MC_OK && set != MC_NO_MEMORY;
-        wrong += got != MC_OK && got != MC_NO_MEMORY && !(got == MC_MISSING && set == MC_NO_MEMORY);
+        wrong += set == MC_NO_MEMORY ? got != MC_MISSING : got != MC_OK && got != MC_NO_MEMORY;
         wrong += got == MC_OK && (len != LEN || out[0] != stored[key] || out[LEN - 1] != stored[key]);
         wrong += mc_touch(worker, &key, 1, 1) == MC_HELD;
     }

@@ -241,6 +241,7 @@ static uint64_t wrong_tending(mc_worker *worker, mc_tender *tender)
 /* The codes of handles that are closed, and of calls that are refused. */
 static uint64_t wrong_codes(mc_worker *worker, mc_tender *tender)
 {
+    static const uint8_t large[20000];
     mc_worker none = {0};
     uint8_t out[LONGEST] = {0}, key[251] = {0};
     uint64_t len = 0, wrong = 0;
@@ -257,6 +258,9 @@ static uint64_t wrong_codes(mc_worker *worker, mc_tender *tender)
     wrong += mc_get(worker, key, 250, 1, out, 99, &len) != MC_TOO_SMALL || len != 100;
     wrong += mc_get(worker, key, 250, 1, out, 100, &len) != MC_OK || len != 100;
     wrong += mc_get(worker, key, 249, 1, out, 100, &len) != MC_MISSING;
+    wrong += mc_set(worker, key, 250, large, sizeof large, 1) != MC_TOO_LARGE;
+    wrong += mc_get(worker, key, 250, 1, out, 100, &len) != MC_MISSING;
+    wrong += mc_set(worker, key, 250, out, 100, 1) != MC_OK;
     wrong += mc_delete(worker, key, 250, 1) != MC_OK;
     wrong += mc_delete(worker, key, 250, 1) != MC_MISSING;
     wrong += mc_join(worker, &none) != MC_NO_WORKERS;

@@ -234,7 +234,8 @@ impl Worker {
         Ok(found.then_some(version))
     }
 
-    /// Stores the value under the key, in place of what the key had.
+    /// Stores the value under the key, in place of what the key had. Where no memory or no room is left for it, or it is too large, the old
+    /// value is deleted.
     pub fn set(&mut self, key: &[u8], value: &[u8]) -> Result<(), Error> {
         until_done(|| unsafe { raw::mc_set(&mut self.handle, key.as_ptr(), key.len(), value.as_ptr(), value.len(), TRIES) })?;
         Ok(())

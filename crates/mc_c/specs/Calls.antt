@@ -1,7 +1,7 @@
 -- What a call does by a client, and the code that it returns.
-use Rattle.std.specs.Prelude.{◌≡◌, ◌↔◌, ◌⊎◌, ◌<◌, ◌≤◌, ◌++◌, ℕ, Bool, true, false, List, [], drop, length, Option, None, Some, Err, Ok, Result}
+use Rattle.std.specs.Prelude.{◌≡◌, ◌↔◌, ◌<◌, ◌≤◌, ◌++◌, ℕ, Bool, true, false, List, [], drop, length, Option, None, Some, Err, Ok, Result}
 use Rattle.std.specs.Arc.{arc_value}
-use Rattle.mc_classes.specs.Limits.{most_page_bytes}
+use Rattle.mc_items.specs.declared.setting.SetError.TheVariants as item_error
 use Rattle.mc_cache.specs.declared.cache.Cache.{Cache}
 use Rattle.mc_cache.specs.declared.working.TryGetError.{TryGetError}
 use Rattle.mc_cache.specs.declared.working.TryGetError.TheVariants as get_error
@@ -10,13 +10,14 @@ use Rattle.mc_cache.specs.declared.working_within.SetWithinError.TheVariants as 
 use Rattle.mc_cache.specs.declared.working_within.WithinError.{WithinError}
 use Rattle.mc_cache.specs.declared.working_within.WithinError.TheVariants as within_error
 use Rattle.mc_cache.specs.Belonging.{KeepsHands}
-use Rattle.mc_cache.specs.declared.shard.conditions.Outcome.{Outcome}
-use Rattle.mc_cache.specs.declared.shard.conditions.When.{When}
+use Rattle.mc_shard.specs.declared.conditions.Outcome.{Outcome}
+use Rattle.mc_shard.specs.declared.conditions.When.{When}
 use Rattle.mc_cache.specs.Conditional.{SetsValueIfWithin}
 use Rattle.mc_cache.specs.Resting.{ActsAgain}
 use Rattle.mc_cache.specs.Shards.{IsKey}
 use Rattle.mc_cache.specs.Versions.{GetsVersionWithin}
-use Rattle.mc_cache.specs.WorkingWithin.{DeletesWithin, GetsWithin, SetsWithin, TouchesWithin}
+use Rattle.mc_cache.specs.Sizes.{LacksClassIn}
+use Rattle.mc_cache.specs.WorkingWithin.{DeletesWithin, GetsWithin, SetsOrDeletesWithin, TouchesWithin}
 use Rattle.mc_c.specs.declared.client.WorkerClient.{WorkerClient}
 use Rattle.mc_c.specs.Codes.{get_code, outcome_code, set_code, within_code}
 
@@ -46,9 +47,9 @@ pub record SetsAs (code tries : ℕ) (key value : List ℕ) (client after : Work
   pub done : Result (Unit {0}) SetWithinError
   pub coded : code ≡ set_code done
   pub key_length : (done ≡ Err set_error.KeyLength) ↔ ¬ IsKey key
-  pub value_length : (done ≡ Err set_error.ValueLength) ↔ IsKey key × (most_page_bytes < length value)
-  pub acts : IsKey key → length value ≤ most_page_bytes → ActsAgain (cache_of client) key (λ hash. SetsWithin tries hash key value done) client.worker after.worker
-  pub same : ¬ IsKey key ⊎ (most_page_bytes < length value) → KeepsHands client.worker after.worker
+  pub too_large : done ≡ Err (set_error.Item item_error.TooLarge) → LacksClassIn (cache_of client) (length key) (length value)
+  pub acts : IsKey key → SetsOrDeletesWithin (cache_of client) tries key value done client.worker after.worker
+  pub same : ¬ IsKey key → KeepsHands client.worker after.worker
   pub cache : cache_of after ≡ cache_of client
   pub spare : after.spare.items ≡ client.spare.items
 
@@ -57,9 +58,9 @@ pub record SetsIfAs (code tries : ℕ) (key value : List ℕ) (when : When) (cli
   pub done : Result Outcome SetWithinError
   pub coded : code ≡ outcome_code done
   pub key_length : (done ≡ Err set_error.KeyLength) ↔ ¬ IsKey key
-  pub value_length : (done ≡ Err set_error.ValueLength) ↔ IsKey key × (most_page_bytes < length value)
-  pub acts : IsKey key → length value ≤ most_page_bytes → ActsAgain (cache_of client) key (λ hash. SetsValueIfWithin tries hash key value when done) client.worker after.worker
-  pub same : ¬ IsKey key ⊎ (most_page_bytes < length value) → KeepsHands client.worker after.worker
+  pub too_large : done ≡ Err (set_error.Item item_error.TooLarge) → LacksClassIn (cache_of client) (length key) (length value)
+  pub acts : IsKey key → ActsAgain (cache_of client) key (λ hash. SetsValueIfWithin tries hash key value when done) client.worker after.worker
+  pub same : ¬ IsKey key → KeepsHands client.worker after.worker
   pub cache : cache_of after ≡ cache_of client
   pub spare : after.spare.items ≡ client.spare.items
 

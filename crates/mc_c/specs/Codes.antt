@@ -4,8 +4,8 @@ use Rattle.mc_classes.specs.declared.config.ConfigError.TheVariants as config_er
 use Rattle.mc_items.specs.declared.setting.SetError.TheVariants as item_error
 use Rattle.mc_pages.specs.declared.moves.Reassign.{Reassign}
 use Rattle.mc_pages.specs.declared.moves.Reassign.TheVariants as answer
-use Rattle.mc_cache.specs.declared.shard.conditions.Outcome.{Outcome}
-use Rattle.mc_cache.specs.declared.shard.conditions.Outcome.TheVariants as outcome
+use Rattle.mc_shard.specs.declared.conditions.Outcome.{Outcome}
+use Rattle.mc_shard.specs.declared.conditions.Outcome.TheVariants as outcome
 use Rattle.mc_cache.specs.declared.opening.NewError.{NewError}
 use Rattle.mc_cache.specs.declared.opening.NewError.TheVariants as new_error
 use Rattle.mc_cache.specs.declared.sizing.SizingError.{SizingError}
@@ -29,7 +29,6 @@ get_code (Err get_error.Held) = 2
 abbrev pub set_code : Result (Unit {0}) SetWithinError → ℕ
 set_code (Ok done) = 0
 set_code (Err set_error.KeyLength) = 10
-set_code (Err set_error.ValueLength) = 3
 set_code (Err (set_error.Item item_error.TooLarge)) = 3
 set_code (Err (set_error.Item item_error.NoRoom)) = 4
 set_code (Err (set_error.Item item_error.WornOut)) = 5

@@ -45,7 +45,7 @@ fn copy(value: &[u8], out: &mut [u8], len: &mut u64) -> u32
     OK
 }
 
-/// Stores the value under the key.
+/// Stores the value under the key. Where that is refused, the key's old value is deleted.
 pub(crate) fn set(client: &mut WorkerClient, key: &[u8], value: &[u8], tries: u64) -> u32
     ensures { SetsAs result tries key.now value.now client.old client.new }
 {
@@ -59,9 +59,7 @@ fn code_of_set(done: Result<(), SetWithinError>) -> u32
     match done {
         Ok(()) => OK,
         Err(SetWithinError::KeyLength) => BAD_KEY,
-        Err(SetWithinError::ValueLength) | Err(SetWithinError::Item(SetError::TooLarge)) => {
-            TOO_LARGE
-        }
+        Err(SetWithinError::Item(SetError::TooLarge)) => TOO_LARGE,
         Err(SetWithinError::Item(SetError::NoRoom)) => NO_ROOM,
         Err(SetWithinError::Item(SetError::WornOut)) => WORN_OUT,
         Err(SetWithinError::Item(SetError::NoMemory(_))) => NO_MEMORY,

@@ -10,7 +10,7 @@ ghost use Rattle.mc_cache.specs.Bytes.{cache_bytes};
 ghost use Rattle.mc_cache.specs.Opening.{cache_refusal};
 ghost use Rattle.mc_cache.specs.Sizing.{sizing_refusal};
 ghost use Rattle.mc_c.specs.Calls.{DeletesAs, GetsAs, GetsVersionAs, SetsAs, SetsIfAs, TouchesAs};
-ghost use Rattle.mc_cache.specs.declared.shard.conditions.When.TheVariants as when;
+ghost use Rattle.mc_shard.specs.declared.conditions.When.TheVariants as when;
 ghost use Rattle.mc_c.specs.Codes.{refusal_code, sizing_code};
 ghost use Rattle.mc_c.specs.Configs.{WritesSized, config_for};
 ghost use Rattle.mc_c.specs.Handles.{ActsOn, client_of, tender_of, worker_of};

@@ -37,9 +37,8 @@ impl<'a> Store<'a> {
         self.counts.add(Counter::cmd_set);
         if name == b"set" {
             let item = self.new_item(head, data);
-            let stored = self.worker.set(key, &item);
             // Where the cache has no room for the item, the old one goes, as memcached has it.
-            return stored.or_else(|error| self.worker.delete(key).and(Err(error))).map(|()| "STORED").map_err(refusal);
+            return self.worker.set(key, &item).map(|()| "STORED").map_err(refusal);
         }
         let stored = self.change(key, |store, old| match (name, old) {
             (b"add", Some(_)) | (b"replace" | b"append" | b"prepend", None) => Err("NOT_STORED"),
