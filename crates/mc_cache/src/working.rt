@@ -54,7 +54,7 @@ impl Worker {
 
     /// Stores the value under the key, in the place of what the key had. An item of another key with the same hash goes, as by an
     /// eviction. Where its class is full, some of the oldest items are evicted first. Where the store is refused, the key's old value is
-    /// deleted, so that no get finds it any more. It waits for locks of the key's shard. (memcached's `set`)
+    /// deleted, since it was to be replaced. It waits for locks of the key's shard. (memcached's `set`)
     pub fn set<R: Wait>(
         &mut self,
         rt: &R,

@@ -1,5 +1,5 @@
 -- The class of an item by the lengths of its key and its value.
-use Rattle.std.proofs.Common.{◌≡◌, ◌∙◌, ◌+◌, ◌*◌, ℕ, Bool, false, List, Option, None, Some, Result, Ok, Err, ap, inl, inr, is_some, length, refl, sym}
+use Rattle.std.proofs.Common.{◌≡◌, ◌∙◌, ◌+◌, ◌*◌, ℕ, Bool, false, List, Option, None, Some, Result, Ok, Err, ap, is_some, length, refl, sym, true, true≢false}
 use Rattle.mc_classes.specs.Classes.{Classes, class_of}
 use Rattle.mc_packing.specs.Packing.{packed_item}
 use Rattle.mc_packing.proofs.Packs.{length_packed}
@@ -48,9 +48,11 @@ module _ (arena : Arena) (hand : Hand) (idle : IsIdleHandOf arena hand) (key val
 
   -- a set of what has no class is refused at once
   pub refused_at_once : (number hash : ℕ) → has_class_for (setup_of arena).table (length key) (length value) ≡ false → RefusesBytes number hash (packed_item key value) TooLarge hand hand
-  refused_at_once number hash lacks =
-      let none = has_no_class lacks in
-      inr (record { between = hand; makes = inl (none, refl); refuses = (none, refl) })
+  refused_at_once number hash lacks = (has_no_class lacks, refl)
+
+  -- words that fit by their lengths have a class
+  pub fits : (words : List ℕ) → words ≡ packed_item key value → has_class_for (setup_of arena).table (length key) (length value) ≡ true → class_for_words (view hand) words ≡ None → ⊥
+  fits words packed has none = absurd (true≢false (sym has ∙ lacks_class words packed none))
 
 -- a set on a condition is too large where its store is
 pub too_large_of : (stored : Result ℕ CompareError) → ◌≡◌ {A = Result Outcome SetError} (outcome_of stored) (Err TooLarge) → ◌≡◌ {A = Result ℕ CompareError} stored (Err (compare.Refused TooLarge))

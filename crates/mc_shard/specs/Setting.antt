@@ -6,7 +6,7 @@ use Rattle.mc_words.specs.hand.Observers.{hand_number}
 use Rattle.mc_items.specs.Evicting.{RecordsEviction}
 use Rattle.mc_items.specs.MakingRoom.{LacksRoomMemory, MakesRoom, RecordsSomeDeletes}
 use Rattle.mc_items.specs.OnKeys.{ActsOnce}
-use Rattle.mc_items.specs.Setting.{RecordsSet, RefusesCompare, RefusesSet, SetsItem, class_for_words}
+use Rattle.mc_items.specs.Setting.{IsTooLarge, RecordsSet, RefusesCompare, RefusesSet, SetsItem, class_for_words}
 use Rattle.mc_items.specs.declared.comparing.CompareError.{CompareError}
 use Rattle.mc_items.specs.declared.comparing.CompareError.TheVariants.{Refused, Differs}
 use Rattle.mc_items.specs.declared.comparing.Expected.{Expected}
@@ -14,7 +14,7 @@ use Rattle.mc_items.specs.declared.comparing.Expected.TheVariants.{Anything, Not
 use Rattle.mc_items.specs.declared.making_room.Room.{Room}
 use Rattle.mc_items.specs.declared.making_room.Room.TheVariants.{Full}
 use Rattle.mc_items.specs.declared.setting.SetError.{SetError}
-use Rattle.mc_items.specs.declared.setting.SetError.TheVariants.{NoMemory, NoRoom}
+use Rattle.mc_items.specs.declared.setting.SetError.TheVariants.{NoMemory, NoRoom, TooLarge, WornOut}
 
 -- room was made in the class of these words; or no class has such chunks, and nothing was done
 abbrev pub MakesRoomFor : List ℕ → Hand → Hand → Type 0
@@ -52,11 +52,14 @@ pub record RefusesBehindRoom (number hash : ℕ) (words : List ℕ) (error : Set
   pub makes : MakesRoomFor words before between
   pub refuses : RefusesSet number hash words error (view between) (view now)
 
--- there was no memory for the words, or for room in their class; or room was made, and then the set was refused
+-- why a set of these words was refused: no class has chunks for them, and nothing was done; or room was made, and then the set was refused;
+-- or there was no memory for the words, or for room in their class
 abbrev pub RefusesBytes : ℕ → ℕ → List ℕ → SetError → Hand → Hand → Type 0
-RefusesBytes number hash words error before now =
-    ((error ≡ NoMemory tt) × ((view now ≡ view before) ⊎ LacksRoomFor words before now))
-    ⊎ RefusesBehindRoom number hash words error before now
+RefusesBytes number hash words TooLarge before now = IsTooLarge words (view before) (view now)
+RefusesBytes number hash words NoRoom before now = RefusesBehindRoom number hash words NoRoom before now
+RefusesBytes number hash words WornOut before now = RefusesBehindRoom number hash words WornOut before now
+RefusesBytes number hash words (NoMemory _) before now =
+    (view now ≡ view before) ⊎ LacksRoomFor words before now ⊎ RefusesBehindRoom number hash words (NoMemory tt) before now
 
 -- room was made in the class of these words, and then the hash had this stamp or none, which isn't expected, so nothing was stored
 pub record DiffersBehindRoom (expected : Expected) (found : Option ℕ) (number hash : ℕ) (words : List ℕ) (before now : Hand) : Type 0 where
@@ -81,7 +84,7 @@ abbrev pub LacksRoom : Expected → List ℕ → SetError → Hand → Hand → 
 LacksRoom expected words error before now =
     ((error ≡ NoMemory tt) × LacksRoomFor words before now) ⊎ ((error ≡ NoRoom) × AsksForItem expected × FindsClassFull words before now)
 
--- why a set that expects something was refused: as a set that expects nothing; where it expects an item, by a class with no other room; or by
+-- why a set that expects something was refused: as a set that takes anything; where it expects an item, by a class with no other room; or by
 -- what the hash had
 abbrev pub RefusesCompareBytes : Expected → ℕ → ℕ → List ℕ → CompareError → Hand → Hand → Type 0
 RefusesCompareBytes expected number hash words (Refused error) before now =

@@ -23,6 +23,7 @@
 //! A caller may rely on this: a value comes only from words that are the packing of this key and that value, and that some hand
 //! stored. An item of another key under the same hash is none to [`get`], [`peek`], [`try_get`], [`contains`], [`touch`] and [`delete`],
 //! and a [`set`] takes its place. Hashes, shards and the lengths of keys are `mc_cache`'s.
+#![tactic(auto)]
 
 mod comparing;
 mod conditions;

@@ -2,7 +2,7 @@ use Rattle.std.proofs.Common.{◌∙◌, false, inl, length, refl, subst, sym, t
 use Rattle.mc_packing.specs.Packing.{packed_item}
 use Rattle.mc_words.specs.hand.Arenas.{setup_of, view}
 use Rattle.mc_words.specs.hand.Observers.{hand_number}
-use Rattle.mc_shard.proofs.Lengths.{lacks_class, refused_at_once, same_error, tested_as}
+use Rattle.mc_shard.proofs.Lengths.{fits, lacks_class, refused_at_once, same_error, tested_as}
 use Rattle.mc_items.specs.declared.setting.SetError.TheVariants.{TooLarge}
 use Rattle.mc_items.specs.declared.comparing.CompareError.{CompareError}
 use Rattle.mc_items.specs.declared.comparing.CompareError.TheVariants as compare
@@ -30,7 +30,7 @@ pub returns-in-Err-clause-evicts : goal.returns-in-Err-clause-evicts
 returns-in-Err-clause-evicts g c = room_alone (hand_number c.args.hand.now) c.args.hand.now c.args.hand.now (no_deletes (hand_number c.args.hand.now) (view c.args.hand.now))
 
 pub returns-in-Err-clause-refused : goal.returns-in-Err-clause-refused
-returns-in-Err-clause-refused g c = inl (inl (refl, inl refl))
+returns-in-Err-clause-refused g c = inl (inl refl)
 
 pub returns-in-Err-make_room_for-clause-refused : goal.returns-in-Err-make_room_for-clause-refused
 returns-in-Err-make_room_for-clause-refused g c =
@@ -52,7 +52,10 @@ returns-in-Ok-clause-calls g c =
 pub returns-in-Err-compare_and_set-clause-refused : goal.returns-in-Err-compare_and_set-clause-refused
 returns-in-Err-compare_and_set-clause-refused g c =
     refuses_compare_behind (hand_number c.args.hand.now) (hand_number c.make_room_for.new.hand) c.args.at.hash c.make_room_for.ensures.number c.deref.result.now c.deref-2.result.now (packed_item c.args.at.key.now c.args.value.now) (c.deref.ensures.value ∙ c.in_default.ensures.packed) (c.deref-2.ensures.value ∙ c.in_default.ensures.packed)
-    c.args.hand.now c.make_room_for.new.hand c.compare_and_set.new.hand c.args.expected c.in-Err-compare_and_set.error c.in_default-make_room_for.ensures.makes c.in-Err-compare_and_set.ensures.refused
+    c.args.hand.now c.make_room_for.new.hand c.compare_and_set.new.hand
+    (fits c.args.arena.now c.make_room_for.new.hand c.make_room_for.ensures.idle c.args.at.key.now c.args.value.now c.deref-2.result.now (c.deref-2.ensures.value ∙ c.in_default.ensures.packed)
+    (tested_as c.classes.result.now (setup_of c.args.arena.now).table (length c.args.at.key.now) (length c.args.value.now) c.has_class.result true c.classes.ensures.classes c.has_class.ensures c.if-not-has_class.false))
+    c.args.expected c.in-Err-compare_and_set.error c.in_default-make_room_for.ensures.makes c.in-Err-compare_and_set.ensures.refused
 
 pub returns-in-Err-compare_and_set-clause-evicts : goal.returns-in-Err-compare_and_set-clause-evicts
 returns-in-Err-compare_and_set-clause-evicts g c =

@@ -2,7 +2,7 @@ use Rattle.std.proofs.Common.{◌∙◌, false, inl, length, refl, subst, sym, t
 use Rattle.mc_packing.specs.Packing.{packed_item}
 use Rattle.mc_words.specs.hand.Arenas.{setup_of, view}
 use Rattle.mc_words.specs.hand.Observers.{hand_number}
-use Rattle.mc_shard.proofs.Lengths.{lacks_class, refused_at_once, same_error, tested_as}
+use Rattle.mc_shard.proofs.Lengths.{fits, lacks_class, refused_at_once, same_error, tested_as}
 use Rattle.mc_items.specs.declared.setting.SetError.TheVariants.{TooLarge}
 use Rattle.mc_items.specs.declared.within.SetWithinError.TheVariants as within
 use Rattle.mc_items.specs.declared.within.comparing.CompareWithinError.{CompareWithinError}
@@ -31,7 +31,7 @@ pub returns-in-Err-clause-evicts : goal.returns-in-Err-clause-evicts
 returns-in-Err-clause-evicts c = room_alone (hand_number c.args.hand.now) c.args.hand.now c.args.hand.now (no_deletes (hand_number c.args.hand.now) (view c.args.hand.now))
 
 pub returns-in-Err-clause-refused : goal.returns-in-Err-clause-refused
-returns-in-Err-clause-refused c = inl (inl (refl, inl refl))
+returns-in-Err-clause-refused c = inl (inl refl)
 
 pub returns-in-Err-room_within-clause-refused : goal.returns-in-Err-room_within-clause-refused
 returns-in-Err-room_within-clause-refused c =
@@ -53,7 +53,10 @@ returns-in-Ok-clause-calls c =
 pub returns-in-Err-compare_and_set_within-clause-refused : goal.returns-in-Err-compare_and_set_within-clause-refused
 returns-in-Err-compare_and_set_within-clause-refused c =
     refuses_compare_within_behind (hand_number c.args.hand.now) (hand_number c.room_within.new.hand) c.args.at.hash c.room_within.ensures.number c.deref.result.now c.deref-2.result.now (packed_item c.args.at.key.now c.args.value.now) (c.deref.ensures.value ∙ c.in_default.ensures.packed) (c.deref-2.ensures.value ∙ c.in_default.ensures.packed)
-    c.args.hand.now c.room_within.new.hand c.compare_and_set_within.new.hand c.args.expected c.args.tries c.in-Err-compare_and_set_within.error c.in_default-room_within.ensures.makes c.in-Err-compare_and_set_within.ensures.refused
+    c.args.hand.now c.room_within.new.hand c.compare_and_set_within.new.hand
+    (fits c.args.arena.now c.room_within.new.hand c.room_within.ensures.idle c.args.at.key.now c.args.value.now c.deref-2.result.now (c.deref-2.ensures.value ∙ c.in_default.ensures.packed)
+    (tested_as c.classes.result.now (setup_of c.args.arena.now).table (length c.args.at.key.now) (length c.args.value.now) c.has_class.result true c.classes.ensures.classes c.has_class.ensures c.if-not-has_class.false))
+    c.args.expected c.args.tries c.in-Err-compare_and_set_within.error c.in_default-room_within.ensures.makes c.in-Err-compare_and_set_within.ensures.refused
 
 pub returns-in-Err-compare_and_set_within-clause-evicts : goal.returns-in-Err-compare_and_set_within-clause-evicts
 returns-in-Err-compare_and_set_within-clause-evicts c =
