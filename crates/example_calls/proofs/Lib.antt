@@ -6,3 +6,5 @@ pub mod Rising
 pub mod Misses
 pub mod Outcomes
 pub mod Unheld
+pub mod Replaced
+pub mod Visited

@@ -4,3 +4,4 @@ pub mod Closed
 pub mod Bounded
 pub mod Roomy
 pub mod Cached
+pub mod Visits

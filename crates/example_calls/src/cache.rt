@@ -10,6 +10,7 @@ mod resting;
 mod shared;
 mod tended;
 mod unused;
+mod visited;
 mod watched;
 
 pub use chained::call_twice;
@@ -22,4 +23,5 @@ pub use resting::Client;
 pub use shared::share;
 pub use tended::tend_whole;
 pub use unused::get_from_new;
+pub use visited::count_visit;
 pub use watched::tend_and_tell;

@@ -1,27 +1,13 @@
-use Rattle.std.proofs.Common.{ℕ, List, IfSome, Ok, Option, subst}
-use Rattle.mc_cache.specs.declared.cache.Cache.{Cache}
-use Rattle.mc_cache.specs.declared.cache.Worker.{Worker}
+use Rattle.std.proofs.Common.{ℕ, IfSome, Ok, Option, subst}
 use Rattle.mc_shard.specs.declared.conditions.Outcome.{Outcome}
 use Rattle.mc_shard.specs.declared.conditions.Outcome.TheVariants.{Stored}
 use Rattle.mc_shard.specs.declared.conditions.When.TheVariants.{Version}
 use Rattle.mc_cache.specs.Belonging.{ActsOnKey, hash_in}
-use Rattle.mc_cache.specs.Conditional.{SetsValueIf, VersionsAreReplaced}
+use Rattle.mc_cache.specs.Conditional.{SetsValueIf}
 use Rattle.mc_cache.specs.Versions.{GivesVersionOf}
-use Rattle.example_calls.specs.Cached.{StoresOverVersion}
 use Rattle.example_calls.proofs.Outcomes.{same_ok}
+use Rattle.example_calls.proofs.Replaced.{stored_over}
 use Rattle.example_calls.proofs.cache.exchanged.exchange.Goals as goal
-
--- a set over a version that stored took the place of the value of that version
-stored_over : (cache : Cache) (key value : List ℕ) (version stamp : ℕ) (before now : Worker) → VersionsAreReplaced → ActsOnKey cache key (SetsValueIf (hash_in cache key) key value (Version version) (Ok (Stored stamp))) before now → ActsOnKey cache key (StoresOverVersion (hash_in cache key) key value version stamp) before now
-stored_over cache key value version stamp before now law acts = record {
-  arena = acts.arena;
-  is_arena = acts.is_arena;
-  hand = acts.hand;
-  is_hand = acts.is_hand;
-  after = acts.after;
-  others = acts.others;
-  does = law acts.arena (hash_in cache key) key value version stamp acts.hand acts.after acts.does;
-}
 
 pub returns-in-Ok-compare_and_set-clause-exchanges : goal.returns-in-Ok-compare_and_set-clause-exchanges
 returns-in-Ok-compare_and_set-clause-exchanges g c = λ stamp is.

@@ -1,0 +1,4 @@
+pub mod Changes
+pub mod Updates
+pub mod Counting
+pub mod Adding

@@ -1,0 +1,6 @@
+//! Changes in rows, in drawn calls against a model, and of two threads at once.
+mod adding;
+mod drawn;
+mod made;
+mod rows;
+mod threads;

@@ -1,0 +1,69 @@
+//! Small caches and their workers.
+ghost use Rattle.std.specs.Prelude.{IfOk, All, IfSome};
+ghost use Rattle.mc_cache.specs.Belonging.{BelongsTo};
+
+use mc_cache::{Cache, CacheConfig, HashKey, Worker};
+use mc_classes::Config;
+use std::alloc::Global;
+use std::sync::Wait;
+use std::test::Fail;
+
+/// Eight pages of 1,024 bytes, and chunks up to a page.
+const SMALL: Config = Config {
+    page: 1024,
+    limit: 8192,
+    first: 64,
+    num: 2,
+    den: 1,
+    max: 1024,
+    stripes: 4,
+    bulk: 64,
+};
+
+/// Numbers for the hashes.
+const HASH_KEY: HashKey = HashKey {
+    first: 0x0123_4567_89ab_cdef,
+    second: 42,
+};
+
+/// The key that all tests change.
+pub const KEY: &[u8] = b"count";
+
+/// The worker that is left last.
+pub fn next_worker(cache: &Cache, workers: &mut Vec<Worker>) -> Result<Worker, Fail>
+    requires { All (BelongsTo cache.now) workers.old.items }
+    ensures workers { All (BelongsTo cache.now) workers.new.items }
+    ensures worker { IfOk result (λ worker. BelongsTo cache.now worker) }
+{
+    if workers.is_empty() {
+        Err(Fail::new("there is no worker left"))
+    } else {
+        Ok(workers.remove(0))
+    }
+}
+
+/// A cache of two shards with n workers.
+pub fn with_workers<R: Wait>(
+    rt: &R,
+    alloc: Global,
+    workers: u64,
+) -> Result<(Cache, Vec<Worker>), Fail>
+    ensures { IfOk result (λ made. All (BelongsTo made.0) made.1.items) }
+{
+    let config = CacheConfig {
+        arena: SMALL,
+        shards: 2,
+        workers,
+    };
+    let (cache, workers, _tender) = Cache::new(rt, alloc, &config, HASH_KEY)?;
+    Ok((cache, workers))
+}
+
+/// A cache with one worker.
+pub fn with_one_worker<R: Wait>(rt: &R, alloc: Global) -> Result<(Cache, Worker), Fail>
+    ensures { IfOk result (λ made. BelongsTo made.0 made.1) }
+{
+    let (cache, mut workers) = with_workers(rt, alloc, 1)?;
+    let worker = next_worker(&cache, &mut workers)?;
+    Ok((cache, worker))
+}
