@@ -8,7 +8,7 @@ ghost use Rattle.mc_update.specs.Updates.{FindsNoValue, stored_by};
 ghost use Rattle.mc_update.specs.declared.adding.AddError.TheVariants as add_error;
 
 use crate::updater::{Updater, stored_version};
-use mc_cache::{Cache, CallError, SetError, Worker};
+use mc_cache::{Cache, CallError, SetError, When, Worker};
 use mc_memory::Refused;
 use mc_stripe::Stamp;
 use std::mem::swap;
@@ -55,7 +55,7 @@ impl Updater {
             (stored_by self.old) (FindsNoValue cache.now key.now) worker.old worker.new }
         ensures kept { result ≡ None → stored_by self.new ≡ stored_by self.old }
     {
-        let outcome = match worker.add(rt, cache, key, &self.new_value) {
+        let outcome = match worker.set_if(rt, cache, key, &self.new_value, When::Absent) {
             Ok(outcome) => outcome,
             Err(SetError::KeyLength) => return Some(Err(AddError::KeyLength)),
             Err(SetError::Item(error)) => return Some(Ok(Source::Unstored(error))),

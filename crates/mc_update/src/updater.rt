@@ -6,7 +6,7 @@ ghost use Rattle.mc_update.specs.Updates.{ChangesValue, EndsWith, SetsInVain, st
 ghost use Rattle.mc_update.specs.declared.updater.ChangeError.TheVariants as change_error;
 
 use crate::change::Change;
-use mc_cache::{Cache, CallError, Outcome, SetError, Worker};
+use mc_cache::{Cache, CallError, Outcome, SetError, When, Worker};
 use mc_memory::Refused;
 use mc_stripe::Stamp;
 use std::alloc::Global;
@@ -109,7 +109,8 @@ impl Updater {
             Ok(false) => return Some(Err(ChangeError::NotNumber)),
             Err(refused) => return Some(Err(ChangeError::NoMemory(refused))),
         }
-        let outcome = match worker.compare_and_set(rt, cache, key, &self.new_value, version) {
+        let when = When::Version(version);
+        let outcome = match worker.set_if(rt, cache, key, &self.new_value, when) {
             Ok(outcome) => outcome,
             Err(SetError::KeyLength) => return Some(Err(ChangeError::KeyLength)),
             Err(SetError::Item(error)) => return Some(Err(ChangeError::Item(error))),
