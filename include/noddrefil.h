@@ -153,6 +153,9 @@ uint32_t mc_get_with_version(mc_worker *worker, const uint8_t *key, size_t key_l
  * MC_NO_ROOM, MC_WORN_OUT and MC_NO_MEMORY the key has no value any more: the old one is deleted. MC_HELD, MC_BAD_KEY, MC_CLOSED. */
 uint32_t mc_set(mc_worker *worker, const uint8_t *key, size_t key_len, const uint8_t *value, size_t value_len, uint64_t tries);
 
+/* The same as mc_set, but at each of these codes the key has what it had, unless its item was among those that were evicted. */
+uint32_t mc_set_or_keep(mc_worker *worker, const uint8_t *key, size_t key_len, const uint8_t *value, size_t value_len, uint64_t tries);
+
 /* The next three calls look at the key first, and then store only where it still has what they saw. A value that the look refuses takes no memory,
  * and nothing is evicted for it. A store makes room as mc_set does, but mc_replace and mc_compare_and_set don't evict the item that they are to
  * replace: without other room they return MC_NO_ROOM, and the value stays. Each call also returns the codes of mc_set. None of these deletes
@@ -223,6 +226,14 @@ static inline uint32_t mc_set_again(mc_worker *worker, const uint8_t *key, size_
 {
     uint32_t code;
     while ((code = mc_set(worker, key, key_len, value, value_len, MC_TRIES)) == MC_HELD)
+        sched_yield();
+    return code;
+}
+
+static inline uint32_t mc_set_or_keep_again(mc_worker *worker, const uint8_t *key, size_t key_len, const uint8_t *value, size_t value_len)
+{
+    uint32_t code;
+    while ((code = mc_set_or_keep(worker, key, key_len, value, value_len, MC_TRIES)) == MC_HELD)
         sched_yield();
     return code;
 }

@@ -247,6 +247,7 @@ static uint64_t wrong_codes(mc_worker *worker, mc_tender *tender)
     uint64_t len = 0, wrong = 0;
     wrong += mc_get(&none, key, 1, 1, out, 1, &len) != MC_CLOSED;
     wrong += mc_set(&none, key, 1, out, 1, 1) != MC_CLOSED;
+    wrong += mc_set_or_keep(&none, key, 1, out, 1, 1) != MC_CLOSED;
     wrong += mc_delete(&none, key, 1, 1) != MC_CLOSED;
     wrong += mc_touch(&none, key, 1, 1) != MC_CLOSED;
     wrong += mc_join(&none, &none) != MC_CLOSED;
@@ -258,6 +259,9 @@ static uint64_t wrong_codes(mc_worker *worker, mc_tender *tender)
     wrong += mc_get(worker, key, 250, 1, out, 99, &len) != MC_TOO_SMALL || len != 100;
     wrong += mc_get(worker, key, 250, 1, out, 100, &len) != MC_OK || len != 100;
     wrong += mc_get(worker, key, 249, 1, out, 100, &len) != MC_MISSING;
+    wrong += mc_set_or_keep(worker, key, 250, large, sizeof large, 1) != MC_TOO_LARGE;
+    wrong += mc_get(worker, key, 250, 1, out, 100, &len) != MC_OK || len != 100;
+    wrong += mc_set_or_keep_again(worker, key, 250, out, 100) != MC_OK;
     wrong += mc_set(worker, key, 250, large, sizeof large, 1) != MC_TOO_LARGE;
     wrong += mc_get(worker, key, 250, 1, out, 100, &len) != MC_MISSING;
     wrong += mc_set(worker, key, 250, out, 100, 1) != MC_OK;

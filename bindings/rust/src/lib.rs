@@ -241,6 +241,13 @@ impl Worker {
         Ok(())
     }
 
+    /// Stores the value under the key, in place of what the key had. Where it isn't stored, the old value stays, unless its item was among those
+    /// that were evicted.
+    pub fn set_or_keep(&mut self, key: &[u8], value: &[u8]) -> Result<(), Error> {
+        until_done(|| unsafe { raw::mc_set_or_keep(&mut self.handle, key.as_ptr(), key.len(), value.as_ptr(), value.len(), TRIES) })?;
+        Ok(())
+    }
+
     /// Stores the value if the key has none, and returns whether it is stored. Of several threads that add one key, one alone stores.
     ///
     /// Where the key has a value, nothing is evicted for the new one.

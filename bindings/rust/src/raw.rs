@@ -110,6 +110,7 @@ extern "C" {
         version: *mut u64,
     ) -> u32;
     pub(crate) fn mc_set(worker: *mut Handle, key: *const u8, key_len: usize, value: *const u8, value_len: usize, tries: u64) -> u32;
+    pub(crate) fn mc_set_or_keep(worker: *mut Handle, key: *const u8, key_len: usize, value: *const u8, value_len: usize, tries: u64) -> u32;
     pub(crate) fn mc_add(worker: *mut Handle, key: *const u8, key_len: usize, value: *const u8, value_len: usize, tries: u64) -> u32;
     pub(crate) fn mc_replace(worker: *mut Handle, key: *const u8, key_len: usize, value: *const u8, value_len: usize, tries: u64) -> u32;
     pub(crate) fn mc_compare_and_set(

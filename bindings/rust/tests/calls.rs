@@ -44,6 +44,18 @@ fn refuses_keys_values_and_workers() {
 }
 
 #[test]
+fn a_refused_set_deletes_or_keeps_the_old_value() {
+    let mut worker = cache(1).worker().unwrap();
+    let mut value = Vec::new();
+    worker.set_or_keep(b"a", b"1").unwrap();
+    assert_eq!(worker.set_or_keep(b"a", &[0; 20_000]), Err(Error::TooLarge));
+    assert!(worker.get(b"a", &mut value).unwrap());
+    assert_eq!(value, b"1");
+    assert_eq!(worker.set(b"a", &[0; 20_000]), Err(Error::TooLarge));
+    assert!(!worker.get(b"a", &mut value).unwrap());
+}
+
+#[test]
 fn a_worker_outlives_its_cache() {
     let cache = cache(2);
     let (mut one, mut other) = (cache.worker().unwrap(), cache.worker().unwrap());

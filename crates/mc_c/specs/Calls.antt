@@ -17,7 +17,7 @@ use Rattle.mc_cache.specs.Resting.{ActsAgain}
 use Rattle.mc_cache.specs.Shards.{IsKey}
 use Rattle.mc_cache.specs.Versions.{GetsVersionWithin}
 use Rattle.mc_cache.specs.Sizes.{LacksClassIn}
-use Rattle.mc_cache.specs.WorkingWithin.{DeletesWithin, GetsWithin, SetsOrDeletesWithin, TouchesWithin}
+use Rattle.mc_cache.specs.WorkingWithin.{DeletesWithin, GetsWithin, SetsOrDeletesWithin, SetsWithin, TouchesWithin}
 use Rattle.mc_c.specs.declared.client.WorkerClient.{WorkerClient}
 use Rattle.mc_c.specs.Codes.{get_code, outcome_code, set_code, within_code}
 
@@ -49,6 +49,17 @@ pub record SetsAs (code tries : ℕ) (key value : List ℕ) (client after : Work
   pub key_length : (done ≡ Err set_error.KeyLength) ↔ ¬ IsKey key
   pub too_large : done ≡ Err (set_error.Item item_error.TooLarge) → LacksClassIn (cache_of client) (length key) (length value)
   pub acts : IsKey key → SetsOrDeletesWithin (cache_of client) tries key value done client.worker after.worker
+  pub same : ¬ IsKey key → KeepsHands client.worker after.worker
+  pub cache : cache_of after ≡ cache_of client
+  pub spare : after.spare.items ≡ client.spare.items
+
+-- a set of the client that deletes nothing, whose result has this code
+pub record SetsOrKeepsAs (code tries : ℕ) (key value : List ℕ) (client after : WorkerClient) : Type 0 where
+  pub done : Result (Unit {0}) SetWithinError
+  pub coded : code ≡ set_code done
+  pub key_length : (done ≡ Err set_error.KeyLength) ↔ ¬ IsKey key
+  pub too_large : (done ≡ Err (set_error.Item item_error.TooLarge)) ↔ IsKey key × LacksClassIn (cache_of client) (length key) (length value)
+  pub acts : IsKey key → ActsAgain (cache_of client) key (λ hash. SetsWithin tries hash key value done) client.worker after.worker
   pub same : ¬ IsKey key → KeepsHands client.worker after.worker
   pub cache : cache_of after ≡ cache_of client
   pub spare : after.spare.items ≡ client.spare.items

@@ -1,6 +1,6 @@
 //! The calls of a worker: each result has its code.
 ghost use Rattle.std.specs.Prelude.{◌≡◌, Ok, true};
-ghost use Rattle.mc_c.specs.Calls.{DeletesAs, GetsAs, GetsVersionAs, SetsAs, SetsIfAs, TouchesAs, WritesValue};
+ghost use Rattle.mc_c.specs.Calls.{DeletesAs, GetsAs, GetsVersionAs, SetsAs, SetsIfAs, SetsOrKeepsAs, TouchesAs, WritesValue};
 ghost use Rattle.mc_c.specs.Codes.{outcome_code, set_code, within_code};
 
 use crate::client::WorkerClient;
@@ -50,6 +50,14 @@ pub(crate) fn set(client: &mut WorkerClient, key: &[u8], value: &[u8], tries: u6
     ensures { SetsAs result tries key.now value.now client.old client.new }
 {
     code_of_set(client.worker.set_within(&client.cache, key, value, tries))
+}
+
+/// Stores the value under the key. Where that is refused, the key has what it had.
+pub(crate) fn set_or_keep(client: &mut WorkerClient, key: &[u8], value: &[u8], tries: u64) -> u32
+    ensures { SetsOrKeepsAs result tries key.now value.now client.old client.new }
+{
+    let cache = &client.cache;
+    code_of_set(client.worker.set_or_keep_within(cache, key, value, tries))
 }
 
 // The code of a set's result.

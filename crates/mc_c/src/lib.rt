@@ -9,7 +9,7 @@ ghost use Rattle.std.specs.Prelude.{◌≡◌, ◌≢◌, IfSome, None};
 ghost use Rattle.mc_cache.specs.Bytes.{cache_bytes};
 ghost use Rattle.mc_cache.specs.Opening.{cache_refusal};
 ghost use Rattle.mc_cache.specs.Sizing.{sizing_refusal};
-ghost use Rattle.mc_c.specs.Calls.{DeletesAs, GetsAs, GetsVersionAs, SetsAs, SetsIfAs, TouchesAs};
+ghost use Rattle.mc_c.specs.Calls.{DeletesAs, GetsAs, GetsVersionAs, SetsAs, SetsIfAs, SetsOrKeepsAs, TouchesAs};
 ghost use Rattle.mc_shard.specs.declared.conditions.When.TheVariants as when;
 ghost use Rattle.mc_c.specs.Codes.{refusal_code, sizing_code};
 ghost use Rattle.mc_c.specs.Configs.{WritesSized, config_for};
@@ -163,6 +163,21 @@ pub extern "C" fn mc_set(worker: &mut Handle, key: &[u8], value: &[u8], tries: u
     }
     match worker.owner.as_mut() {
         Client::Worker(client) => calls::set(client, key, value, tries),
+        Client::Tender(_) => CLOSED,
+    }
+}
+
+/// Stores the value under the key, and keeps the old one where that is refused.
+#[unsafe(no_mangle)]
+pub extern "C" fn mc_set_or_keep(worker: &mut Handle, key: &[u8], value: &[u8], tries: u64) -> u32
+    ensures acts { ActsOn worker_of (SetsOrKeepsAs result tries key.now value.now) result
+        worker.old worker.new }
+{
+    if !worker.is_open() {
+        return CLOSED;
+    }
+    match worker.owner.as_mut() {
+        Client::Worker(client) => calls::set_or_keep(client, key, value, tries),
         Client::Tender(_) => CLOSED,
     }
 }
