@@ -1,5 +1,5 @@
 //! Changes of values that look at the old one, by gets and sets on a condition.
-ghost use Rattle.std.specs.Prelude.{◌≡◌, ◌↔◌, Err, IfSome, None};
+ghost use Rattle.std.specs.Prelude.{◌≡◌, ◌↔◌, [], Err, IfSome, None};
 ghost use Rattle.mc_cache.specs.Belonging.{BelongsTo, KeepsHands};
 ghost use Rattle.mc_cache.specs.Shards.{IsKey};
 ghost use Rattle.mc_update.specs.Updates.{ChangesValue, EndsWith, SetsInVain, stored_by, stored_version};
@@ -39,7 +39,9 @@ pub struct Updater {
 
 impl Updater {
     /// An updater without room, which takes no memory.
-    pub fn new(alloc: Global) -> Updater {
+    pub fn new(alloc: Global) -> Updater
+        ensures { stored_by result ≡ [] }
+    {
         Updater {
             old_value: Vec::new(alloc),
             new_value: Vec::new(alloc),
