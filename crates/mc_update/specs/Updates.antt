@@ -23,7 +23,7 @@ stored_version (Stored stamp) = Some stamp
 stored_version Exists = None
 stored_version Missing = None
 
--- the bytes that an updater stored last
+-- the bytes that an updater has of its last call: what was stored, or got, or made
 abbrev pub stored_by : Updater → List ℕ
 stored_by updater = updater.new_value.items
 

@@ -48,7 +48,7 @@ impl Updater {
         }
     }
 
-    /// The bytes that the last change stored, where it returned that it did.
+    /// The bytes that the last call stored, got or made, where it returned that it did.
     pub fn value(&self) -> &[u8]
         ensures { result.now ≡ stored_by self.now }
     {
