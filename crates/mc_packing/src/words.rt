@@ -1,6 +1,6 @@
 //! Bytes that become words, and words that become bytes.
-ghost use Rattle.std.specs.Prelude.{◌++◌, ◌+◌, ◌-◌, ◌≡◌, ◌≢◌, ◌≤◌, ◌^◌, ◌↔◌, IsTrue, true, false, OnErr, OnOk, drop, length, min, take, vec_capacity, vec_len};
-ghost use Rattle.mc_packing.specs.Packing.{AreWordsOfBytes, EndsInZeros, bytes_of_word, bytes_of_words, packed_word, word_count_for, packed_words};
+ghost use Rattle.std.specs.Prelude.{◌*◌, ◌++◌, ◌+◌, ◌-◌, ◌≡◌, ◌≢◌, ◌≤◌, ◌^◌, ◌↔◌, ℕ, IsTrue, true, false, OnErr, OnOk, drop, length, min, take, vec_capacity, vec_len};
+ghost use Rattle.mc_packing.specs.Packing.{AreWordsOfBytes, EndsInZeros, bytes_of_word, bytes_of_words, packed_word, packed_words, packed_words_from, word_count_for};
 
 use mc_memory::{Refused, extend_from_slice, reserve};
 
@@ -55,16 +55,40 @@ pub fn after_word(bytes: &[u8]) -> &[u8]
 }
 
 /// Writes the bytes as words, over what is there.
-#[tactic(auto, using(crate::proofs::Loops::write_more, crate::proofs::Loops::all_written))]
+#[tactic(auto, using(crate::proofs::Loops::with_part))]
 pub(crate) fn write_words(into: &mut [u64], bytes: &[u8])
     requires { length into.old ≡ word_count_for (length bytes.now) }
     ensures { into.new ≡ packed_words bytes.now }
 {
+    let whole = bytes.len() / WORD;
+    let rest = write_whole_words(&mut into[..whole], bytes);
+    if whole < into.len() {
+        into[whole] = first_word(rest);
+    }
+}
+
+/// Writes words of eight bytes each over all that is there, and returns the bytes behind these.
+#[tactic(auto, using(crate::proofs::Loops::none_whole, crate::proofs::Loops::whole_more, crate::proofs::Loops::all_whole_words))]
+fn write_whole_words<'a>(into: &mut [u64], bytes: &'a [u8]) -> &'a [u8]
+    requires { 8 * length into.old ≤ length bytes.now }
+    ensures { (more : ℕ) → into.new ++ packed_words_from more result.now
+        ≡ packed_words_from (length into.old + more) bytes.now }
+{
     let mut rest = bytes;
     for word in into.iter_mut() {
-        *word = first_word(rest);
-        rest = after_word(rest);
+        let (eight, behind) = rest.split_first_chunk::<WORD>().unwrap();
+        *word = word_of(*eight);
+        rest = behind;
     }
+    rest
+}
+
+/// The word of eight bytes, the first lowest.
+#[tactic(auto, unfolding(crate::specs::Packing::packed_word))]
+fn word_of(eight: [u8; WORD]) -> u64
+    ensures { result ≡ packed_word eight }
+{
+    u64::from_le_bytes(eight)
 }
 
 /// Whether the words are those that the bytes make. It reads no further than the first that differs.
