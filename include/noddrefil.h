@@ -135,8 +135,11 @@ uint32_t mc_config_for_bytes(mc_config *config, uint64_t bytes, uint64_t usual_i
 uint32_t mc_bytes(const mc_config *config, uint64_t workers, uint64_t *bytes);
 
 /* Makes a cache for this many workers, and fills both handles. What they held is overwritten, so give closed ones. The codes of a refused
- * configuration, MC_NO_MEMORY: then nothing is left, and both handles are as before or closed. */
+ * configuration, MC_NO_MEMORY: then nothing is left, and both handles are as before. */
 uint32_t mc_open(const mc_config *config, uint64_t workers, mc_worker *first, mc_tender *tender);
+
+/* Writes the most bytes that a value may have beside a key of `key_len` bytes. MC_TOO_LARGE, where no value fits beside such a key; MC_CLOSED. */
+uint32_t mc_max_value(mc_worker *worker, uint64_t key_len, uint64_t *most);
 
 /* Fills the handle of another worker. `first` is the one that mc_open filled. MC_NO_WORKERS, MC_NO_MEMORY, MC_CLOSED. */
 uint32_t mc_join(mc_worker *first, mc_worker *out);

@@ -244,7 +244,12 @@ static uint64_t wrong_codes(mc_worker *worker, mc_tender *tender)
     static const uint8_t large[20000];
     mc_worker none = {0};
     uint8_t out[LONGEST] = {0}, key[251] = {0};
-    uint64_t len = 0, wrong = 0;
+    uint64_t len = 0, most = 0, wrong = 0;
+    wrong += mc_max_value(&none, 1, &most) != MC_CLOSED || most != 0;
+    wrong += mc_max_value(worker, 250, &most) != MC_OK || most == 0 || most > sizeof large;
+    wrong += mc_set(worker, key, 250, large, most, 1) != MC_OK;
+    wrong += mc_set(worker, key, 250, large, most + 1, 1) != MC_TOO_LARGE;
+    wrong += mc_max_value(worker, sizeof large, &most) != MC_TOO_LARGE;
     wrong += mc_get(&none, key, 1, 1, out, 1, &len) != MC_CLOSED;
     wrong += mc_set(&none, key, 1, out, 1, 1) != MC_CLOSED;
     wrong += mc_set_or_keep(&none, key, 1, out, 1, 1) != MC_CLOSED;

@@ -308,6 +308,16 @@ impl Worker {
         let done = until_done(|| unsafe { raw::mc_touch(&mut self.handle, key.as_ptr(), key.len(), TRIES) })?;
         Ok(done == Answer::Done)
     }
+
+    /// The most bytes that a value may have beside a key of this length: `None` where no value fits beside such a key.
+    pub fn max_value(&mut self, key_len: usize) -> Result<Option<usize>, Error> {
+        let mut most = 0;
+        match answer(unsafe { raw::mc_max_value(&mut self.handle, key_len as u64, &mut most) }) {
+            Ok(_) => Ok(Some(most as usize)),
+            Err(Error::TooLarge) => Ok(None),
+            Err(error) => Err(error),
+        }
+    }
 }
 
 /// Puts the value that the call writes behind the bytes that are there, and returns whether there is one. The call gets room, and is made again

@@ -97,6 +97,7 @@ extern "C" {
     pub(crate) fn mc_config_for_bytes(config: *mut Config, bytes: u64, usual_item: u64, workers: u64) -> u32;
     pub(crate) fn mc_bytes(config: *const Config, workers: u64, bytes: *mut u64) -> u32;
     pub(crate) fn mc_open(config: *const Config, workers: u64, first: *mut Handle, tender: *mut Handle) -> u32;
+    pub(crate) fn mc_max_value(worker: *mut Handle, key_len: u64, most: *mut u64) -> u32;
     pub(crate) fn mc_join(first: *mut Handle, out: *mut Handle) -> u32;
     pub(crate) fn mc_get(worker: *mut Handle, key: *const u8, key_len: usize, tries: u64, out: *mut u8, room: usize, len: *mut u64) -> u32;
     pub(crate) fn mc_get_with_version(

@@ -44,6 +44,15 @@ fn refuses_keys_values_and_workers() {
 }
 
 #[test]
+fn stores_a_value_of_the_most_bytes() {
+    let mut worker = cache(1).worker().unwrap();
+    let most = worker.max_value(1).unwrap().unwrap();
+    worker.set(b"a", &vec![7; most]).unwrap();
+    assert_eq!(worker.set(b"a", &vec![7; most + 1]), Err(Error::TooLarge));
+    assert_eq!(worker.max_value(20_000).unwrap(), None);
+}
+
+#[test]
 fn a_refused_set_deletes_or_keeps_the_old_value() {
     let mut worker = cache(1).worker().unwrap();
     let mut value = Vec::new();

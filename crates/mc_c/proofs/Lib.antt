@@ -1,3 +1,4 @@
 pub mod AsBox
 pub mod Acted
 pub mod Written
+mod Opened

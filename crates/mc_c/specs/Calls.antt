@@ -1,5 +1,5 @@
 -- What a call does by a client, and the code that it returns.
-use Rattle.std.specs.Prelude.{◌≡◌, ◌↔◌, ◌<◌, ◌≤◌, ◌++◌, ℕ, Bool, true, false, List, [], drop, length, Option, None, Some, Err, Ok, Result}
+use Rattle.std.specs.Prelude.{◌≡◌, ◌↔◌, ◌⊎◌, ◌<◌, ◌≤◌, ◌++◌, ℕ, Bool, true, false, List, [], drop, length, Option, None, Some, Err, Ok, Result}
 use Rattle.std.specs.Arc.{arc_value}
 use Rattle.mc_items.specs.declared.setting.SetError.TheVariants as item_error
 use Rattle.mc_cache.specs.declared.cache.Cache.{Cache}
@@ -16,7 +16,7 @@ use Rattle.mc_cache.specs.Conditional.{SetsValueIfWithin}
 use Rattle.mc_cache.specs.Resting.{ActsAgain}
 use Rattle.mc_cache.specs.Shards.{IsKey}
 use Rattle.mc_cache.specs.Versions.{GetsVersionWithin}
-use Rattle.mc_cache.specs.Sizes.{LacksClassIn}
+use Rattle.mc_cache.specs.Sizes.{IsMostBesideIn, LacksClassBesideIn, LacksClassIn}
 use Rattle.mc_cache.specs.WorkingWithin.{DeletesWithin, GetsWithin, SetsOrDeletesWithin, SetsWithin, TouchesWithin}
 use Rattle.mc_c.specs.declared.client.WorkerClient.{WorkerClient}
 use Rattle.mc_c.specs.Codes.{get_code, outcome_code, set_code, within_code}
@@ -118,3 +118,11 @@ pub record TouchesAs (code tries : ℕ) (key : List ℕ) (client after : WorkerC
   pub acts : IsKey key → ActsAgain (cache_of client) key (λ hash. TouchesWithin tries hash key done) client.worker after.worker
   pub cache : cache_of after ≡ cache_of client
   pub spare : after.spare.items ≡ client.spare.items
+
+-- the most bytes of a value beside a key of this length were written, or the cache has no class for such a key
+pub record ReturnsMostAs (code key_len before now : ℕ) (client after : WorkerClient) : Type 0 where
+  pub codes : (code ≡ 0) ⊎ (code ≡ 3)
+  pub most : code ≡ 0 → IsMostBesideIn (cache_of client) key_len now
+  pub none : code ≡ 3 → LacksClassBesideIn (cache_of client) key_len
+  pub kept : code ≡ 3 → now ≡ before
+  pub same : after ≡ client

@@ -1,5 +1,6 @@
 -- A configuration as C has it, and as the cache has it.
 use Rattle.std.specs.Prelude.{◌≡◌, ◌≤◌, ℕ, None}
+use Rattle.mc_cache.specs.declared.hashing.HashKey.{HashKey}
 use Rattle.mc_cache.specs.declared.opening.CacheConfig.{CacheConfig}
 use Rattle.mc_cache.specs.Opening.{cache_refusal}
 use Rattle.mc_cache.specs.Sizing.{FillsBytes, filled_bytes}
@@ -12,6 +13,10 @@ config_for config workers = record {
   shards = config.shards;
   workers = workers;
 }
+
+-- the two numbers of the configuration with which keys are hashed
+abbrev pub hash_key_in : McConfig → HashKey
+hash_key_in config = record { first = config.hash_first; second = config.hash_second }
 
 -- the configuration with the cache's numbers in place of its own, but for those of the hash
 abbrev pub config_with : McConfig → CacheConfig → McConfig

@@ -6,3 +6,4 @@ pub mod Calls
 pub mod TenderCalls
 pub mod Handles
 pub mod Joining
+pub mod Opening

@@ -1,6 +1,6 @@
 //! The calls of a worker: each result has its code.
 ghost use Rattle.std.specs.Prelude.{◌≡◌, Ok, true};
-ghost use Rattle.mc_c.specs.Calls.{DeletesAs, GetsAs, GetsVersionAs, SetsAs, SetsIfAs, SetsOrKeepsAs, TouchesAs, WritesValue};
+ghost use Rattle.mc_c.specs.Calls.{DeletesAs, GetsAs, GetsVersionAs, ReturnsMostAs, SetsAs, SetsIfAs, SetsOrKeepsAs, TouchesAs, WritesValue};
 ghost use Rattle.mc_c.specs.Codes.{outcome_code, set_code, within_code};
 
 use crate::client::WorkerClient;
@@ -158,5 +158,18 @@ fn code_of(done: Result<bool, WithinError>) -> u32
         Err(WithinError::KeyLength) => BAD_KEY,
         Err(WithinError::NoMemory(_)) => NO_MEMORY,
         Err(WithinError::Held) => HELD,
+    }
+}
+
+/// Writes the most bytes that a value may have beside a key of this length.
+pub(crate) fn max_value(client: &mut WorkerClient, key_len: u64, most: &mut u64) -> u32
+    ensures { ReturnsMostAs result key_len most.old most.new client.old client.new }
+{
+    match client.cache.max_value(key_len as usize) {
+        Some(bytes) => {
+            *most = bytes as u64;
+            OK
+        }
+        None => TOO_LARGE,
     }
 }

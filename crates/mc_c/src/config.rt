@@ -22,7 +22,7 @@ pub struct McConfig {
 
 impl McConfig {
     ghost use Rattle.std.specs.Prelude.{◌≡◌};
-    ghost use Rattle.mc_c.specs.Configs.{config_for, config_with};
+    ghost use Rattle.mc_c.specs.Configs.{config_for, config_with, hash_key_in};
 
     /// The configuration of a cache for so many workers.
     pub(crate) fn for_workers(&self, workers: u64) -> CacheConfig
@@ -45,7 +45,9 @@ impl McConfig {
     }
 
     /// The two numbers with which keys are hashed.
-    pub(crate) fn hash_key(&self) -> HashKey {
+    pub(crate) fn hash_key(&self) -> HashKey
+        ensures { result ≡ hash_key_in self.now }
+    {
         HashKey {
             first: self.hash_first,
             second: self.hash_second,

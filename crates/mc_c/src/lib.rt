@@ -9,12 +9,13 @@ ghost use Rattle.std.specs.Prelude.{◌≡◌, ◌≢◌, IfSome, None};
 ghost use Rattle.mc_cache.specs.Bytes.{cache_bytes};
 ghost use Rattle.mc_cache.specs.Opening.{cache_refusal};
 ghost use Rattle.mc_cache.specs.Sizing.{sizing_refusal};
-ghost use Rattle.mc_c.specs.Calls.{DeletesAs, GetsAs, GetsVersionAs, SetsAs, SetsIfAs, SetsOrKeepsAs, TouchesAs};
+ghost use Rattle.mc_c.specs.Calls.{DeletesAs, GetsAs, GetsVersionAs, ReturnsMostAs, SetsAs, SetsIfAs, SetsOrKeepsAs, TouchesAs};
 ghost use Rattle.mc_shard.specs.declared.conditions.When.TheVariants as when;
 ghost use Rattle.mc_c.specs.Codes.{refusal_code, sizing_code};
 ghost use Rattle.mc_c.specs.Configs.{WritesSized, config_for};
 ghost use Rattle.mc_c.specs.Handles.{ActsOn, client_of, tender_of, worker_of};
 ghost use Rattle.mc_c.specs.Joining.{JoinsAs};
+ghost use Rattle.mc_c.specs.Opening.{IsOpeningCode, OpensHandles};
 ghost use Rattle.mc_c.specs.TenderCalls.{CountsAs, ReassignsAs, SetsModeAs, TendsAs};
 
 mod calls;
@@ -77,7 +78,7 @@ pub extern "C" fn mc_bytes(config: &McConfig, workers: u64, bytes: &mut u64) -> 
     }
 }
 
-/// Makes a cache for so many workers, its first worker, and its tender.
+/// Makes a cache for so many workers, its first worker, and its tender. Where none is made, both handles are as before.
 #[unsafe(no_mangle)]
 pub extern "C" fn mc_open(
     alloc: Global,
@@ -85,20 +86,41 @@ pub extern "C" fn mc_open(
     workers: u64,
     first: &mut Handle,
     tender: &mut Handle,
-) -> u32 {
+) -> u32
+    ensures opens { result ≡ 0 → OpensHandles config.now workers first.new tender.new }
+    ensures refused { result ≢ 0 →
+        IsOpeningCode (cache_refusal (config_for config.now workers)) result }
+    ensures kept { result ≢ 0 → (first.new ≡ first.old) × (tender.new ≡ tender.old) }
+{
     let (worker, tends) = match opening::open(alloc, config, workers) {
         Ok(made) => made,
         Err(code) => return code,
     };
-    let code = opening::put(alloc, Client::Worker(worker), first);
-    if code != OK {
-        return code;
+    let Ok(worker) = Box::new(alloc, Client::Worker(worker)) else {
+        return NO_MEMORY;
+    };
+    let Ok(tends) = Box::new(alloc, Client::Tender(tends)) else {
+        return NO_MEMORY;
+    };
+    *first = Handle::of(worker);
+    *tender = Handle::of(tends);
+    OK
+}
+
+/// Writes the most bytes that a value may have beside a key of this length.
+#[unsafe(no_mangle)]
+pub extern "C" fn mc_max_value(worker: &mut Handle, key_len: u64, most: &mut u64) -> u32
+    ensures acts { ActsOn worker_of (ReturnsMostAs result key_len most.old most.new) result
+        worker.old worker.new }
+    ensures kept { worker_of worker.old ≡ None → most.new ≡ most.old }
+{
+    if !worker.is_open() {
+        return CLOSED;
     }
-    let code = opening::put(alloc, Client::Tender(tends), tender);
-    if code != OK {
-        first.close(alloc);
+    match worker.owner.as_mut() {
+        Client::Worker(client) => calls::max_value(client, key_len, most),
+        Client::Tender(_) => CLOSED,
     }
-    code
 }
 
 /// Gives another worker of the cache out.

@@ -1,9 +1,12 @@
-//! The making of a cache and of its handles.
+//! The making of a cache, of its first worker, and of its tender.
+ghost use Rattle.std.specs.Prelude.{IfErr, IfOk};
+ghost use Rattle.mc_cache.specs.Opening.{cache_refusal};
+ghost use Rattle.mc_c.specs.Configs.{config_for};
+ghost use Rattle.mc_c.specs.Opening.{IsOpeningCode, OpensCache};
 
-use crate::client::{Client, TenderClient, WorkerClient};
-use crate::codes::{HELD, NO_MEMORY, NO_WORKERS, OK, code_of_new};
+use crate::client::{TenderClient, WorkerClient};
+use crate::codes::{HELD, NO_MEMORY, code_of_new};
 use crate::config::McConfig;
-use crate::handle::Handle;
 use mc_cache::{Cache, NewWithinError};
 use std::alloc::Global;
 use std::sync::Arc;
@@ -16,7 +19,11 @@ pub(crate) fn open(
     alloc: Global,
     config: &McConfig,
     workers: u64,
-) -> Result<(WorkerClient, TenderClient), u32> {
+) -> Result<(WorkerClient, TenderClient), u32>
+    ensures opens { IfOk result (λ made. OpensCache config.now workers made.0 made.1) }
+    ensures refused { IfErr result (λ code. IsOpeningCode
+        (cache_refusal (config_for config.now workers)) code) }
+{
     let own = config.for_workers(workers);
     let (cache, workers, tender) = match Cache::new_within(
         alloc,
@@ -36,7 +43,7 @@ pub(crate) fn open(
     };
     let mut spare = workers;
     let Some(worker) = spare.pop() else {
-        return Err(NO_WORKERS);
+        unreachable!();
     };
     let first = WorkerClient {
         cache,
@@ -49,13 +56,4 @@ pub(crate) fn open(
         tender,
     };
     Ok((first, tender))
-}
-
-/// Boxes the client, and puts its handle there.
-pub(crate) fn put(alloc: Global, client: Client, out: &mut Handle) -> u32 {
-    let Ok(boxed) = Box::new(alloc, client) else {
-        return NO_MEMORY;
-    };
-    *out = Handle::of(boxed);
-    OK
 }
