@@ -1,6 +1,6 @@
 -- Steps of the loops over words.
-use Rattle.std.proofs.Common.{◌≡◌, ℕ, ◌+◌, ◌-◌, ◌*◌, ◌/◌, ◌<◌, ◌≤◌, List, [], ◌∷◌, ◌++◌, length, length-append, take, drop, get_or, set, refl, ap, sym, ◌∙◌, arith, append_assoc, append-nil}
-use Rattle.std.proofs.lemmas.List.{drop_all, drop_more, get_or_at, length-drop, length-set, length-take-le, set-append_right, take_all, take_more, take_more_set}
+use Rattle.std.proofs.Common.{◌≡◌, ℕ, ◌+◌, ◌-◌, ◌*◌, ◌/◌, ◌<◌, ◌≤◌, List, [], ◌∷◌, ◌++◌, length, length-append, take, drop, get_or, set, ap, sym, ◌∙◌, arith, append_assoc, append-nil}
+use Rattle.std.proofs.lemmas.List.{drop_all, drop_more, get_or_at, length-drop, length-take-le, set-append_right, take_all, take_more, take_more_set}
 use Rattle.mc_packing.specs.Packing.{bytes_of_word, bytes_of_words, packed_word, word_count_for, packed_words_from, packed_words}
 use Rattle.mc_packing.proofs.Bytes.{word_of_eight, words_step}
 
