@@ -15,16 +15,19 @@ pub struct Head {
 }
 
 impl Head {
-    /// The item of these data.
-    pub fn with(&self, data: &[u8]) -> Vec<u8> {
-        [&self.flags.to_le_bytes(), &self.deadline.to_le_bytes(), &self.unique.to_le_bytes()[..], data].concat()
+    /// The item of these data, in this room, of which the old bytes go.
+    pub fn with(&self, data: &[u8], mut room: Vec<u8>) -> Vec<u8> {
+        let head = u128::from(self.flags) | u128::from(self.deadline) << 32 | u128::from(self.unique) << 64;
+        room.clear();
+        room.extend_from_slice(&head.to_le_bytes());
+        room.extend_from_slice(data);
+        room
     }
 
     /// The head of an item that `with` made.
     pub fn read(item: &[u8]) -> Head {
-        let half = |at: usize| u32::from_le_bytes(item[at..at + 4].try_into().expect("4 bytes"));
-        let unique = u64::from_le_bytes(item[8..HEAD].try_into().expect("8 bytes"));
-        Head { flags: half(0), deadline: half(4), unique }
+        let head = u128::from_le_bytes(item[..HEAD].try_into().expect("a head"));
+        Head { flags: head as u32, deadline: (head >> 32) as u32, unique: (head >> 64) as u64 }
     }
 }
 

@@ -9,10 +9,8 @@ use std::io::{self, Read, Write};
 
 /// How many bytes a read asks for, and the longest line that is waited for.
 const READ: usize = 65_536;
-
 /// From how many bytes of replies on they are written before the next one is made. The room for them is twice as large at most.
 const MOST_OUTPUT: usize = 1 << 19;
-
 const LONGEST_DATA: usize = i32::MAX as usize - 3;
 
 /// What to reply to a command. It is none where a reply can't be given before others are written, or before more data have come.
@@ -22,16 +20,17 @@ type Answer = Reply<Option<Cow<'static, str>>>;
 pub fn serve(mut stream: impl Read + Write, shared: &Shared, number: usize) -> io::Result<()> {
     shared.counts[number % shared.counts.len()].add(Counter::total_connections);
     let mut session = Session::default();
-    let (mut part, mut input) = (vec![0; READ], Vec::new());
-    // How many bytes of the input are answered: more than there are, while the data of a refused store are passed over.
-    let mut answered = 0;
+    // How many bytes in the room have come, and how many of them are answered: more, while the data of a refused store are passed over.
+    let (mut room, mut come, mut answered) = (vec![0; READ], 0, 0);
     while !session.quits {
-        let count @ 1.. = stream.read(&mut part)? else { break };
-        input.extend_from_slice(&part[..count]);
+        room.resize(room.len().max(2 * come), 0);
+        let count @ 1.. = stream.read(&mut room[come..])? else { break };
+        come += count;
+        let (input, mut words) = (&room[..come], Vec::new());
         let mut is_full = true;
         while is_full {
             let mut store = Store::new(shared, number);
-            while let Some(length) = input.get(answered..).filter(|_| !session.is_full()).and_then(|input| session.step(&mut store, input)) {
+            while let Some(length) = input.get(answered..).filter(|_| !session.is_full()).and_then(|input| session.step(&mut store, input, &mut words)) {
                 answered += length;
             }
             drop(store); // No worker is kept while replies are written.
@@ -39,7 +38,8 @@ pub fn serve(mut stream: impl Read + Write, shared: &Shared, number: usize) -> i
             stream.write_all(&session.output)?;
             session.output.clear();
         }
-        answered -= input.drain(..answered.min(input.len())).len();
+        room.copy_within(answered.min(come)..come, 0);
+        (come, answered) = (come.saturating_sub(answered), answered.saturating_sub(come));
     }
     Ok(())
 }
@@ -62,18 +62,18 @@ impl Session {
     }
 
     // Answers the first command, and returns its length; None where more has to come, or replies have to be written first.
-    fn step(&mut self, store: &mut Store, input: &[u8]) -> Option<usize> {
+    fn step<'a>(&mut self, store: &mut Store, input: &'a [u8], words: &mut Vec<&'a [u8]>) -> Option<usize> {
         let Some(end) = input.iter().position(|byte| *byte == b'\n') else {
             self.quits = input.len() > READ;
             return None;
         };
         let (line, behind) = (&input[..end], &input[end + 1..]);
-        let words = line.strip_suffix(b"\r").unwrap_or(line).split(|byte| *byte == b' ');
-        let words: Vec<&[u8]> = words.filter(|word| !word.is_empty()).collect();
+        words.clear();
+        words.extend(line.strip_suffix(b"\r").unwrap_or(line).split(|byte| *byte == b' ').filter(|word| !word.is_empty()));
         self.length = end + 1;
-        self.quiet = is_quiet(&words);
+        self.quiet = is_quiet(words);
         self.quits = words.first() == Some(&b"quit".as_slice());
-        let answer = if announces_data(&words) { self.store(store, &words, behind) } else { self.command(store, &words) };
+        let answer = if announces_data(words) { self.store(store, words, behind) } else { self.command(store, words) };
         let reply = answer.unwrap_or_else(|error| Some(error.into()))?;
         self.line(&reply);
         Some(self.length)

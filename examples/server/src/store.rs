@@ -12,7 +12,7 @@ pub struct Store<'a> {
     pub now: u32,
     counts: &'a Counts,
     worker: MutexGuard<'a, Worker>,
-    // The item that was looked at last, and its version. It may be gone by its deadline. No version: the key had no item.
+    // The item that was looked at or set last. A look also leaves its version: none where the key had no item. It may be gone by its deadline.
     item: Vec<u8>,
     version: Option<u64>,
 }
@@ -36,17 +36,17 @@ impl<'a> Store<'a> {
     pub fn store(&mut self, name: &[u8], key: &[u8], head: Head, data: &[u8]) -> Reply<&'static str> {
         self.counts.add(Counter::cmd_set);
         if name == b"set" {
-            let item = self.new_item(head, data);
+            self.item = self.numbered(head).with(data, std::mem::take(&mut self.item));
             // Where the cache has no room for the item, the old one goes, as memcached has it.
-            return self.worker.set(key, &item).map(|()| "STORED").map_err(refusal);
+            return self.worker.set(key, &self.item).map(|()| "STORED").map_err(refusal);
         }
         let stored = self.change(key, |store, old| match (name, old) {
             (b"add", Some(_)) | (b"replace" | b"append" | b"prepend", None) => Err("NOT_STORED"),
             (b"cas", None) => Err(store.counted(Counter::cas_misses, "NOT_FOUND")),
             (b"cas", Some(old)) if old.unique != head.unique => Err(store.counted(Counter::cas_badval, "EXISTS")),
-            (b"append", Some(old)) => Ok(Some(store.new_item(old, &[store.data(), data].concat()))),
-            (b"prepend", Some(old)) => Ok(Some(store.new_item(old, &[data, store.data()].concat()))),
-            _ => Ok(Some(store.new_item(head, data))),
+            (b"append", Some(old)) => Ok(Some(store.numbered(old).with(&[store.data(), data].concat(), Vec::new()))),
+            (b"prepend", Some(old)) => Ok(Some(store.numbered(old).with(&[data, store.data()].concat(), Vec::new()))),
+            _ => Ok(Some(store.numbered(head).with(data, Vec::new()))),
         });
         stored.map_err(|reply| if matches!(name, b"append" | b"prepend") { "NOT_STORED" } else { reply })?;
         Ok(if name == b"cas" { self.counted(Counter::cas_hits, "STORED") } else { "STORED" })
@@ -80,7 +80,7 @@ impl<'a> Store<'a> {
             let old = unsigned(store.data(), "CLIENT_ERROR cannot increment or decrement non-numeric value")?;
             number = if is_up { old.wrapping_add(by) } else { old.saturating_sub(by) };
             let text = format!("{number:<width$}", width = store.data().len());
-            Ok(Some(store.new_item(head, text.as_bytes())))
+            Ok(Some(store.numbered(head).with(text.as_bytes(), Vec::new())))
         })?;
         self.counts.add(hits);
         Ok(number)
@@ -112,7 +112,7 @@ impl<'a> Store<'a> {
     // Finds the key's item. With an expiry time, the item gets it.
     fn expire(&mut self, key: &[u8], expiry: Option<i32>) -> Reply<Option<Head>> {
         let deadline = expiry.map(|expiry| deadline(expiry, self.now));
-        self.change(key, |store, found| Ok(found.zip(deadline).map(|(head, deadline)| Head { deadline, ..head }.with(store.data()))))
+        self.change(key, |store, found| Ok(found.zip(deadline).map(|(head, deadline)| Head { deadline, ..head }.with(store.data(), Vec::new()))))
     }
 
     // Finds the key's item, if its deadline hasn't passed and no flush took it.
@@ -129,9 +129,9 @@ impl<'a> Store<'a> {
         &self.item[HEAD..]
     }
 
-    // An item of these data, with a unique number of its own.
-    fn new_item(&self, head: Head, data: &[u8]) -> Vec<u8> {
-        Head { unique: self.shared.unique.fetch_add(1, Relaxed) + 1, ..head }.with(data)
+    // The head with a unique number of its own.
+    fn numbered(&self, head: Head) -> Head {
+        Head { unique: self.shared.unique.fetch_add(1, Relaxed) + 1, ..head }
     }
 
     fn counted(&self, counter: Counter, reply: &'static str) -> &'static str {

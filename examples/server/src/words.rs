@@ -53,5 +53,5 @@ fn integer(text: &[u8]) -> Option<i128> {
     let is_space = |byte: &u8| matches!(byte, b'\t'..=b'\r' | b' ');
     let begin = text.iter().position(|byte| !is_space(byte))?;
     let digits = text[begin..].split(is_space).next()?;
-    std::str::from_utf8(digits).ok()?.parse().ok()
+    std::str::from_utf8(digits).ok().and_then(|it| it.parse().map(i64::into).or_else(|_| it.parse()).ok())
 }

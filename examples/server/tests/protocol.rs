@@ -68,7 +68,7 @@ fn numbers_are_read_as_memcached_reads_them() {
 #[test]
 fn an_item_is_read_as_it_was_made() {
     let head = Head { flags: 7, deadline: 9, unique: 1 << 40 };
-    let item = head.with(b"data");
+    let item = head.with(b"data", Vec::new());
     assert_eq!(Head::read(&item), head);
     assert_eq!(&item[HEAD..], b"data");
 }
