@@ -2,6 +2,7 @@ pub mod Words
 pub mod Locks
 pub mod Gets
 pub mod Deletes
+pub mod ItemDeletes
 pub mod Tells
 pub mod Fills
 pub mod Stores

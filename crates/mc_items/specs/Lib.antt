@@ -4,6 +4,7 @@ pub mod Calls
 pub mod OnKeys
 pub mod Keeping
 pub mod Storing
+pub mod Deleting
 pub mod FreshChunks
 pub mod Supplying
 pub mod Evicting

@@ -10,8 +10,9 @@
 //! - [`hint`] makes a hint of a reference, and [`again`] gets the item by the hint with no lock, if it is there still.
 //! - [`make_room`] makes room in a class without a sweep: it evicts some of its oldest items, but those that [`Marks`] spare.
 //! - [`touch`] and [`bump`] make an item the one of its class that is evicted last, and [`delete`] deletes a key.
-//! - [`get_within`], [`touch_within`], [`bump_within`], [`delete_within`], [`set_hinted_within`] and [`make_room_within`] do so and
-//!   give up after n tries for each lock.
+//!   [`compare_and_delete`] deletes a key's item only where it has a given stamp.
+//! - [`get_within`], [`touch_within`], [`bump_within`], [`delete_within`], [`compare_and_delete_within`], [`set_hinted_within`] and
+//!   [`make_room_within`] do so and give up after n tries for each lock.
 //!
 //! ```rust
 //! fn read_own<R: Wait>(rt: &R, alloc: Global, arena: &Arena, hand: &mut Hand) -> Option<Vec<u64>> {
@@ -33,6 +34,7 @@
 mod bumping;
 mod comparing;
 mod deleting;
+mod deleting_where;
 mod evicting;
 mod filling;
 mod getting;
@@ -52,6 +54,7 @@ mod within;
 pub use bumping::bump;
 pub use comparing::{CompareError, Expected, compare_and_set};
 pub use deleting::delete;
+pub use deleting_where::{CompareDeleteError, compare_and_delete};
 pub use evicting::Supply;
 pub use getting::{GetError, TryGetError, get, try_get};
 pub use hinting::{again, hint};
@@ -65,6 +68,7 @@ pub use visiting::{ROOM_ITEMS, ROOM_TRIES, Visit};
 pub use within::bumping::bump_within;
 pub use within::comparing::{CompareWithinError, compare_and_set_within};
 pub use within::deleting::delete_within;
+pub use within::deleting_where::{CompareDeleteWithinError, compare_and_delete_within};
 pub use within::error::WithinError;
 pub use within::getting::get_within;
 pub use within::making_room::make_room_within;

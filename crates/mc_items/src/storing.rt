@@ -159,8 +159,8 @@ pub(crate) fn store_at(
     Ok(reference)
 }
 
-// What the key has in the stripe, the stamp of an item or none, if a store doesn't expect that.
-fn other_stamp(held: &StripeHeld, key: u64, expected: Expected) -> Option<Option<Stamp>>
+// What the key has in the stripe, the stamp of an item or none, if a store or a delete doesn't expect that.
+pub(crate) fn other_stamp(held: &StripeHeld, key: u64, expected: Expected) -> Option<Option<Stamp>>
     ensures met { result ≡ None →
         IsExpected expected (stamp_of_key (stripe_lent held.now).state key) }
     ensures other { IfSome result (λ found.

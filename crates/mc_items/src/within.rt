@@ -28,6 +28,7 @@ ghost use Rattle.mc_stripe.specs.declared.history.Call.TheVariants as call;
 pub mod bumping;
 pub mod comparing;
 pub mod deleting;
+pub mod deleting_where;
 pub mod error;
 pub mod getting;
 pub mod making_room;
