@@ -7,6 +7,7 @@ pub mod Slabs
 pub mod Recorded
 pub mod Stored
 pub mod Stamps
+pub mod VersionDeletes
 pub mod Tried
 pub mod Fits
 pub mod Lengths

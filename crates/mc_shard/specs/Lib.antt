@@ -6,4 +6,5 @@ pub mod Recording
 pub mod Setting
 pub mod Within
 pub mod Conditions
+pub mod Deleting
 pub mod Sizes

@@ -7,8 +7,10 @@
 //! - [`set_if`] stores only [`When`] the key has no value, has one, or has a version of it.
 //! - [`get`] puts the key's value behind bytes that are there, and marks its item as got. [`peek`] marks nothing. [`try_get`] doesn't
 //!   wait. [`get_with_version`] returns the version, too. [`contains`] only looks.
-//! - [`touch`] makes the key's item the newest of its class, and [`delete`] deletes the key.
-//! - [`set_within`], [`set_if_within`], [`get_within`], [`contains_within`], [`touch_within`] and [`delete_within`] try for each lock n times, and don't wait.
+//! - [`touch`] makes the key's item the newest of its class, and [`delete`] deletes the key. [`delete_version`] deletes only the version
+//!   that the caller got.
+//! - [`set_within`], [`set_if_within`], [`get_within`], [`contains_within`], [`touch_within`], [`delete_within`] and
+//!   [`delete_version_within`] try for each lock n times, and don't wait.
 //! - [`max_value`] returns the most bytes that a value may have beside a key. A set of a longer one is refused before it is packed.
 //! - A [`HintTable`] has notes of where items may be. A call that finds one gets the item with no lock.
 //!
@@ -28,6 +30,7 @@
 mod comparing;
 mod conditions;
 mod deleting;
+mod deleting_version;
 mod gets;
 mod hinting;
 mod hints;
@@ -44,6 +47,7 @@ mod within;
 
 pub use conditions::{Outcome, When, set_if, set_if_within};
 pub use deleting::delete;
+pub use deleting_version::{Deletion, delete_version, delete_version_within};
 pub use gets::{get, peek, touch};
 pub use hints::HintTable;
 pub use label::Label;
