@@ -18,5 +18,6 @@ pub mod Resting
 pub mod WorkingWithin
 pub mod Conditional
 pub mod Versions
+pub mod Deleting
 pub mod OpeningWithin
 pub mod Sizes

@@ -4,7 +4,7 @@
 //!   that the cache takes then, and [`CacheConfig::for_bytes`] a configuration that takes at most so many. A [`HashKey`] has the
 //!   two numbers with which keys are hashed.
 //! - A thread has the cache by `&`, and a [`Worker`] of its own by `&mut`. [`Worker::set`], `get`, `peek`, `try_get`, `contains`,
-//!   `touch` and `delete` are the calls on a key of 1 to 250 bytes.
+//!   `touch` and `delete` are the calls on a key of 1 to 250 bytes. [`Worker::delete_version`] deletes only the value that a caller got.
 //! - The [`Tender`] has a thread of its own. [`Tender::tend`], called about once a second, moves pages between classes on each
 //!   shard. [`Tender::stats`] returns sums over all shards, and [`Tender::set_automove`] sets the mode.
 //! - A caller that can't wait makes the cache by [`Cache::new_within`], and calls `set_within`, `tend_within` and their like. These
@@ -30,6 +30,7 @@ mod bytes;
 mod cache;
 mod conditional;
 mod conditional_within;
+mod deleting_version;
 mod hashing;
 mod laws;
 mod opening;
@@ -51,7 +52,7 @@ pub use bytes::worked_bytes;
 pub use cache::{Cache, Worker};
 pub use hashing::HashKey;
 pub use laws::{conditions_are_met, own_values_are_newest};
-pub use mc_shard::{Outcome, When};
+pub use mc_shard::{Deletion, Outcome, When};
 pub use opening::{CacheConfig, NewError};
 pub use opening_within::NewWithinError;
 pub use sizing::{SizingError, worked_sizes};
