@@ -5,6 +5,7 @@ use Rattle.mc_words.specs.declared.arena.Arena.{Arena}
 use Rattle.mc_words.specs.declared.hand.Hand.{Hand}
 use Rattle.mc_items.specs.declared.comparing.Expected.TheVariants.{Item}
 use Rattle.mc_cache.specs.Conditional.{StoresBehindLook}
+use Rattle.mc_cache.specs.Deleting.{DeletesVersionThere}
 use Rattle.mc_cache.specs.Versions.{ReadsVersion}
 use Rattle.mc_shard.specs.Conditions.{FindsVersion}
 use Rattle.mc_cache.specs.declared.cache.Cache.{Cache}
@@ -52,3 +53,12 @@ pub record Exchanges (cache : Cache) (key value old new : List ℕ) (stamp : ℕ
   pub between : Worker
   pub finds : ActsOnKey cache key (ReadsVersion (hash_in cache key) key found version) before between
   pub stores : ActsOnKey cache key (StoresOverVersion (hash_in cache key) key value version stamp) between now
+
+-- the worker found the key with a value, which was added behind the old bytes, and deleted that very value, which the key had still
+pub record DeletesFound (cache : Cache) (key old new : List ℕ) (before now : Worker) : Type 0 where
+  pub found : List ℕ
+  pub added : new ≡ old ++ found
+  pub version : ℕ
+  pub between : Worker
+  pub finds : ActsOnKey cache key (ReadsVersion (hash_in cache key) key found version) before between
+  pub deletes : ActsOnKey cache key (DeletesVersionThere (hash_in cache key) key version) between now

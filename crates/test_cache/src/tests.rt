@@ -3,6 +3,7 @@ mod clients;
 mod collided;
 mod conditional;
 mod counted;
+mod deleted;
 mod drawn;
 mod eight;
 mod made;

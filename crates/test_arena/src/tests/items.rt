@@ -1,5 +1,6 @@
 //! Tests of items, by calls on hands.
 mod calls;
+mod compared;
 mod eviction;
 mod gets;
 mod hints;

@@ -1,7 +1,9 @@
 //! The small proved clients of `example_calls` that open, fill and read a cache, as they run.
 use super::made::{HASH_KEY, config_of, with_one_worker};
-use example_calls::cache::{OpenError, get_from_new, open_within, set_twice_and_get};
-use mc_cache::SizingError;
+use example_calls::cache::{
+    OpenError, delete_what_was_got, get_from_new, open_within, set_twice_and_get,
+};
+use mc_cache::{Deletion, SizingError};
 use std::test::Fail;
 
 /// A worker that stores two values under a key gets the second.
@@ -21,6 +23,23 @@ fn the_second_value_is_got(rt: HostRuntime) -> Result<(), Fail> {
     assert!(rt; matches!(found, Ok(true)), "the key has no value");
     assert!(rt;
         bytes.as_slice() == b"Basel".as_slice(),
+        "another value was found"
+    );
+    Ok(())
+}
+
+/// A value is taken off its key once, and its bytes are the ones that were stored.
+#[test]
+fn a_value_is_taken_once(rt: HostRuntime) -> Result<(), Fail> {
+    let (cache, mut worker, _tender) = with_one_worker(&rt, rt.alloc(), 2)?;
+    let _stored = worker.set(&rt, &cache, b"city", b"Bern");
+    let mut bytes = Vec::new(rt.alloc());
+    let first = delete_what_was_got(&rt, &cache, &mut worker, b"city", &mut bytes)?;
+    let second = delete_what_was_got(&rt, &cache, &mut worker, b"city", &mut bytes)?;
+    assert!(rt; first == Deletion::Deleted, "it isn't deleted");
+    assert!(rt; second == Deletion::Missing, "it is there still");
+    assert!(rt;
+        bytes.as_slice() == b"Bern".as_slice(),
         "another value was found"
     );
     Ok(())

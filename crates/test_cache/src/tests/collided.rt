@@ -3,7 +3,7 @@ ghost use Rattle.mc_shard.specs.Hands.{IsIdleHandOf};
 
 use super::made::SMALL;
 use super::values::{Call, Trial, key_of, value_of};
-use mc_shard::{HintTable, Label, contains, delete, get, set, touch};
+use mc_shard::{Deletion, HintTable, Label, contains, delete, delete_version, get, set, touch};
 use mc_words::{Arena, Hand};
 use std::alloc::Global;
 use std::sync::Wait;
@@ -171,5 +171,43 @@ fn other_keys_of_a_hash_are_missed(rt: HostRuntime) -> Result<(), Fail> {
     let hints = HintTable::new(rt.alloc(), 2)?;
     let right = act_often(&rt, rt.alloc(), &arena, &hints, &mut hand)?;
     assert!(rt; right, "a key of another was found, or its own wasn't");
+    Ok(())
+}
+
+/// Stores a value, and then deletes another key of its hash by its version. True if there is no such value, and the one that is stored stays.
+fn spares_other<R: Wait>(
+    rt: &R,
+    alloc: Global,
+    arena: &Arena,
+    hints: &HintTable,
+    hand: &mut Hand,
+) -> Result<bool, Fail>
+    requires { IsIdleHandOf arena.now hand.old }
+{
+    let stored = Label {
+        hash: 1,
+        key: b"river",
+    };
+    let mut words = Vec::new(alloc);
+    let Ok(version) = set(rt, arena, hints, hand, stored, b"Aare", &mut words) else {
+        return Err(Fail::new("the value isn't stored"));
+    };
+    let other = Label {
+        key: b"city",
+        ..stored
+    };
+    let deletion = delete_version(rt, arena, hints, hand, other, version)?;
+    let stays = contains(rt, arena, hints, hand, stored)?;
+    Ok(deletion == Deletion::Missing && stays)
+}
+
+#[test]
+#[tactic(auto, using(crate::proofs::Idle::idle))]
+fn a_version_of_another_key_stays(rt: HostRuntime) -> Result<(), Fail> {
+    let (arena, mut hands) = Arena::new(rt.alloc(), &SMALL, 1)?;
+    let mut hand = hands.remove(0);
+    let hints = HintTable::new(rt.alloc(), 2)?;
+    let right = spares_other(&rt, rt.alloc(), &arena, &hints, &mut hand)?;
+    assert!(rt; right, "the item of another key was deleted");
     Ok(())
 }

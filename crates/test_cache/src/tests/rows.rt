@@ -1,7 +1,7 @@
 //! Rows of calls of one worker, each with what it has to return.
 ghost use Rattle.mc_cache.specs.Belonging.{BelongsTo};
 
-use mc_cache::{Cache, CallError, Outcome, SetError, When, Worker};
+use mc_cache::{Cache, CallError, Deletion, Outcome, SetError, When, Worker};
 use std::alloc::Global;
 use std::sync::Wait;
 use std::test::Fail;
@@ -20,6 +20,10 @@ pub enum Call {
     Get,
     Touch,
     Delete,
+    /// A delete of the last version that a call of these rows stored.
+    DeleteLast,
+    /// A delete of the version before that one.
+    DeleteOlder,
 }
 
 /// What a call returns.
@@ -74,6 +78,14 @@ impl Versions {
             _ => When::Version(self.last),
         }
     }
+
+    /// The version that a delete of a version names.
+    pub fn to_delete(self, call: Call) -> u64 {
+        match call {
+            Call::DeleteOlder => self.older,
+            _ => self.last,
+        }
+    }
 }
 
 /// What is found under a key whose value has to be this one.
@@ -92,6 +104,17 @@ fn done(done: Result<bool, CallError>) -> Reply {
     match done {
         Ok(true) => Reply::Done,
         Ok(false) => Reply::Absent,
+        Err(CallError::KeyLength) => Reply::KeyLength,
+        Err(CallError::NoMemory(_)) => Reply::Refused,
+    }
+}
+
+// What a delete of a version returns.
+fn deletion(done: Result<Deletion, CallError>) -> Reply {
+    match done {
+        Ok(Deletion::Deleted) => Reply::Done,
+        Ok(Deletion::Exists) => Reply::Exists,
+        Ok(Deletion::Missing) => Reply::Missing,
         Err(CallError::KeyLength) => Reply::KeyLength,
         Err(CallError::NoMemory(_)) => Reply::Refused,
     }
@@ -187,6 +210,9 @@ fn act<R: Wait>(
         Call::Get => get(rt, cache, worker, row, bytes),
         Call::Touch => done(worker.touch(rt, cache, row.1)),
         Call::Delete => done(worker.delete(rt, cache, row.1)),
+        Call::DeleteLast | Call::DeleteOlder => {
+            deletion(worker.delete_version(rt, cache, row.1, versions.to_delete(row.0)))
+        }
         _ => store(rt, cache, worker, row, versions),
     }
 }

@@ -2,7 +2,7 @@
 ghost use Rattle.mc_cache.specs.Resting.{RestsIn};
 
 use super::rows::{Call, Reply, Row, Versions, found};
-use mc_cache::{Cache, Outcome, SetWithinError, TryGetError, WithinError, Worker};
+use mc_cache::{Cache, Deletion, Outcome, SetWithinError, TryGetError, WithinError, Worker};
 use std::alloc::Global;
 use std::test::Fail;
 
@@ -11,6 +11,18 @@ fn done(done: Result<bool, WithinError>) -> Reply {
     match done {
         Ok(true) => Reply::Done,
         Ok(false) => Reply::Absent,
+        Err(WithinError::Held) => Reply::Held,
+        Err(WithinError::KeyLength) => Reply::KeyLength,
+        Err(WithinError::NoMemory(_)) => Reply::Refused,
+    }
+}
+
+// What a delete of a version returns.
+fn deletion(done: Result<Deletion, WithinError>) -> Reply {
+    match done {
+        Ok(Deletion::Deleted) => Reply::Done,
+        Ok(Deletion::Exists) => Reply::Exists,
+        Ok(Deletion::Missing) => Reply::Missing,
         Err(WithinError::Held) => Reply::Held,
         Err(WithinError::KeyLength) => Reply::KeyLength,
         Err(WithinError::NoMemory(_)) => Reply::Refused,
@@ -84,6 +96,10 @@ fn act(
         Call::Get => get(cache, worker, row, tries, bytes),
         Call::Touch => done(worker.touch_within(cache, row.1, tries)),
         Call::Delete => done(worker.delete_within(cache, row.1, tries)),
+        Call::DeleteLast | Call::DeleteOlder => {
+            let version = versions.to_delete(row.0);
+            deletion(worker.delete_version_within(cache, row.1, version, tries))
+        }
         _ => store(cache, worker, row, tries, versions),
     }
 }
