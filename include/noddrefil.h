@@ -178,6 +178,10 @@ uint32_t mc_compare_and_set(mc_worker *worker, const uint8_t *key, size_t key_le
 /* Deletes the key. MC_MISSING where it had no value; MC_HELD, MC_NO_MEMORY, MC_BAD_KEY, MC_CLOSED. */
 uint32_t mc_delete(mc_worker *worker, const uint8_t *key, size_t key_len, uint64_t tries);
 
+/* Deletes the key's value, where it has this version, as mc_get_with_version wrote it. MC_EXISTS, where the key has another version, which stays;
+ * MC_MISSING, MC_HELD, MC_NO_MEMORY, MC_BAD_KEY, MC_CLOSED. */
+uint32_t mc_compare_and_delete(mc_worker *worker, const uint8_t *key, size_t key_len, uint64_t version, uint64_t tries);
+
 /* Makes the key's item the last one of its size to be evicted. MC_MISSING; MC_HELD, MC_NO_MEMORY, MC_BAD_KEY, MC_CLOSED. */
 uint32_t mc_touch(mc_worker *worker, const uint8_t *key, size_t key_len, uint64_t tries);
 
@@ -270,6 +274,14 @@ static inline uint32_t mc_delete_again(mc_worker *worker, const uint8_t *key, si
 {
     uint32_t code;
     while ((code = mc_delete(worker, key, key_len, MC_TRIES)) == MC_HELD)
+        sched_yield();
+    return code;
+}
+
+static inline uint32_t mc_compare_and_delete_again(mc_worker *worker, const uint8_t *key, size_t key_len, uint64_t version)
+{
+    uint32_t code;
+    while ((code = mc_compare_and_delete(worker, key, key_len, version, MC_TRIES)) == MC_HELD)
         sched_yield();
     return code;
 }

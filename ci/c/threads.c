@@ -289,10 +289,12 @@ static uint64_t wrong_versions(mc_worker *worker, mc_tender *tender)
         wrong += mc_add(others[place], key, 1, out, 1, 1) != MC_CLOSED;
         wrong += mc_replace(others[place], key, 1, out, 1, 1) != MC_CLOSED;
         wrong += mc_compare_and_set(others[place], key, 1, out, 1, version, 1) != MC_CLOSED;
+        wrong += mc_compare_and_delete(others[place], key, 1, version, 1) != MC_CLOSED;
         wrong += mc_get_with_version(worker, key, bad_len, 1, out, 1, &len, &version) != MC_BAD_KEY;
         wrong += mc_add(worker, key, bad_len, out, 1, 1) != MC_BAD_KEY;
         wrong += mc_replace(worker, key, bad_len, out, 1, 1) != MC_BAD_KEY;
         wrong += mc_compare_and_set(worker, key, bad_len, out, 1, version, 1) != MC_BAD_KEY;
+        wrong += mc_compare_and_delete(worker, key, bad_len, version, 1) != MC_BAD_KEY;
     }
     wrong += mc_get_with_version(worker, key, 250, 1, out, 100, &len, &version) != MC_MISSING || len != 7 || version != UINT64_MAX;
     wrong += mc_replace(worker, key, 250, out, 100, 1) != MC_MISSING;
@@ -310,7 +312,10 @@ static uint64_t wrong_versions(mc_worker *worker, mc_tender *tender)
     wrong += mc_replace(worker, key, 250, large, sizeof large, 1) != MC_TOO_LARGE;
     wrong += mc_replace(worker, key, 250, out, 96, 1) != MC_OK;
     wrong += mc_get(worker, key, 250, 1, out, 100, &len) != MC_OK || len != 96;
-    wrong += mc_delete(worker, key, 250, 1) != MC_OK;
+    wrong += mc_compare_and_delete(worker, key, 250, version, 1) != MC_EXISTS;
+    wrong += mc_get_with_version(worker, key, 250, 1, out, 100, &len, &version) != MC_OK || len != 96;
+    wrong += mc_compare_and_delete_again(worker, key, 250, version) != MC_OK;
+    wrong += mc_compare_and_delete(worker, key, 250, version, 1) != MC_MISSING;
     wrong += mc_compare_and_set(worker, key, 250, out, 95, version, 1) != MC_MISSING;
     return wrong;
 }

@@ -218,6 +218,17 @@ pub enum Swap {
     Missing,
 }
 
+/// What a delete of one version did.
+#[derive(Clone, Copy, Debug, PartialEq, Eq)]
+pub enum Deletion {
+    /// The value is deleted.
+    Deleted,
+    /// The key's value has another version. The key has what it had.
+    Exists,
+    /// The key has no value.
+    Missing,
+}
+
 impl Worker {
     /// Puts the key's value behind the bytes that are there, and returns whether the key has one.
     pub fn get(&mut self, key: &[u8], into: &mut Vec<u8>) -> Result<bool, Error> {
@@ -301,6 +312,16 @@ impl Worker {
     pub fn delete(&mut self, key: &[u8]) -> Result<bool, Error> {
         let done = until_done(|| unsafe { raw::mc_delete(&mut self.handle, key.as_ptr(), key.len(), TRIES) })?;
         Ok(done == Answer::Done)
+    }
+
+    /// Deletes the key's value where it has this version, so that a newer one stays.
+    pub fn compare_and_delete(&mut self, key: &[u8], version: u64) -> Result<Deletion, Error> {
+        let done = until_done(|| unsafe { raw::mc_compare_and_delete(&mut self.handle, key.as_ptr(), key.len(), version, TRIES) })?;
+        Ok(match done {
+            Answer::Done => Deletion::Deleted,
+            Answer::Missing => Deletion::Missing,
+            _ => Deletion::Exists,
+        })
     }
 
     /// Makes the key's item the last one of its size to be evicted, and returns whether the key has a value.

@@ -124,6 +124,7 @@ extern "C" {
         tries: u64,
     ) -> u32;
     pub(crate) fn mc_delete(worker: *mut Handle, key: *const u8, key_len: usize, tries: u64) -> u32;
+    pub(crate) fn mc_compare_and_delete(worker: *mut Handle, key: *const u8, key_len: usize, version: u64, tries: u64) -> u32;
     pub(crate) fn mc_touch(worker: *mut Handle, key: *const u8, key_len: usize, tries: u64) -> u32;
     pub(crate) fn mc_tend(tender: *mut Handle, tries: u64, done: *mut Tended) -> u32;
     pub(crate) fn mc_stats(tender: *mut Handle, tries: u64, totals: *mut Totals, classes: *mut ClassStats, room: usize, count: *mut u64) -> u32;

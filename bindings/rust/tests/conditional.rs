@@ -1,5 +1,5 @@
 //! The calls that store on a condition, by one thread and by several.
-use noddrefil::{Cache, Config, Error, Swap, Worker};
+use noddrefil::{Cache, Config, Deletion, Error, Swap, Worker};
 use std::collections::HashSet;
 use std::sync::Barrier;
 
@@ -192,4 +192,20 @@ fn add_all(worker: &mut Worker, thread: u8, keys: &[[u8; 4]], barrier: &Barrier)
         added.push(worker.add(key, &[thread]).unwrap());
     }
     added
+}
+
+#[test]
+fn deletes_the_value_of_one_version_alone() {
+    let mut worker = cache(1).worker().unwrap();
+    let mut value = Vec::new();
+    assert_eq!(worker.compare_and_delete(b"a", 1), Ok(Deletion::Missing));
+    worker.set(b"a", b"old").unwrap();
+    let version = worker.get_with_version(b"a", &mut value).unwrap().unwrap();
+    worker.set(b"a", b"new").unwrap();
+    assert_eq!(worker.compare_and_delete(b"a", version), Ok(Deletion::Exists));
+    let version = worker.get_with_version(b"a", &mut value).unwrap().unwrap();
+    assert_eq!(worker.compare_and_delete(b"a", version), Ok(Deletion::Deleted));
+    assert_eq!(worker.compare_and_delete(b"a", version), Ok(Deletion::Missing));
+    assert_eq!(value, b"oldnew");
+    assert_eq!(worker.compare_and_delete(b"", version), Err(Error::BadKey));
 }

@@ -11,15 +11,17 @@ use Rattle.mc_cache.specs.declared.working_within.WithinError.{WithinError}
 use Rattle.mc_cache.specs.declared.working_within.WithinError.TheVariants as within_error
 use Rattle.mc_cache.specs.Belonging.{KeepsHands}
 use Rattle.mc_shard.specs.declared.conditions.Outcome.{Outcome}
+use Rattle.mc_shard.specs.declared.deleting_version.Deletion.{Deletion}
 use Rattle.mc_shard.specs.declared.conditions.When.{When}
 use Rattle.mc_cache.specs.Conditional.{SetsValueIfWithin}
+use Rattle.mc_cache.specs.Deleting.{DeletesVersionWithin}
 use Rattle.mc_cache.specs.Resting.{ActsAgain}
 use Rattle.mc_cache.specs.Shards.{IsKey}
 use Rattle.mc_cache.specs.Versions.{GetsVersionWithin}
 use Rattle.mc_cache.specs.Sizes.{IsMostBesideIn, LacksClassBesideIn, LacksClassIn}
 use Rattle.mc_cache.specs.WorkingWithin.{DeletesWithin, GetsWithin, SetsOrDeletesWithin, SetsWithin, TouchesWithin}
 use Rattle.mc_c.specs.declared.client.WorkerClient.{WorkerClient}
-use Rattle.mc_c.specs.Codes.{get_code, outcome_code, set_code, within_code}
+use Rattle.mc_c.specs.Codes.{deletion_code, get_code, outcome_code, set_code, within_code}
 
 -- the cache of a client
 abbrev pub cache_of : WorkerClient → Cache
@@ -106,6 +108,16 @@ pub record DeletesAs (code tries : ℕ) (key : List ℕ) (client after : WorkerC
   pub key_length : (done ≡ Err within_error.KeyLength) ↔ ¬ IsKey key
   pub same : done ≡ Err within_error.KeyLength → KeepsHands client.worker after.worker
   pub acts : IsKey key → ActsAgain (cache_of client) key (λ hash. DeletesWithin tries hash key done) client.worker after.worker
+  pub cache : cache_of after ≡ cache_of client
+  pub spare : after.spare.items ≡ client.spare.items
+
+-- a delete of a version of the client, whose result has this code
+pub record DeletesVersionAs (code tries : ℕ) (key : List ℕ) (version : ℕ) (client after : WorkerClient) : Type 0 where
+  pub done : Result Deletion WithinError
+  pub coded : code ≡ deletion_code done
+  pub key_length : (done ≡ Err within_error.KeyLength) ↔ ¬ IsKey key
+  pub same : done ≡ Err within_error.KeyLength → KeepsHands client.worker after.worker
+  pub acts : IsKey key → ActsAgain (cache_of client) key (λ hash. DeletesVersionWithin tries hash key version done) client.worker after.worker
   pub cache : cache_of after ≡ cache_of client
   pub spare : after.spare.items ≡ client.spare.items
 

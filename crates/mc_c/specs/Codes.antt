@@ -6,6 +6,8 @@ use Rattle.mc_pages.specs.declared.moves.Reassign.{Reassign}
 use Rattle.mc_pages.specs.declared.moves.Reassign.TheVariants as answer
 use Rattle.mc_shard.specs.declared.conditions.Outcome.{Outcome}
 use Rattle.mc_shard.specs.declared.conditions.Outcome.TheVariants as outcome
+use Rattle.mc_shard.specs.declared.deleting_version.Deletion.{Deletion}
+use Rattle.mc_shard.specs.declared.deleting_version.Deletion.TheVariants as deletion
 use Rattle.mc_cache.specs.declared.opening.NewError.{NewError}
 use Rattle.mc_cache.specs.declared.opening.NewError.TheVariants as new_error
 use Rattle.mc_cache.specs.declared.sizing.SizingError.{SizingError}
@@ -49,6 +51,13 @@ within_code (Ok false) = 1
 within_code (Err within_error.KeyLength) = 10
 within_code (Err (within_error.NoMemory refused)) = 6
 within_code (Err within_error.Held) = 2
+
+-- the code of the result of a delete of a version
+abbrev pub deletion_code : Result Deletion WithinError → ℕ
+deletion_code (Ok deletion.Deleted) = 0
+deletion_code (Ok deletion.Exists) = 27
+deletion_code (Ok deletion.Missing) = 1
+deletion_code (Err error) = within_code (Err error)
 
 -- the code of an answer to a request for a move
 abbrev pub reassign_code : Result (Unit {0}) Reassign → ℕ

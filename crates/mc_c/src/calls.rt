@@ -1,13 +1,13 @@
 //! The calls of a worker: each result has its code.
 ghost use Rattle.std.specs.Prelude.{◌≡◌, Ok, true};
-ghost use Rattle.mc_c.specs.Calls.{DeletesAs, GetsAs, GetsVersionAs, ReturnsMostAs, SetsAs, SetsIfAs, SetsOrKeepsAs, TouchesAs, WritesValue};
-ghost use Rattle.mc_c.specs.Codes.{outcome_code, set_code, within_code};
+ghost use Rattle.mc_c.specs.Calls.{DeletesAs, DeletesVersionAs, GetsAs, GetsVersionAs, ReturnsMostAs, SetsAs, SetsIfAs, SetsOrKeepsAs, TouchesAs, WritesValue};
+ghost use Rattle.mc_c.specs.Codes.{deletion_code, outcome_code, set_code, within_code};
 
 use crate::client::WorkerClient;
 use crate::codes::{
     BAD_KEY, EXISTS, HELD, MISSING, NO_MEMORY, NO_ROOM, OK, TOO_LARGE, TOO_SMALL, WORN_OUT,
 };
-use mc_cache::{Outcome, SetWithinError, TryGetError, When, WithinError};
+use mc_cache::{Deletion, Outcome, SetWithinError, TryGetError, When, WithinError};
 use mc_items::SetError;
 
 /// Copies the key's value to `out`, and writes its length. Where there is too little room, it writes the length alone.
@@ -139,6 +139,29 @@ pub(crate) fn delete(client: &mut WorkerClient, key: &[u8], tries: u64) -> u32
     ensures { DeletesAs result tries key.now client.old client.new }
 {
     code_of(client.worker.delete_within(&client.cache, key, tries))
+}
+
+/// Deletes the key's value, where it has this version.
+pub(crate) fn delete_version(client: &mut WorkerClient, key: &[u8], version: u64, tries: u64) -> u32
+    ensures { DeletesVersionAs result tries key.now version client.old client.new }
+{
+    let cache = &client.cache;
+    let worker = &mut client.worker;
+    code_of_deletion(worker.delete_version_within(cache, key, version, tries))
+}
+
+// The code of the result of a delete of a version.
+fn code_of_deletion(done: Result<Deletion, WithinError>) -> u32
+    ensures { result ≡ deletion_code done }
+{
+    match done {
+        Ok(Deletion::Deleted) => OK,
+        Ok(Deletion::Exists) => EXISTS,
+        Ok(Deletion::Missing) => MISSING,
+        Err(WithinError::KeyLength) => BAD_KEY,
+        Err(WithinError::NoMemory(_)) => NO_MEMORY,
+        Err(WithinError::Held) => HELD,
+    }
 }
 
 /// Makes the key's item the newest of its class.

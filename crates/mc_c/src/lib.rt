@@ -9,7 +9,7 @@ ghost use Rattle.std.specs.Prelude.{◌≡◌, ◌≢◌, IfSome, None};
 ghost use Rattle.mc_cache.specs.Bytes.{cache_bytes};
 ghost use Rattle.mc_cache.specs.Opening.{cache_refusal};
 ghost use Rattle.mc_cache.specs.Sizing.{sizing_refusal};
-ghost use Rattle.mc_c.specs.Calls.{DeletesAs, GetsAs, GetsVersionAs, ReturnsMostAs, SetsAs, SetsIfAs, SetsOrKeepsAs, TouchesAs};
+ghost use Rattle.mc_c.specs.Calls.{DeletesAs, DeletesVersionAs, GetsAs, GetsVersionAs, ReturnsMostAs, SetsAs, SetsIfAs, SetsOrKeepsAs, TouchesAs};
 ghost use Rattle.mc_shard.specs.declared.conditions.When.TheVariants as when;
 ghost use Rattle.mc_c.specs.Codes.{refusal_code, sizing_code};
 ghost use Rattle.mc_c.specs.Configs.{WritesSized, config_for};
@@ -285,6 +285,26 @@ pub extern "C" fn mc_delete(worker: &mut Handle, key: &[u8], tries: u64) -> u32
     }
     match worker.owner.as_mut() {
         Client::Worker(client) => calls::delete(client, key, tries),
+        Client::Tender(_) => CLOSED,
+    }
+}
+
+/// Deletes the key's value, where it has this version.
+#[unsafe(no_mangle)]
+pub extern "C" fn mc_compare_and_delete(
+    worker: &mut Handle,
+    key: &[u8],
+    version: u64,
+    tries: u64,
+) -> u32
+    ensures acts { ActsOn worker_of (DeletesVersionAs result tries key.now version) result
+        worker.old worker.new }
+{
+    if !worker.is_open() {
+        return CLOSED;
+    }
+    match worker.owner.as_mut() {
+        Client::Worker(client) => calls::delete_version(client, key, version, tries),
         Client::Tender(_) => CLOSED,
     }
 }
