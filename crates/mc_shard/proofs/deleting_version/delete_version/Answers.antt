@@ -25,19 +25,19 @@ returns-in-Some-clause-missing g c = λ is.
 pub returns-in-None-clause-deletes : goal.returns-in-None-clause-deletes
 returns-in-None-clause-deletes g c = λ is.
     let first = version_first (setup_of c.args.arena.now) c.args.at.hash c.args.at.key.now c.args.version c.args.hand.now c.in-Ok.seen c.look.new.hand c.in-Ok.ensures.sees (sym c.deletion_at_look.ensures ∙ c.in-None.is)
-        (record { calls = c.look.ensures.calls; stores_nothing = c.look.ensures.stores_nothing; slabs = c.look.ensures.slabs; number = c.look.ensures.number }) in
+    (record { calls = c.look.ensures.calls; stores_nothing = c.look.ensures.stores_nothing; slabs = c.look.ensures.slabs; number = c.look.ensures.number }) in
     deletes_version (setup_of c.args.arena.now) c.args.at.hash c.args.at.key.now c.args.version c.args.hand.now c.look.new.hand c.compare_and_delete-deleted.new.hand first c.compare_and_delete-deleted.result c.compare_and_delete-deleted.ensures.deletes (sym c.deletion_of.ensures ∙ is)
 
 pub returns-in-None-clause-exists : goal.returns-in-None-clause-exists
 returns-in-None-clause-exists g c = λ is.
     let first = version_first (setup_of c.args.arena.now) c.args.at.hash c.args.at.key.now c.args.version c.args.hand.now c.in-Ok.seen c.look.new.hand c.in-Ok.ensures.sees (sym c.deletion_at_look.ensures ∙ c.in-None.is)
-        (record { calls = c.look.ensures.calls; stores_nothing = c.look.ensures.stores_nothing; slabs = c.look.ensures.slabs; number = c.look.ensures.number }) in
+    (record { calls = c.look.ensures.calls; stores_nothing = c.look.ensures.stores_nothing; slabs = c.look.ensures.slabs; number = c.look.ensures.number }) in
     finds_other_version (setup_of c.args.arena.now) c.args.at.hash c.args.at.key.now c.args.version c.args.hand.now c.look.new.hand c.compare_and_delete-deleted.new.hand first c.compare_and_delete-deleted.result c.compare_and_delete-deleted.ensures.differs (sym c.deletion_of.ensures ∙ is)
 
 pub returns-in-None-clause-missing : goal.returns-in-None-clause-missing
 returns-in-None-clause-missing g c = λ is.
     let first = version_first (setup_of c.args.arena.now) c.args.at.hash c.args.at.key.now c.args.version c.args.hand.now c.in-Ok.seen c.look.new.hand c.in-Ok.ensures.sees (sym c.deletion_at_look.ensures ∙ c.in-None.is)
-        (record { calls = c.look.ensures.calls; stores_nothing = c.look.ensures.stores_nothing; slabs = c.look.ensures.slabs; number = c.look.ensures.number }) in
+    (record { calls = c.look.ensures.calls; stores_nothing = c.look.ensures.stores_nothing; slabs = c.look.ensures.slabs; number = c.look.ensures.number }) in
     finds_no_version (setup_of c.args.arena.now) c.args.at.hash c.args.at.key.now c.args.version c.args.hand.now c.look.new.hand c.compare_and_delete-deleted.new.hand first c.compare_and_delete-deleted.result c.compare_and_delete-deleted.ensures.differs (sym c.deletion_of.ensures ∙ is)
 
 pub returns-in-None-clause-full : goal.returns-in-None-clause-full

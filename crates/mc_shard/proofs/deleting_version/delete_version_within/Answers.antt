@@ -24,25 +24,25 @@ returns-in-Some-clause-missing c = λ is.
 pub returns-in-None-clause-deletes : goal.returns-in-None-clause-deletes
 returns-in-None-clause-deletes c = λ is.
     let first = version_first (setup_of c.args.arena.now) c.args.at.hash c.args.at.key.now c.args.version c.args.hand.now c.in-Ok.seen c.look_within.new.hand c.in-Ok.ensures.sees (sym c.deletion_at_look.ensures ∙ c.in-None.is)
-        (record { calls = c.look_within.ensures.calls; stores_nothing = c.look_within.ensures.stores_nothing; slabs = c.look_within.ensures.slabs; number = c.look_within.ensures.number }) in
+    (record { calls = c.look_within.ensures.calls; stores_nothing = c.look_within.ensures.stores_nothing; slabs = c.look_within.ensures.slabs; number = c.look_within.ensures.number }) in
     deletes_version_within (setup_of c.args.arena.now) c.args.at.hash c.args.at.key.now c.args.version c.args.hand.now c.look_within.new.hand c.compare_and_delete_within-deleted.new.hand first c.compare_and_delete_within-deleted.result c.compare_and_delete_within-deleted.ensures.deletes (sym c.deletion_within.ensures ∙ is)
 
 pub returns-in-None-clause-exists : goal.returns-in-None-clause-exists
 returns-in-None-clause-exists c = λ is.
     let first = version_first (setup_of c.args.arena.now) c.args.at.hash c.args.at.key.now c.args.version c.args.hand.now c.in-Ok.seen c.look_within.new.hand c.in-Ok.ensures.sees (sym c.deletion_at_look.ensures ∙ c.in-None.is)
-        (record { calls = c.look_within.ensures.calls; stores_nothing = c.look_within.ensures.stores_nothing; slabs = c.look_within.ensures.slabs; number = c.look_within.ensures.number }) in
+    (record { calls = c.look_within.ensures.calls; stores_nothing = c.look_within.ensures.stores_nothing; slabs = c.look_within.ensures.slabs; number = c.look_within.ensures.number }) in
     finds_other_version_within (setup_of c.args.arena.now) c.args.at.hash c.args.at.key.now c.args.version c.args.hand.now c.look_within.new.hand c.compare_and_delete_within-deleted.new.hand first c.compare_and_delete_within-deleted.result c.compare_and_delete_within-deleted.ensures.differs (sym c.deletion_within.ensures ∙ is)
 
 pub returns-in-None-clause-missing : goal.returns-in-None-clause-missing
 returns-in-None-clause-missing c = λ is.
     let first = version_first (setup_of c.args.arena.now) c.args.at.hash c.args.at.key.now c.args.version c.args.hand.now c.in-Ok.seen c.look_within.new.hand c.in-Ok.ensures.sees (sym c.deletion_at_look.ensures ∙ c.in-None.is)
-        (record { calls = c.look_within.ensures.calls; stores_nothing = c.look_within.ensures.stores_nothing; slabs = c.look_within.ensures.slabs; number = c.look_within.ensures.number }) in
+    (record { calls = c.look_within.ensures.calls; stores_nothing = c.look_within.ensures.stores_nothing; slabs = c.look_within.ensures.slabs; number = c.look_within.ensures.number }) in
     finds_no_version_within (setup_of c.args.arena.now) c.args.at.hash c.args.at.key.now c.args.version c.args.hand.now c.look_within.new.hand c.compare_and_delete_within-deleted.new.hand first c.compare_and_delete_within-deleted.result c.compare_and_delete_within-deleted.ensures.differs (sym c.deletion_within.ensures ∙ is)
 
 pub returns-in-None-clause-held : goal.returns-in-None-clause-held
 returns-in-None-clause-held c = λ is.
     let first = version_first (setup_of c.args.arena.now) c.args.at.hash c.args.at.key.now c.args.version c.args.hand.now c.in-Ok.seen c.look_within.new.hand c.in-Ok.ensures.sees (sym c.deletion_at_look.ensures ∙ c.in-None.is)
-        (record { calls = c.look_within.ensures.calls; stores_nothing = c.look_within.ensures.stores_nothing; slabs = c.look_within.ensures.slabs; number = c.look_within.ensures.number }) in
+    (record { calls = c.look_within.ensures.calls; stores_nothing = c.look_within.ensures.stores_nothing; slabs = c.look_within.ensures.slabs; number = c.look_within.ensures.number }) in
     misses_version (setup_of c.args.arena.now) c.args.at.hash c.args.at.key.now c.args.version c.args.hand.now c.look_within.new.hand c.compare_and_delete_within-deleted.new.hand first c.args.tries c.compare_and_delete_within-deleted.result c.compare_and_delete_within-deleted.ensures.held (sym c.deletion_within.ensures ∙ is)
 
 pub returns-in-None-clause-full : goal.returns-in-None-clause-full
