@@ -1,0 +1,5 @@
+pub mod Counts
+pub mod Counting
+pub mod Lending
+pub mod Texts
+pub mod Rows
