@@ -8,3 +8,4 @@ pub mod Outcomes
 pub mod Unheld
 pub mod Replaced
 pub mod Visited
+pub mod TwoGets

@@ -5,3 +5,4 @@ pub mod Bounded
 pub mod Roomy
 pub mod Cached
 pub mod Visits
+pub mod Counted

@@ -1,6 +1,7 @@
 //! Callers of a cache of bytes: how a server would use it.
 
 mod chained;
+mod counted;
 mod exchanged;
 mod fitted;
 mod newest;
@@ -15,6 +16,7 @@ mod visited;
 mod watched;
 
 pub use chained::call_twice;
+pub use counted::get_both;
 pub use exchanged::exchange;
 pub use fitted::store_begin;
 pub use newest::{RefusedStep, set_twice_and_get};
