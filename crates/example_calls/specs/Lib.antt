@@ -6,3 +6,4 @@ pub mod Roomy
 pub mod Cached
 pub mod Visits
 pub mod Counted
+pub mod Renewed
