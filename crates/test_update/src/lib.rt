@@ -1,4 +1,4 @@
-//! Tests of changes of a cache's values, and of counts of its calls, over public calls alone.
+//! Tests of changes of a cache's values, of counts of its calls, and of values with a deadline, over public calls alone.
 #![tactic(auto)]
 
 #[cfg(test)]
