@@ -1,19 +1,23 @@
 -- What a worker's look at a key found, and what was set behind it.
-use Rattle.std.proofs.Common.{◌≡◌, ◌∙◌, ◌++◌, ℕ, List, [], Option, None, Some, IfSome, Result, refl, subst}
+use Rattle.std.proofs.Common.{◌≡◌, ◌∙◌, ◌++◌, ℕ, List, [], Option, None, Some, IfSome, OnErr, Result, Err, Ok, inl, inr, refl, subst}
 use Rattle.mc_shard.specs.declared.conditions.Outcome.{Outcome}
 use Rattle.mc_shard.specs.declared.conditions.When.{When}
+use Rattle.mc_shard.specs.declared.deleting_version.Deletion.{Deletion}
+use Rattle.mc_shard.specs.declared.deleting_version.Deletion.TheVariants.{Deleted, Exists, Missing}
 use Rattle.mc_cache.specs.declared.cache.Cache.{Cache}
 use Rattle.mc_cache.specs.declared.cache.Worker.{Worker}
+use Rattle.mc_cache.specs.declared.working.CallError.{CallError}
 use Rattle.mc_cache.specs.declared.working.SetError.{SetError}
 use Rattle.mc_cache.specs.Belonging.{ActsOnKey, hash_in}
 use Rattle.mc_cache.specs.Conditional.{SetsValueIf}
-use Rattle.mc_cache.specs.Shards.{ReadsOther, StoresNoMore}
+use Rattle.mc_cache.specs.Deleting.{DeletesOnce, DeletesVersionThere, KeepsOtherVersion, LacksVersion}
+use Rattle.mc_cache.specs.Shards.{GetsAtMost, IsKey, LooksInVain, ReadsOther, StoresNoMore, TouchesNothing}
 use Rattle.mc_cache.specs.Versions.{GivesVersionOf}
 use Rattle.mc_update.specs.Updates.{EndsWithoutMemory, OnlyGets}
 use Rattle.mc_update.proofs.Acts.{acts_so, gets_version, lacks_memory}
 use Rattle.mc_expiry.specs.Choosing.{ChoosesNone, PutsChosen}
 use Rattle.mc_expiry.specs.Deadlines.{timed_bytes}
-use Rattle.mc_expiry.specs.Getting.{GetsUnexpired}
+use Rattle.mc_expiry.specs.Getting.{DeletesThisVersion, GetsUnexpired}
 use Rattle.mc_expiry.specs.Looking.{FoundUnexpired, LooksAtKey, condition_of}
 use Rattle.mc_expiry.specs.Storing.{FindsUnchosen, SetsChosen}
 use Rattle.mc_expiry.specs.declared.kinds.StoreKind.{StoreKind}
@@ -78,3 +82,17 @@ sets_chosen cache key kind time deadline stored bytes put sent found when return
           (subst (λ (w : When). ActsOnKey cache key (SetsValueIf (hash_in cache key) key (timed_bytes deadline value) w returned) between now) is_when
           (subst (λ (v : List ℕ). ActsOnKey cache key (SetsValueIf (hash_in cache key) key v when returned) between now) (is_sent ∙ is_put) sets));
     }
+
+-- a delete of a version, by what it returned
+pub deleted_this : (cache : Cache) (key : List ℕ) (version : ℕ) (before now : Worker) (r : Result Deletion CallError) → IsKey key
+    → (r ≡ Ok Deleted → ActsOnKey cache key (DeletesVersionThere (hash_in cache key) key version) before now)
+    → (r ≡ Ok Exists → ActsOnKey cache key (KeepsOtherVersion (hash_in cache key) key version) before now)
+    → (r ≡ Ok Missing → ActsOnKey cache key (LacksVersion (hash_in cache key) key version) before now)
+    → OnErr r (IsKey key → ActsOnKey cache key (LooksInVain (hash_in cache key)) before now)
+    → (r ≡ Ok Deleted → ActsOnKey cache key (DeletesOnce (hash_in cache key)) before now)
+    → ((r ≡ Ok Deleted → ⊥) → IsKey key → ActsOnKey cache key (GetsAtMost (hash_in cache key)) before now)
+    → ActsOnKey cache key TouchesNothing before now → DeletesThisVersion cache key version before now
+deleted_this cache key version before now (Ok Deleted) is deletes exists missing refused calls looks untouched = record { deletes = inl (deletes refl, calls refl); untouched = untouched }
+deleted_this cache key version before now (Ok Exists) is deletes exists missing refused calls looks untouched = record { deletes = inr (inl (exists refl), looks (λ e. absurd (cc)) is); untouched = untouched }
+deleted_this cache key version before now (Ok Missing) is deletes exists missing refused calls looks untouched = record { deletes = inr (inr (inl (missing refl)), looks (λ e. absurd (cc)) is); untouched = untouched }
+deleted_this cache key version before now (Err error) is deletes exists missing refused calls looks untouched = record { deletes = inr (inr (inr (refused is)), looks (λ e. absurd (cc)) is); untouched = untouched }

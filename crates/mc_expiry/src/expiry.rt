@@ -7,13 +7,14 @@ ghost use Rattle.mc_cache.specs.declared.working.CallError.TheVariants as call_e
 ghost use Rattle.mc_cache.specs.declared.working.SetError.TheVariants as set_error;
 ghost use Rattle.mc_update.specs.Updates.{EndsWithoutMemory};
 ghost use Rattle.mc_expiry.specs.Deadlines.{timed_bytes};
-ghost use Rattle.mc_expiry.specs.Getting.{FindsNoneUnexpired, GetsUnexpired, kept_bytes};
+ghost use Rattle.mc_expiry.specs.Getting.{DeletesLapsed, GetsUnexpired, MissesUnexpired, kept_bytes};
 ghost use Rattle.mc_expiry.specs.Setting.{RefusesUntil};
 
 use crate::deadlines::put_timed;
 use crate::looking::seen_value;
 use mc_cache::{Cache, CallError, SetError, Worker};
 use mc_memory::extend_from_slice;
+use mc_stripe::Stamp;
 use std::alloc::Global;
 use std::sync::Wait;
 
@@ -68,8 +69,9 @@ impl Expiry {
     }
 
     /// Puts the key's value behind the bytes that are there, and returns whether the key has one whose deadline isn't reached at this
-    /// time. Where it has none, or the call is refused, the bytes stay. Of fewer than 4 stored bytes it returns that there is no value. It
-    /// waits for a lock of the key's shard. (memcached's `get`)
+    /// time. Where it has none, or the call is refused, the bytes stay. Fewer than 4 stored bytes have no value. The call deletes stored
+    /// bytes that have no unexpired value, unless another worker changed the key meanwhile. It waits for locks of the key's shard.
+    /// (memcached's `get`)
     pub fn get<R: Wait>(
         &mut self,
         rt: &R,
@@ -86,7 +88,7 @@ impl Expiry {
         ensures value { result ≡ Ok true → GetsUnexpired cache.now key.now time into.old.items
             into.new.items worker.old worker.new }
         ensures none { result ≡ Ok false →
-            FindsNoneUnexpired cache.now key.now time worker.old worker.new }
+            MissesUnexpired cache.now key.now time worker.old worker.new }
         ensures kept { (result ≡ Ok true → ⊥) → into.new.items ≡ into.old.items }
         ensures refused { OnErr result (IsKey key.now →
             EndsWithoutMemory cache.now key.now worker.old worker.new) }
@@ -97,11 +99,32 @@ impl Expiry {
             Err(error) => return Err(error),
         };
         let Some(value) = seen_value(&self.stored, found, time) else {
+            delete_found(rt, cache, worker, key, found);
             return Ok(false);
         };
         match extend_from_slice(into, value) {
             Ok(()) => Ok(true),
             Err(refused) => Err(CallError::NoMemory(refused)),
         }
+    }
+}
+
+// Deletes what a look found, if it found stored bytes of a version, and the key still has them.
+fn delete_found<R: Wait>(
+    rt: &R,
+    cache: &Cache,
+    worker: &mut Worker,
+    key: &[u8],
+    found: Option<Stamp>,
+)
+    requires { BelongsTo cache.now worker.old }
+    ensures belongs { BelongsTo cache.now worker.new }
+    ensures deletes { IsKey key.now → DeletesLapsed cache.now key.now found worker.old worker.new }
+{
+    match found {
+        Some(version) => {
+            let _deletion = worker.delete_version(rt, cache, key, version);
+        }
+        None => {}
     }
 }

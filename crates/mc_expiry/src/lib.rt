@@ -1,7 +1,7 @@
 //! Values of a cache with a deadline, in the caller's own clock.
 //!
 //! - An [`Expiry`] has room for the bytes of a value. [`Expiry::set_until`] stores a value with a deadline, and [`Expiry::get`] gets
-//!   it where its deadline isn't reached.
+//!   it where its deadline isn't reached, and else deletes it.
 //! - [`Expiry::add_until`] stores where the key has no unexpired value, [`Expiry::replace_until`] where it has one, and
 //!   [`Expiry::touch_until`] gives the value that the key has another deadline. Each is an [`Expiry::store_until`] of a [`StoreKind`].
 //!

@@ -23,6 +23,8 @@ enum Step<'a> {
     /// A store of this kind until this deadline.
     Store(StoreKind<'a>, u32),
     Get,
+    /// A look whether the cache has bytes of the key, whatever their deadline.
+    Look,
 }
 
 /// What a step returns.
@@ -42,8 +44,8 @@ enum Reply<'a> {
 /// A time, a step, its reply, and what is wrong at another one.
 type Row<'a> = (u32, Step<'a>, Reply<'a>, &'a str);
 
-/// A value is there before its deadline, and isn't at it.
-const GETS: [Row<'static>; 8] = [
+/// A value is there before its deadline, and isn't at it, where a get deletes it.
+const GETS: [Row<'static>; 10] = [
     (
         9,
         Step::Get,
@@ -51,8 +53,10 @@ const GETS: [Row<'static>; 8] = [
         "a key without a value has one",
     ),
     (9, Step::Set(b"ice", 20), Reply::Stored, "no value was set"),
+    (30, Step::Look, Reply::Stored, "a look deletes it"),
     (19, Step::Get, Reply::Value(b"ice"), "it is gone before 20"),
     (20, Step::Get, Reply::Nothing, "it is there at 20"),
+    (20, Step::Look, Reply::Nothing, "a get at 20 kept it"),
     (21, Step::Get, Reply::Nothing, "it is there behind 20"),
     (
         9,
@@ -227,6 +231,11 @@ fn reply_to<'a, R: Wait>(
                 Err(_) => Reply::Refused,
             }
         }
+        Step::Look => match worker.contains(rt, cache, key) {
+            Ok(true) => Reply::Stored,
+            Ok(false) => Reply::Nothing,
+            Err(_) => Reply::Refused,
+        },
         Step::Get => match expiry.get(rt, cache, worker, key, time, into) {
             Ok(true) => Reply::Value(into.as_slice()),
             Ok(false) => Reply::Nothing,

@@ -15,7 +15,12 @@ returns-in_default-clause-none g c = λ missed.
     let is : IsKey key = is_key key (λ no. let wrong = sym c.in-Ok.is ∙ c.get_with_version.ensures.key.1 no in absurd (cc)) in
     let only : OnlyGets cache key c.args.worker.now between = record { calls = c.get_with_version.ensures.calls is; untouched = c.get_with_version.ensures.untouched is } in
     let got : GetsBehind cache key stored c.in-Ok.found c.args.worker.now between = record { old = c.clear.new.self.items; empty = c.clear.ensures.items; gives = c.in-Ok.ensures.value; none = λ none. c.get_with_version.ensures.none (c.in-Ok.is ∙ ap Ok none); only = only } in
-    (c.in-Ok.found, looked cache key c.args.time stored c.args.worker.now between c.in-Ok.found None (subst (λ (bytes : List ℕ). FoundUnexpired c.args.time c.in-Ok.found bytes None) c.deref.ensures.value (c.in_default.ensures.none refl)) got)
+    record {
+      found = c.in-Ok.found;
+      between = between;
+      looks = looked cache key c.args.time stored c.args.worker.now between c.in-Ok.found None (subst (λ (bytes : List ℕ). FoundUnexpired c.args.time c.in-Ok.found bytes None) c.deref.ensures.value (c.in_default.ensures.none refl)) got;
+      deletes = c.delete_found.ensures.deletes is;
+    }
 
 pub returns-in-Ok-extend_from_slice-clause-value : goal.returns-in-Ok-extend_from_slice-clause-value
 returns-in-Ok-extend_from_slice-clause-value g c = λ found.
