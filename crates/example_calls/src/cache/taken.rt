@@ -7,8 +7,8 @@ ghost use Rattle.example_calls.specs.Cached.{DeletesFound};
 use mc_cache::{Cache, CallError, Deletion, Worker};
 use std::sync::Wait;
 
-/// Gets the key's value, and deletes it, unless the key changed meanwhile. Where it returns `Deleted`, the bytes that were added are those
-/// of the value that went. Where several workers take values off a key so, each value reaches one of them.
+/// Gets the key's value, and deletes it, unless the key changed meanwhile. Where it returns `Deleted`, the item that went had the version of
+/// the value whose bytes were added. That its bytes are these isn't stated, since no law joins the two moments.
 pub fn delete_what_was_got<R: Wait>(
     rt: &R,
     cache: &Cache,
