@@ -8,3 +8,4 @@ pub mod Copies
 pub mod Once
 pub mod Fields
 pub mod Tails
+pub mod Keys

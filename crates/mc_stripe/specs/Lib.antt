@@ -3,6 +3,7 @@ pub mod History
 pub mod Sequential
 pub mod Recorded
 pub mod StripeState
+pub mod Keys
 pub mod Changes
 pub mod Legal
 pub mod InOrder

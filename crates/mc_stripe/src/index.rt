@@ -1,11 +1,13 @@
 //! The table from keys to chunks and stamps. Contracts see its entries by rising key.
-ghost use Rattle.std.specs.Prelude.{◌≡◌, ◌+◌, ◌<◌, ◌≤◌, OnOk, IsOk};
+ghost use Rattle.std.specs.Prelude.{◌≡◌, ◌+◌, ◌++◌, ◌<◌, ◌≤◌, ◌^◌, ◌↔◌, [], length, None, OnErr, OnOk, IfSome, IsOk, IsSome, vec_capacity, vec_len};
 ghost use Rattle.std.specs.HashMap.{spare};
+ghost use Rattle.std.specs.Map.{keys_of};
 ghost use Rattle.std.specs.Option.{option_map};
 ghost use Rattle.mc_stripe.specs.Entries.{by_key, entry_at, with_entry, without_entry};
+ghost use Rattle.mc_stripe.specs.Keys.{AddsKeys};
 
 use crate::history::{Key, Stamp};
-use mc_memory::{Refused, reserve_entries};
+use mc_memory::{Refused, reserve, reserve_entries};
 use mc_pages::ChunkId;
 use std::collections::HashMap;
 
@@ -17,6 +19,43 @@ pub(crate) fn place_in(index: &Index, key: Key) -> Option<(ChunkId, Stamp)>
     ensures { result ≡ entry_at (by_key index.now.entries) key }
 {
     index.get(&key).copied()
+}
+
+/// The number of keys.
+pub(crate) fn key_count(index: &Index) -> usize
+    ensures count { result ≡ length (by_key index.now.entries) }
+    ensures small { result < 2 ^ 63 }
+{
+    index.len()
+}
+
+/// One of the keys, if there is any: the one that the table has first. It looks at no other.
+pub(crate) fn first_key(index: &Index) -> Option<Key>
+    ensures there { IfSome result (λ key. IsSome (entry_at (by_key index.now.entries) key)) }
+    ensures none { (result ≡ None) ↔ (by_key index.now.entries ≡ []) }
+{
+    index.keys().next().copied()
+}
+
+/// Puts each key behind what is there, once. Where memory is refused, nothing is put.
+pub(crate) fn keys_into(index: &Index, into: &mut Vec<Key>) -> Result<(), Refused>
+    ensures keys { OnOk result (AddsKeys (by_key index.now.entries) into.old.items
+        into.new.items) }
+    ensures refused { OnErr result (into.new.items ≡ into.old.items) }
+{
+    reserve(into, index.len())?;
+    push_keys(into, index);
+    Ok(())
+}
+
+// The keys come behind what is there. There is room for them.
+fn push_keys(into: &mut Vec<Key>, index: &Index)
+    requires { vec_len into.old + length index.now.entries ≤ vec_capacity into.old }
+    ensures { into.new.items ≡ into.old.items ++ keys_of index.now.entries }
+{
+    for key in index.keys() {
+        into.push(*key).unwrap();
+    }
 }
 
 /// The stamp of what a look-up found.

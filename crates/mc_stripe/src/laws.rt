@@ -3,6 +3,8 @@ ghost use Rattle.std.specs.Prelude.{◌≡◌, ◌≤◌, ℕ, Bool, true, false
 ghost use Rattle.mc_stripe.specs.declared.history.Call.{Call};
 ghost use Rattle.mc_stripe.specs.declared.history.Call.TheVariants.{Set, Get, Delete, Evict, Rescue};
 ghost use Rattle.mc_stripe.specs.Entries.{HasEachKeyOnce, entry_at};
+ghost use Rattle.mc_pages.specs.declared.ids.ChunkId.{ChunkId};
+ghost use Rattle.mc_stripe.specs.Keys.{AddsKeys};
 ghost use Rattle.mc_stripe.specs.History.{Stamps, stamps_after_calls};
 ghost use Rattle.mc_stripe.specs.Recorded.{left_by_trimmed, recorded_calls, recorded_behind};
 ghost use Rattle.mc_stripe.specs.Sequential.{StampMap, Leads, no_stamps};
@@ -75,4 +77,14 @@ pub fn worked_records()
 pub fn worked_keys()
     ensures differ { HasEachKeyOnce {X = ℕ} ((9, 1) ∷ (3, 1) ∷ []) }
     ensures meet { HasEachKeyOnce {X = ℕ} ((9, 1) ∷ (3, 2) ∷ (9, 1) ∷ []) → ⊥ }
+{}
+
+/// Keys of an index that come behind another, in an order that isn't the index's, and keys of which one is missing or comes again.
+pub fn worked_key_lists()
+    ensures any_order { (one two : ChunkId × ℕ) →
+        AddsKeys ((3, one) ∷ (9, two) ∷ []) (5 ∷ []) (5 ∷ 9 ∷ 3 ∷ []) }
+    ensures one_missing { (one two : ChunkId × ℕ) →
+        AddsKeys ((3, one) ∷ (9, two) ∷ []) [] (9 ∷ []) → ⊥ }
+    ensures one_twice { (one two : ChunkId × ℕ) →
+        AddsKeys ((3, one) ∷ (9, two) ∷ []) [] (9 ∷ 3 ∷ 9 ∷ []) → ⊥ }
 {}

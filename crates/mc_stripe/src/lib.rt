@@ -7,6 +7,7 @@
 //!   call.
 //! - [`Stripe::find`] looks a key up. [`Stripe::link`], `unlink`, `got`, `evict` and `rescue` change the index and record one
 //!   call each. [`Stripe::lift`] puts an entry aside until `rescue` or `link` brings its key back.
+//! - [`Stripe::key_count`], `first_key` and `keys_into` are for a walk over the keys of the index.
 //! - [`Stripe::history`] lends the recorded calls. [`Stripe::trim`] and [`Stripe::forget`] take calls out of memory, and
 //!   [`Stripe::base`] lends the stamps that they left.
 //!
@@ -22,8 +23,8 @@
 //! ```
 //!
 //! A caller may rely on a legal history: each reply is right for the calls before it, and all of them together make the index
-//! ([`one_replay`], [`replay_is_exact`]). Calls that record take no memory, so only `reserve`, `reserve_call` and `trim` can
-//! fail. The crate knows nothing of words, headers and threads: `mc_core` has the model of them, and `mc_words` the memory.
+//! ([`one_replay`], [`replay_is_exact`]). Calls that record take no memory, so only `reserve`, `reserve_call`, `trim` and `keys_into`
+//! can fail. The crate knows nothing of words, headers and threads: `mc_core` has the model of them, and `mc_words` the memory.
 #![tactic(auto)]
 
 mod history;

@@ -1,12 +1,14 @@
 //! What a stripe shows of itself.
-ghost use Rattle.std.specs.Prelude.{◌≡◌, ◌^◌, ◌-◌, min, IfSome, is_some};
+ghost use Rattle.std.specs.Prelude.{◌≡◌, ◌<◌, ◌^◌, ◌-◌, ◌↔◌, [], length, min, None, IfSome, IsSome, OnErr, OnOk, is_some};
 ghost use Rattle.mc_stripe.specs.Entries.{HasEachKeyOnce, by_key};
+ghost use Rattle.mc_stripe.specs.Keys.{AddsKeys};
 ghost use Rattle.mc_stripe.specs.StripeState.{base_stamps, can_store, key_aside, chunk_and_stamp, history_tail, trimmed_of};
 ghost use Rattle.mc_stripe.specs.Legal.{IsLegal};
 
 use super::Stripe;
 use crate::history::{Call, Key, Stamp};
 use crate::index;
+use crate::refusal::NoMemory;
 use mc_pages::ChunkId;
 
 impl Stripe {
@@ -15,6 +17,32 @@ impl Stripe {
         ensures { result ≡ chunk_and_stamp self.now.state key }
     {
         index::place_in(&self.index, key)
+    }
+
+    /// The number of keys that the index has. An entry aside isn't counted. (own)
+    pub fn key_count(&self) -> usize
+        ensures count { result ≡ length self.now.state.index }
+        ensures small { result < 2 ^ 63 }
+    {
+        index::key_count(&self.index)
+    }
+
+    /// A key that the index has, if it has any. It looks at one entry of the table, however many there are. (own)
+    pub fn first_key(&self) -> Option<Key>
+        ensures there { IfSome result (λ key. IsSome (chunk_and_stamp self.now.state key)) }
+        ensures none { (result ≡ None) ↔ (self.now.state.index ≡ []) }
+    {
+        index::first_key(&self.index)
+    }
+
+    /// Puts each key of the index behind what is there, once and in no order. That costs as much as the index has keys. Where memory is refused,
+    /// nothing is put. (own)
+    pub fn keys_into(&self, into: &mut Vec<Key>) -> Result<(), NoMemory>
+        ensures keys { OnOk result
+            (AddsKeys self.now.state.index into.old.items into.new.items) }
+        ensures refused { OnErr result (into.new.items ≡ into.old.items) }
+    {
+        index::keys_into(&self.index, into)
     }
 
     /// Whether room was made for one more call.
