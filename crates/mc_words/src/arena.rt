@@ -7,7 +7,7 @@ pub(crate) mod refusal;
 
 ghost use Rattle.std.specs.Prelude.{◌≡◌, ◌+◌, ◌^◌, ◌<◌, ◌≤◌};
 ghost use Rattle.mc_classes.specs.Limits.{most_hands, most_stripes};
-ghost use Rattle.mc_classes.specs.Classes.{IsSound};
+ghost use Rattle.mc_classes.specs.Classes.{IsSound, arena_pages_of};
 ghost use Rattle.mc_core.specs.run.Chunks.{most_issue};
 ghost use Rattle.mc_core.specs.model.State.{most_of, page_words};
 ghost use Rattle.mc_words.specs.rule.Layout.{data_from, heads_from, pages_from, word_count};
@@ -66,6 +66,14 @@ impl Arena {
         ensures classes { result.now ≡ (setup_of self.now).table }
     {
         self.plan.classes()
+    }
+
+    // How many pages the arena has, by the places of their words: it divides nothing.
+    #[inline(always)]
+    pub(crate) fn page_count(&self) -> u64
+        ensures { result ≡ arena_pages_of (setup_of self.now).table }
+    {
+        (self.first_head - self.first_page) as u64
     }
 
     /// Whether the arena has the chunk: a header that may be looked at.

@@ -28,6 +28,7 @@ use mc_pages::ChunkId;
 impl Arena {
     /// Hands out the chunk at the head of the class's free list. None where that is empty; and a chunk with the greatest
     /// issue number stays. (slabs.c's `do_slabs_alloc`)
+    #[inline(always)]
     pub fn pop(
         &self,
         hand: &mut Hand,

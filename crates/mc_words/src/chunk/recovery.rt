@@ -35,6 +35,22 @@ impl Arena {
         if self.hints.pages() == 0 {
             return;
         }
+        self.recover_hinted(hand, held, class);
+    }
+
+    // The same where there is a hint. It isn't inlined, so that a call without a hint makes no room for what it notes.
+    #[inline(never)]
+    fn recover_hinted(&self, hand: &mut Hand, held: &mut SlabsHeld, class: ClassId)
+        requires arena { IsHandOf self.now hand.old }
+        requires class { is_class (setup_of self.now).table class ≡ true }
+        requires held { (view hand.old).slabs ≡ Some held.old.shared }
+        ensures arena { IsHandOf self.now hand.new }
+        ensures locks { hand.new.locks ≡ hand.old.locks }
+        ensures held { (view hand.new).slabs ≡ Some held.new.shared }
+        ensures recovers { Recovers (class_at held.old.shared class).order
+            (view hand.old) held.old.shared (view hand.new) held.new.shared }
+        ensures view { view hand.new ≡ with_seen (view hand.old) (view hand.new) }
+    {
         let mut dead = DeadChunks::new();
         self.look_at_hints(hand, held, class, &mut dead);
         self.put_back_dead(hand, held, class, &mut dead);
@@ -63,7 +79,7 @@ impl Arena {
         let mut pages = self.hints.pages();
         for _ in 0..u128::BITS {
             let page = u64::from(pages.trailing_zeros());
-            if page >= self.classes().arena_pages() {
+            if page >= self.page_count() {
                 return;
             }
             pages &= pages.wrapping_sub(1);

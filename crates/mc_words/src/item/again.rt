@@ -23,6 +23,7 @@ use mc_core::Step;
 impl Arena {
     /// Gets a reference to the item of a hint, if it is there still. It takes no lock and no memory. A hand that holds `MOST_REFS` chunks
     /// is refused, so a place is left for a reference under a lock. (own)
+    #[inline(always)]
     pub fn again(&self, hand: &mut Hand, hint: Hint) -> Result<Ref, Again>
         requires arena { IsHandOf self.now hand.old }
         requires in_range { has_chunk (setup_of self.now).table hint.chunk ≡ true }
@@ -59,6 +60,7 @@ impl Arena {
     }
 
     // Gets the reference, if the header is as it was seen. Otherwise finds its word.
+    #[inline(always)]
     fn refer_again(&self, hand: &mut Hand, hint: Hint, head: u64) -> Result<Ref, u64>
         requires arena { IsHandOf self.now hand.old }
         requires in_range { has_chunk (setup_of self.now).table hint.chunk ≡ true }

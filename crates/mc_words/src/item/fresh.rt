@@ -1,8 +1,8 @@
 //! Fresh chunks that are filled and given up.
 ghost use Rattle.std.specs.Prelude.{◌≡◌, ◌<◌, ◌==◌, [], if◌then◌else◌};
 ghost use Rattle.mc_core.specs.declared.event.Step.TheVariants as step;
-ghost use Rattle.mc_words.specs.hand.Arenas.{IsHandOf, view};
-ghost use Rattle.mc_words.specs.item.Fresh.{IsFreshOf};
+ghost use Rattle.mc_words.specs.hand.Arenas.{IsHandOf, setup_of, view};
+ghost use Rattle.mc_words.specs.item.Fresh.{IsFreshOf, place_to_fill};
 ghost use Rattle.mc_words.specs.rule.Happens.{Happens};
 ghost use Rattle.mc_words.specs.hand.Views.{chunk_discarded, word_filled};
 
@@ -32,6 +32,37 @@ impl Arena {
         let step = Step::Fill(fresh.chunk, place, word);
         self.write(&mut hand.seat, at, word, step);
         fresh.note(place, word);
+    }
+
+    /// The place in the arena's table where the words of a fresh chunk begin. A caller that writes several words asks for it once, and
+    /// writes each word behind the second by `fill_from`. It reads nothing. (own)
+    #[inline(always)]
+    pub fn place_to_fill(&self, hand: &Hand, fresh: &Fresh) -> usize
+        requires arena { IsHandOf self.now hand.now }
+        requires fresh { IsFreshOf (view hand.now) fresh.now.chunk fresh.now.room }
+        requires some { 0 < fresh.now.room }
+        ensures place { result ≡ place_to_fill (setup_of self.now) fresh.now }
+    {
+        self.data_word(fresh.room, fresh.chunk, 0)
+    }
+
+    /// The same as `fill`, by the place where the chunk's words begin. A key or a stamp that it writes isn't noted in the chunk's `Fresh`, so
+    /// it is for the words behind these two. (own)
+    #[inline(always)]
+    pub fn fill_from(&self, hand: &mut Hand, fresh: &Fresh, first: usize, place: u64, word: u64)
+        requires arena { IsHandOf self.now hand.old }
+        requires fresh { IsFreshOf (view hand.old) fresh.now.chunk fresh.now.room }
+        requires in_range { place < fresh.now.room }
+        requires first { first ≡ place_to_fill (setup_of self.now) fresh.now }
+        ensures arena { IsHandOf self.now hand.new }
+        ensures locks { hand.new.locks ≡ hand.old.locks }
+        ensures happens { Happens (view hand.old) [] (step.Fill fresh.now.chunk place word)
+            (view hand.new) }
+        ensures filled { view hand.new ≡ word_filled fresh.now.chunk place word (view hand.old) }
+        ensures fresh { IsFreshOf (view hand.new) fresh.now.chunk fresh.now.room }
+    {
+        let step = Step::Fill(fresh.chunk, place, word);
+        self.write(&mut hand.seat, first + place as usize, word, step);
     }
 
     /// Gives a fresh chunk up, which is dead then, until somebody puts it back. It takes no lock.

@@ -22,6 +22,7 @@ impl Arena {
     }
 
     // How many words the chunk has, by the word of its page.
+    #[inline(always)]
     pub(crate) fn room(&self, hand: &mut Hand, chunk: ChunkId) -> u64
         requires arena { IsHandOf self.now hand.old }
         requires reference { (room : ℕ) × IsRefOf (view hand.old) chunk room }

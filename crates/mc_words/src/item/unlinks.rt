@@ -63,6 +63,40 @@ impl Arena {
         true
     }
 
+    /// Unlinks the item of a key, if it has one, for a hand that fills a chunk: the key's entry is put aside, until the hand links that
+    /// chunk. False where the key has no item: nothing is done then, and no call is recorded. It looks the key up once. (items.c's
+    /// `item_replace`, up to `do_item_link`)
+    pub fn put_aside(&self, hand: &mut Hand, held: &mut StripeHeld, key: Key) -> bool
+        requires arena { IsHandOf self.now hand.old }
+        requires of_key { key % (setup_of self.now).config.stripes ≡ held.old.number }
+        requires held { slice_index_or (view hand.old).stripes held.old.number None
+            ≡ Some held.old.stripe }
+        requires ready { held.old.stripe.ready ≡ true }
+        requires inside { is_aside held.old.stripe.state key ≡ false }
+        requires free { held.old.stripe.state.aside ≡ None }
+        requires fresh { has_fresh (view hand.old).row.holdings ≡ true }
+        ensures arena { IsHandOf self.now hand.new }
+        ensures locks { hand.new.locks ≡ hand.old.locks }
+        ensures number { held.new.number ≡ held.old.number }
+        ensures held { slice_index_or (view hand.new).stripes held.new.number None
+            ≡ Some held.new.stripe }
+        ensures there { result ≡ is_some (chunk_and_stamp held.old.stripe.state key) }
+        ensures stripe { result ≡ true → held.new.stripe
+            ≡ stripe_unlinked held.old.stripe true hand.old.number key }
+        ensures happens { result ≡ true →
+            Happens (view hand.old) [] (step.Unlink key) (view hand.new) }
+        ensures unlinked { result ≡ true → view hand.new
+            ≡ key_unlinked hand.old.number held.old.number held.old.stripe key (view hand.old) }
+        ensures same { result ≡ false → (held.new ≡ held.old) × (view hand.new ≡ view hand.old) }
+    {
+        let Some((item, _)) = held.stripe().find(key) else {
+            return false;
+        };
+        self.unlink_from(hand, held, key, item);
+        held.stripe.stripe_mut().lift(key);
+        true
+    }
+
     // Takes the link away from the chunk to which the key leads.
     fn unlink_from(&self, hand: &mut Hand, held: &StripeHeld, key: Key, chunk: ChunkId)
         requires arena { IsHandOf self.now hand.old }

@@ -45,6 +45,7 @@ impl Arena {
 
     /// Takes the lock of the slabs. Where it isn't free it reads the lock's word until it is, and tries again. After some looks it lets other
     /// threads run. That it waits is noted, for `rest`.
+    #[inline(always)]
     pub fn lock_slabs<R: Wait>(&self, rt: &R, hand: &mut Hand) -> SlabsHeld
         requires arena { IsHandOf self.now hand.old }
         requires unlocked { is_unlocked (view hand.old) ≡ true }
@@ -53,8 +54,24 @@ impl Arena {
         ensures waits { WaitsForSlabs (view hand.old) result.shared (view hand.new) }
         ensures whole { IsLent (view hand.new) result.shared }
     {
+        match self.try_slabs(hand) {
+            Ok(slabs) => slabs,
+            Err(_held) => self.wait_for_slabs(rt, hand),
+        }
+    }
+
+    // Takes the lock of the slabs behind a try that missed it: the word is read first. That the hand waits is noted, for `rest`.
+    #[inline(never)]
+    fn wait_for_slabs<R: Wait>(&self, rt: &R, hand: &mut Hand) -> SlabsHeld
+        requires arena { IsHandOf self.now hand.old }
+        requires unlocked { is_unlocked (view hand.old) ≡ true }
+        ensures arena { IsHandOf self.now hand.new }
+        ensures locks { hand.new.locks ≡ locks_with_slabs hand.old.locks }
+        ensures waits { WaitsForSlabs (view hand.old) result.shared (view hand.new) }
+        ensures whole { IsLent (view hand.new) result.shared }
+    {
         let backoff = Backoff::new();
-        let mut free = true;
+        let mut free = false;
         for _ in rt.forever() {
             if free {
                 if let Ok(held) = self.try_slabs(hand) {

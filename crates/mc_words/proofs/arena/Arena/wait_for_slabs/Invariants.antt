@@ -2,7 +2,7 @@ use Rattle.std.proofs.Common.{◌≡◌, ◌≢◌, ℕ, false, List}
 use Rattle.mc_words.specs.hand.Arenas.{IsHandOf, view}
 use Rattle.mc_words.specs.lock.Wait.{MissesSlabs}
 use Rattle.mc_words.proofs.Locks.Waits.{last_or}
-use Rattle.mc_words.proofs.arena.Arena.lock_slabs.Given as goal
+use Rattle.mc_words.proofs.arena.Arena.wait_for_slabs.Given as goal
 
 abbrev pub invariant-loop : goal.invariant-loop
 invariant-loop g l =
