@@ -1,9 +1,10 @@
-//! Whether words are a packing of a key, and the value that they pack.
-ghost use Rattle.std.specs.Prelude.{◌++◌, ◌≡◌, ◌≤◌, true, false, OnErr, OnOk, drop, length, slice_index};
-ghost use Rattle.mc_packing.specs.Packing.{IsPackingOf, bytes_of_words, value_in};
+//! Whether words are a packing of a key, and the key and the value that they pack.
+ghost use Rattle.std.specs.Prelude.{◌++◌, ◌≡◌, ◌≤◌, ℕ, List, Ok, None, true, false, IfOk, IfSome, OnErr, OnOk, drop, length, slice_index};
+ghost use Rattle.mc_packing.specs.Packing.{AreBytes, IsPackingOf, bytes_of_words, packed_key, value_in};
 
 use crate::words::{are_whole, are_words_of, count_words, push_bytes};
 use mc_memory::Refused;
+use std::alloc::Global;
 
 /// Whether the words are a packing of this key, with some value. Any words may be asked about. Where they are of another key, no more
 /// of them is read than up to the first that differs.
@@ -20,6 +21,23 @@ pub fn is_packing_of(words: &[u64], key: &[u8]) -> bool
         return false;
     }
     are_whole(&words[begin..], words[1])
+}
+
+/// The key that the words pack, with some value. Any words may be asked about; none where they are a packing of no key. Where there is no
+/// room for the key's bytes, it is refused.
+pub fn unpack_key(alloc: Global, words: &[u64]) -> Result<Option<Vec<u8>>, Refused>
+    ensures own { IfOk result (λ found. IfSome found (λ key. IsPackingOf key.items words.now)) }
+    ensures none { result ≡ Ok None → (key : List ℕ) → AreBytes key → ¬ IsPackingOf key words.now }
+{
+    if words.len() < 2 {
+        return Ok(None);
+    }
+    let mut key = Vec::new(alloc);
+    push_bytes(&mut key, &words[2..], words[0] as usize)?;
+    if is_packing_of(words, &key) {
+        return Ok(Some(key));
+    }
+    Ok(None)
 }
 
 /// Puts the value that the words pack behind the bytes that are there. Where there is no room, these stay.
