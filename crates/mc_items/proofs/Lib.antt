@@ -30,3 +30,5 @@ pub mod Currents
 pub mod Visits
 pub mod Rooms
 pub mod PutIn
+pub mod Clears
+pub mod Listings

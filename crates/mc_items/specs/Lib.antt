@@ -5,6 +5,8 @@ pub mod OnKeys
 pub mod Keeping
 pub mod Storing
 pub mod Deleting
+pub mod Clearing
+pub mod Listing
 pub mod FreshChunks
 pub mod Supplying
 pub mod Evicting

@@ -39,7 +39,8 @@ pub(crate) fn fill_item(
     arena.fill(hand, fresh, 0, key);
     arena.fill(hand, fresh, 1, stamp);
     arena.fill(hand, fresh, 2, words.len() as u64);
+    let first = arena.place_to_fill(hand, fresh);
     for place in 0..words.len() {
-        arena.fill(hand, fresh, 3 + place as u64, words[place]);
+        arena.fill_from(hand, fresh, first, 3 + place as u64, words[place]);
     }
 }

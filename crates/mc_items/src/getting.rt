@@ -19,6 +19,7 @@ ghost use Rattle.mc_stripe.specs.StripeState as stripes;
 ghost use Rattle.mc_stripe.specs.declared.history.Call.TheVariants as call;
 
 use crate::refs::{Ref, look_at};
+use crate::stripes::stripe_of;
 use mc_classes::MOST_REFS;
 use mc_memory::Refused;
 use mc_stripe::NoMemory;
@@ -71,7 +72,7 @@ pub fn get<R: Wait>(
     if hand.refs() >= MOST_REFS {
         return Err(GetError::TooManyRefs);
     }
-    let stripe = key % arena.config().stripes;
+    let stripe = stripe_of(key, arena.config().stripes);
     let held = arena.lock_stripe(rt, hand, stripe);
     match look_up(arena, hand, held, key) {
         Ok(found) => Ok(found),

@@ -28,6 +28,7 @@ pub fn hint(item: &Ref) -> Hint
 /// Gets a reference to the item of a hint, if it is there still, by one exchange and no lock. `Gone` where it was deleted or evicted,
 /// or stands in another chunk; `Contended` where it is there, but others came between, so that one may try again; `TooManyRefs` at
 /// `MOST_REFS` chunks of the hand, which is tested first. Nothing is changed then. (own)
+#[inline(always)]
 pub fn again(arena: &Arena, hand: &mut Hand, hint: Hint) -> Result<Ref, Again>
     requires arena { IsHandOf arena.now hand.old }
     requires ready { IsReady (view hand.old) }

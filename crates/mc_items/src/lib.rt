@@ -11,8 +11,9 @@
 //! - [`make_room`] makes room in a class without a sweep: it evicts some of its oldest items, but those that [`Marks`] spare.
 //! - [`touch`] and [`bump`] make an item the one of its class that is evicted last, and [`delete`] deletes a key.
 //!   [`compare_and_delete`] deletes a key's item only where it has a given stamp.
-//! - [`get_within`], [`touch_within`], [`bump_within`], [`delete_within`], [`compare_and_delete_within`], [`set_hinted_within`] and
-//!   [`make_room_within`] do so and give up after n tries for each lock.
+//! - [`clear_stripe`] deletes every key of a stripe, [`count_stripe`] counts a stripe's keys, and [`keys_of_stripe`] lists them.
+//! - [`get_within`], [`touch_within`], [`bump_within`], [`delete_within`], [`compare_and_delete_within`], [`set_hinted_within`],
+//!   [`make_room_within`], [`clear_stripe_within`] and [`count_stripe_within`] do so and give up after n tries for each lock.
 //!
 //! ```rust
 //! fn read_own<R: Wait>(rt: &R, alloc: Global, arena: &Arena, hand: &mut Hand) -> Option<Vec<u64>> {
@@ -32,6 +33,7 @@
 #![tactic(auto)]
 
 mod bumping;
+mod clearing;
 mod comparing;
 mod deleting;
 mod deleting_where;
@@ -40,24 +42,28 @@ mod filling;
 mod getting;
 mod hinting;
 pub mod laws;
+mod listing;
 mod making_room;
 mod marks;
 mod reading;
 mod refs;
 mod setting;
 mod storing;
+mod stripes;
 mod supplying;
 mod touching;
 mod visiting;
 mod within;
 
 pub use bumping::bump;
+pub use clearing::clear_stripe;
 pub use comparing::{CompareError, Expected, compare_and_set};
 pub use deleting::delete;
 pub use deleting_where::{CompareDeleteError, compare_and_delete};
 pub use evicting::Supply;
 pub use getting::{GetError, TryGetError, get, try_get};
 pub use hinting::{again, hint};
+pub use listing::{count_stripe, keys_of_stripe};
 pub use making_room::{Room, make_room};
 pub use marks::{Marks, NoMarks};
 pub use reading::{first_place, read, release, word, word_from};
@@ -66,11 +72,13 @@ pub use setting::{NewItem, SetError, set, set_hinted};
 pub use touching::touch;
 pub use visiting::{ROOM_ITEMS, ROOM_TRIES, Visit};
 pub use within::bumping::bump_within;
+pub use within::clearing::clear_stripe_within;
 pub use within::comparing::{CompareWithinError, compare_and_set_within};
 pub use within::deleting::delete_within;
 pub use within::deleting_where::{CompareDeleteWithinError, compare_and_delete_within};
 pub use within::error::WithinError;
 pub use within::getting::get_within;
+pub use within::listing::count_stripe_within;
 pub use within::making_room::make_room_within;
 pub use within::touching::touch_within;
 pub use within::{SetWithinError, set_hinted_within, set_within};

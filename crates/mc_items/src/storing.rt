@@ -21,6 +21,7 @@ ghost use Rattle.mc_stripe.specs.declared.history.Call.TheVariants as call;
 
 use crate::comparing::Expected;
 use crate::filling::fill_item;
+use crate::stripes::stripe_of;
 use mc_stripe::{NoMemory, Stamp};
 use mc_words::{Arena, Fresh, Hand, Hint, StripeHeld};
 use std::sync::Wait;
@@ -102,7 +103,7 @@ fn store<R: Wait>(
     ensures refused { OnErr result (RecordsNoCall (view hand.old) (view hand.new)) }
     ensures hint { IfOk result (IsHintInto (view hand.old) fresh) }
 {
-    let stripe = key % arena.config().stripes;
+    let stripe = stripe_of(key, arena.config().stripes);
     let held = arena.lock_stripe(rt, hand, stripe);
     match store_at(arena, hand, held, fresh, key, expected) {
         Ok(reference) => {
@@ -196,7 +197,5 @@ fn put_aside(arena: &Arena, hand: &mut Hand, held: &mut StripeHeld, key: u64)
     ensures view { view hand.new ≡ key_put_aside (stripe_number held.old) (stripe_lent held.old) key
         (view hand.old) }
 {
-    if held.stripe().find(key).is_some() {
-        arena.unlink(hand, held, key);
-    }
+    let _ = arena.put_aside(hand, held, key);
 }

@@ -17,6 +17,7 @@ ghost use Rattle.mc_items.specs.Supplying.{LacksCall};
 ghost use Rattle.mc_items.specs.Visiting.{EndsUnlinked, LacksCallAtFirst, LacksCallAtOldest, LeadsElsewhere, PutsBackOrPasses, SparesItem, Unlinks, UnlinksAtOnce, VisitsFirst, VisitsOldest, evicted_by, freed_by, room_tries};
 
 use crate::marks::Marks;
+use crate::stripes::stripe_of;
 use mc_classes::ClassId;
 use mc_pages::ChunkId;
 use mc_stripe::{Key, NoMemory};
@@ -156,7 +157,7 @@ fn unlink_if_old<M: Marks>(
     if marks.take(key) {
         return Ok(false);
     }
-    let stripe = key % arena.config().stripes;
+    let stripe = stripe_of(key, arena.config().stripes);
     let Ok(held) = arena.try_stripe(hand, stripe) else {
         return Ok(false);
     };

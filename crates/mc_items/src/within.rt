@@ -26,11 +26,13 @@ ghost use Rattle.mc_items.specs.Within.{MissesFor, RefusesWithin};
 ghost use Rattle.mc_stripe.specs.declared.history.Call.TheVariants as call;
 
 pub mod bumping;
+pub mod clearing;
 pub mod comparing;
 pub mod deleting;
 pub mod deleting_where;
 pub mod error;
 pub mod getting;
+pub mod listing;
 pub mod making_room;
 pub mod touching;
 

@@ -38,19 +38,19 @@ loop-place-preserved c =
     let chunk = c.args.fresh.now.chunk in
     let view : View = c.args.hand.now.seat.me.0 in
     let now : View = c.loop-place.hand.seat.me.0 in
-    let next : View = c.fill-in-loop-place.new.hand.seat.me.0 in
+    let next : View = c.fill_from.new.hand.seat.me.0 in
     let place = c.loop-place.place in
     let item = c.args.words.now in
     let below = c.loop-place-test.true in
     let word = slice_index item place in
     let long = length-take-le place item (omega arith) in
-    let step = c.fill-in-loop-place in (
+    let step = c.fill_from in (
       step.ensures.arena,
       step.ensures.locks ∙ locks,
-      step.ensures.same.0 ∙ chunks,
-      step.ensures.same.1 ∙ rooms,
-      step.ensures.key ∙ (ap (λ (b : Bool). if b then word else c.loop-place.fresh.key) (not_first place) ∙ key),
-      step.ensures.stamp ∙ (ap (λ (b : Bool). if b then word else c.loop-place.fresh.stamp) (not_second place) ∙ stamp),
+      chunks,
+      rooms,
+      key,
+      stamp,
       step.ensures.fresh,
       filled_more chunk (c.args.key ∷ c.args.stamp ∷ length item ∷ take place item) word (3 + place) view now next filled (omega arith)
           (step.ensures.filled ∙ ap (λ (at : ChunkId). word_filled at (3 + place) word now) chunks)

@@ -24,7 +24,7 @@ pub look_up-requires-clause-within_limit : goal.look_up-requires-clause-within_l
 look_up-requires-clause-within_limit g c =
     let before : View = c.args.hand.now.seat.me.0 in
     let taken : View = c.lock_stripe-held.new.hand.seat.me.0 in
-    let same = ap (λ (l : List Holding). length l) (waits_keep (λ (v : View). v.row.holdings) (c.args.key % c.config.result.now.stripes) (λ word v. refl) (λ value v. refl) before c.lock_stripe-held.result.stripe taken c.lock_stripe-held.ensures.waits) in
+    let same = ap (λ (l : List Holding). length l) (waits_keep (λ (v : View). v.row.holdings) c.stripe_of-stripe.result (λ word v. refl) (λ value v. refl) before c.lock_stripe-held.result.stripe taken c.lock_stripe-held.ensures.waits) in
     let count = c.refs.ensures.count in
     let within_limit = c.if-refs-ge-MOST_REFS.false in
     omega arith
@@ -35,9 +35,9 @@ returns-in-Ok-clause-gets g c =
     let held = c.lock_stripe-held in
     let before : View = hand.seat.me.0 in
     let taken : View = held.new.hand.seat.me.0 in
-    let at : c.args.key % c.config.result.now.stripes ≡ c.args.key % c.args.arena.now.table.shared.key.config.stripes = ap (λ (g : Config). c.args.key % g.stripes) c.config.ensures.config in
+    let at : c.stripe_of-stripe.result ≡ c.args.key % c.args.arena.now.table.shared.key.config.stripes = c.stripe_of-stripe.ensures ∙ ap (λ (g : Config). c.args.key % g.stripes) c.config.ensures.config in
     let waits = held.ensures.waits in
-    let number = number_stays hand held.new.hand (waits_keep (λ (v : View). v.row.ids) (c.args.key % c.config.result.now.stripes) (λ word v. refl) (λ value v. refl) before held.result.stripe taken waits) in
+    let number = number_stays hand held.new.hand (waits_keep (λ (v : View). v.row.ids) c.stripe_of-stripe.result (λ word v. refl) (λ value v. refl) before held.result.stripe taken waits) in
     let found = option_map (λ (r : Ref). r.reference) c.in-Ok.found in
     let stripe : ℕ = c.args.key % c.args.arena.now.table.shared.key.config.stripes in
     and_reads (option_map item_chunk c.in-Ok.found) (UsesRoomForCall held.new.hand.number held.result.number held.result.stripe (LooksUp held.new.hand.number held.result.number c.args.key found)) (CallsOn hand.number stripe (LooksUp hand.number stripe c.args.key found)) taken before c.look_up.new.hand.seat.me.0
@@ -50,8 +50,8 @@ returns-in-Ok-clause-calls g c =
     let held = c.lock_stripe-held in
     let before : View = hand.seat.me.0 in
     let taken : View = held.new.hand.seat.me.0 in
-    let at : c.args.key % c.config.result.now.stripes ≡ c.args.key % c.args.arena.now.table.shared.key.config.stripes = ap (λ (f : Config). c.args.key % f.stripes) c.config.ensures.config in
-    let number = number_stays hand held.new.hand (waits_keep (λ (v : View). v.row.ids) (c.args.key % c.config.result.now.stripes) (λ word v. refl) (λ value v. refl) before held.result.stripe taken held.ensures.waits) in
+    let at : c.stripe_of-stripe.result ≡ c.args.key % c.args.arena.now.table.shared.key.config.stripes = c.stripe_of-stripe.ensures ∙ ap (λ (f : Config). c.args.key % f.stripes) c.config.ensures.config in
+    let number = number_stays hand held.new.hand (waits_keep (λ (v : View). v.row.ids) c.stripe_of-stripe.result (λ word v. refl) (λ value v. refl) before held.result.stripe taken held.ensures.waits) in
     told_on hand.number _ held.new.hand.number held.result.number (λ number. Get number c.args.key (option_map (λ (r : Ref). r.stamp) c.in-Ok.found)) held.result.stripe before taken c.look_up.new.hand.seat.me.0 number (held.ensures.number ∙ at)
     (subst (λ (n : ℕ). WaitsForStripe n before held.result.stripe taken) at held.ensures.waits) c.in-Ok.ensures.calls
 
@@ -79,7 +79,7 @@ returns-in-Ok-clause-hand g c =
     let now = c.look_up.new.hand in
     let count = c.refs.ensures.count in
     let within_limit = c.if-refs-ge-MOST_REFS.false in
-    let locks = c.look_up.ensures.locks ∙ (ap without_stripe c.lock_stripe-held.ensures.locks ∙ locks_back hand (c.args.key % c.config.result.now.stripes) c.requires.ready.unlocked) in
+    let locks = c.look_up.ensures.locks ∙ (ap without_stripe c.lock_stripe-held.ensures.locks ∙ locks_back hand c.stripe_of-stripe.result c.requires.ready.unlocked) in
     let leaves = get_leaves hand.number (c.args.key % c.args.arena.now.table.shared.key.config.stripes) c.args.key c.in-Ok.found hand.seat.me.0 now.seat.me.0 (returns-in-Ok-clause-gets g c) in record {
       arena = c.look_up.ensures.arena;
       ready = get_ready hand now c.in-Ok.found locks leaves.holds (omega arith) c.requires.ready;
@@ -99,7 +99,7 @@ returns-in-Err-clause-no_memory g c _ =
     let held = c.lock_stripe-held in
     let before : View = c.args.hand.now.seat.me.0 in
     let taken : View = held.new.hand.seat.me.0 in
-    let at : c.args.key % c.config.result.now.stripes ≡ c.args.key % c.args.arena.now.table.shared.key.config.stripes = ap (λ (f : Config). c.args.key % f.stripes) c.config.ensures.config in
+    let at : c.stripe_of-stripe.result ≡ c.args.key % c.args.arena.now.table.shared.key.config.stripes = c.stripe_of-stripe.ensures ∙ ap (λ (f : Config). c.args.key % f.stripes) c.config.ensures.config in
     only_waits _ held.result.number held.result.stripe before taken c.look_up.new.hand.seat.me.0 (held.ensures.number ∙ at) (subst (λ (n : ℕ). WaitsForStripe n before held.result.stripe taken) at held.ensures.waits) (subst (λ (n : ℕ). IsLentStripe taken n held.result.stripe) at held.ensures.whole) c.in-Err.ensures.full c.in-Err.ensures.given
 
 pub returns-in-Err-clause-no_more : goal.returns-in-Err-clause-no_more
@@ -113,7 +113,7 @@ returns-in-Err-clause-hand g c =
     let hand = c.args.hand.now in
     let now = c.look_up.new.hand in
     let kept = only_keeps (c.args.key % c.args.arena.now.table.shared.key.config.stripes) hand.seat.me.0 now.seat.me.0 (returns-in-Err-clause-no_memory g c refl) in
-    let locks = c.look_up.ensures.locks ∙ (ap without_stripe c.lock_stripe-held.ensures.locks ∙ locks_back hand (c.args.key % c.config.result.now.stripes) c.requires.ready.unlocked) in
+    let locks = c.look_up.ensures.locks ∙ (ap without_stripe c.lock_stripe-held.ensures.locks ∙ locks_back hand c.stripe_of-stripe.result c.requires.ready.unlocked) in
     hand_still c.args.arena.now hand now c.look_up.ensures.arena locks (returns-in-Err-clause-no_more g c) (ap (λ (k : Kept). k.3) kept) c.requires.ready
 
 pub returns-in-Err-clause-keeps : goal.returns-in-Err-clause-keeps

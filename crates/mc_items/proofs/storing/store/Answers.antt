@@ -24,7 +24,7 @@ store_at-requires-clause-fresh g c =
     let held = c.lock_stripe-held in
     let before : View = hand.seat.me.0 in
     let taken : View = held.new.hand.seat.me.0 in
-    let holdings = waits_keep (λ (v : View). v.row.holdings) (c.args.key % c.config.result.now.stripes) (λ word v. refl) (λ value v. refl) before held.result.stripe taken held.ensures.waits in
+    let holdings = waits_keep (λ (v : View). v.row.holdings) c.stripe_of-stripe.result (λ word v. refl) (λ value v. refl) before held.result.stripe taken held.ensures.waits in
     subst (λ (hs : List Holding). IsFreshIn hs c.args.fresh.chunk c.args.fresh.room) (sym holdings) c.requires.fresh
 
 pub store_at-requires-clause-item : goal.store_at-requires-clause-item
@@ -33,7 +33,7 @@ store_at-requires-clause-item g c =
     let held = c.lock_stripe-held in
     let before : View = hand.seat.me.0 in
     let taken : View = held.new.hand.seat.me.0 in
-    let holdings = waits_keep (λ (v : View). v.row.holdings) (c.args.key % c.config.result.now.stripes) (λ word v. refl) (λ value v. refl) before held.result.stripe taken held.ensures.waits in
+    let holdings = waits_keep (λ (v : View). v.row.holdings) c.stripe_of-stripe.result (λ word v. refl) (λ value v. refl) before held.result.stripe taken held.ensures.waits in
     filled_still c.args.fresh.chunk c.args.key c.args.fresh.stamp before taken holdings c.requires.item
 
 pub store_at-requires-clause-stamp : goal.store_at-requires-clause-stamp
@@ -42,11 +42,11 @@ store_at-requires-clause-stamp g c =
     let held = c.lock_stripe-held in
     let before : View = hand.seat.me.0 in
     let taken : View = held.new.hand.seat.me.0 in
-    ap next_stamp (waits_keep (λ (v : View). v.row.ids) (c.args.key % c.config.result.now.stripes) (λ word v. refl) (λ value v. refl) before held.result.stripe taken held.ensures.waits) ∙ c.requires.stamp
+    ap next_stamp (waits_keep (λ (v : View). v.row.ids) c.stripe_of-stripe.result (λ word v. refl) (λ value v. refl) before held.result.stripe taken held.ensures.waits) ∙ c.requires.stamp
 
 pub returns-in-Ok-clause-locks : goal.returns-in-Ok-clause-locks
 returns-in-Ok-clause-locks g c =
-    c.release.ensures.locks ∙ (c.store_at.ensures.locks ∙ (ap without_stripe c.lock_stripe-held.ensures.locks ∙ locks_back c.args.hand.now (c.args.key % c.config.result.now.stripes) c.requires.unlocked))
+    c.release.ensures.locks ∙ (c.store_at.ensures.locks ∙ (ap without_stripe c.lock_stripe-held.ensures.locks ∙ locks_back c.args.hand.now c.stripe_of-stripe.result c.requires.unlocked))
 
 pub returns-in-Ok-clause-stores : goal.returns-in-Ok-clause-stores
 returns-in-Ok-clause-stores g c =
@@ -54,11 +54,11 @@ returns-in-Ok-clause-stores g c =
     let held = c.lock_stripe-held in
     let before : View = hand.seat.me.0 in
     let taken : View = held.new.hand.seat.me.0 in
-    let at : c.args.key % c.config.result.now.stripes ≡ c.args.key % c.args.arena.now.table.shared.key.config.stripes = ap (λ (f : Config). c.args.key % f.stripes) c.config.ensures.config in
+    let at : c.stripe_of-stripe.result ≡ c.args.key % c.args.arena.now.table.shared.key.config.stripes = c.stripe_of-stripe.ensures ∙ ap (λ (f : Config). c.args.key % f.stripes) c.config.ensures.config in
     let stripe = c.args.key % c.args.arena.now.table.shared.key.config.stripes in
     let linked : View = c.store_at.new.hand.seat.me.0 in
     let now : View = c.release.new.hand.seat.me.0 in
-    let number = number_stays hand held.new.hand (waits_keep (λ (v : View). v.row.ids) (c.args.key % c.config.result.now.stripes) (λ word v. refl) (λ value v. refl) before held.result.stripe taken held.ensures.waits) in
+    let number = number_stays hand held.new.hand (waits_keep (λ (v : View). v.row.ids) c.stripe_of-stripe.result (λ word v. refl) (λ value v. refl) before held.result.stripe taken held.ensures.waits) in
     let waits = subst (λ (n : ℕ). WaitsForStripe n before held.result.stripe taken) at held.ensures.waits in
     let lent = subst (λ (n : ℕ). IsLentStripe taken n held.result.stripe) at held.ensures.whole in
     let stored : StoresItem c.args.expected hand.number stripe c.args.key c.args.fresh.stamp c.args.fresh.chunk c.args.fresh.room before now =
@@ -72,11 +72,11 @@ returns-in-Ok-clause-calls g c =
     let held = c.lock_stripe-held in
     let before : View = hand.seat.me.0 in
     let taken : View = held.new.hand.seat.me.0 in
-    let at : c.args.key % c.config.result.now.stripes ≡ c.args.key % c.args.arena.now.table.shared.key.config.stripes = ap (λ (f : Config). c.args.key % f.stripes) c.config.ensures.config in
+    let at : c.stripe_of-stripe.result ≡ c.args.key % c.args.arena.now.table.shared.key.config.stripes = c.stripe_of-stripe.ensures ∙ ap (λ (f : Config). c.args.key % f.stripes) c.config.ensures.config in
     let stripe = c.args.key % c.args.arena.now.table.shared.key.config.stripes in
     let linked : View = c.store_at.new.hand.seat.me.0 in
     let now : View = c.release.new.hand.seat.me.0 in
-    let number = number_stays hand held.new.hand (waits_keep (λ (v : View). v.row.ids) (c.args.key % c.config.result.now.stripes) (λ word v. refl) (λ value v. refl) before held.result.stripe taken held.ensures.waits) in
+    let number = number_stays hand held.new.hand (waits_keep (λ (v : View). v.row.ids) c.stripe_of-stripe.result (λ word v. refl) (λ value v. refl) before held.result.stripe taken held.ensures.waits) in
     let waits = subst (λ (n : ℕ). WaitsForStripe n before held.result.stripe taken) at held.ensures.waits in
     let lent = subst (λ (n : ℕ). IsLentStripe taken n held.result.stripe) at held.ensures.whole in
     let stored : StoresItem c.args.expected hand.number stripe c.args.key c.args.fresh.stamp c.args.fresh.chunk c.args.fresh.room before now =
@@ -90,11 +90,11 @@ returns-in-Ok-clause-stores_words g c =
     let held = c.lock_stripe-held in
     let before : View = hand.seat.me.0 in
     let taken : View = held.new.hand.seat.me.0 in
-    let at : c.args.key % c.config.result.now.stripes ≡ c.args.key % c.args.arena.now.table.shared.key.config.stripes = ap (λ (f : Config). c.args.key % f.stripes) c.config.ensures.config in
+    let at : c.stripe_of-stripe.result ≡ c.args.key % c.args.arena.now.table.shared.key.config.stripes = c.stripe_of-stripe.ensures ∙ ap (λ (f : Config). c.args.key % f.stripes) c.config.ensures.config in
     let stripe = c.args.key % c.args.arena.now.table.shared.key.config.stripes in
     let linked : View = c.store_at.new.hand.seat.me.0 in
     let now : View = c.release.new.hand.seat.me.0 in
-    let number = number_stays hand held.new.hand (waits_keep (λ (v : View). v.row.ids) (c.args.key % c.config.result.now.stripes) (λ word v. refl) (λ value v. refl) before held.result.stripe taken held.ensures.waits) in
+    let number = number_stays hand held.new.hand (waits_keep (λ (v : View). v.row.ids) c.stripe_of-stripe.result (λ word v. refl) (λ value v. refl) before held.result.stripe taken held.ensures.waits) in
     let waits = subst (λ (n : ℕ). WaitsForStripe n before held.result.stripe taken) at held.ensures.waits in
     let lent = subst (λ (n : ℕ). IsLentStripe taken n held.result.stripe) at held.ensures.whole in
     let stored : StoresItem c.args.expected hand.number stripe c.args.key c.args.fresh.stamp c.args.fresh.chunk c.args.fresh.room before now =
@@ -107,12 +107,12 @@ returns-in-Ok-clause-hint g c =
     let held = c.lock_stripe-held in
     let before : View = c.args.hand.now.seat.me.0 in
     let taken : View = held.new.hand.seat.me.0 in
-    let holdings = waits_keep (λ (v : View). v.row.holdings) (c.args.key % c.config.result.now.stripes) (λ word v. refl) (λ value v. refl) before held.result.stripe taken held.ensures.waits in
+    let holdings = waits_keep (λ (v : View). v.row.holdings) c.stripe_of-stripe.result (λ word v. refl) (λ value v. refl) before held.result.stripe taken held.ensures.waits in
     (c.hint-hint.ensures.chunk ∙ c.in-Ok.ensures.same.0, c.hint-hint.ensures.issue ∙ (c.in-Ok.ensures.same.1 ∙ ap (λ (hs : List Holding). option_map_or (λ (h : Holding). h.issue) (holding_of c.args.fresh.chunk hs) 0) holdings))
 
 pub returns-in-Err-clause-locks : goal.returns-in-Err-clause-locks
 returns-in-Err-clause-locks g c =
-    (c.store_at.ensures.locks ∙ (ap without_stripe c.lock_stripe-held.ensures.locks ∙ locks_back c.args.hand.now (c.args.key % c.config.result.now.stripes) c.requires.unlocked))
+    (c.store_at.ensures.locks ∙ (ap without_stripe c.lock_stripe-held.ensures.locks ∙ locks_back c.args.hand.now c.stripe_of-stripe.result c.requires.unlocked))
 
 pub returns-in-Err-clause-lost : goal.returns-in-Err-clause-lost
 returns-in-Err-clause-lost g c =
@@ -120,7 +120,7 @@ returns-in-Err-clause-lost g c =
     let held = c.lock_stripe-held in
     let before : View = hand.seat.me.0 in
     let taken : View = held.new.hand.seat.me.0 in
-    let at : c.args.key % c.config.result.now.stripes ≡ c.args.key % c.args.arena.now.table.shared.key.config.stripes = ap (λ (f : Config). c.args.key % f.stripes) c.config.ensures.config in
+    let at : c.stripe_of-stripe.result ≡ c.args.key % c.args.arena.now.table.shared.key.config.stripes = c.stripe_of-stripe.ensures ∙ ap (λ (f : Config). c.args.key % f.stripes) c.config.ensures.config in
     let stripe = c.args.key % c.args.arena.now.table.shared.key.config.stripes in
     let given : View = stripe_given held.result.number held.result.stripe taken in
     record {
@@ -135,7 +135,7 @@ returns-in-Err-clause-refused g c =
     let held = c.lock_stripe-held in
     let before : View = hand.seat.me.0 in
     let taken : View = held.new.hand.seat.me.0 in
-    let at : c.args.key % c.config.result.now.stripes ≡ c.args.key % c.args.arena.now.table.shared.key.config.stripes = ap (λ (f : Config). c.args.key % f.stripes) c.config.ensures.config in
+    let at : c.stripe_of-stripe.result ≡ c.args.key % c.args.arena.now.table.shared.key.config.stripes = c.stripe_of-stripe.ensures ∙ ap (λ (f : Config). c.args.key % f.stripes) c.config.ensures.config in
     let stripe = c.args.key % c.args.arena.now.table.shared.key.config.stripes in
     let given : View = stripe_given held.result.number held.result.stripe taken in
     let dead : LeavesDead (RefusesStore c.in-Err.error c.args.expected c.args.key) stripe c.args.fresh.chunk before c.store_at.new.hand.seat.me.0 = record {

@@ -57,7 +57,7 @@ returns-in_default-clause-spares g c _ =
     let head = decode c.head-head.result in
     let key = c.word_held-key.result in
     let (word, busy, missed) = c.in_default.ensures.held in
-    let at : key % c.config.result.now.stripes ≡ key % view.setup.config.stripes = ap (λ (g : Config). key % g.stripes) (c.config.ensures.config ∙ ap (λ (s : Setup). s.config) (sym c.requires.arena.setup)) in
+    let at : c.stripe_of-stripe.result ≡ key % view.setup.config.stripes = c.stripe_of-stripe.ensures ∙ ap (λ (g : Config). key % g.stripes) (c.config.ensures.config ∙ ap (λ (s : Setup). s.config) (sym c.requires.arena.setup)) in
     let read = c.word_held-key.ensures.view ∙ ap (key_seen c.args.chunk key) c.head-head.ensures.seen in
     inr (inr (inl (record {
       head = head;
@@ -74,39 +74,39 @@ returns-in_default-clause-spares g c _ =
 pub unlink_at-requires-clause-key : goal.unlink_at-requires-clause-key
 unlink_at-requires-clause-key g c =
     let key = c.word_held-key.result in
-    key_found c.args.chunk key (key % c.config.result.now.stripes) c.in-Ok.held.stripe c.head-head.new.hand.seat.me.0 c.word_held-key.new.hand.seat.me.0 c.try_stripe.new.hand.seat.me.0 c.word_held-key.ensures.view c.in-Ok.ensures.lent
+    key_found c.args.chunk key c.stripe_of-stripe.result c.in-Ok.held.stripe c.head-head.new.hand.seat.me.0 c.word_held-key.new.hand.seat.me.0 c.try_stripe.new.hand.seat.me.0 c.word_held-key.ensures.view c.in-Ok.ensures.lent
 
 pub returns-clause-unlinks : goal.returns-clause-unlinks
 returns-clause-unlinks g c e =
     let view : View = c.args.hand.now.seat.me.0 in
     let key = c.word_held-key.result in
-    let at : key % c.config.result.now.stripes ≡ key % view.setup.config.stripes = ap (λ (g : Config). key % g.stripes) (c.config.ensures.config ∙ ap (λ (s : Setup). s.config) (sym c.requires.arena.setup)) in
+    let at : c.stripe_of-stripe.result ≡ key % view.setup.config.stripes = c.stripe_of-stripe.ensures ∙ ap (λ (g : Config). key % g.stripes) (c.config.ensures.config ∙ ap (λ (s : Setup). s.config) (sym c.requires.arena.setup)) in
     let ids = ap (λ (v : View). v.row.ids) c.in-Ok.ensures.lent ∙ (ap (λ (v : View). v.row.ids) c.word_held-key.ensures.view ∙ ap (λ (v : View). v.row.ids) c.head-head.ensures.seen) in
     reached (λ number stripe. Unlinks number stripe c.args.chunk) c.args.hand.now.number c.try_stripe.new.hand.number view c.args.chunk (decode c.head-head.result) c.head-head.new.hand.seat.me.0 c.word_held-key.new.hand.seat.me.0 c.try_stripe.new.hand.seat.me.0 c.unlink_at.new.hand.seat.me.0
-    key (key % c.config.result.now.stripes) c.in-Ok.held.number c.in-Ok.held.stripe (sym c.is_unheld.ensures.unheld ∙ c.if-not-is_unheld.false) c.head-head.ensures.seen c.word_held-key.ensures.view at c.in-Ok.ensures.number (number_stays c.args.hand.now c.try_stripe.new.hand ids)
+    key c.stripe_of-stripe.result c.in-Ok.held.number c.in-Ok.held.stripe (sym c.is_unheld.ensures.unheld ∙ c.if-not-is_unheld.false) c.head-head.ensures.seen c.word_held-key.ensures.view at c.in-Ok.ensures.number (number_stays c.args.hand.now c.try_stripe.new.hand ids)
     c.head-head.ensures.happens c.word_held-key.ensures.happens c.in-Ok.ensures.taken c.in-Ok.ensures.lent c.in-Ok.ensures.whole c.in-Ok.ensures.seen (c.unlink_at.ensures.unlinks e)
 
 pub returns-clause-spares : goal.returns-clause-spares
 returns-clause-spares g c e =
     let view : View = c.args.hand.now.seat.me.0 in
     let key = c.word_held-key.result in
-    let at : key % c.config.result.now.stripes ≡ key % view.setup.config.stripes = ap (λ (g : Config). key % g.stripes) (c.config.ensures.config ∙ ap (λ (s : Setup). s.config) (sym c.requires.arena.setup)) in
+    let at : c.stripe_of-stripe.result ≡ key % view.setup.config.stripes = c.stripe_of-stripe.ensures ∙ ap (λ (g : Config). key % g.stripes) (c.config.ensures.config ∙ ap (λ (s : Setup). s.config) (sym c.requires.arena.setup)) in
     inr (inr (inr (newer_found view c.args.chunk (decode c.head-head.result) c.head-head.new.hand.seat.me.0 c.word_held-key.new.hand.seat.me.0 c.try_stripe.new.hand.seat.me.0 c.unlink_at.new.hand.seat.me.0
-    key (key % c.config.result.now.stripes) c.in-Ok.held.number c.in-Ok.held.stripe (sym c.is_unheld.ensures.unheld ∙ c.if-not-is_unheld.false) c.head-head.ensures.seen c.word_held-key.ensures.view at c.in-Ok.ensures.number
+    key c.stripe_of-stripe.result c.in-Ok.held.number c.in-Ok.held.stripe (sym c.is_unheld.ensures.unheld ∙ c.if-not-is_unheld.false) c.head-head.ensures.seen c.word_held-key.ensures.view at c.in-Ok.ensures.number
     c.head-head.ensures.happens c.word_held-key.ensures.happens c.in-Ok.ensures.taken c.in-Ok.ensures.lent c.in-Ok.ensures.whole c.in-Ok.ensures.seen (c.unlink_at.ensures.elsewhere e) (c.unlink_at.ensures.given e))))
 
 pub returns-clause-locks : goal.returns-clause-locks
 returns-clause-locks g c =
-    let stripe = c.word_held-key.result % c.config.result.now.stripes in
+    let stripe = c.stripe_of-stripe.result in
     c.unlink_at.ensures.locks ∙ (ap without_stripe (c.in-Ok.ensures.locks ∙ ap (locks_with_stripe stripe) (c.word_held-key.ensures.locks ∙ c.head-head.ensures.locks)) ∙ stripe_back c.args.hand.now stripe c.requires.one)
 
 pub returns-clause-no_memory : goal.returns-clause-no_memory
 returns-clause-no_memory g c =
     let view : View = c.args.hand.now.seat.me.0 in
     let key = c.word_held-key.result in
-    let at : key % c.config.result.now.stripes ≡ key % view.setup.config.stripes = ap (λ (g : Config). key % g.stripes) (c.config.ensures.config ∙ ap (λ (s : Setup). s.config) (sym c.requires.arena.setup)) in
+    let at : c.stripe_of-stripe.result ≡ key % view.setup.config.stripes = c.stripe_of-stripe.ensures ∙ ap (λ (g : Config). key % g.stripes) (c.config.ensures.config ∙ ap (λ (s : Setup). s.config) (sym c.requires.arena.setup)) in
     if_error c.unlink_at.result
     (λ both. lacked view c.args.chunk (decode c.head-head.result) c.head-head.new.hand.seat.me.0 c.word_held-key.new.hand.seat.me.0 c.try_stripe.new.hand.seat.me.0 c.unlink_at.new.hand.seat.me.0
-    key (key % c.config.result.now.stripes) c.in-Ok.held.number c.in-Ok.held.stripe (sym c.is_unheld.ensures.unheld ∙ c.if-not-is_unheld.false) c.head-head.ensures.seen c.word_held-key.ensures.view at c.in-Ok.ensures.number
+    key c.stripe_of-stripe.result c.in-Ok.held.number c.in-Ok.held.stripe (sym c.is_unheld.ensures.unheld ∙ c.if-not-is_unheld.false) c.head-head.ensures.seen c.word_held-key.ensures.view at c.in-Ok.ensures.number
     c.head-head.ensures.happens c.word_held-key.ensures.happens c.in-Ok.ensures.taken c.in-Ok.ensures.lent c.in-Ok.ensures.whole c.in-Ok.ensures.seen both.1 both.0)
     (error_both (c.unlink_at.new.hand.seat.me.0 ≡ stripe_given c.in-Ok.held.number c.in-Ok.held.stripe c.try_stripe.new.hand.seat.me.0) (IsFull c.in-Ok.held.stripe) c.unlink_at.result c.unlink_at.ensures.no_memory c.unlink_at.ensures.full)
