@@ -11,3 +11,5 @@ pub mod VersionDeletes
 pub mod Tried
 pub mod Fits
 pub mod Lengths
+pub mod Walks
+pub mod Keyed

@@ -1,11 +1,10 @@
 -- A delete of a version, from what the look saw and what the delete of the item returned.
-use Rattle.std.proofs.Common.{◌≡◌, ◌∙◌, ◌==◌, ◌⊎◌, ◌≢◌, ℕ, Bool, true, false, List, Option, None, Some, Result, Ok, Err, OnErr, OnOk, ap, eqb-true, if◌then◌else◌, inl, inr, refl, subst}
+use Rattle.std.proofs.Common.{◌≡◌, ◌∙◌, ◌==◌, ℕ, Bool, true, false, List, Option, None, Some, Result, Ok, Err, OnErr, OnOk, ap, eqb-true, if◌then◌else◌, inr, refl, subst}
 use Rattle.std.proofs.lemmas.Bool.{eqb-false}
-use Rattle.mc_stripe.specs.StripeState.{ReadyStripe}
 use Rattle.mc_words.specs.declared.hand.Hand.{Hand}
 use Rattle.mc_words.specs.hand.Arenas.{view}
 use Rattle.mc_words.specs.hand.View.{Setup, View}
-use Rattle.mc_items.specs.Calls.{FindsStripe, RecordsNoCall}
+use Rattle.mc_items.specs.Calls.{RecordsNoCall}
 use Rattle.mc_items.specs.Deleting.{DeletesItemOf, FindsOtherItem}
 use Rattle.mc_items.specs.OnKeys.{FindsNoRoomFor, stripe_of_key}
 use Rattle.mc_items.specs.Within.{MissesKeyEachTime}

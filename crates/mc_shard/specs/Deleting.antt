@@ -1,5 +1,5 @@
 -- Deletes of a version: the key's item goes only where it has the version.
-use Rattle.std.specs.Prelude.{◌≡◌, ◌≢◌, ◌⊎◌, ◌==◌, if◌then◌else◌, ⊤, ℕ, List, Option, None, Some, Result, Ok, Err}
+use Rattle.std.specs.Prelude.{◌≢◌, ◌⊎◌, ◌==◌, if◌then◌else◌, ⊤, ℕ, List, Option, None, Some, Result, Ok, Err}
 use Rattle.mc_words.specs.declared.hand.Hand.{Hand}
 use Rattle.mc_words.specs.hand.View.{Setup}
 use Rattle.mc_items.specs.Deleting.{DeletesItemOf, FindsOtherItem}

@@ -8,3 +8,5 @@ pub mod Within
 pub mod Conditions
 pub mod Deleting
 pub mod Sizes
+pub mod Walking
+pub mod Listing

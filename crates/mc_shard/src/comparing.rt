@@ -70,7 +70,7 @@ pub(crate) fn set_where<R: Wait>(
     }
     match compare_and_set(rt, arena, hand, at.hash, words, expected) {
         Ok(item) => {
-            hints.note(at.hash, item.hint);
+            hints.note_stored(at.hash, item.hint);
             Ok(item.stamp)
         }
         Err(error) => Err(error),
@@ -123,7 +123,7 @@ pub(crate) fn set_where_within(
     }
     match compare_and_set_within(arena, hand, at.hash, words, expected, tries) {
         Ok(item) => {
-            hints.note(at.hash, item.hint);
+            hints.note_stored(at.hash, item.hint);
             Ok(item.stamp)
         }
         Err(error) => Err(error),

@@ -18,9 +18,9 @@ const WAYS: usize = 4;
 /// A place holds the chunk in which an item was found last, and the issue number that the chunk had. A hash leads to a bucket of
 /// [`WAYS`] places by its lower half, so hashes share places.
 ///
-/// A word is `issue * 2^32 + part * 2^16 + used * 2^15 + page * 2^8 + index`. `part` is 16 bits of the hash: a get passes over most hints of
-/// other hashes by them, with no look at a header. `used` is 1 where the item was got since an eviction looked at it. An issue number of
-/// `2^32` or more is cut, and its hint leads nowhere.
+/// A word is `issue * 2^32 + part * 2^17 + mark * 2^15 + page * 2^8 + index`. `part` is 15 bits of the hash: a get passes over most hints of
+/// other hashes by them, with no look at a header. `mark` counts uses of the item, 3 at most, less the evictions that looked at it. An issue
+/// number of `2^32` or more is cut, and its hint leads nowhere.
 #[derive(Drop)]
 pub struct HintTable {
     words: Vec<AtomicU64>,
@@ -28,12 +28,31 @@ pub struct HintTable {
     buckets: u64,
 }
 
-/// The mark of an item that was got. (after memcached's `ITEM_ACTIVE`)
-const USED: u64 = 1 << 15;
+/// One use of an item, in the mark of a word. (after memcached's `ITEM_ACTIVE`)
+const USE: u64 = 1 << 15;
+
+/// The bits of the mark. (own: a mark of one bit hits less under a scan)
+const MARK: u64 = 3 * USE;
 
 // The part of the hash that a word has.
 fn part_of(hash: u64) -> u64 {
-    hash >> 40 & 0xffff
+    hash >> 40 & 0x7fff
+}
+
+// Whether a word has the hash's part.
+#[inline(always)]
+fn is_of(word: u64, hash: u64) -> bool {
+    word >> 17 & 0x7fff == part_of(hash)
+}
+
+// The mark with one use more, up to three.
+#[inline(always)]
+fn mark_with_use(mark: u64) -> u64 {
+    if mark < MARK {
+        mark.wrapping_add(USE)
+    } else {
+        mark
+    }
 }
 
 // The chunk of a word.
@@ -70,24 +89,19 @@ impl HintTable {
     fn find(&self, hash: u64) -> Option<(&AtomicU64, u64)> {
         for place in self.bucket(hash) {
             let word = place.load(SeqCst);
-            if word >> 16 & 0xffff == part_of(hash) {
+            if is_of(word, hash) {
                 return Some((place, word));
             }
         }
         None
     }
 
-    // The place for a hint of the hash: the one with its part; else the first without a mark, as a look finds it soonest; else one
-    // by bits of the hash.
-    fn place_for(&self, hash: u64) -> Option<&AtomicU64> {
+    // The place for a hint of a hash that no place has: the first without a mark, as a look finds it soonest; else one by bits of the hash.
+    fn spare_place(&self, hash: u64) -> Option<&AtomicU64> {
         let bucket = self.bucket(hash);
         let mut spare = bucket.get((hash >> 32) as usize % WAYS);
         for place in bucket.iter().rev() {
-            let word = place.load(SeqCst);
-            if word >> 16 & 0xffff == part_of(hash) {
-                return Some(place);
-            }
-            if word & USED == 0 {
+            if place.load(SeqCst) & MARK == 0 {
                 spare = Some(place);
             }
         }
@@ -108,35 +122,58 @@ impl HintTable {
         Some(Hint::new(chunk, word >> 32))
     }
 
-    /// Puts the hint at a place of the hash, without a mark.
-    pub(crate) fn note(&self, hash: u64, hint: Hint) {
-        let (chunk, issue) = hint.numbers();
-        if let Some(place) = self.place_for(hash) {
-            let at = (chunk.page & 127) << 8 | chunk.index & 255;
-            place.store(issue << 32 | part_of(hash) << 16 | at, SeqCst);
+    /// Puts the hint of an item that a look found. Where a place has the hash, its mark stays.
+    pub(crate) fn note_found(&self, hash: u64, hint: Hint) {
+        match self.find(hash) {
+            Some((place, word)) => put(place, hash, hint, word & MARK),
+            None => self.note_new(hash, hint),
         }
     }
 
-    /// Marks the item of the hash as got, where a place has a word of the hash. A mark that is there is left, so most gets only load
+    /// Puts the hint of an item that was stored. Where a place has the hash, the key was stored before, and is used once more: also where its
+    /// item was evicted meanwhile. (own, after S3-FIFO's queue of keys that went)
+    pub(crate) fn note_stored(&self, hash: u64, hint: Hint) {
+        match self.find(hash) {
+            Some((place, word)) => put(place, hash, hint, mark_with_use(word & MARK)),
+            None => self.note_new(hash, hint),
+        }
+    }
+
+    // Puts the hint at a place that has no hint of the hash, without a mark.
+    fn note_new(&self, hash: u64, hint: Hint) {
+        if let Some(place) = self.spare_place(hash) {
+            put(place, hash, hint, 0);
+        }
+    }
+
+    /// Marks the item of the hash as used once more, where a place has a word of the hash. A greatest mark is left, so most gets only load
     /// the word.
     #[inline(always)]
     pub(crate) fn mark(&self, hash: u64) {
         if let Some((place, word)) = self.find(hash) {
-            if word & USED == 0 {
-                place.store(word | USED, SeqCst);
+            if word & MARK < MARK {
+                place.store(word.wrapping_add(USE), SeqCst);
             }
         }
     }
 
-    /// Whether the item of the hash is marked as got, and takes the mark off.
+    /// Whether the item of the hash has a mark, and takes one use off it.
     pub fn take_mark(&self, hash: u64) -> bool {
         let Some((place, word)) = self.find(hash) else {
             return false;
         };
-        if word & USED == 0 {
+        if word & MARK == 0 {
             return false;
         }
-        place.store(word & !USED, SeqCst);
+        place.store(word.wrapping_sub(USE), SeqCst);
         true
     }
+}
+
+// Writes the hint and the mark of the hash's item into a place.
+#[inline(always)]
+fn put(place: &AtomicU64, hash: u64, hint: Hint, mark: u64) {
+    let (chunk, issue) = hint.numbers();
+    let at = (chunk.page & 127) << 8 | chunk.index & 255;
+    place.store(issue << 32 | part_of(hash) << 17 | mark | at, SeqCst);
 }

@@ -11,6 +11,8 @@
 //!   that the caller got.
 //! - [`set_within`], [`set_if_within`], [`get_within`], [`contains_within`], [`touch_within`], [`delete_within`] and
 //!   [`delete_version_within`] try for each lock n times, and don't wait.
+//! - [`clear`] deletes every key, stripe by stripe, and [`count`] returns how many items there are. [`clear_within`] and [`count_within`]
+//!   don't wait. [`keys`] lists the keys of a stripe.
 //! - [`max_value`] returns the most bytes that a value may have beside a key. A set of a longer one is refused before it is packed.
 //! - A [`HintTable`] has notes of where items may be. A call that finds one gets the item with no lock.
 //!
@@ -27,14 +29,17 @@
 //! and a [`set`] takes its place. Hashes, shards and the lengths of keys are `mc_cache`'s.
 #![tactic(auto)]
 
+mod clearing;
 mod comparing;
 mod conditions;
+mod counting;
 mod deleting;
 mod deleting_version;
 mod gets;
 mod hinting;
 mod hints;
 mod label;
+mod listing;
 mod looking;
 mod lookup;
 mod reading;
@@ -45,12 +50,15 @@ mod try_gets;
 mod versions;
 mod within;
 
+pub use clearing::{clear, clear_within};
 pub use conditions::{Outcome, When, set_if, set_if_within};
+pub use counting::{count, count_within};
 pub use deleting::delete;
 pub use deleting_version::{Deletion, delete_version, delete_version_within};
 pub use gets::{get, peek, touch};
 pub use hints::HintTable;
 pub use label::Label;
+pub use listing::keys;
 pub use looking::Seen;
 pub use setting::set;
 pub use setting_within::set_within;

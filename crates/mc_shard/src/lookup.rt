@@ -45,7 +45,7 @@ pub(crate) fn get_item<R: Wait>(
     }
     match mc_items::get(rt, arena, hand, hash) {
         Ok(Some(item)) => {
-            hints.note(hash, hint(&item));
+            hints.note_found(hash, hint(&item));
             Ok(Some(item))
         }
         Ok(None) => Ok(None),
@@ -82,7 +82,7 @@ pub(crate) fn try_item(
     }
     match mc_items::try_get(arena, hand, hash) {
         Ok(Some(item)) => {
-            hints.note(hash, hint(&item));
+            hints.note_found(hash, hint(&item));
             Ok(Some(item))
         }
         Ok(None) => Ok(None),
@@ -121,7 +121,7 @@ pub(crate) fn item_within(
     }
     match mc_items::get_within(arena, hand, hash, tries) {
         Ok(Some(item)) => {
-            hints.note(hash, hint(&item));
+            hints.note_found(hash, hint(&item));
             Ok(Some(item))
         }
         Ok(None) => Ok(None),

@@ -72,6 +72,7 @@ pub(crate) fn push_value(
 
 /// How many bytes of value the item has, if it looks like one of this key: by the lengths, the key's words, how many words there are, and
 /// the last of them.
+#[inline(always)]
 fn value_len(arena: &Arena, hand: &mut Hand, item: &Ref, first: usize, key: &[u8]) -> Option<u64>
     requires item { RefersTo arena.now item.now hand.old }
     requires first { first ≡ item_place (setup_of arena.now) item.now }

@@ -1,4 +1,4 @@
-use Rattle.std.proofs.Common.{◌≡◌, ◌∙◌, Err, None, Some, ap, inl, refl, sym}
+use Rattle.std.proofs.Common.{◌≡◌, ◌∙◌, Err, Some, ap, inl, refl, sym}
 use Rattle.mc_words.specs.hand.Arenas.{setup_of, view}
 use Rattle.mc_shard.specs.declared.deleting_version.Deletion.TheVariants.{Deleted, Exists, Missing}
 use Rattle.mc_shard.specs.Deleting.{deletion_within}

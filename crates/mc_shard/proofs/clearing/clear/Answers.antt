@@ -1,0 +1,61 @@
+use Rattle.std.proofs.Common.{◌≡◌, ◌<◌, ◌++◌, ◌∷◌, [], ◌∙◌, ℕ, ap, subst, arith}
+use Rattle.mc_classes.specs.declared.config.Config.{Config}
+use Rattle.mc_words.specs.hand.Arenas.{setup_of, view}
+use Rattle.mc_words.specs.hand.View.{View}
+use Rattle.mc_items.specs.Clearing.{ClearsStripe}
+use Rattle.mc_shard.specs.Walking.{DoesFirst}
+use Rattle.mc_shard.proofs.Walks.{all_lost, empty_more, on_refusal, one_more, stopped_clearing, sum_more, walked_all}
+use Rattle.mc_shard.proofs.clearing.clear.Goals as goal
+
+pub loop-stripe-preserved : goal.loop-stripe-preserved
+loop-stripe-preserved g c =
+    let inv = c.loop-stripe.invariant in
+    let cleared = c.clear_stripe.ensures in
+    let number = c.args.hand.now.number in
+    let stripe = c.loop-stripe.stripe in
+    let first : View = c.args.hand.now.seat.me.0 in
+    let before : View = c.loop-stripe.hand.seat.me.0 in
+    let now : View = c.clear_stripe.new.hand.seat.me.0 in
+    let here = c.in_ok-here.here in
+    let one : ClearsStripe number stripe here before now = subst (λ (n : ℕ). ClearsStripe n stripe here before now) inv.number c.in_ok-here.ensures.clears in
+    record {
+      idle = record { of_arena = cleared.hand.arena; ready = cleared.hand.ready; none = cleared.holdings.same ∙ inv.idle.none };
+      number = cleared.hand.number ∙ inv.number;
+      done = (
+        inv.done.0 ++ here ∷ [],
+        one_more (ClearsStripe number) stripe here inv.done.0 first before now inv.done.1 one,
+        sum_more inv.done.0 c.loop-stripe.count here c.saturating_add-count.result inv.done.2 c.saturating_add-count.ensures,
+      );
+      empty = empty_more number stripe here before now one inv.empty c.in_ok-here.ensures.empty;
+      stores_nothing = cleared.stores_nothing ∙ inv.stores_nothing;
+      slabs = cleared.slabs ∙ inv.slabs;
+    }
+
+-- all stripes are behind the loop
+pub returns-clause-clears : goal.returns-clause-clears
+returns-clause-clears g c =
+    let inv = c.loop-stripe.invariant in
+    let same = ap (λ (f : Config). f.stripes) c.config.ensures.config in
+    let ends : c.loop-stripe.stripe ≡ (setup_of c.args.arena.now).config.stripes = omega (arith, c.loop-stripe-test.false, c.loop-stripe.auto.stripe-end, same) in
+    walked_all (ClearsStripe c.args.hand.now.number) (setup_of c.args.arena.now) c.loop-stripe.stripe c.loop-stripe.count c.args.hand.now c.loop-stripe.hand inv.done.0 ends inv.done.1 inv.done.2
+
+pub returns-clause-empty : goal.returns-clause-empty
+returns-clause-empty g c below in_range =
+    let same = ap (λ (f : Config). f.stripes) c.config.ensures.config in
+    c.loop-stripe.invariant.empty below (omega (arith, in_range, c.loop-stripe-test.false, same))
+
+pub returns-clause-gone : goal.returns-clause-gone
+returns-clause-gone g c =
+    let inv = c.loop-stripe.invariant in
+    let before = c.args.hand.now in
+    let now = c.loop-stripe.hand in
+    let same = ap (λ (f : Config). f.stripes) c.config.ensures.config in
+    let ends : c.loop-stripe.stripe ≡ (setup_of c.args.arena.now).config.stripes = omega (arith, c.loop-stripe-test.false, c.loop-stripe.auto.stripe-end, same) in
+    all_lost c.args.arena.now before now inv.done.0 before.number c.requires.of_arena.setup (subst (λ (n : ℕ). DoesFirst (ClearsStripe before.number) n inv.done.0 (view before) (view now)) ends inv.done.1)
+
+pub returns-in_err-here-clause-stops : goal.returns-in_err-here-clause-stops
+returns-in_err-here-clause-stops g c =
+    let inv = c.loop-stripe.invariant in
+    let same = ap (λ (f : Config). f.stripes) c.config.ensures.config in
+    let in_range : c.loop-stripe.stripe < (setup_of c.args.arena.now).config.stripes = omega (arith, c.loop-stripe-test.true, same) in
+    on_refusal c.from_residual.result (stopped_clearing (setup_of c.args.arena.now) c.args.hand.now c.loop-stripe.hand c.clear_stripe.new.hand c.loop-stripe.stripe inv.done.0 inv.number in_range inv.done.1 c.in_err-here.ensures.stops)
