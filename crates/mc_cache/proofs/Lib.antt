@@ -1,3 +1,4 @@
+pub mod SipWords
 pub mod LastStored
 pub mod Pairs
 pub mod Dealt
@@ -17,3 +18,4 @@ pub mod Counted
 pub mod Accepts
 pub mod Sized
 pub mod Classes
+pub mod Walked

@@ -1,6 +1,5 @@
 -- What a hand did once it was recalled, it did as it lay.
-use Rattle.std.proofs.Common.{◌≡◌, Option, Result, ℕ, inl, inr, subst, true}
-use Rattle.mc_pages.specs.declared.moves.Reassign.{Reassign}
+use Rattle.std.proofs.Common.{◌≡◌, ℕ, inl, inr, subst, true}
 use Rattle.mc_words.specs.declared.hand.Hand.{Hand}
 use Rattle.mc_words.specs.hand.Arenas.{view}
 use Rattle.mc_words.specs.hand.Observers.{hand_number}
@@ -11,6 +10,7 @@ use Rattle.mc_mover.specs.Acting.{ActsOnceByNumber}
 use Rattle.mc_mover.specs.Surveying.{Surveys}
 use Rattle.mc_watch.specs.Decider.{DeciderState}
 use Rattle.mc_cache.specs.Windows.{EndsWindow}
+use Rattle.mc_cache.specs.declared.window.FirstHalf.{FirstHalf}
 use Rattle.mc_cache.specs.declared.window_within.WindowEnd.{WindowEnd}
 use Rattle.mc_cache.specs.declared.window_within.WindowEnd.TheVariants as window_end
 use Rattle.mc_cache.specs.WindowsWithin.{EndsWindowWithin, MissesEachTime, MissesWindow}
@@ -27,12 +27,13 @@ module _ (before again : Hand) (same : view again ≡ view before) (number : han
   misses_before tries now misses = subst (λ (v : View). MissesSlabsEachTime tries v (view now)) same misses
 
   -- the first half of a window
-  pub ends_before : (answer : Option (Result (Unit {0}) Reassign)) (decider left : DeciderState) (now : Hand) → EndsWindow answer decider again left now → EndsWindow answer decider before left now
-  ends_before answer decider left now h = record {
+  pub ends_before : (first : FirstHalf) (decider left : DeciderState) (now : Hand) → EndsWindow first decider again left now → EndsWindow first decider before left now
+  ends_before first decider left now h = record {
     survey = h.survey;
     surveyed = h.surveyed;
     surveys = acts_before (λ number. Surveys true h.survey) h.surveyed h.surveys;
     feeds = h.feeds;
+    shown = h.shown;
     acts = h.acts;
   }
 
@@ -50,8 +51,8 @@ module _ (before again : Hand) (same : view again ≡ view before) (number : han
   })
 
   -- by what became of the half
-  pub ended_before : (tries : ℕ) (end : WindowEnd) (answer : Option (Result (Unit {0}) Reassign)) (decider left : DeciderState) (now : Hand) → end ≡ window_end.Ended answer → EndsWindowWithin tries end decider again left now → EndsWindow answer decider before left now
-  ended_before tries end answer decider left now is h = ends_before answer decider left now (subst (λ (e : WindowEnd). EndsWindowWithin tries e decider again left now) is h)
+  pub ended_before : (tries : ℕ) (end : WindowEnd) (first : FirstHalf) (decider left : DeciderState) (now : Hand) → end ≡ window_end.Ended first → EndsWindowWithin tries end decider again left now → EndsWindow first decider before left now
+  ended_before tries end first decider left now is h = ends_before first decider left now (subst (λ (e : WindowEnd). EndsWindowWithin tries e decider again left now) is h)
 
   pub held_before : (tries : ℕ) (end : WindowEnd) (decider left : DeciderState) (now : Hand) → end ≡ window_end.Held → EndsWindowWithin tries end decider again left now → MissesWindow tries decider before left now
   held_before tries end decider left now is h = misses_window_before tries decider left now (subst (λ (e : WindowEnd). EndsWindowWithin tries e decider again left now) is h)

@@ -33,10 +33,10 @@ UsualSizes =
 abbrev pub TwoTurns : Type 0
 TwoTurns =
     turns_tended (Finished (record { cleared = 5; rescued = 2; evicted = 3; busy = 0; locked = 0 }) ∷ Went (record { cleared = 4; rescued = 1; evicted = 0; busy = 6; locked = 7 }) ∷ [])
-    ≡ record { began = 0; ended = 1; rescued = 3; evicted = 3 }
+    ≡ record { found = 0; began = 0; ended = 1; rescued = 3; evicted = 3 }
 
 -- what was done on two shards is summed
 abbrev pub TwoShards : Type 0
 TwoShards =
-    tended_in_all (record { began = 1; ended = 0; rescued = 2; evicted = 3 } ∷ record { began = 1; ended = 1; rescued = 0; evicted = 1 } ∷ [])
-    ≡ record { began = 2; ended = 1; rescued = 2; evicted = 4 }
+    tended_in_all (record { found = 1; began = 0; ended = 1; rescued = 2; evicted = 3 } ∷ record { found = 0; began = 1; ended = 1; rescued = 0; evicted = 1 } ∷ [])
+    ≡ record { found = 1; began = 1; ended = 2; rescued = 2; evicted = 4 }

@@ -1,3 +1,4 @@
+pub mod Sip
 pub mod Hashing
 pub mod HasherInside
 pub mod Pairs
@@ -21,3 +22,5 @@ pub mod Versions
 pub mod Deleting
 pub mod OpeningWithin
 pub mod Sizes
+pub mod Walking
+pub mod Listing

@@ -32,6 +32,7 @@ IsFreshDecider arena decider = decider ≡ fresh_decider (setup_of arena).table
 -- what was done, with what was done on one more shard added
 abbrev pub tended_with : Tended → Tended → Tended
 tended_with done more = record {
+  found = count_with more.found done.found;
   began = count_with more.began done.began;
   ended = count_with more.ended done.ended;
   rescued = count_with more.rescued done.rescued;

@@ -16,6 +16,7 @@ use Rattle.mc_watch.specs.declared.decider.Decision.{Decision}
 use Rattle.mc_watch.specs.declared.refusal.Feed.{Feed}
 use Rattle.mc_watch.specs.Decider.{DeciderState, after_window, decision_of, feed_refusal}
 use Rattle.mc_cache.specs.declared.tended.Tended.{Tended}
+use Rattle.mc_cache.specs.declared.window.FirstHalf.{FirstHalf}
 
 -- why the decider doesn't take the numbers of a survey
 abbrev pub refusal_for : DeciderState → Survey → Option Feed
@@ -37,12 +38,13 @@ ActsOnDecision (Some decision) (Some answer) before now = ActsOnceByNumber (λ n
 ActsOnDecision decision answer before now = ⊥
 
 -- the dead of all classes were put back, the decider was fed what was left then, and its decision was acted on
-pub record EndsWindow (answer : Option (Result (Unit {0}) Reassign)) (decider : DeciderState) (before : Hand) (left : DeciderState) (now : Hand) : Type 0 where
+pub record EndsWindow (first : FirstHalf) (decider : DeciderState) (before : Hand) (left : DeciderState) (now : Hand) : Type 0 where
   pub survey : Survey
   pub surveyed : Hand
   pub surveys : ActsOnceByNumber (λ number. Surveys true survey) before surveyed
   pub feeds : left ≡ decider_after decider survey
-  pub acts : ActsOnDecision (decision_after decider survey) answer surveyed now
+  pub shown : survey.running ≡ first.running
+  pub acts : ActsOnDecision (decision_after decider survey) first.answer surveyed now
 
 -- the page that the turn found on the move is so still
 abbrev pub is_under_way : Turn → Bool
@@ -64,11 +66,12 @@ count_with more count = min (count + more) (2 ^ 64 - 1)
 
 -- nothing was done
 abbrev pub nothing_tended : Tended
-nothing_tended = record { began = 0; ended = 0; rescued = 0; evicted = 0 }
+nothing_tended = record { found = 0; began = 0; ended = 0; rescued = 0; evicted = 0 }
 
 -- what was done, with what one more turn did added
 abbrev pub with_turn : Turn → Tended → Tended
 with_turn turn done = record {
+  found = done.found;
   began = done.began;
   ended = count_with (if is_finished turn then 1 else 0) done.ended;
   rescued = count_with (counts_in turn).rescued done.rescued;
@@ -79,6 +82,10 @@ with_turn turn done = record {
 unfoldable pub turns_tended : List Turn → Tended
 turns_tended [] = nothing_tended
 turns_tended (turn ∷ turns) = with_turn turn (turns_tended turns)
+
+-- how many moves were under way as a window began, by what its survey showed
+abbrev pub found_by : Bool → ℕ
+found_by running = if running then 1 else 0
 
 -- how many moves began by this answer
 abbrev pub began_by : Option (Result (Unit {0}) Reassign) → ℕ
@@ -106,11 +113,11 @@ pub record DoesWindowTurns (done : Tended) (before now : Hand) : Type 0 where
 
 -- a window of a shard: the window ended, turns were done, the ledger was trimmed, and the sums are of all that was done
 pub record TendsShard (done : Tended) (decider : DeciderState) (before : Hand) (left : DeciderState) (now : Hand) : Type 0 where
-  pub answer : Option (Result (Unit {0}) Reassign)
+  pub first : FirstHalf
   pub asked : Hand
-  pub window : EndsWindow answer decider before left asked
+  pub window : EndsWindow first decider before left asked
   pub counts : Tended
   pub turned : Hand
   pub turns : DoesWindowTurns counts asked turned
   pub trims : ActsOnceByNumber TrimsLedger turned now
-  pub counted : done ≡ record counts { began = began_by answer }
+  pub counted : done ≡ record counts { found = found_by first.running; began = began_by first.answer }

@@ -1,6 +1,5 @@
 -- A window of one shard whose locks are tried for: it ends early where each try for one of them missed.
-use Rattle.std.specs.Prelude.{◌≡◌, ◌⊎◌, ◌<◌, ℕ, true, false, List, length, Option, Some, Result}
-use Rattle.mc_pages.specs.declared.moves.Reassign.{Reassign}
+use Rattle.std.specs.Prelude.{◌≡◌, ◌⊎◌, ◌<◌, ℕ, true, false, List, length, Some}
 use Rattle.mc_words.specs.declared.hand.Hand.{Hand}
 use Rattle.mc_words.specs.hand.Arenas.{view}
 use Rattle.mc_words.specs.lock.Wait.{MissesSlabsEachTime}
@@ -11,10 +10,11 @@ use Rattle.mc_mover.specs.Surveying.{Surveys}
 use Rattle.mc_watch.specs.declared.decider.Decision.{Decision}
 use Rattle.mc_watch.specs.Decider.{DeciderState}
 use Rattle.mc_cache.specs.declared.tended.Tended.{Tended}
+use Rattle.mc_cache.specs.declared.window.FirstHalf.{FirstHalf}
 use Rattle.mc_cache.specs.declared.window_within.Window.{Window}
 use Rattle.mc_cache.specs.declared.window_within.WindowEnd.{WindowEnd}
 use Rattle.mc_cache.specs.declared.window_within.WindowEnd.TheVariants as window_end
-use Rattle.mc_cache.specs.Windows.{AreUnderWay, DoesTurns, DoesWindowTurns, EndsWindow, TendsShard, began_by, decider_after, decision_after, nothing_tended, turns_tended}
+use Rattle.mc_cache.specs.Windows.{AreUnderWay, DoesTurns, DoesWindowTurns, EndsWindow, TendsShard, began_by, decider_after, decision_after, found_by, nothing_tended, turns_tended}
 
 -- the hand tried for the slabs lock this many times, each time in vain
 abbrev pub MissesEachTime : ℕ → Hand → Hand → Type 0
@@ -34,9 +34,9 @@ pub record MissesMove (tries : ℕ) (decider : DeciderState) (before : Hand) (le
 abbrev pub MissesWindow : ℕ → DeciderState → Hand → DeciderState → Hand → Type 0
 MissesWindow tries decider before left now = (MissesEachTime tries before now × (left ≡ decider)) ⊎ MissesMove tries decider before left now
 
--- what became of the first half of a window, by its answer
+-- what became of the first half of a window
 abbrev pub EndsWindowWithin : ℕ → WindowEnd → DeciderState → Hand → DeciderState → Hand → Type 0
-EndsWindowWithin tries (window_end.Ended answer) decider before left now = EndsWindow answer decider before left now
+EndsWindowWithin tries (window_end.Ended first) decider before left now = EndsWindow first decider before left now
 EndsWindowWithin tries window_end.Held decider before left now = MissesWindow tries decider before left now
 
 -- some turns were done, fewer than a window has, and each left its page on the move; then no try for the lock came in
@@ -62,12 +62,12 @@ pub record MissesTrim (tries : ℕ) (done : Tended) (before now : Hand) : Type 0
 
 -- the window ended, and what came behind it stopped at a lock; what was done is summed
 pub record StopsBehindWindow (tries : ℕ) (done : Tended) (decider : DeciderState) (before : Hand) (left : DeciderState) (now : Hand) : Type 0 where
-  pub answer : Option (Result (Unit {0}) Reassign)
+  pub first : FirstHalf
   pub asked : Hand
-  pub window : EndsWindow answer decider before left asked
+  pub window : EndsWindow first decider before left asked
   pub counts : Tended
   pub stops : MissesTurn tries counts asked now ⊎ MissesTrim tries counts asked now
-  pub counted : done ≡ record counts { began = began_by answer }
+  pub counted : done ≡ record counts { found = found_by first.running; began = began_by first.answer }
 
 -- a window that stopped at a lock: before it asked for a page, and then nothing is counted; or behind that
 abbrev pub StopsWindow : ℕ → Tended → DeciderState → Hand → DeciderState → Hand → Type 0

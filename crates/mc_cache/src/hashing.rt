@@ -2,8 +2,11 @@
 ghost use Rattle.std.specs.Prelude.{◌≡◌, ◌<◌, ◌≤◌, ◌^◌};
 ghost use Rattle.mc_cache.specs.Hashing.{shard_of};
 
-use std::hash::{DefaultHasher, Hasher};
+use crate::sip::{Lanes, tail_of, word_at};
 use std::marker::Model;
+
+/// How many bytes a hasher has taken in with the two numbers.
+const STARTED: u64 = 16;
 
 /// What keys are hashed with: two numbers, which whoever picks the keys is not to know. Else they could be picked so that they all go to
 /// one shard, or to one hash.
@@ -17,7 +20,7 @@ pub struct HashKey {
 #[derive(Drop)]
 pub(crate) struct KeyedHasher {
     key: HashKey,
-    start: DefaultHasher,
+    start: Lanes,
 }
 
 impl Model for KeyedHasher {
@@ -37,24 +40,27 @@ impl KeyedHasher {
     ghost use Rattle.mc_cache.specs.Hashing.{hash_of};
 
     /// A hasher with these two numbers.
-    #[tactic(auto, unfolding(crate::specs::Hashing::started_by))]
     pub(crate) fn new(key: HashKey) -> KeyedHasher
         ensures { result ≡ key }
     {
-        let mut start = DefaultHasher::new();
-        start.write_u64(key.first);
-        start.write_u64(key.second);
+        let first = word_at(&key.first.to_le_bytes(), 0);
+        let second = word_at(&key.second.to_le_bytes(), 0);
+        let start = Lanes::new().with_word(first).with_word(second);
         KeyedHasher { key, start }
     }
 
     /// The key's hash: SipHash-1-3 of the two numbers and then of the key.
-    #[tactic(auto, unfolding(crate::specs::Hashing::hash_of))]
+    #[inline(always)]
     pub(crate) fn hash(&self, key: &[u8]) -> u64
         ensures { result ≡ hash_of self.now key.now }
     {
-        let mut hasher = self.start;
-        hasher.write(key);
-        hasher.finish()
+        let mut lanes = self.start;
+        let mut at = 0;
+        while key.len() - at >= 8 {
+            lanes = lanes.with_word(word_at(key, at));
+            at += 8;
+        }
+        lanes.finish(tail_of(key, at), STARTED.wrapping_add(key.len() as u64))
     }
 }
 

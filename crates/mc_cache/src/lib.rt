@@ -5,6 +5,7 @@
 //!   two numbers with which keys are hashed.
 //! - A thread has the cache by `&`, and a [`Worker`] of its own by `&mut`. [`Worker::set`], `get`, `peek`, `try_get`, `contains`,
 //!   `touch` and `delete` are the calls on a key of 1 to 250 bytes. [`Worker::delete_version`] deletes only the value that a caller got.
+//! - [`Worker::clear`] deletes every key of the cache, and [`Worker::len`] returns how many items there are.
 //! - The [`Tender`] has a thread of its own. [`Tender::tend`], called about once a second, moves pages between classes on each
 //!   shard. [`Tender::stats`] returns sums over all shards, and [`Tender::set_automove`] sets the mode.
 //! - A caller that can't wait makes the cache by [`Cache::new_within`], and calls `set_within`, `tend_within` and their like. These
@@ -28,15 +29,21 @@
 
 mod bytes;
 mod cache;
+mod clearing;
+mod clearing_within;
 mod conditional;
 mod conditional_within;
+mod counting;
+mod counting_within;
 mod deleting_version;
 mod hashing;
 mod laws;
+mod listing;
 mod opening;
 mod opening_within;
 mod place;
 mod resting;
+mod sip;
 mod sizing;
 mod stats;
 mod tended;

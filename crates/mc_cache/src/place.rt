@@ -20,6 +20,7 @@ pub(crate) struct Place {
 
 impl Cache {
     /// Where the calls on the key go, if it may be one: it has 1 to 250 bytes.
+    #[inline(always)]
     pub(crate) fn place_of(&self, key: &[u8]) -> Option<Place>
         ensures key { (result ≡ None) ↔ ¬ IsKey key.now }
         ensures hash { IfSome result (λ place. place.hash ≡ hash_in self.now key.now) }

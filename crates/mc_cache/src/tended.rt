@@ -9,6 +9,8 @@ use mc_mover::Turn;
 /// What a tender did on all shards. Each number stays at 2^64 - 1 once there.
 #[derive(Debug, Clone, Copy, PartialEq, Eq)]
 pub struct Tended {
+    /// How many moves were under way as their shard's window began: a set of mode 2 asked for them, or the window before left them so.
+    pub found: u64,
     /// How many moves of a page began.
     pub began: u64,
     /// How many moves of a page came to their end.
@@ -25,6 +27,7 @@ impl Tended {
         ensures none { result ≡ nothing_tended }
     {
         Tended {
+            found: 0,
             began: 0,
             ended: 0,
             rescued: 0,
@@ -50,6 +53,7 @@ impl Tended {
     pub(crate) fn add(&mut self, more: Tended)
         ensures added { self.new ≡ tended_with self.old more }
     {
+        self.found = self.found.saturating_add(more.found);
         self.began = self.began.saturating_add(more.began);
         self.ended = self.ended.saturating_add(more.ended);
         self.rescued = self.rescued.saturating_add(more.rescued);

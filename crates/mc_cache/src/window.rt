@@ -3,7 +3,7 @@ ghost use Rattle.std.specs.Prelude.{◌≡◌, IfOk, OnErr, OnOk};
 ghost use Rattle.mc_words.specs.hand.Arenas.{view};
 ghost use Rattle.mc_items.specs.Keeping.{StoresNothing};
 ghost use Rattle.mc_shard.specs.Hands.{IsIdleHandOf};
-ghost use Rattle.mc_cache.specs.Windows.{DoesWindowTurns, EndsWindow, TendsShard, began_by, decider_after, decision_after, is_under_way};
+ghost use Rattle.mc_cache.specs.Windows.{DoesWindowTurns, EndsWindow, TendsShard, began_by, decider_after, decision_after, found_by, is_under_way};
 
 use crate::tended::Tended;
 use mc_memory::Refused;
@@ -16,6 +16,15 @@ use std::sync::Wait;
 
 // How many turns a window has at most (own).
 pub(crate) const TURNS: u64 = 16;
+
+// What the first half of a window showed and did.
+#[derive(Drop)]
+pub(crate) struct FirstHalf {
+    // Whether a page was on the move.
+    pub(crate) running: bool,
+    // What was answered, where a page was asked for.
+    pub(crate) answer: Option<Result<(), Reassign>>,
+}
 
 // A window of one shard, by a hand of its arena and by its own decider: the survey, the move that is decided on, and turns. Then the
 // ledger is trimmed, as the stripes record no call.
@@ -32,34 +41,44 @@ pub(crate) fn tend_shard<R: Wait>(
     ensures tends { IfOk result (λ done.
         TendsShard done decider.old hand.old decider.new hand.new) }
 {
-    let answer = end_window(rt, alloc, arena, hand, decider)?;
+    let first = end_window(rt, alloc, arena, hand, decider)?;
     let mut done = do_turns(rt, arena, hand)?;
     trim_ledger(rt, arena, hand);
+    let FirstHalf { running, answer } = first;
+    done.found = count_found(running);
     done.began = count_begun(answer);
     Ok(done)
 }
 
-// Puts the dead of all classes back, feeds the decider what is left then, and asks for the page that it decides on. Gives what was
-// answered. (slabs.c's automover)
+// Puts the dead of all classes back, feeds the decider what is left then, and asks for the page that it decides on. Returns whether a
+// page was on the move before, and what was answered. (slabs.c's automover)
 fn end_window<R: Wait>(
     rt: &R,
     alloc: Global,
     arena: &Arena,
     hand: &mut Hand,
     decider: &mut Decider,
-) -> Result<Option<Result<(), Reassign>>, Refused>
+) -> Result<FirstHalf, Refused>
     requires { IsIdleHandOf arena.now hand.old }
     ensures idle { IsIdleHandOf arena.now hand.new }
     ensures stores_nothing { StoresNothing (view hand.old) (view hand.new) }
-    ensures ends { IfOk result (λ answer.
-        EndsWindow answer decider.old hand.old decider.new hand.new) }
+    ensures ends { IfOk result (λ first.
+        EndsWindow first decider.old hand.old decider.new hand.new) }
 {
     let survey = survey(rt, alloc, arena, hand, true)?;
+    let running = survey.running;
     let Some(decision) = decide(alloc, decider, &survey)? else {
-        return Ok(None);
+        return Ok(FirstHalf {
+            running,
+            answer: None,
+        });
     };
     let Decision { src, dst } = decision;
-    Ok(Some(reassign(rt, arena, hand, Some(src), dst)))
+    let answer = reassign(rt, arena, hand, Some(src), dst);
+    Ok(FirstHalf {
+        running,
+        answer: Some(answer),
+    })
 }
 
 // Feeds the decider the numbers of a window. Gives what it decides.
@@ -97,6 +116,13 @@ fn do_turns<R: Wait>(rt: &R, arena: &Arena, hand: &mut Hand) -> Result<Tended, R
         }
     }
     Ok(done)
+}
+
+// How many moves were under way, by whether a page was on the move.
+pub(crate) fn count_found(running: bool) -> u64
+    ensures found { result ≡ found_by running }
+{
+    if running { 1 } else { 0 }
 }
 
 // How many moves began by this answer.

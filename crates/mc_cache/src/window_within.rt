@@ -8,12 +8,11 @@ ghost use Rattle.mc_shard.specs.Hands.{IsIdleHandOf};
 
 use crate::resting::recall;
 use crate::tended::Tended;
-use crate::window::{TURNS, count_begun, decide, is_under_way};
+use crate::window::{FirstHalf, TURNS, count_begun, count_found, decide, is_under_way};
 use mc_memory::Refused;
 use mc_mover::{
     SurveyWithin, TryTurn, reassign_within, survey_within, trim_ledger_within, turn_within,
 };
-use mc_pages::Reassign;
 use mc_watch::{Decider, Decision};
 use mc_words::{Arena, Hand};
 use std::alloc::Global;
@@ -30,8 +29,8 @@ pub struct Window {
 // What became of the first half of a window.
 #[derive(Drop)]
 pub(crate) enum WindowEnd {
-    // The decider was fed, and a page was asked for and got this answer, or none was.
-    Ended(Option<Result<(), Reassign>>),
+    // The decider was fed, and a page was asked for, or none was.
+    Ended(FirstHalf),
     // Each try for the lock missed, before the survey or before the move.
     Held,
 }
@@ -51,14 +50,16 @@ pub(crate) fn tend_shard_within(
         TendsShardWithin tries window decider.old hand.old decider.new hand.new) }
 {
     recall(arena, hand);
-    let answer = match end_window_within(alloc, arena, hand, decider, tries)? {
-        WindowEnd::Ended(answer) => answer,
+    let first = match end_window_within(alloc, arena, hand, decider, tries)? {
+        WindowEnd::Ended(first) => first,
         WindowEnd::Held => return Ok(Window {
             done: Tended::new(),
             stopped: true,
         }),
     };
     let mut window = do_turns_within(arena, hand, tries)?;
+    let FirstHalf { running, answer } = first;
+    window.done.found = count_found(running);
     window.done.began = count_begun(answer);
     if window.stopped {
         return Ok(window);
@@ -91,12 +92,19 @@ fn end_window_within(
         Err(SurveyWithin::Held) => return Ok(WindowEnd::Held),
         Err(SurveyWithin::NoMemory(refused)) => return Err(refused),
     };
+    let running = survey.running;
     let Some(decision) = decide(alloc, decider, &survey)? else {
-        return Ok(WindowEnd::Ended(None));
+        return Ok(WindowEnd::Ended(FirstHalf {
+            running,
+            answer: None,
+        }));
     };
     let Decision { src, dst } = decision;
     match reassign_within(arena, hand, Some(src), dst, tries) {
-        Ok(answer) => Ok(WindowEnd::Ended(Some(answer))),
+        Ok(answer) => Ok(WindowEnd::Ended(FirstHalf {
+            running,
+            answer: Some(answer),
+        })),
         Err(_) => Ok(WindowEnd::Held),
     }
 }

@@ -111,8 +111,8 @@ impl Worker {
         }
     }
 
-    /// The same as `peek`; and the key's item is marked as got. An eviction that looks at a marked item takes the mark off, and lets
-    /// the item stay. (memcached's `get`, which sets `ITEM_ACTIVE`)
+    /// The same as `peek`; and the key's item is marked as used once more, up to three times. An eviction that looks at a marked item takes
+    /// one use off, and lets the item stay. (memcached's `get`, which sets `ITEM_ACTIVE`)
     pub fn get<R: Wait>(
         &mut self,
         rt: &R,

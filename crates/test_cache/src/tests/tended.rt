@@ -92,6 +92,35 @@ fn pages_go_where_they_are_wanted(rt: HostRuntime) -> Result<(), Fail> {
     assert_pages_move(&rt, rt.alloc(), &cache, &mut worker, &mut tender)
 }
 
+/// In mode 2 long values are wanted: the next window finds the move that a set asked for, and the one behind it finds none.
+fn assert_found<R: Abort + Wait>(
+    rt: &R,
+    cache: &Cache,
+    worker: &mut Worker,
+    tender: &mut Tender,
+) -> Result<(), Fail>
+    requires worker { BelongsTo cache.now worker.old }
+    requires tender { IsTenderOf cache.now tender.old }
+{
+    tender.set_automove(rt, cache, 2);
+    set_many(rt, cache, worker, 1, &LONG);
+    set_many(rt, cache, worker, 300, &SHORT);
+    let first = tender.tend(rt, cache)?;
+    let second = want_and_tend(rt, cache, worker, tender)?;
+    let third = tender.tend(rt, cache)?;
+    let found = (first.found, second.found, third.found);
+    assert!(rt; found == (0, 1, 0), "one window finds a move");
+    assert!(rt; second.began == 0 && second.ended == 1, "and ends it");
+    Ok(())
+}
+
+/// A set asks for a page, and the tender moves it.
+#[test]
+fn a_move_of_a_set_is_found(rt: HostRuntime) -> Result<(), Fail> {
+    let (cache, mut worker, mut tender) = with_one_worker(&rt, rt.alloc(), 1)?;
+    assert_found(&rt, &cache, &mut worker, &mut tender)
+}
+
 /// A cache takes as many bytes as the configuration gives.
 #[test]
 fn bytes_are_told(rt: HostRuntime) -> Result<(), Fail> {

@@ -1,4 +1,4 @@
-use Rattle.std.proofs.Common.{sym, ◌∙◌}
+use Rattle.std.proofs.Common.{refl, sym, ◌∙◌}
 use Rattle.mc_cache.proofs.Decided.{acts_on_none, acts_on_some}
 use Rattle.mc_cache.proofs.window.end_window.Goals as goal
 
@@ -8,6 +8,7 @@ returns-in_default-clause-ends g c = record {
   surveyed = c.survey.new.hand;
   surveys = c.in_ok-survey.ensures.surveys;
   feeds = c.in_ok-decision.ensures.fed;
+  shown = refl;
   acts = acts_on_none _ (sym c.in_default.is ∙ c.in_ok-decision.ensures.decided) c.survey.new.hand;
 }
 
@@ -17,5 +18,6 @@ returns-clause-ends g c = record {
   surveyed = c.survey.new.hand;
   surveys = c.in_ok-survey.ensures.surveys;
   feeds = c.in_ok-decision.ensures.fed;
-  acts = acts_on_some c.in-Some.decision _ (sym c.in-Some.is ∙ c.in_ok-decision.ensures.decided) c.reassign.result c.survey.new.hand c.reassign.new.hand c.reassign.ensures.reassigns;
+  shown = refl;
+  acts = acts_on_some c.in-Some.decision _ (sym c.in-Some.is ∙ c.in_ok-decision.ensures.decided) c.reassign-answer.result c.survey.new.hand c.reassign-answer.new.hand c.reassign-answer.ensures.reassigns;
 }

@@ -1,4 +1,4 @@
-use Rattle.std.proofs.Common.{inr, sym, ◌∙◌}
+use Rattle.std.proofs.Common.{inr, refl, sym, ◌∙◌}
 use Rattle.mc_cache.proofs.Decided.{acts_on_none, acts_on_some}
 use Rattle.mc_cache.proofs.window_within.end_window_within.Goals as goal
 
@@ -8,6 +8,7 @@ returns-in_default-clause-ends c = record {
   surveyed = c.survey_within.new.hand;
   surveys = c.in-Ok.ensures.surveys;
   feeds = c.in_ok-decision.ensures.fed;
+  shown = refl;
   acts = acts_on_none _ (sym c.in_default.is ∙ c.in_ok-decision.ensures.decided) c.survey_within.new.hand;
 }
 
@@ -17,6 +18,7 @@ returns-in-Ok-reassign_within-clause-ends c = record {
   surveyed = c.survey_within.new.hand;
   surveys = c.in-Ok.ensures.surveys;
   feeds = c.in_ok-decision.ensures.fed;
+  shown = refl;
   acts = acts_on_some c.in-Some.decision _ (sym c.in-Some.is ∙ c.in_ok-decision.ensures.decided) c.in-Ok-reassign_within.answer c.survey_within.new.hand c.reassign_within.new.hand c.in-Ok-reassign_within.ensures.reassigns;
 }
 
