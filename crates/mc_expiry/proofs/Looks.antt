@@ -1,5 +1,5 @@
 -- What a worker's look at a key found, and what was set behind it.
-use Rattle.std.proofs.Common.{◌≡◌, ◌∙◌, ◌++◌, ℕ, List, [], Option, None, Some, IfSome, OnErr, Result, Err, Ok, inl, inr, refl, subst}
+use Rattle.std.proofs.Common.{◌≡◌, ◌∙◌, ◌++◌, ℕ, List, [], Option, None, Some, IfSome, OnErr, Result, Err, Ok, inl, inr, refl, subst, sym, true≢false}
 use Rattle.mc_shard.specs.declared.conditions.Outcome.{Outcome}
 use Rattle.mc_shard.specs.declared.conditions.When.{When}
 use Rattle.mc_shard.specs.declared.deleting_version.Deletion.{Deletion}
@@ -17,7 +17,7 @@ use Rattle.mc_update.specs.Updates.{EndsWithoutMemory, OnlyGets}
 use Rattle.mc_update.proofs.Acts.{acts_so, gets_version, lacks_memory}
 use Rattle.mc_expiry.specs.Choosing.{ChoosesNone, PutsChosen}
 use Rattle.mc_expiry.specs.Deadlines.{timed_bytes}
-use Rattle.mc_expiry.specs.Getting.{DeletesThisVersion, GetsUnexpired}
+use Rattle.mc_expiry.specs.Getting.{DeletesThisVersion, GetsUnexpired, is_deleted}
 use Rattle.mc_expiry.specs.Looking.{FoundUnexpired, LooksAtKey, condition_of}
 use Rattle.mc_expiry.specs.Storing.{FindsUnchosen, SetsChosen}
 use Rattle.mc_expiry.specs.declared.kinds.StoreKind.{StoreKind}
@@ -91,8 +91,12 @@ pub deleted_this : (cache : Cache) (key : List ℕ) (version : ℕ) (before now 
     → OnErr r (IsKey key → ActsOnKey cache key (LooksInVain (hash_in cache key)) before now)
     → (r ≡ Ok Deleted → ActsOnKey cache key (DeletesOnce (hash_in cache key)) before now)
     → ((r ≡ Ok Deleted → ⊥) → IsKey key → ActsOnKey cache key (GetsAtMost (hash_in cache key)) before now)
-    → ActsOnKey cache key TouchesNothing before now → DeletesThisVersion cache key version before now
-deleted_this cache key version before now (Ok Deleted) is deletes exists missing refused calls looks untouched = record { deletes = inl (deletes refl, calls refl); untouched = untouched }
-deleted_this cache key version before now (Ok Exists) is deletes exists missing refused calls looks untouched = record { deletes = inr (inl (exists refl), looks (λ e. absurd (cc)) is); untouched = untouched }
-deleted_this cache key version before now (Ok Missing) is deletes exists missing refused calls looks untouched = record { deletes = inr (inr (inl (missing refl)), looks (λ e. absurd (cc)) is); untouched = untouched }
-deleted_this cache key version before now (Err error) is deletes exists missing refused calls looks untouched = record { deletes = inr (inr (inr (refused is)), looks (λ e. absurd (cc)) is); untouched = untouched }
+    → ActsOnKey cache key TouchesNothing before now → DeletesThisVersion cache key version (is_deleted r) before now
+deleted_this cache key version before now (Ok Deleted) is deletes exists missing refused calls looks untouched =
+    record { there = λ e. (deletes refl, calls refl); gone = λ e. absurd (true≢false e); untouched = untouched }
+deleted_this cache key version before now (Ok Exists) is deletes exists missing refused calls looks untouched =
+    record { there = λ e. absurd (true≢false (sym e)); gone = λ e. (inl (exists refl), looks (λ e. absurd (cc)) is); untouched = untouched }
+deleted_this cache key version before now (Ok Missing) is deletes exists missing refused calls looks untouched =
+    record { there = λ e. absurd (true≢false (sym e)); gone = λ e. (inr (inl (missing refl)), looks (λ e. absurd (cc)) is); untouched = untouched }
+deleted_this cache key version before now (Err error) is deletes exists missing refused calls looks untouched =
+    record { there = λ e. absurd (true≢false (sym e)); gone = λ e. (inr (inr (refused is)), looks (λ e. absurd (cc)) is); untouched = untouched }

@@ -7,33 +7,43 @@ ghost use Rattle.mc_cache.specs.declared.working.CallError.TheVariants as call_e
 ghost use Rattle.mc_cache.specs.declared.working.SetError.TheVariants as set_error;
 ghost use Rattle.mc_update.specs.Updates.{EndsWithoutMemory};
 ghost use Rattle.mc_expiry.specs.Deadlines.{timed_bytes};
-ghost use Rattle.mc_expiry.specs.Getting.{DeletesLapsed, GetsUnexpired, MissesUnexpired, kept_bytes};
+ghost use Rattle.mc_expiry.specs.Getting.{DeletesLapsed, GetsUnexpired, MissesUnexpired, count_with_get, is_deleted, kept_bytes, lapsed_count};
 ghost use Rattle.mc_expiry.specs.Setting.{RefusesUntil};
 
 use crate::deadlines::put_timed;
 use crate::looking::seen_value;
-use mc_cache::{Cache, CallError, SetError, Worker};
+use mc_cache::{Cache, CallError, Deletion, SetError, Worker};
 use mc_memory::extend_from_slice;
 use mc_stripe::Stamp;
 use std::alloc::Global;
 use std::sync::Wait;
 
-/// Room for a value with its deadline, and for what is stored in its place, which is used again by each call.
+/// Room for a value with its deadline, and for what is stored in its place, which is used again by each call; and a count of expired values.
 #[derive(Drop)]
 pub struct Expiry {
     pub(crate) stored: Vec<u8>,
     pub(crate) timed: Vec<u8>,
+    pub(crate) lapsed: u64,
 }
 
 impl Expiry {
-    /// An expiry that has no bytes of a value, and takes no memory.
+    /// An expiry that has no bytes of a value, counted none, and takes no memory.
     pub fn new(alloc: Global) -> Expiry
-        ensures { kept_bytes result ≡ [] }
+        ensures bytes { kept_bytes result ≡ [] }
+        ensures count { lapsed_count result ≡ 0 }
     {
         Expiry {
             stored: Vec::new(alloc),
             timed: Vec::new(alloc),
+            lapsed: 0,
         }
+    }
+
+    /// How many values this expiry's gets found without an unexpired deadline and deleted, up to 2^64 - 1. (own)
+    pub fn lapsed(&self) -> u64
+        ensures { result ≡ lapsed_count self.now }
+    {
+        self.lapsed
     }
 
     /// Stores the value with this deadline, as [`Worker::set`] does. Where it is refused, the key's old value is deleted. (memcached's `set`)
@@ -55,6 +65,7 @@ impl Expiry {
             worker.old worker.new) }
         ensures refused { (error : items.SetError) → result ≡ Err (set_error.Item error) →
             RefusesUntil cache.now key.now value.now deadline error worker.old worker.new }
+        ensures count { lapsed_count self.new ≡ lapsed_count self.old }
     {
         if let Err(refused) = put_timed(&mut self.timed, deadline, value) {
             return match worker.delete(rt, cache, key) {
@@ -70,8 +81,8 @@ impl Expiry {
 
     /// Puts the key's value behind the bytes that are there, and returns whether the key has one whose deadline isn't reached at this
     /// time. Where it has none, or the call is refused, the bytes stay. Fewer than 4 stored bytes have no value. The call deletes stored
-    /// bytes that have no unexpired value, unless another worker changed the key meanwhile. It waits for locks of the key's shard.
-    /// (memcached's `get`)
+    /// bytes that have no unexpired value, unless another worker changed the key meanwhile, and counts what it deleted. It waits for locks
+    /// of the key's shard. (memcached's `get`)
     pub fn get<R: Wait>(
         &mut self,
         rt: &R,
@@ -88,7 +99,9 @@ impl Expiry {
         ensures value { result ≡ Ok true → GetsUnexpired cache.now key.now time into.old.items
             into.new.items worker.old worker.new }
         ensures none { result ≡ Ok false →
-            MissesUnexpired cache.now key.now time worker.old worker.new }
+            MissesUnexpired cache.now key.now time (lapsed_count self.old)
+            (lapsed_count self.new) worker.old worker.new }
+        ensures count { (result ≡ Ok false → ⊥) → lapsed_count self.new ≡ lapsed_count self.old }
         ensures kept { (result ≡ Ok true → ⊥) → into.new.items ≡ into.old.items }
         ensures refused { OnErr result (IsKey key.now →
             EndsWithoutMemory cache.now key.now worker.old worker.new) }
@@ -99,7 +112,8 @@ impl Expiry {
             Err(error) => return Err(error),
         };
         let Some(value) = seen_value(&self.stored, found, time) else {
-            delete_found(rt, cache, worker, key, found);
+            let deleted = delete_found(rt, cache, worker, key, found);
+            self.lapsed = count_with(self.lapsed, deleted);
             return Ok(false);
         };
         match extend_from_slice(into, value) {
@@ -109,22 +123,43 @@ impl Expiry {
     }
 }
 
-// Deletes what a look found, if it found stored bytes of a version, and the key still has them.
+// A count behind one more get, which deleted a value or none.
+fn count_with(count: u64, deleted: bool) -> u64
+    ensures { result ≡ count_with_get deleted count }
+{
+    count.saturating_add(deleted as u64)
+}
+
+// Deletes what a look found, if it found stored bytes of a version, and the key still has them. Whether something was deleted.
 fn delete_found<R: Wait>(
     rt: &R,
     cache: &Cache,
     worker: &mut Worker,
     key: &[u8],
     found: Option<Stamp>,
-)
+) -> bool
     requires { BelongsTo cache.now worker.old }
     ensures belongs { BelongsTo cache.now worker.new }
-    ensures deletes { IsKey key.now → DeletesLapsed cache.now key.now found worker.old worker.new }
+    ensures deletes { IsKey key.now →
+        DeletesLapsed cache.now key.now found result worker.old worker.new }
 {
     match found {
         Some(version) => {
-            let _deletion = worker.delete_version(rt, cache, key, version);
+            let deletion = worker.delete_version(rt, cache, key, version);
+            is_deleted(&deletion)
         }
-        None => {}
+        None => false,
+    }
+}
+
+// Whether a delete of a version deleted something.
+fn is_deleted(deletion: &Result<Deletion, CallError>) -> bool
+    ensures { result ≡ is_deleted deletion.now }
+{
+    match deletion {
+        Ok(Deletion::Deleted) => true,
+        Ok(Deletion::Exists) => false,
+        Ok(Deletion::Missing) => false,
+        Err(_) => false,
     }
 }

@@ -2,6 +2,7 @@
 ghost use Rattle.std.specs.Prelude.{◌≡◌, ◌↔◌, Err, IfSome, None};
 ghost use Rattle.mc_cache.specs.Belonging.{BelongsTo, KeepsHands};
 ghost use Rattle.mc_cache.specs.Shards.{IsKey};
+ghost use Rattle.mc_expiry.specs.Getting.{lapsed_count};
 ghost use Rattle.mc_expiry.specs.Storing.{EndsStore, MissesStore, StoresUntil};
 ghost use Rattle.mc_expiry.specs.declared.kinds.StoreKind.TheVariants.{Add, Replace, Touch};
 ghost use Rattle.mc_expiry.specs.declared.storing.ExpiryError.TheVariants as expiry_error;
@@ -48,6 +49,7 @@ impl Expiry {
         ensures same { ¬ IsKey key.now → KeepsHands worker.old worker.new }
         ensures stores { IsKey key.now → StoresUntil cache.now key.now (Add value.entry) time
             deadline result worker.old worker.new }
+        ensures count { lapsed_count self.new ≡ lapsed_count self.old }
     {
         self.store_until(
             rt,
@@ -78,6 +80,7 @@ impl Expiry {
         ensures same { ¬ IsKey key.now → KeepsHands worker.old worker.new }
         ensures stores { IsKey key.now → StoresUntil cache.now key.now (Replace value.entry) time
             deadline result worker.old worker.new }
+        ensures count { lapsed_count self.new ≡ lapsed_count self.old }
     {
         self.store_until(
             rt,
@@ -107,6 +110,7 @@ impl Expiry {
         ensures same { ¬ IsKey key.now → KeepsHands worker.old worker.new }
         ensures stores { IsKey key.now → StoresUntil cache.now key.now Touch time deadline result
             worker.old worker.new }
+        ensures count { lapsed_count self.new ≡ lapsed_count self.old }
     {
         self.store_until(rt, cache, worker, key, StoreKind::Touch, time, deadline)
     }
@@ -130,6 +134,7 @@ impl Expiry {
         ensures same { ¬ IsKey key.now → KeepsHands worker.old worker.new }
         ensures stores { IsKey key.now → StoresUntil cache.now key.now kind.entry time deadline
             result worker.old worker.new }
+        ensures count { lapsed_count self.new ≡ lapsed_count self.old }
     {
         for _ in rt.forever() {
             if let Some(result) = self.store_once(rt, cache, worker, key, kind, time, deadline) {
@@ -158,6 +163,7 @@ impl Expiry {
             kind.entry time deadline ended worker.old worker.new) }
         ensures again { result ≡ None → IsKey key.now × MissesStore cache.now key.now kind.entry
             time deadline worker.old worker.new }
+        ensures count { lapsed_count self.new ≡ lapsed_count self.old }
     {
         self.stored.clear();
         let found = match worker.get_with_version(rt, cache, key, &mut self.stored) {

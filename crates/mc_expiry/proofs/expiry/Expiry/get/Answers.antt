@@ -19,7 +19,9 @@ returns-in_default-clause-none g c = λ missed.
       found = c.in-Ok.found;
       between = between;
       looks = looked cache key c.args.time stored c.args.worker.now between c.in-Ok.found None (subst (λ (bytes : List ℕ). FoundUnexpired c.args.time c.in-Ok.found bytes None) c.deref.ensures.value (c.in_default.ensures.none refl)) got;
-      deletes = c.delete_found.ensures.deletes is;
+      deleted = c.delete_found-deleted.result;
+      deletes = c.delete_found-deleted.ensures.deletes is;
+      counted = c.count_with-self.ensures;
     }
 
 pub returns-in-Ok-extend_from_slice-clause-value : goal.returns-in-Ok-extend_from_slice-clause-value

@@ -1,10 +1,10 @@
-use Rattle.std.proofs.Common.{inl, inr, refl, subst, suc, zero}
+use Rattle.std.proofs.Common.{◌∙◌, inl, inr, refl, subst, suc, zero}
 use Rattle.mc_cache.specs.declared.cache.Worker.{Worker}
 use Rattle.mc_cache.specs.Belonging.{KeepsHands}
 use Rattle.mc_expiry.proofs.expiry.Expiry.store_until.Goals as goal
 
 pub loop-init : goal.loop-init
-loop-init g c = (c.requires, inl refl)
+loop-init g c = (c.requires, inl refl, refl)
 
 pub store_once-requires : goal.store_once-requires
 store_once-requires g c = c.loop.invariant.0
@@ -32,4 +32,5 @@ loop-preserved g c =
           | inr known ↦ (suc known.1.0, (c.loop.worker, known.1.1, again.1))
         ],
       ),
+      c.store_once.ensures.count ∙ c.loop.invariant.2,
     )
