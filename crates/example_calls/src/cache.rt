@@ -15,6 +15,7 @@ mod tended;
 mod unused;
 mod visited;
 mod watched;
+mod whole;
 
 pub use chained::call_twice;
 pub use counted::get_both;
@@ -31,3 +32,4 @@ pub use tended::tend_whole;
 pub use unused::get_from_new;
 pub use visited::count_visit;
 pub use watched::tend_and_tell;
+pub use whole::{RefusedWhole, set_and_get_whole};

@@ -9,7 +9,6 @@ mod listed;
 mod lists;
 mod looking;
 mod made;
-mod marks;
 mod opening;
 mod pages;
 mod planted;

@@ -1,9 +1,14 @@
-//! Changes, counts and deadlines in rows, in drawn calls against a model, and of two threads at once.
+//! Changes, counts and deadlines in rows, in drawn calls against a model, of two threads at once, and where memory is refused.
 mod adding;
 mod counting;
 mod counting_texts;
 mod deadlines;
 mod drawn;
+mod large;
+mod large_drawn;
+mod large_threads;
+mod large_values;
 mod made;
+mod refused;
 mod rows;
 mod threads;

@@ -6,13 +6,13 @@ ghost use Rattle.mc_words.specs.hand.Ready.{IsReadyHandOf};
 ghost use Rattle.test_refusals.specs.Threes.{AreReadyOf};
 
 use super::looking::{Looker, look_after, look_before};
-use super::marks::{tell_call, tell_done, tell_refused};
 use super::opening::Three;
 use mc_items::{GetError, Ref, get, read};
 use mc_stripe::Key;
 use mc_words::{Arena, Hand};
 use std::sync::Wait;
 use testlib_hands::get_key;
+use testlib_values::{print_call, print_done, print_refused};
 
 // A reference to the key's item, if it has one.
 fn get_item<R: Wait>(
@@ -37,10 +37,10 @@ pub fn hold<R: Wait + Print>(rt: &R, all: &mut Three, key: Key) -> Option<Ref>
     if !look_before(&all.arena, &mut all.looker, &all.reader) {
         return None;
     }
-    tell_call(rt, "get");
+    print_call(rt, "get");
     match get_item(rt, &all.arena, &mut all.reader, key) {
         Ok(found) => {
-            tell_done(rt, "get");
+            print_done(rt, "get");
             found
         }
         Err(_) => hold_again(rt, all, key),
@@ -53,7 +53,7 @@ fn hold_again<R: Wait + Print>(rt: &R, all: &mut Three, key: Key) -> Option<Ref>
     ensures ready { AreReadyOf all.new.arena all.new.hand all.new.reader all.new.looker.hand }
     ensures item { IfSome result (λ item. IsItemRef (view all.new.reader) item) }
 {
-    tell_refused(rt, "get");
+    print_refused(rt, "get");
     if !left_nothing(&all.arena, &mut all.looker, &all.reader) {
         return None;
     }
@@ -79,12 +79,12 @@ pub fn has_words<R: Print>(rt: &R, all: &mut Three, item: &Ref, len: usize) -> b
     if !look_before(&all.arena, &mut all.looker, &all.reader) {
         return false;
     }
-    tell_call(rt, "read");
+    print_call(rt, "read");
     if let Some(same) = are_words(all, item, len) {
-        tell_done(rt, "read");
+        print_done(rt, "read");
         return same;
     }
-    tell_refused(rt, "read");
+    print_refused(rt, "read");
     if !left_nothing(&all.arena, &mut all.looker, &all.reader) {
         return false;
     }

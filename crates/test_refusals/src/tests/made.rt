@@ -1,7 +1,6 @@
 //! Arenas and states of the model whose making is refused memory.
 use super::assert_same;
 use super::calls::{Answer, Call};
-use super::marks::{tell_call, tell_done, tell_refused};
 use super::opening::{drop_three, opened_from};
 use super::steps::{Step as CallStep, play_all};
 use mc_core::{Change, Event, Series, State, Step, Stop, StripeChange, replay};
@@ -10,7 +9,7 @@ use mc_pages::ChunkId;
 use std::alloc::Global;
 use std::test::Fail;
 use testlib_hands::drop_state;
-use testlib_values::FOUR_CLASSES;
+use testlib_values::{FOUR_CLASSES, print_call, print_done, print_refused};
 
 /// The greatest issue number but one.
 const WORN: u64 = 70_368_744_177_662;
@@ -85,18 +84,18 @@ fn events(alloc: Global) -> Result<Vec<Event>, Refused> {
 
 /// Plays the events, and once more where that is refused memory.
 fn play<R: Print>(rt: &R, alloc: Global, events: &[Event]) -> Result<State, Stop> {
-    tell_call(rt, "replay");
+    print_call(rt, "replay");
     match replay(alloc, &FOUR_CLASSES, 2, events) {
         Ok(state) => {
-            tell_done(rt, "replay");
+            print_done(rt, "replay");
             Ok(state)
         }
         Err(Stop::NotAllowed(place)) => {
-            tell_done(rt, "replay");
+            print_done(rt, "replay");
             Err(Stop::NotAllowed(place))
         }
         Err(Stop::NoMemory(_refused)) => {
-            tell_refused(rt, "replay");
+            print_refused(rt, "replay");
             replay(alloc, &FOUR_CLASSES, 2, events)
         }
     }

@@ -4,13 +4,13 @@ ghost use Rattle.testlib_hands.specs.Hands.{AreEmptyHandsOf};
 ghost use Rattle.test_refusals.specs.Threes.{AreReadyOf};
 
 use super::looking::{Looker, room};
-use super::marks::{tell_call, tell_done, tell_refused};
 use super::snapshot::LENGTH;
 use mc_classes::Config;
 use mc_words::{Arena, Hand, NewError};
 use std::alloc::Global;
 use std::test::Fail;
 use testlib_hands::{drop_arena, three_of};
+use testlib_values::{print_call, print_done, print_refused};
 
 /// The most words of an item.
 const WORDS: usize = 61;
@@ -43,14 +43,14 @@ fn new_again<R: Print>(
     ensures hands { IfOk result (λ made. AreEmptyHandsOf made.0 made.1.items) }
 {
     let call = if start.is_some() { "from_issue" } else { "new" };
-    tell_call(rt, call);
+    print_call(rt, call);
     match new_arena(alloc, config, start) {
         Ok(made) => {
-            tell_done(rt, call);
+            print_done(rt, call);
             Ok(made)
         }
         Err(_) => {
-            tell_refused(rt, call);
+            print_refused(rt, call);
             new_arena(alloc, config, start)
         }
     }

@@ -6,14 +6,13 @@ ghost use Rattle.test_refusals.specs.Sized.{HasClasses};
 use super::assert_same;
 use super::lists::{see_class, see_whole};
 use super::looking::room;
-use super::marks::{tell_call, tell_done, tell_refused};
 use super::snapshot::{CLASSES, LENGTH};
 use mc_classes::{ClassId, ClassTable};
 use mc_pages::{Grow, NoMemory, Reassign, Slabs};
 use std::alloc::Global;
 use std::process::Abort;
 use std::test::Fail;
-use testlib_values::FOUR_CLASSES;
+use testlib_values::{FOUR_CLASSES, print_call, print_done, print_refused};
 
 /// A call, and what it is to give.
 #[derive(Clone, Copy)]
@@ -138,13 +137,13 @@ fn play<R: Print>(
     after: &mut Vec<u64>,
 ) -> bool {
     pages.see(before);
-    tell_call(rt, step.name());
+    print_call(rt, step.name());
     let answer = pages.answer_of(step);
     if answer != Answer::NoMemory {
-        tell_done(rt, step.name());
+        print_done(rt, step.name());
         return answer == Answer::Right;
     }
-    tell_refused(rt, step.name());
+    print_refused(rt, step.name());
     pages.see(after);
     before.as_slice() == after.as_slice() && pages.answer_of(step) == Answer::Right
 }

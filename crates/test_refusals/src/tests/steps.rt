@@ -6,7 +6,6 @@ use super::assert_same;
 use super::calls::{Answer, Call, Numbers, answer_of};
 use super::left::{has_died, is_left, numbers_left};
 use super::looking::{Looker, look_after, look_before};
-use super::marks::{tell_call, tell_done, tell_ignored, tell_refused};
 use super::opening::{Three, drop_three, opened};
 use super::snapshot::{MOVING, at};
 use super::told::entries_told;
@@ -15,6 +14,7 @@ use std::alloc::Global;
 use std::process::Abort;
 use std::sync::Wait;
 use std::test::Fail;
+use testlib_values::{print_call, print_done, print_ignored, print_refused};
 
 /// A call, and what it is to give.
 pub type Step = (Call, Answer);
@@ -44,7 +44,7 @@ fn play<R: Wait + Print>(rt: &R, all: &mut Three, step: Step) -> Row
     if !look_before(&all.arena, &mut all.looker, &all.hand) {
         return Row::Fails;
     }
-    tell_call(rt, call.name());
+    print_call(rt, call.name());
     let answer = make_call(rt, all, call);
     if !look_after(&all.arena, &mut all.looker, &all.hand) {
         return Row::Fails;
@@ -52,7 +52,7 @@ fn play<R: Wait + Print>(rt: &R, all: &mut Three, step: Step) -> Row
     if answer != Answer::NoMemory || call.takes_no_memory() {
         return behind_call(rt, call, &all.looker, answer == wanted);
     }
-    tell_refused(rt, call.name());
+    print_refused(rt, call.name());
     let again = make_call(rt, all, call);
     behind_refusal(step, &all.looker.before, &all.looker.after, again)
 }
@@ -79,7 +79,7 @@ fn behind_call<R: Print>(rt: &R, call: Call, looker: &Looker, is_right: bool) ->
     let is_as_told = entries_told(&looker.before, &looker.after) == Some(0);
     if let Call::SetAndMove(..) = call {
         if stays {
-            tell_ignored(rt, call.name());
+            print_ignored(rt, call.name());
             return if is_right && is_as_told {
                 Row::Ends
             } else {
@@ -87,7 +87,7 @@ fn behind_call<R: Print>(rt: &R, call: Call, looker: &Looker, is_right: bool) ->
             };
         }
     }
-    tell_done(rt, call.name());
+    print_done(rt, call.name());
     goes_if(is_right)
 }
 

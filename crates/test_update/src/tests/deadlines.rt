@@ -246,8 +246,19 @@ fn reply_to<'a, R: Wait>(
 
 /// Plays the rows in a new cache, up to the first with another reply.
 fn play<R: Wait>(rt: &R, alloc: Global, key: &[u8], rows: &[Row]) -> Result<(), Fail> {
-    let (cache, mut worker) = with_one_worker(rt, alloc)?;
     let mut expiry = Expiry::new(alloc);
+    play_by(rt, alloc, &mut expiry, key, rows)
+}
+
+/// The same, by an expiry.
+fn play_by<R: Wait>(
+    rt: &R,
+    alloc: Global,
+    expiry: &mut Expiry,
+    key: &[u8],
+    rows: &[Row],
+) -> Result<(), Fail> {
+    let (cache, mut worker) = with_one_worker(rt, alloc)?;
     let mut into = Vec::new(alloc);
     for row in rows {
         into.clear();
@@ -255,7 +266,7 @@ fn play<R: Wait>(rt: &R, alloc: Global, key: &[u8], rows: &[Row]) -> Result<(), 
             rt,
             &cache,
             &mut worker,
-            &mut expiry,
+            expiry,
             key,
             row.0,
             row.1,
@@ -272,6 +283,17 @@ fn play<R: Wait>(rt: &R, alloc: Global, key: &[u8], rows: &[Row]) -> Result<(), 
 fn values_are_there_before_their_deadline(rt: HostRuntime) -> Result<(), Fail> {
     play(&rt, rt.alloc(), KEY, &GETS)?;
     play(&rt, rt.alloc(), KEY, &SHORT)
+}
+
+/// One value is deleted at its deadline, and then three bytes, which have no deadline.
+#[test]
+fn values_that_a_get_deletes_are_counted(rt: HostRuntime) -> Result<(), Fail> {
+    let mut expiry = Expiry::new(rt.alloc());
+    play_by(&rt, rt.alloc(), &mut expiry, KEY, &GETS)?;
+    assert!(rt; expiry.lapsed() == 1, "another number of values lapsed");
+    play_by(&rt, rt.alloc(), &mut expiry, KEY, &SHORT)?;
+    assert!(rt; expiry.lapsed() == 2, "three bytes aren't counted");
+    Ok(())
 }
 
 #[test]

@@ -2,14 +2,14 @@
 ghost use Rattle.std.specs.Prelude.{IfOk, All, IfSome};
 ghost use Rattle.mc_cache.specs.Belonging.{BelongsTo};
 
-use mc_cache::{Cache, CacheConfig, HashKey, Worker};
+use mc_cache::{Cache, CacheConfig, HashKey, NewError, Worker};
 use mc_classes::Config;
 use std::alloc::Global;
 use std::sync::Wait;
 use std::test::Fail;
 
 /// Eight pages of 1,024 bytes, and chunks up to a page.
-const SMALL: Config = Config {
+pub const SMALL: Config = Config {
     page: 1024,
     limit: 8192,
     first: 64,
@@ -17,6 +17,18 @@ const SMALL: Config = Config {
     den: 1,
     max: 1024,
     stripes: 4,
+    bulk: 64,
+};
+
+/// 64 pages of 16,384 bytes, and chunks up to a page.
+pub const WIDE: Config = Config {
+    page: 16_384,
+    limit: 1_048_576,
+    first: 64,
+    num: 2,
+    den: 1,
+    max: 16_384,
+    stripes: 16,
     bulk: 64,
 };
 
@@ -42,7 +54,40 @@ pub fn next_worker(cache: &Cache, workers: &mut Vec<Worker>) -> Result<Worker, F
     }
 }
 
-/// A cache of two shards with n workers.
+/// A cache of n shards of such an arena each, or why there is none.
+pub fn opened<R: Wait>(
+    rt: &R,
+    alloc: Global,
+    arena: Config,
+    shards: u64,
+    workers: u64,
+) -> Result<(Cache, Vec<Worker>), NewError>
+    ensures { IfOk result (λ made. All (BelongsTo made.0) made.1.items) }
+{
+    let config = CacheConfig {
+        arena,
+        shards,
+        workers,
+    };
+    let (cache, workers, _tender) = Cache::new(rt, alloc, &config, HASH_KEY)?;
+    Ok((cache, workers))
+}
+
+/// The same, for a test that fails where there is none.
+pub fn with_shards<R: Wait>(
+    rt: &R,
+    alloc: Global,
+    arena: Config,
+    shards: u64,
+    workers: u64,
+) -> Result<(Cache, Vec<Worker>), Fail>
+    ensures { IfOk result (λ made. All (BelongsTo made.0) made.1.items) }
+{
+    let made = opened(rt, alloc, arena, shards, workers)?;
+    Ok(made)
+}
+
+/// A small cache of two shards with n workers.
 pub fn with_workers<R: Wait>(
     rt: &R,
     alloc: Global,
@@ -50,20 +95,23 @@ pub fn with_workers<R: Wait>(
 ) -> Result<(Cache, Vec<Worker>), Fail>
     ensures { IfOk result (λ made. All (BelongsTo made.0) made.1.items) }
 {
-    let config = CacheConfig {
-        arena: SMALL,
-        shards: 2,
-        workers,
-    };
-    let (cache, workers, _tender) = Cache::new(rt, alloc, &config, HASH_KEY)?;
-    Ok((cache, workers))
+    with_shards(rt, alloc, SMALL, 2, workers)
 }
 
-/// A cache with one worker.
+/// A small cache with one worker.
 pub fn with_one_worker<R: Wait>(rt: &R, alloc: Global) -> Result<(Cache, Worker), Fail>
     ensures { IfOk result (λ made. BelongsTo made.0 made.1) }
 {
     let (cache, mut workers) = with_workers(rt, alloc, 1)?;
+    let worker = next_worker(&cache, &mut workers)?;
+    Ok((cache, worker))
+}
+
+/// A cache of four shards of 1 MiB each, with one worker.
+pub fn with_wide_worker<R: Wait>(rt: &R, alloc: Global) -> Result<(Cache, Worker), Fail>
+    ensures { IfOk result (λ made. BelongsTo made.0 made.1) }
+{
+    let (cache, mut workers) = with_shards(rt, alloc, WIDE, 4, 1)?;
     let worker = next_worker(&cache, &mut workers)?;
     Ok((cache, worker))
 }

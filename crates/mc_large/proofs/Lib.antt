@@ -1,0 +1,10 @@
+pub mod Words
+pub mod Cuts
+pub mod Rooms
+pub mod Chains
+pub mod Stores
+pub mod Wholes
+pub mod Gets
+pub mod Drops
+pub mod Kept
+pub mod OwnValues

@@ -1,0 +1,12 @@
+pub mod Keys
+pub mod Roots
+pub mod Pieces
+pub mod Cases
+pub mod Reading
+pub mod Rooms
+pub mod Parts
+pub mod Setting
+pub mod Getting
+pub mod Dropping
+pub mod Kept
+pub mod Own
