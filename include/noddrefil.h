@@ -100,6 +100,7 @@ typedef struct mc_config {
 
 /* What a window of all shards did. */
 typedef struct mc_tended {
+    uint64_t found;        /* the moves that were under way: a store of mode 2 asked for them, or the window before left them so */
     uint64_t began;        /* the moves of a page that began */
     uint64_t ended;        /* the moves of a page that ended */
     uint64_t rescued;      /* the items that a move took to another chunk of their class */
@@ -184,6 +185,15 @@ uint32_t mc_compare_and_delete(mc_worker *worker, const uint8_t *key, size_t key
 
 /* Makes the key's item the last one of its size to be evicted. MC_MISSING; MC_HELD, MC_NO_MEMORY, MC_BAD_KEY, MC_CLOSED. */
 uint32_t mc_touch(mc_worker *worker, const uint8_t *key, size_t key_len, uint64_t tries);
+
+/* Deletes every key of the cache, and writes how many to *count, while other workers go on: what was stored before the call began is gone. It goes
+ * from one stripe to the next, and tries for the lock of each. MC_HELD: the stripes before one are cleared, and *count isn't written. MC_NO_MEMORY:
+ * so, and of that one some keys may be deleted. The next call begins at the first stripe, and counts what it deletes itself. MC_CLOSED. */
+uint32_t mc_clear(mc_worker *worker, uint64_t tries, uint64_t *count);
+
+/* Writes to *count how many items the cache has, as a sum over the stripes, of which it looks at one after another. MC_HELD, MC_CLOSED: nothing is
+ * written. */
+uint32_t mc_len(mc_worker *worker, uint64_t tries, uint64_t *count);
 
 /* Does a window of each shard: call it about once a second. The chunks of items that are gone are put back. The shard's classes are looked at,
  * and a page may begin to move. Up to 16 turns of the move are done; a turn looks at `bulk` chunks. A window that other workers hold up is
@@ -290,6 +300,23 @@ static inline uint32_t mc_touch_again(mc_worker *worker, const uint8_t *key, siz
 {
     uint32_t code;
     while ((code = mc_touch(worker, key, key_len, MC_TRIES)) == MC_HELD)
+        sched_yield();
+    return code;
+}
+
+/* *count has what the last of its calls deleted; those that returned MC_HELD deleted others. */
+static inline uint32_t mc_clear_again(mc_worker *worker, uint64_t *count)
+{
+    uint32_t code;
+    while ((code = mc_clear(worker, MC_TRIES, count)) == MC_HELD)
+        sched_yield();
+    return code;
+}
+
+static inline uint32_t mc_len_again(mc_worker *worker, uint64_t *count)
+{
+    uint32_t code;
+    while ((code = mc_len(worker, MC_TRIES, count)) == MC_HELD)
         sched_yield();
     return code;
 }

@@ -99,7 +99,7 @@ static uint64_t wrong_tending(mc_tender *tender)
 {
     uint64_t wrong = 0;
     for (uint64_t step = 0; step < 12; step++) {
-        mc_tended done = {7, 7, 7, 7, 7};
+        mc_tended done = {7, 7, 7, 7, 7, 7};
         mc_totals totals = {7, 7, 7, 7, 7, 7, 7};
         mc_class_stats classes[CLASSES] = {{7, 7, 7, 7, 7}};
         uint64_t count = 7;

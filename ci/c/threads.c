@@ -212,7 +212,7 @@ static void *tend(void *arg)
 static uint64_t wrong_tending(mc_worker *worker, mc_tender *tender)
 {
     mc_tender none = {0}, *others[] = {&none, worker};
-    mc_tended done = {7, 7, 7, 7, 7};
+    mc_tended done = {7, 7, 7, 7, 7, 7};
     mc_totals totals = {7, 7, 7, 7, 7, 7, 7};
     mc_class_stats classes[CLASSES];
     uint64_t count = 7, wrong = 0;
@@ -238,6 +238,21 @@ static uint64_t wrong_tending(mc_worker *worker, mc_tender *tender)
     return wrong;
 }
 
+/* Two keys are counted and cleared, and then none is there. */
+static uint64_t wrong_walks(mc_worker *worker)
+{
+    uint8_t out[LONGEST] = {0}, keys[2] = {1, 2};
+    uint64_t count = 7, len, wrong = 0;
+    wrong += mc_clear_again(worker, &count) != MC_OK;
+    wrong += mc_set(worker, &keys[0], 1, out, 1, 1) != MC_OK || mc_set(worker, &keys[1], 1, out, 1, 1) != MC_OK;
+    wrong += mc_len_again(worker, &count) != MC_OK || count != 2;
+    wrong += mc_len(worker, 0, &count) != MC_HELD || mc_clear(worker, 0, &count) != MC_HELD || count != 2;
+    wrong += mc_clear_again(worker, &count) != MC_OK || count != 2;
+    wrong += mc_get(worker, &keys[0], 1, 1, out, 1, &len) != MC_MISSING || mc_get(worker, &keys[1], 1, 1, out, 1, &len) != MC_MISSING;
+    wrong += mc_len_again(worker, &count) != MC_OK || count != 0;
+    return wrong;
+}
+
 /* The codes of handles that are closed, and of calls that are refused. */
 static uint64_t wrong_codes(mc_worker *worker, mc_tender *tender)
 {
@@ -255,6 +270,8 @@ static uint64_t wrong_codes(mc_worker *worker, mc_tender *tender)
     wrong += mc_set_or_keep(&none, key, 1, out, 1, 1) != MC_CLOSED;
     wrong += mc_delete(&none, key, 1, 1) != MC_CLOSED;
     wrong += mc_touch(&none, key, 1, 1) != MC_CLOSED;
+    wrong += mc_clear(&none, 1, &len) != MC_CLOSED || mc_clear(tender, 1, &len) != MC_CLOSED || len != 0;
+    wrong += mc_len(&none, 1, &len) != MC_CLOSED || mc_len(tender, 1, &len) != MC_CLOSED || len != 0;
     wrong += mc_join(&none, &none) != MC_CLOSED;
     wrong += mc_close(&none) != MC_CLOSED;
     wrong += mc_get(tender, key, 1, 1, out, 1, &len) != MC_CLOSED;
@@ -273,7 +290,7 @@ static uint64_t wrong_codes(mc_worker *worker, mc_tender *tender)
     wrong += mc_delete(worker, key, 250, 1) != MC_OK;
     wrong += mc_delete(worker, key, 250, 1) != MC_MISSING;
     wrong += mc_join(worker, &none) != MC_NO_WORKERS;
-    return wrong;
+    return wrong + wrong_walks(worker);
 }
 
 /* The codes of the calls that look at what the key has, and at its version, before they store. */

@@ -330,6 +330,21 @@ impl Worker {
         Ok(done == Answer::Done)
     }
 
+    /// Deletes every key of the cache while other workers go on. What was stored before the call began is gone. It returns how many keys its last
+    /// walk deleted: a walk that finds a lock held begins again, and what it had deleted isn't counted.
+    pub fn clear(&mut self) -> Result<u64, Error> {
+        let mut count = 0;
+        until_done(|| unsafe { raw::mc_clear(&mut self.handle, TRIES, &mut count) })?;
+        Ok(count)
+    }
+
+    /// How many items the cache has, as a sum over its parts, of which it looks at one after another.
+    pub fn len(&mut self) -> Result<u64, Error> {
+        let mut count = 0;
+        until_done(|| unsafe { raw::mc_len(&mut self.handle, TRIES, &mut count) })?;
+        Ok(count)
+    }
+
     /// The most bytes that a value may have beside a key of this length: `None` where no value fits beside such a key.
     pub fn max_value(&mut self, key_len: usize) -> Result<Option<usize>, Error> {
         let mut most = 0;

@@ -45,6 +45,8 @@ pub(crate) struct Config {
 #[repr(C)]
 #[derive(Clone, Copy, Debug, Default, PartialEq, Eq)]
 pub struct Tended {
+    /// The moves that were under way: a store of mode 2 asked for them, or the window before left them so.
+    pub found: u64,
     /// The moves of a page that began.
     pub began: u64,
     /// The moves of a page that ended.
@@ -126,6 +128,8 @@ extern "C" {
     pub(crate) fn mc_delete(worker: *mut Handle, key: *const u8, key_len: usize, tries: u64) -> u32;
     pub(crate) fn mc_compare_and_delete(worker: *mut Handle, key: *const u8, key_len: usize, version: u64, tries: u64) -> u32;
     pub(crate) fn mc_touch(worker: *mut Handle, key: *const u8, key_len: usize, tries: u64) -> u32;
+    pub(crate) fn mc_clear(worker: *mut Handle, tries: u64, count: *mut u64) -> u32;
+    pub(crate) fn mc_len(worker: *mut Handle, tries: u64, count: *mut u64) -> u32;
     pub(crate) fn mc_tend(tender: *mut Handle, tries: u64, done: *mut Tended) -> u32;
     pub(crate) fn mc_stats(tender: *mut Handle, tries: u64, totals: *mut Totals, classes: *mut ClassStats, room: usize, count: *mut u64) -> u32;
     pub(crate) fn mc_automove(tender: *mut Handle, mode: u64, tries: u64) -> u32;

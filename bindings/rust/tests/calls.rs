@@ -98,3 +98,18 @@ fn threads_read_what_was_stored_under_the_key() {
         }
     });
 }
+
+/// What is stored is counted, and gone behind a clear.
+#[test]
+fn values_are_counted_and_cleared() {
+    let mut worker = cache(1).worker().unwrap();
+    assert_eq!(worker.len().unwrap(), 0);
+    for key in 0..50_u8 {
+        worker.set(&[key], &[key; 9]).unwrap();
+    }
+    assert_eq!(worker.len().unwrap(), 50);
+    assert_eq!(worker.clear().unwrap(), 50);
+    let mut into = Vec::new();
+    assert!((0..50).all(|key| !worker.get(&[key], &mut into).unwrap()));
+    assert_eq!((worker.len().unwrap(), worker.clear().unwrap()), (0, 0));
+}

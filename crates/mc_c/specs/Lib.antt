@@ -3,6 +3,7 @@ pub mod Lending
 pub mod Codes
 pub mod Configs
 pub mod Calls
+pub mod Walks
 pub mod TenderCalls
 pub mod Handles
 pub mod Joining

@@ -22,7 +22,7 @@ cache_of client = arc_value client.cache
 
 -- what was done, as C has it
 abbrev pub tended_of : TendedWithin → McTended
-tended_of done = record { began = done.tended.began; ended = done.tended.ended; rescued = done.tended.rescued; evicted = done.tended.evicted; held = done.held }
+tended_of done = record { found = done.tended.found; began = done.tended.began; ended = done.tended.ended; rescued = done.tended.rescued; evicted = done.tended.evicted; held = done.held }
 
 -- the sums over all shards, as C has them
 abbrev pub totals_of : CacheStats → McTotals

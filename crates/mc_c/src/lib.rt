@@ -17,6 +17,7 @@ ghost use Rattle.mc_c.specs.Handles.{ActsOn, client_of, tender_of, worker_of};
 ghost use Rattle.mc_c.specs.Joining.{JoinsAs};
 ghost use Rattle.mc_c.specs.Opening.{IsOpeningCode, OpensHandles};
 ghost use Rattle.mc_c.specs.TenderCalls.{CountsAs, ReassignsAs, SetsModeAs, TendsAs};
+ghost use Rattle.mc_c.specs.Walks.{ClearsAs, CountsItemsAs};
 
 mod calls;
 mod client;
@@ -27,6 +28,7 @@ mod opening;
 mod owner;
 mod parts;
 mod tending;
+mod walks;
 
 use client::{Client, JoinError, WorkerClient};
 use codes::{BAD_WORKERS, CLOSED, NO_MEMORY, NO_WORKERS, OK, TOO_FEW_BYTES, code_of_new};
@@ -319,6 +321,38 @@ pub extern "C" fn mc_touch(worker: &mut Handle, key: &[u8], tries: u64) -> u32
     }
     match worker.owner.as_mut() {
         Client::Worker(client) => calls::touch(client, key, tries),
+        Client::Tender(_) => CLOSED,
+    }
+}
+
+/// Deletes every key of the cache.
+#[unsafe(no_mangle)]
+pub extern "C" fn mc_clear(worker: &mut Handle, tries: u64, count: &mut u64) -> u32
+    ensures acts { ActsOn worker_of (ClearsAs result tries count.old count.new) result worker.old
+        worker.new }
+    ensures kept { worker_of worker.old ≡ None → count.new ≡ count.old }
+{
+    if !worker.is_open() {
+        return CLOSED;
+    }
+    match worker.owner.as_mut() {
+        Client::Worker(client) => walks::clear(client, tries, count),
+        Client::Tender(_) => CLOSED,
+    }
+}
+
+/// Counts the items of the cache.
+#[unsafe(no_mangle)]
+pub extern "C" fn mc_len(worker: &mut Handle, tries: u64, count: &mut u64) -> u32
+    ensures acts { ActsOn worker_of (CountsItemsAs result tries count.old count.new) result
+        worker.old worker.new }
+    ensures kept { worker_of worker.old ≡ None → count.new ≡ count.old }
+{
+    if !worker.is_open() {
+        return CLOSED;
+    }
+    match worker.owner.as_mut() {
+        Client::Worker(client) => walks::len(client, tries, count),
         Client::Tender(_) => CLOSED,
     }
 }

@@ -16,6 +16,7 @@ use mc_pages::Reassign;
 #[repr(C)]
 #[derive(Clone, Copy)]
 pub struct McTended {
+    pub found: u64,
     pub began: u64,
     pub ended: u64,
     pub rescued: u64,
@@ -57,6 +58,7 @@ impl McTended {
     {
         let TendedWithin { tended, held } = done;
         McTended {
+            found: tended.found,
             began: tended.began,
             ended: tended.ended,
             rescued: tended.rescued,
