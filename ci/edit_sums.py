@@ -1,6 +1,6 @@
 """A sum of all that the verdicts on a crate's edits rest on.
 
-It is over the kit, the crate's own sources, definitions, proofs and edits, and what these reach by a name in the crates below: definitions, lemmas,
+It is over the kit's logic, the crate's own sources, definitions, proofs and edits, and what these reach by a name in the crates below: definitions, lemmas,
 types and contracts. What is reached names more in turn. A name is any word, so a word of two meanings reaches both. Not in the sum: comments,
 but those of the crate's own sources; bodies below, functions that are a lower crate's own, answers to a function's goals below, how functions
 below are proved, and what is inlined there. Where an import of contracts is written in its own file makes no difference.
@@ -36,7 +36,7 @@ class Piece(NamedTuple):
 
 def sum_of(crate, home):
     """The sum of a crate whose edits are in the folder `home`."""
-    total = hashlib.sha256(subprocess.run(["rt", "version"], capture_output=True, check=True).stdout)
+    total = hashlib.sha256(logic_of_kit())
     own = [(os.path.relpath(file, folder), own_text(file)) for file, folder in own_files(crate, home)]
     for named in own:
         total.update(repr(named).encode())
@@ -46,6 +46,14 @@ def sum_of(crate, home):
     for piece in sorted(reached(pieces, [text for _, text in own])):
         total.update(repr(piece).encode())
     return total.hexdigest()[:32]
+
+
+@functools.cache
+def logic_of_kit():
+    """The sum of the logic that `rt version` prints behind the kit's name. Kits of one logic differ in how they search, and a false clause has a
+    proof in none of them."""
+    version = subprocess.run(["rt", "version"], capture_output=True, check=True).stdout
+    return version[version.index(b"logic ") :]
 
 
 def own_files(crate, home):
