@@ -66,9 +66,11 @@ impl<'a, S: Store> Caller<'a, S> {
             return;
         }
         part.gets += 1;
-        if self.get(&key, call == Call::GetAndTouch) {
+        if self.get(&key, call != Call::Get) {
             part.hits += 1;
             part.wrong += u64::from(!self.into.starts_with(&key));
+        } else if call == Call::GetOrSet {
+            self.set(&key, size);
         }
     }
 }
@@ -161,6 +163,19 @@ mod tests {
 
         fn delete(&self, _worker: &mut (), key: &[u8]) {
             self.0.lock().unwrap().remove(key);
+        }
+    }
+
+    /// In each tenth: a get of key 9, which the first one stores.
+    #[test]
+    fn stores_what_a_get_misses() {
+        let setting = Setting { shards: 1, shard_bytes: 1 << 14, keys: 3, threads: 1, sizes: [16, 16] };
+        let (model, _) = Model::open(1, 0, 1);
+        let bytes: Vec<u8> = [9 << 2 | 3_u32].repeat(10).into_iter().flat_map(u32::to_le_bytes).collect();
+        let trace = Trace::read(&bytes);
+        let tally = work(&model, (), &setting, trace.of_thread(0, 1), &Barrier::new(1), Instant::now());
+        for (place, part) in tally.parts.iter().enumerate() {
+            assert_eq!([part.gets, part.hits, part.sets], [1, u64::from(place > 0), 0]);
         }
     }
 

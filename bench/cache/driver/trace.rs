@@ -8,6 +8,8 @@ pub enum Call {
     /// A get which makes the item that it finds the one that is evicted last.
     GetAndTouch,
     Set,
+    /// A get that touches; and a set, where the key has no value.
+    GetOrSet,
 }
 
 /// Numbers of keys, with two bits for the call behind each.
@@ -18,7 +20,8 @@ pub fn call_of(number: u32) -> (u64, Call) {
     let call = match number & 3 {
         0 => Call::Get,
         1 => Call::GetAndTouch,
-        _ => Call::Set,
+        2 => Call::Set,
+        _ => Call::GetOrSet,
     };
     (u64::from(number >> 2), call)
 }
@@ -46,7 +49,7 @@ mod tests {
 
     #[test]
     fn says_key_and_call() {
-        assert_eq!([20, 21, 22].map(call_of), [(5, Call::Get), (5, Call::GetAndTouch), (5, Call::Set)]);
+        assert_eq!([20, 21, 22, 23].map(call_of), [Call::Get, Call::GetAndTouch, Call::Set, Call::GetOrSet].map(|call| (5, call)));
     }
 
     #[test]
