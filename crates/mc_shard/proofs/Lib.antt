@@ -13,3 +13,6 @@ pub mod Fits
 pub mod Lengths
 pub mod Walks
 pub mod Keyed
+pub mod ByClass
+pub mod Saturated
+pub mod Sums

@@ -10,3 +10,5 @@ pub mod Deleting
 pub mod Sizes
 pub mod Walking
 pub mod Listing
+pub mod ClassItems
+pub mod ItemCases

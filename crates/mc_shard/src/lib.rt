@@ -12,7 +12,7 @@
 //! - [`set_within`], [`set_if_within`], [`get_within`], [`contains_within`], [`touch_within`], [`delete_within`] and
 //!   [`delete_version_within`] try for each lock n times, and don't wait.
 //! - [`clear`] deletes every key, stripe by stripe, and [`count`] returns how many items there are. [`clear_within`] and [`count_within`]
-//!   don't wait. [`keys`] lists the keys of a stripe.
+//!   don't wait. [`keys`] lists the keys of a stripe. [`items_of_stripe`] and [`items_of_shard`] count items and their bytes by class.
 //! - [`max_value`] returns the most bytes that a value may have beside a key. A set of a longer one is refused before it is packed.
 //! - A [`HintTable`] has notes of where items may be. A call that finds one gets the item with no lock.
 //!
@@ -29,6 +29,7 @@
 //! and a [`set`] takes its place. Hashes, shards and the lengths of keys are `mc_cache`'s.
 #![tactic(auto)]
 
+mod class_items;
 mod clearing;
 mod comparing;
 mod conditions;
@@ -46,10 +47,12 @@ mod reading;
 mod setting;
 mod setting_within;
 mod sizes;
+mod stripe_items;
 mod try_gets;
 mod versions;
 mod within;
 
+pub use class_items::{ClassItems, ItemSize, rows_are_sums, worked_class_items};
 pub use clearing::{clear, clear_within};
 pub use conditions::{Outcome, When, set_if, set_if_within};
 pub use counting::{count, count_within};
@@ -63,6 +66,7 @@ pub use looking::Seen;
 pub use setting::set;
 pub use setting_within::set_within;
 pub use sizes::max_value;
+pub use stripe_items::{items_of_shard, items_of_stripe};
 pub use try_gets::{TryGetError, contains, try_get};
 pub use versions::{get_with_version, get_with_version_within};
 pub use within::{contains_within, delete_within, get_within, touch_within};

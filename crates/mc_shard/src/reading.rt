@@ -192,7 +192,7 @@ fn pass_words(arena: &Arena, hand: &mut Hand, item: &Ref, first: usize, begin: u
 
 /// The item's word at this place. The item begins in the arena's table at the place `first`, as for all readers here.
 #[inline(always)]
-fn read_word(arena: &Arena, hand: &mut Hand, item: &Ref, first: usize, place: u64) -> u64
+pub(crate) fn read_word(arena: &Arena, hand: &mut Hand, item: &Ref, first: usize, place: u64) -> u64
     requires item { RefersTo arena.now item.now hand.old }
     requires first { first ≡ item_place (setup_of arena.now) item.now }
     requires in_range { place < item_len item.now }

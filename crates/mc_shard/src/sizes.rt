@@ -6,7 +6,7 @@ use mc_classes::ClassTable;
 use mc_packing::words_for_bytes;
 
 /// The words of a chunk that an item takes beside those of its key and its value: three of the chunk, and the two lengths. (own)
-const HEAD_WORDS: u64 = 5;
+pub(crate) const HEAD_WORDS: u64 = 5;
 
 /// The most bytes that a value may have beside a key of n bytes. None where no class has chunks for that key with any value. (own)
 pub fn max_value(classes: &ClassTable, key_len: usize) -> Option<usize>
