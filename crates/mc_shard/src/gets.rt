@@ -11,7 +11,7 @@ ghost use Rattle.mc_shard.specs.Hands.{IsIdleHandOf};
 ghost use Rattle.mc_shard.specs.Reading.{LeavesSlabs, RefersTo, TakesSlabsOnce};
 ghost use Rattle.mc_shard.specs.Recording.{RecordsGetAtMost};
 
-use crate::hints::HintTable;
+use crate::hints::{HintTable, Mark};
 use crate::label::Label;
 use crate::lookup::get_item;
 use crate::reading::is_of;
@@ -46,11 +46,7 @@ pub fn get<R: Wait>(
     ensures number { hand_number hand.new ≡ hand_number hand.old }
     ensures idle { IsIdleHandOf arena.now hand.new }
 {
-    let found = peek(rt, arena, hints, hand, at, into);
-    if let Ok(true) = found {
-        hints.mark(at.hash);
-    }
-    found
+    value_of(rt, arena, hints, hand, at, Mark::Use, into)
 }
 
 /// Puts the key's value behind the bytes that are there, and returns whether the key has one. It waits for the lock of the hash's
@@ -79,7 +75,36 @@ pub fn peek<R: Wait>(
     ensures number { hand_number hand.new ≡ hand_number hand.old }
     ensures idle { IsIdleHandOf arena.now hand.new }
 {
-    let Some(item) = get_item(rt, arena, hints, hand, at.hash)? else {
+    value_of(rt, arena, hints, hand, at, Mark::Keep, into)
+}
+
+// The same, by a look that changes the mark of the item's hint.
+#[inline(always)]
+fn value_of<R: Wait>(
+    rt: &R,
+    arena: &Arena,
+    hints: &HintTable,
+    hand: &mut Hand,
+    at: Label,
+    look: Mark,
+    into: &mut Vec<u8>,
+) -> Result<bool, Refused>
+    requires { IsIdleHandOf arena.now hand.old }
+    ensures value { result ≡ Ok true →
+        ReturnsValue (setup_of arena.now) at.entry.hash at.entry.key.now hand.old into.old.items
+        into.new.items }
+    ensures other { result ≡ Ok false →
+        FindsOtherKey (setup_of arena.now) at.entry.hash at.entry.key.now hand.old }
+    ensures kept { (result ≡ Ok true → ⊥) → into.new.items ≡ into.old.items }
+    ensures full { OnErr result (FindsFull (setup_of arena.now) at.entry.hash hand.old hand.new
+        ⊎ FindsSome (setup_of arena.now) at.entry.hash hand.old) }
+    ensures calls { RecordsGetAtMost (setup_of arena.now) at.entry.hash hand.old hand.new }
+    ensures stores_nothing { StoresNothing (view hand.old) (view hand.new) }
+    ensures slabs { LeavesSlabs (view hand.old) (view hand.new) }
+    ensures number { hand_number hand.new ≡ hand_number hand.old }
+    ensures idle { IsIdleHandOf arena.now hand.new }
+{
+    let Some(item) = get_item(rt, arena, hints, hand, at.hash, look)? else {
         return Ok(false);
     };
     give_value(arena, hand, item, at.key, into)
@@ -107,7 +132,7 @@ pub fn touch<R: Wait>(
     ensures number { hand_number hand.new ≡ hand_number hand.old }
     ensures idle { IsIdleHandOf arena.now hand.new }
 {
-    let Some(item) = get_item(rt, arena, hints, hand, at.hash)? else {
+    let Some(item) = get_item(rt, arena, hints, hand, at.hash, Mark::Keep)? else {
         return Ok(false);
     };
     Ok(touch_own(rt, arena, hand, item, at.key))

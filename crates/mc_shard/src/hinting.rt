@@ -8,18 +8,20 @@ ghost use Rattle.mc_shard.specs.Finding.{FindsItem, TriesHint};
 ghost use Rattle.mc_shard.specs.Hands.{IsIdleHandOf};
 ghost use Rattle.mc_shard.specs.Reading.{LeavesSlabs};
 
-use crate::hints::HintTable;
+use crate::hints::{HintTable, Mark, hint_in, mark_found};
 use mc_items::{Ref, again, release};
 use mc_words::{Arena, Hand};
 
 /// Gets the hash's item by its hint, with one exchange on the item's header and no lock. None where there is no hint, where its item is gone or of
-/// another hash, or where another hand changed the header meanwhile. Then the caller takes the lock. (own)
+/// another hash, or where another hand changed the header meanwhile. Then the caller takes the lock. The look changes the mark of an item that it
+/// gets. (own)
 #[inline(always)]
 pub(crate) fn get_hinted(
     arena: &Arena,
     hints: &HintTable,
     hand: &mut Hand,
     hash: u64,
+    look: Mark,
 ) -> Option<Ref>
     requires { IsIdleHandOf arena.now hand.old }
     ensures item { IfSome result (λ item. FindsItem arena.now hash item hand.old hand.new) }
@@ -30,10 +32,12 @@ pub(crate) fn get_hinted(
     ensures stores_nothing { StoresNothing (view hand.old) (view hand.new) }
     ensures slabs { LeavesSlabs (view hand.old) (view hand.new) }
 {
-    let hint = hints.load(arena, hash)?;
+    let (place, word) = hints.find(hash)?;
+    let hint = hint_in(arena, word)?;
     match again(arena, hand, hint) {
         Ok(item) => {
             if item.key() == hash {
+                mark_found(place, word, look);
                 Some(item)
             } else {
                 release(arena, hand, item);

@@ -45,13 +45,23 @@ fn is_of(word: u64, hash: u64) -> bool {
     word >> 17 & 0x7fff == part_of(hash)
 }
 
-// The mark with one use more, up to three.
-#[inline(always)]
-fn mark_with_use(mark: u64) -> u64 {
-    if mark < MARK {
-        mark.wrapping_add(USE)
-    } else {
-        mark
+// What a look at an item does to its mark.
+#[derive(Clone, Copy)]
+pub(crate) enum Mark {
+    // Counts one use more, up to three.
+    Use,
+    // Leaves it.
+    Keep,
+}
+
+impl Mark {
+    // What becomes of a mark.
+    #[inline(always)]
+    fn change(self, mark: u64) -> u64 {
+        match self {
+            Mark::Use if mark < MARK => mark.wrapping_add(USE),
+            _ => mark,
+        }
     }
 }
 
@@ -84,9 +94,9 @@ impl HintTable {
             .unwrap_or(&[])
     }
 
-    // The place whose word has the hash's part, with that word.
+    /// The place whose word has the hash's part, with that word.
     #[inline(always)]
-    fn find(&self, hash: u64) -> Option<(&AtomicU64, u64)> {
+    pub(crate) fn find(&self, hash: u64) -> Option<(&AtomicU64, u64)> {
         for place in self.bucket(hash) {
             let word = place.load(SeqCst);
             if is_of(word, hash) {
@@ -108,25 +118,11 @@ impl HintTable {
         spare
     }
 
-    /// The hint at a place of the hash, if its word has the hash's part and a chunk of the arena.
-    #[inline(always)]
-    pub(crate) fn load(&self, arena: &Arena, hash: u64) -> Option<Hint>
-        ensures in_range { IfSome result (λ hint.
-            has_chunk (setup_of arena.now).table (hint_chunk hint) ≡ true) }
-    {
-        let (_place, word) = self.find(hash)?;
-        let chunk = chunk_of(word);
-        if !arena.has_chunk(chunk) {
-            return None;
-        }
-        Some(Hint::new(chunk, word >> 32))
-    }
-
-    /// Puts the hint of an item that a look found. Where a place has the hash, its mark stays.
-    pub(crate) fn note_found(&self, hash: u64, hint: Hint) {
+    /// Puts the hint of an item that a look found, with the mark that a place of the hash has, or no mark, changed by the look.
+    pub(crate) fn note_found(&self, hash: u64, hint: Hint, look: Mark) {
         match self.find(hash) {
-            Some((place, word)) => put(place, hash, hint, word & MARK),
-            None => self.note_new(hash, hint),
+            Some((place, word)) => put(place, hash, hint, look.change(word & MARK)),
+            None => self.note_new(hash, hint, look.change(0)),
         }
     }
 
@@ -134,26 +130,15 @@ impl HintTable {
     /// item was evicted meanwhile. (own, after S3-FIFO's queue of keys that went)
     pub(crate) fn note_stored(&self, hash: u64, hint: Hint) {
         match self.find(hash) {
-            Some((place, word)) => put(place, hash, hint, mark_with_use(word & MARK)),
-            None => self.note_new(hash, hint),
+            Some((place, word)) => put(place, hash, hint, Mark::Use.change(word & MARK)),
+            None => self.note_new(hash, hint, 0),
         }
     }
 
-    // Puts the hint at a place that has no hint of the hash, without a mark.
-    fn note_new(&self, hash: u64, hint: Hint) {
+    // Puts the hint with its mark at a place, where no place has a hint of the hash.
+    fn note_new(&self, hash: u64, hint: Hint, mark: u64) {
         if let Some(place) = self.spare_place(hash) {
-            put(place, hash, hint, 0);
-        }
-    }
-
-    /// Marks the item of the hash as used once more, where a place has a word of the hash. A greatest mark is left, so most gets only load
-    /// the word.
-    #[inline(always)]
-    pub(crate) fn mark(&self, hash: u64) {
-        if let Some((place, word)) = self.find(hash) {
-            if word & MARK < MARK {
-                place.store(word.wrapping_add(USE), SeqCst);
-            }
+            put(place, hash, hint, mark);
         }
     }
 
@@ -167,6 +152,29 @@ impl HintTable {
         }
         place.store(word.wrapping_sub(USE), SeqCst);
         true
+    }
+}
+
+/// The hint in a word, if the word has a chunk of the arena.
+#[inline(always)]
+pub(crate) fn hint_in(arena: &Arena, word: u64) -> Option<Hint>
+    ensures in_range { IfSome result (λ hint.
+        has_chunk (setup_of arena.now).table (hint_chunk hint) ≡ true) }
+{
+    let chunk = chunk_of(word);
+    if !arena.has_chunk(chunk) {
+        return None;
+    }
+    Some(Hint::new(chunk, word >> 32))
+}
+
+/// Changes the mark of the word that a look found at the place. A greatest mark is left, so most gets only load the word.
+#[inline(always)]
+pub(crate) fn mark_found(place: &AtomicU64, word: u64, look: Mark) {
+    if let Mark::Use = look {
+        if word & MARK < MARK {
+            place.store(word.wrapping_add(USE), SeqCst);
+        }
     }
 }
 

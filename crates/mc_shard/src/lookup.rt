@@ -11,7 +11,7 @@ ghost use Rattle.mc_shard.specs.Recording.{RecordsGetAtMost};
 ghost use Rattle.mc_shard.specs.Within.{MissesLock};
 
 use crate::hinting::get_hinted;
-use crate::hints::HintTable;
+use crate::hints::{HintTable, Mark};
 use crate::try_gets::TryGetError;
 use mc_items::{GetError, Ref, hint};
 use mc_memory::Refused;
@@ -19,7 +19,8 @@ use mc_words::{Arena, Hand};
 use std::sync::Wait;
 
 /// A reference to the item under the hash, if there is one. The hand holds nothing else then, so it is never refused for holding too
-/// much. Where the hint of the hash leads to it, no lock is taken; else it waits for the lock of the hash's stripe, and notes the hint.
+/// much. Where the hint of the hash leads to it, no lock is taken; else it waits for the lock of the hash's stripe, and notes the hint. The look changes
+/// the mark of the item's hint.
 #[inline(always)]
 pub(crate) fn get_item<R: Wait>(
     rt: &R,
@@ -27,6 +28,7 @@ pub(crate) fn get_item<R: Wait>(
     hints: &HintTable,
     hand: &mut Hand,
     hash: u64,
+    look: Mark,
 ) -> Result<Option<Ref>, Refused>
     requires { IsIdleHandOf arena.now hand.old }
     ensures item { IfOk result (λ found. IfSome found (λ item.
@@ -40,12 +42,12 @@ pub(crate) fn get_item<R: Wait>(
     ensures stores_nothing { StoresNothing (view hand.old) (view hand.new) }
     ensures slabs { LeavesSlabs (view hand.old) (view hand.new) }
 {
-    if let Some(item) = get_hinted(arena, hints, hand, hash) {
+    if let Some(item) = get_hinted(arena, hints, hand, hash, look) {
         return Ok(Some(item));
     }
     match mc_items::get(rt, arena, hand, hash) {
         Ok(Some(item)) => {
-            hints.note_found(hash, hint(&item));
+            hints.note_found(hash, hint(&item), look);
             Ok(Some(item))
         }
         Ok(None) => Ok(None),
@@ -61,6 +63,7 @@ pub(crate) fn try_item(
     hints: &HintTable,
     hand: &mut Hand,
     hash: u64,
+    look: Mark,
 ) -> Result<Option<Ref>, TryGetError>
     requires { IsIdleHandOf arena.now hand.old }
     ensures item { IfOk result (λ found. IfSome found (λ item.
@@ -77,12 +80,12 @@ pub(crate) fn try_item(
     ensures stores_nothing { StoresNothing (view hand.old) (view hand.new) }
     ensures slabs { LeavesSlabs (view hand.old) (view hand.new) }
 {
-    if let Some(item) = get_hinted(arena, hints, hand, hash) {
+    if let Some(item) = get_hinted(arena, hints, hand, hash, look) {
         return Ok(Some(item));
     }
     match mc_items::try_get(arena, hand, hash) {
         Ok(Some(item)) => {
-            hints.note_found(hash, hint(&item));
+            hints.note_found(hash, hint(&item), look);
             Ok(Some(item))
         }
         Ok(None) => Ok(None),
@@ -100,6 +103,7 @@ pub(crate) fn item_within(
     hand: &mut Hand,
     hash: u64,
     tries: u64,
+    look: Mark,
 ) -> Result<Option<Ref>, TryGetError>
     requires { IsIdleHandOf arena.now hand.old }
     ensures item { IfOk result (λ found. IfSome found (λ item.
@@ -116,12 +120,12 @@ pub(crate) fn item_within(
     ensures stores_nothing { StoresNothing (view hand.old) (view hand.new) }
     ensures slabs { LeavesSlabs (view hand.old) (view hand.new) }
 {
-    if let Some(item) = get_hinted(arena, hints, hand, hash) {
+    if let Some(item) = get_hinted(arena, hints, hand, hash, look) {
         return Ok(Some(item));
     }
     match mc_items::get_within(arena, hand, hash, tries) {
         Ok(Some(item)) => {
-            hints.note_found(hash, hint(&item));
+            hints.note_found(hash, hint(&item), look);
             Ok(Some(item))
         }
         Ok(None) => Ok(None),

@@ -12,7 +12,7 @@ ghost use Rattle.mc_shard.specs.Hands.{IsIdleHandOf};
 ghost use Rattle.mc_shard.specs.Reading.{LeavesSlabs, RefersTo};
 ghost use Rattle.mc_shard.specs.Recording.{RecordsGetAtMost};
 
-use crate::hints::HintTable;
+use crate::hints::{HintTable, Mark};
 use crate::label::Label;
 use crate::lookup::{get_item, try_item};
 use crate::reading::{is_of, push_value};
@@ -60,40 +60,7 @@ pub fn try_get(
     ensures number { hand_number hand.new ≡ hand_number hand.old }
     ensures idle { IsIdleHandOf arena.now hand.new }
 {
-    let found = try_peek(arena, hints, hand, at, into);
-    if let Ok(true) = found {
-        hints.mark(at.hash);
-    }
-    found
-}
-
-// The same, and the item isn't marked.
-fn try_peek(
-    arena: &Arena,
-    hints: &HintTable,
-    hand: &mut Hand,
-    at: Label,
-    into: &mut Vec<u8>,
-) -> Result<bool, TryGetError>
-    requires { IsIdleHandOf arena.now hand.old }
-    ensures value { result ≡ Ok true →
-        ReturnsValue (setup_of arena.now) at.entry.hash at.entry.key.now hand.old into.old.items
-        into.new.items }
-    ensures other { result ≡ Ok false →
-        FindsOtherKey (setup_of arena.now) at.entry.hash at.entry.key.now hand.old }
-    ensures kept { (result ≡ Ok true → ⊥) → into.new.items ≡ into.old.items }
-    ensures held { result ≡ Err try_error.Held →
-        FindsLockTaken (setup_of arena.now) at.entry.hash hand.old hand.new }
-    ensures full { result ≡ Err (try_error.NoMemory tt) →
-        FindsFull (setup_of arena.now) at.entry.hash hand.old hand.new
-        ⊎ FindsSome (setup_of arena.now) at.entry.hash hand.old }
-    ensures calls { RecordsGetAtMost (setup_of arena.now) at.entry.hash hand.old hand.new }
-    ensures stores_nothing { StoresNothing (view hand.old) (view hand.new) }
-    ensures slabs { LeavesSlabs (view hand.old) (view hand.new) }
-    ensures number { hand_number hand.new ≡ hand_number hand.old }
-    ensures idle { IsIdleHandOf arena.now hand.new }
-{
-    match try_item(arena, hints, hand, at.hash) {
+    match try_item(arena, hints, hand, at.hash, Mark::Use) {
         Ok(Some(item)) => match give_value(arena, hand, item, at.key, into) {
             Ok(there) => Ok(there),
             Err(refused) => Err(TryGetError::NoMemory(refused)),
@@ -124,7 +91,7 @@ pub fn contains<R: Wait>(
     ensures stores_nothing { StoresNothing (view hand.old) (view hand.new) }
     ensures slabs { LeavesSlabs (view hand.old) (view hand.new) }
 {
-    let Some(item) = get_item(rt, arena, hints, hand, at.hash)? else {
+    let Some(item) = get_item(rt, arena, hints, hand, at.hash, Mark::Keep)? else {
         return Ok(false);
     };
     Ok(tell_key(arena, hand, item, at.key))

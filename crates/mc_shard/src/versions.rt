@@ -11,7 +11,7 @@ ghost use Rattle.mc_shard.specs.Reading.{LeavesSlabs};
 ghost use Rattle.mc_shard.specs.Recording.{RecordsGetAtMost};
 ghost use Rattle.mc_shard.specs.Within.{MissesLock};
 
-use crate::hints::HintTable;
+use crate::hints::{HintTable, Mark};
 use crate::label::Label;
 use crate::lookup::{get_item, item_within};
 use crate::try_gets::{TryGetError, give_value};
@@ -46,15 +46,12 @@ pub fn get_with_version<R: Wait>(
     ensures number { hand_number hand.new ≡ hand_number hand.old }
     ensures idle { IsIdleHandOf arena.now hand.new }
 {
-    let Some(item) = get_item(rt, arena, hints, hand, at.hash)? else {
+    let Some(item) = get_item(rt, arena, hints, hand, at.hash, Mark::Use)? else {
         return Ok(None);
     };
     let version = item.stamp();
     match give_value(arena, hand, item, at.key, into) {
-        Ok(true) => {
-            hints.mark(at.hash);
-            Ok(Some(version))
-        }
+        Ok(true) => Ok(Some(version)),
         Ok(false) => Ok(None),
         Err(refused) => Err(refused),
     }
@@ -89,7 +86,7 @@ pub fn get_with_version_within(
     ensures number { hand_number hand.new ≡ hand_number hand.old }
     ensures idle { IsIdleHandOf arena.now hand.new }
 {
-    let item = match item_within(arena, hints, hand, at.hash, tries) {
+    let item = match item_within(arena, hints, hand, at.hash, tries, Mark::Use) {
         Ok(Some(item)) => item,
         Ok(None) => return Ok(None),
         Err(TryGetError::NoMemory(refused)) => return Err(TryGetError::NoMemory(refused)),
@@ -97,10 +94,7 @@ pub fn get_with_version_within(
     };
     let stamp = item.stamp();
     match give_value(arena, hand, item, at.key, into) {
-        Ok(true) => {
-            hints.mark(at.hash);
-            Ok(Some(stamp))
-        }
+        Ok(true) => Ok(Some(stamp)),
         Ok(false) => Ok(None),
         Err(refused) => Err(TryGetError::NoMemory(refused)),
     }

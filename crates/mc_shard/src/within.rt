@@ -15,7 +15,7 @@ ghost use Rattle.mc_shard.specs.Reading.{LeavesSlabs, RefersTo, TakesSlabsOnce};
 ghost use Rattle.mc_shard.specs.Recording.{RecordsDeleteAtMost, RecordsGetAtMost};
 ghost use Rattle.mc_shard.specs.Within.{MissesDelete, MissesLock, MissesKeyTouch};
 
-use crate::hints::HintTable;
+use crate::hints::{HintTable, Mark};
 use crate::label::Label;
 use crate::lookup::item_within;
 use crate::reading::is_of;
@@ -51,41 +51,7 @@ pub fn get_within(
     ensures number { hand_number hand.new ≡ hand_number hand.old }
     ensures idle { IsIdleHandOf arena.now hand.new }
 {
-    let found = peek_within(arena, hints, hand, at, tries, into);
-    if let Ok(true) = found {
-        hints.mark(at.hash);
-    }
-    found
-}
-
-// The same, and the item isn't marked.
-fn peek_within(
-    arena: &Arena,
-    hints: &HintTable,
-    hand: &mut Hand,
-    at: Label,
-    tries: u64,
-    into: &mut Vec<u8>,
-) -> Result<bool, TryGetError>
-    requires { IsIdleHandOf arena.now hand.old }
-    ensures value { result ≡ Ok true →
-        ReturnsValue (setup_of arena.now) at.entry.hash at.entry.key.now hand.old into.old.items
-        into.new.items }
-    ensures other { result ≡ Ok false →
-        FindsOtherKey (setup_of arena.now) at.entry.hash at.entry.key.now hand.old }
-    ensures kept { (result ≡ Ok true → ⊥) → into.new.items ≡ into.old.items }
-    ensures held { result ≡ Err try_error.Held →
-        MissesLock (setup_of arena.now) tries at.entry.hash hand.old hand.new }
-    ensures full { result ≡ Err (try_error.NoMemory tt) →
-        FindsFull (setup_of arena.now) at.entry.hash hand.old hand.new
-        ⊎ FindsSome (setup_of arena.now) at.entry.hash hand.old }
-    ensures calls { RecordsGetAtMost (setup_of arena.now) at.entry.hash hand.old hand.new }
-    ensures stores_nothing { StoresNothing (view hand.old) (view hand.new) }
-    ensures slabs { LeavesSlabs (view hand.old) (view hand.new) }
-    ensures number { hand_number hand.new ≡ hand_number hand.old }
-    ensures idle { IsIdleHandOf arena.now hand.new }
-{
-    match item_within(arena, hints, hand, at.hash, tries) {
+    match item_within(arena, hints, hand, at.hash, tries, Mark::Use) {
         Ok(Some(item)) => match give_value(arena, hand, item, at.key, into) {
             Ok(there) => Ok(there),
             Err(refused) => Err(TryGetError::NoMemory(refused)),
@@ -119,7 +85,7 @@ pub fn contains_within(
     ensures stores_nothing { StoresNothing (view hand.old) (view hand.new) }
     ensures slabs { LeavesSlabs (view hand.old) (view hand.new) }
 {
-    match item_within(arena, hints, hand, at.hash, tries) {
+    match item_within(arena, hints, hand, at.hash, tries, Mark::Keep) {
         Ok(Some(item)) => Ok(tell_key(arena, hand, item, at.key)),
         Ok(None) => Ok(false),
         Err(TryGetError::NoMemory(refused)) => Err(TryGetError::NoMemory(refused)),
@@ -184,7 +150,7 @@ pub fn touch_within(
     ensures number { hand_number hand.new ≡ hand_number hand.old }
     ensures idle { IsIdleHandOf arena.now hand.new }
 {
-    match item_within(arena, hints, hand, at.hash, tries) {
+    match item_within(arena, hints, hand, at.hash, tries, Mark::Keep) {
         Ok(Some(item)) => touch_own_within(arena, hand, item, at.key, tries),
         Ok(None) => Ok(false),
         Err(TryGetError::NoMemory(refused)) => Err(WithinError::NoMemory(refused)),

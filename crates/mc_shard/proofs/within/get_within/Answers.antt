@@ -4,7 +4,7 @@ use Rattle.mc_items.specs.ItemRefs.{item_words}
 use Rattle.mc_shard.proofs.Found.{finds_other, gives_value, same_ok, the_item}
 use Rattle.mc_shard.proofs.Recorded.{get_at_most}
 use Rattle.mc_shard.proofs.Slabs.{still_left}
-use Rattle.mc_shard.proofs.within.peek_within.Goals as goal
+use Rattle.mc_shard.proofs.within.get_within.Goals as goal
 
 pub returns-in-Ok-clause-value : goal.returns-in-Ok-clause-value
 returns-in-Ok-clause-value c = λ is.

@@ -3,7 +3,7 @@ use Rattle.mc_items.specs.ItemRefs.{item_words}
 use Rattle.mc_shard.proofs.Found.{finds_other, gives_value, refused_some, the_item}
 use Rattle.mc_shard.proofs.Recorded.{get_at_most}
 use Rattle.mc_shard.proofs.Slabs.{still_left}
-use Rattle.mc_shard.proofs.gets.peek.Goals as goal
+use Rattle.mc_shard.proofs.gets.value_of.Goals as goal
 
 pub returns-clause-value : goal.returns-clause-value
 returns-clause-value g c = λ is.
