@@ -22,7 +22,8 @@ have_one_table config arenas new first second low high at_low at_high = one_tabl
     table_of arena place at = subst (λ (a : Arena). IsTableOf config.arena (setup_of a).table) (get_or_from_slice_get arenas place arena arena at) ((new place arena (slice_get_within arenas place arena at)).made.table)
 
 module _ (cache : Cache) (arena : Arena) (shard : ℕ) (in_range : shard < length cache.arenas.items) (is_arena : arena ≡ get_or cache.arenas.items shard arena) where
-  classes_are : classes_of cache ≡ Some (setup_of arena).table
+  -- the cache has the classes of this shard
+  pub classes_are : classes_of cache ≡ Some (setup_of arena).table
   classes_are =
       let first : Arena = get_or cache.arenas.items 0 arena in
       let at_first = slice_get_read cache.arenas.items (length cache.arenas.items) 0 first refl (omega (arith, in_range)) (get_or_default cache.arenas.items 0 arena first (omega (arith, in_range))) in

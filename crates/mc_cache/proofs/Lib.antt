@@ -19,3 +19,4 @@ pub mod Accepts
 pub mod Sized
 pub mod Classes
 pub mod Walked
+pub mod ByClass

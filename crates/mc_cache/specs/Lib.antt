@@ -24,3 +24,4 @@ pub mod OpeningWithin
 pub mod Sizes
 pub mod Walking
 pub mod Listing
+pub mod ClassItems

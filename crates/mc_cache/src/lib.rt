@@ -5,7 +5,8 @@
 //!   two numbers with which keys are hashed.
 //! - A thread has the cache by `&`, and a [`Worker`] of its own by `&mut`. [`Worker::set`], `get`, `peek`, `try_get`, `contains`,
 //!   `touch` and `delete` are the calls on a key of 1 to 250 bytes. [`Worker::delete_version`] deletes only the value that a caller got.
-//! - [`Worker::clear`] deletes every key of the cache, and [`Worker::len`] returns how many items there are.
+//! - [`Worker::clear`] deletes every key of the cache, and [`Worker::len`] returns how many items there are. [`Worker::class_items`]
+//!   returns how many each class has, and of how many bytes.
 //! - The [`Tender`] has a thread of its own. [`Tender::tend`], called about once a second, moves pages between classes on each
 //!   shard. [`Tender::stats`] returns sums over all shards, and [`Tender::set_automove`] sets the mode.
 //! - A caller that can't wait makes the cache by [`Cache::new_within`], and calls `set_within`, `tend_within` and their like. These
@@ -29,6 +30,7 @@
 
 mod bytes;
 mod cache;
+mod class_items;
 mod clearing;
 mod clearing_within;
 mod conditional;
@@ -57,9 +59,10 @@ mod working_within;
 
 pub use bytes::worked_bytes;
 pub use cache::{Cache, Worker};
+pub use class_items::worked_shard_items;
 pub use hashing::HashKey;
 pub use laws::{conditions_are_met, own_values_are_newest};
-pub use mc_shard::{Deletion, Outcome, When};
+pub use mc_shard::{ClassItems, Deletion, Outcome, When};
 pub use opening::{CacheConfig, NewError};
 pub use opening_within::NewWithinError;
 pub use sizing::{SizingError, worked_sizes};
