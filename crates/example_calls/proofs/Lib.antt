@@ -9,3 +9,4 @@ pub mod Unheld
 pub mod Replaced
 pub mod Visited
 pub mod TwoGets
+pub mod Walked

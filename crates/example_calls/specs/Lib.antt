@@ -7,3 +7,4 @@ pub mod Cached
 pub mod Visits
 pub mod Counted
 pub mod Renewed
+pub mod Walked

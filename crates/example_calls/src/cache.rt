@@ -14,6 +14,7 @@ mod taken;
 mod tended;
 mod unused;
 mod visited;
+mod walked;
 mod watched;
 mod whole;
 
@@ -31,5 +32,6 @@ pub use taken::delete_what_was_got;
 pub use tended::tend_whole;
 pub use unused::get_from_new;
 pub use visited::count_visit;
+pub use walked::{clear_and_count, keys_of_shard};
 pub use watched::tend_and_tell;
 pub use whole::{RefusedWhole, set_and_get_whole};
