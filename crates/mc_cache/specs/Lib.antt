@@ -14,6 +14,7 @@ pub mod WindowsWithin
 pub mod Tending
 pub mod TendingWithin
 pub mod Stats
+pub mod Chunks
 pub mod Cases
 pub mod Resting
 pub mod WorkingWithin

@@ -30,6 +30,7 @@
 
 mod bytes;
 mod cache;
+mod chunks;
 mod class_items;
 mod clearing;
 mod clearing_within;
@@ -59,6 +60,7 @@ mod working_within;
 
 pub use bytes::worked_bytes;
 pub use cache::{Cache, Worker};
+pub use chunks::{ClassChunks, worked_chunks};
 pub use class_items::worked_shard_items;
 pub use hashing::HashKey;
 pub use laws::{conditions_are_met, own_values_are_newest};
