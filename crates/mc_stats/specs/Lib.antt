@@ -3,3 +3,5 @@ pub mod Counting
 pub mod Lending
 pub mod Texts
 pub mod Rows
+pub mod Slabs
+pub mod Items

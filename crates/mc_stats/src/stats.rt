@@ -38,7 +38,7 @@ impl Counts {
 }
 
 // Writes the lines of some numbers.
-fn write_lines<W: Sink>(counts: &[(&str, u64)], writer: &mut W) -> Result<(), Fault>
+pub(crate) fn write_lines<W: Sink>(counts: &[(&str, u64)], writer: &mut W) -> Result<(), Fault>
     ensures bytes { OnOk result (Appends (W.contents writer.old) (W.contents writer.new)
         (flat_map (λ count. stat_line count.0.now count.1) counts.now)) }
     ensures ok { OnOk result (W.failures writer.new ≡ W.failures writer.old) }

@@ -1,8 +1,10 @@
-//! The texts of counts, and writes that fail in the middle of them.
+//! The texts of counts and of classes, and writes that fail in the middle of them.
 ghost use Rattle.std.specs.Prelude.{◌≡◌, ◌<◌};
 
+use mc_cache::{CacheStats, ClassItems, ClassStats};
+use mc_classes::{ClassTable, Config};
 use mc_io::{Failures, Fault, Sink};
-use mc_stats::Counts;
+use mc_stats::{Counts, write_items, write_slabs, write_usage};
 use std::alloc::Global;
 use std::marker::Brand;
 use std::sync::ledger::{Blank, Ledger};
@@ -43,6 +45,18 @@ impl<L: Ledger> Sink for FailingSink<L> {
 enum Form {
     Stats,
     OpenMetrics,
+    Slabs,
+    Items,
+    Usage,
+}
+
+/// What the texts are written of.
+#[derive(Drop)]
+struct Numbers {
+    counts: Counts,
+    classes: ClassTable,
+    stats: CacheStats,
+    items: Vec<ClassItems>,
 }
 
 /// What was written, how many writes were tried, and whether all went well.
@@ -59,6 +73,27 @@ const STATS: &[u8] =
 const OPEN_METRICS: &[u8] =
     b"# TYPE mc_gets counter\nmc_gets_total{result=\"hit\"} 12\nmc_gets_total{result=\"miss\"} 3\n# TYPE mc_sets counter\nmc_sets_total{result=\"stored\"} 7\nmc_sets_total{result=\"unmet\"} 0\nmc_sets_total{result=\"too_large\"} 1\nmc_sets_total{result=\"no_memory\"} 0\n# TYPE mc_deletes counter\nmc_deletes_total{result=\"hit\"} 1\nmc_deletes_total{result=\"miss\"} 0\n# TYPE mc_touches counter\nmc_touches_total{result=\"hit\"} 18446744073709551615\nmc_touches_total{result=\"miss\"} 0\n# EOF\n";
 
+// Class 1 has no page and no item. Class 3 has the greatest numbers of items and bytes.
+const SLABS: &[u8] =
+    b"STAT 2:chunk_size 192\r\nSTAT 2:chunks_per_page 5\r\nSTAT 2:total_pages 3\r\nSTAT 2:total_chunks 15\r\nSTAT 2:used_chunks 11\r\nSTAT 2:free_chunks 4\r\nSTAT 3:chunk_size 392\r\nSTAT 3:chunks_per_page 2\r\nSTAT 3:total_pages 1\r\nSTAT 3:total_chunks 2\r\nSTAT 3:used_chunks 0\r\nSTAT 3:free_chunks 2\r\nSTAT active_slabs 2\r\nSTAT total_malloced 4096\r\nEND\r\n";
+
+const ITEMS: &[u8] =
+    b"STAT items:2:number 3\r\nSTAT items:2:mem_requested 500\r\nSTAT items:2:evicted 7\r\nSTAT items:3:number 18446744073709551615\r\nSTAT items:3:mem_requested 18446744073709551615\r\nSTAT items:3:evicted 0\r\nEND\r\n";
+
+const USAGE: &[u8] =
+    b"STAT curr_items 18446744073709551615\r\nSTAT bytes 18446744073709551615\r\nSTAT evictions 9\r\nEND\r\n";
+
+const CONFIG: Config = Config {
+    page: 1024,
+    limit: 4096,
+    first: 96,
+    num: 2,
+    den: 1,
+    max: 392,
+    stripes: 4,
+    bulk: 4,
+};
+
 /// Counts of which some are 0, and one can't grow any more.
 fn some_counts() -> Counts {
     let mut counts = Counts::new();
@@ -71,13 +106,52 @@ fn some_counts() -> Counts {
     counts
 }
 
+/// The statistics of three classes.
+fn some_stats(alloc: Global) -> Result<CacheStats, Fail> {
+    let mut classes = Vec::new(alloc);
+    for (pages, free, evictions) in [(0, 0, 2), (3, 4, 7), (1, 2, 0)] {
+        classes.push(ClassStats {
+            pages,
+            free,
+            evictions,
+        })?;
+    }
+    Ok(CacheStats {
+        classes,
+        granted: 4,
+        pool: 0,
+        moving: 0,
+        ended: 0,
+        rescued: 0,
+        evicted: 0,
+        busy: 0,
+    })
+}
+
+/// The numbers of which the texts are written.
+fn some_numbers(alloc: Global) -> Result<Numbers, Fail> {
+    let mut items = Vec::new(alloc);
+    for (count, bytes) in [(0, 0), (3, 500), (u64::MAX, u64::MAX)] {
+        items.push(ClassItems {
+            items: count,
+            bytes,
+        })?;
+    }
+    Ok(Numbers {
+        counts: some_counts(),
+        classes: ClassTable::build(alloc, &CONFIG)?,
+        stats: some_stats(alloc)?,
+        items,
+    })
+}
+
 /// Writes the text, where the write of this number fails.
 fn written<L: Ledger>(
     alloc: Global,
     blank: Blank,
     fails_at: u64,
     form: Form,
-    counts: &Counts,
+    numbers: &Numbers,
 ) -> Attempt
     requires name { blank.name ≡ L.name }
     requires parts { blank.parts ≡ L.parts }
@@ -91,8 +165,11 @@ fn written<L: Ledger>(
         failures,
     };
     let outcome = match form {
-        Form::Stats => counts.write_stats(&mut sink),
-        Form::OpenMetrics => counts.write_openmetrics(&mut sink),
+        Form::Stats => numbers.counts.write_stats(&mut sink),
+        Form::OpenMetrics => numbers.counts.write_openmetrics(&mut sink),
+        Form::Slabs => write_slabs(&numbers.classes, &numbers.stats, &mut sink),
+        Form::Items => write_items(&numbers.items, &numbers.stats, &mut sink),
+        Form::Usage => write_usage(&numbers.items, &numbers.stats, &mut sink),
     };
     let FailingSink {
         bytes,
@@ -119,9 +196,9 @@ fn is_right(attempt: &Attempt, fails_at: u64, text: &[u8]) -> bool {
 
 /// The text may fail at each of its writes.
 fn try_each_write(alloc: Global, form: Form, text: &[u8]) -> Result<(), Fail> {
-    let counts = some_counts();
+    let numbers = some_numbers(alloc)?;
     for fails_at in 1..200 {
-        let attempt = written::<Brand>(alloc, Blank::new(1), fails_at, form, &counts);
+        let attempt = written::<Brand>(alloc, Blank::new(1), fails_at, form, &numbers);
         if !is_right(&attempt, fails_at, text) {
             return Err(Fail::new("other bytes were written"));
         }
@@ -135,5 +212,8 @@ fn try_each_write(alloc: Global, form: Form, text: &[u8]) -> Result<(), Fail> {
 #[test]
 fn texts_until_a_failure(rt: HostRuntime) -> Result<(), Fail> {
     try_each_write(rt.alloc(), Form::Stats, STATS)?;
-    try_each_write(rt.alloc(), Form::OpenMetrics, OPEN_METRICS)
+    try_each_write(rt.alloc(), Form::OpenMetrics, OPEN_METRICS)?;
+    try_each_write(rt.alloc(), Form::Slabs, SLABS)?;
+    try_each_write(rt.alloc(), Form::Items, ITEMS)?;
+    try_each_write(rt.alloc(), Form::Usage, USAGE)
 }
