@@ -8,3 +8,4 @@ pub mod Visits
 pub mod Counted
 pub mod Renewed
 pub mod Walked
+pub mod Classed

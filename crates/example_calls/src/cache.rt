@@ -1,6 +1,7 @@
 //! Callers of a cache of bytes: how a server would use it.
 
 mod chained;
+mod classed;
 mod classes;
 mod counted;
 mod exchanged;
@@ -20,6 +21,7 @@ mod watched;
 mod whole;
 
 pub use chained::call_twice;
+pub use classed::items_of_class;
 pub use classes::{is_half_used, write_class_texts};
 pub use counted::get_both;
 pub use exchanged::exchange;

@@ -1,4 +1,5 @@
 //! Packings of bytes; keys and values that are drawn, threads among them.
+mod classed;
 mod clients;
 mod collided;
 mod conditional;
