@@ -2,7 +2,11 @@
 ghost use Rattle.std.specs.Prelude.{IfOk};
 ghost use Rattle.mc_cache.specs.Belonging.{BelongsTo};
 
+mod large;
+mod listing;
+
 use super::made::{KEY, SMALL, next_worker, opened};
+use listing::answer_of_keys;
 use mc_cache::{Cache, CallError, Outcome, SetError, Worker};
 use mc_expiry::{Expiry, ExpiryError};
 use mc_stripe::Stamp;
@@ -40,6 +44,7 @@ enum Call {
     Add,
     Replace,
     CompareAndSet,
+    Keys,
     Increment,
     Append,
     Prepend,
@@ -69,7 +74,7 @@ type Row<'a> = (
 );
 
 /// Calls of a worker.
-const WORKERS: [Row<'static>; 6] = [
+const WORKERS: [Row<'static>; 7] = [
     (Call::Set, "set", Some(b"4999"), Some(&LONG), None),
     (
         Call::SetOrKeep,
@@ -92,6 +97,13 @@ const WORKERS: [Row<'static>; 6] = [
         "compare_and_set",
         Some(b"4999"),
         Some(&LONG),
+        Some(b"4999"),
+    ),
+    (
+        Call::Keys,
+        "keys",
+        Some(b"4999"),
+        Some(b"4999"),
         Some(b"4999"),
     ),
 ];
@@ -289,6 +301,7 @@ fn answer_of_worker<R: Wait>(
         Call::CompareAndSet => {
             of_outcome(worker.compare_and_set(rt, cache, KEY, &LONG, version))
         }
+        Call::Keys => answer_of_keys(rt, alloc, cache, worker),
         _get => {
             let mut bytes = Vec::new(alloc);
             of_get(worker.get(rt, cache, KEY, &mut bytes))
