@@ -1,5 +1,8 @@
 //! Packings of bytes; keys and values that are drawn, threads among them.
 mod classed;
+mod cleared;
+mod cleared_drawn;
+mod cleared_threads;
 mod clients;
 mod collided;
 mod conditional;
@@ -8,6 +11,7 @@ mod deleted;
 mod drawn;
 mod eight;
 mod made;
+mod marked;
 mod messages;
 mod packing;
 mod refused;

@@ -1,0 +1,5 @@
+use Rattle.mc_cache.specs.Belonging.{BelongsTo}
+use Rattle.test_cache.proofs.tests.marked.get_often.Given as goal
+
+abbrev pub invariant-loop : goal.invariant-loop
+invariant-loop g l = BelongsTo l.cache l.worker

@@ -1,0 +1,190 @@
+//! Clears, counts and lists of keys: of known keys, also within tries.
+ghost use Rattle.mc_cache.specs.Belonging.{BelongsTo};
+ghost use Rattle.mc_cache.specs.Resting.{RestsIn};
+
+use super::made::{with_one_worker, with_resting_worker};
+use example_calls::cache::{clear_and_count, keys_of_shard};
+use mc_cache::{Cache, Worker};
+use mc_items::WithinError;
+use mc_memory::Refused;
+use std::alloc::{AllocError, Global};
+use std::collections::BTreeMap;
+use std::process::Abort;
+use std::sync::Wait;
+use std::test::Fail;
+
+/// How many known keys are stored. Each is one byte, its number.
+const KNOWN: u8 = 30;
+
+/// The value of a known key.
+const VALUE: &[u8] = b"value";
+
+/// What a cache should have: the version of each key's value, by the key's one byte.
+pub type Model = BTreeMap<u8, u64>;
+
+/// The keys of all parts of the cache.
+pub fn keys_of_all<R: Wait>(
+    rt: &R,
+    alloc: Global,
+    cache: &Cache,
+    worker: &mut Worker,
+) -> Result<Vec<Vec<u8>>, Refused>
+    requires { BelongsTo cache.now worker.old }
+    ensures { BelongsTo cache.now worker.new }
+{
+    let mut keys = Vec::new(alloc);
+    for shard in 0..cache.shards() {
+        keys_of_shard(rt, alloc, cache, worker, shard, &mut keys)?;
+    }
+    Ok(keys)
+}
+
+/// The one byte of each of these keys, the smallest first. None if one has another length.
+fn numbers_of(alloc: Global, keys: &[Vec<u8>]) -> Result<Option<Vec<u8>>, AllocError> {
+    let mut numbers = Vec::new(alloc);
+    for key in keys {
+        let [number] = key.as_slice() else {
+            return Ok(None);
+        };
+        numbers.push(*number)?;
+    }
+    numbers.sort_unstable();
+    Ok(Some(numbers))
+}
+
+/// Whether these are the keys of the model, each once.
+pub fn are_keys_of(alloc: Global, keys: &[Vec<u8>], model: &Model) -> Result<bool, AllocError> {
+    let Some(numbers) = numbers_of(alloc, keys)? else {
+        return Ok(false);
+    };
+    Ok(
+        numbers.len() == model.len()
+            && numbers
+                .iter()
+                .zip(model.keys())
+                .all(|(key, own)| key == own),
+    )
+}
+
+/// Stores the known keys. How many of them were refused.
+pub fn store_known<R: Wait>(rt: &R, cache: &Cache, worker: &mut Worker) -> u64
+    requires { BelongsTo cache.now worker.old }
+    ensures { BelongsTo cache.now worker.new }
+{
+    let mut refused: u64 = 0;
+    for number in 0..KNOWN {
+        if worker.set(rt, cache, &[number], VALUE).is_err() {
+            refused = refused.wrapping_add(1);
+        }
+    }
+    refused
+}
+
+/// How many of the known keys have no value.
+pub fn missing_known<R: Wait>(rt: &R, cache: &Cache, worker: &mut Worker) -> u64
+    requires { BelongsTo cache.now worker.old }
+    ensures { BelongsTo cache.now worker.new }
+{
+    let mut missing: u64 = 0;
+    for number in 0..KNOWN {
+        if worker.contains(rt, cache, &[number]) == Ok(false) {
+            missing = missing.wrapping_add(1);
+        }
+    }
+    missing
+}
+
+/// The known keys, as a cache should have them.
+fn known(alloc: Global) -> Result<Model, Fail> {
+    let mut model = BTreeMap::new(alloc);
+    for number in 0..KNOWN {
+        let _before = model.insert(number, 0)?;
+    }
+    Ok(model)
+}
+
+/// The count is that of the known keys, and the list has each of them once.
+fn assert_known<R: Abort + Wait>(
+    rt: &R,
+    alloc: Global,
+    cache: &Cache,
+    worker: &mut Worker,
+) -> Result<(), Fail>
+    requires { BelongsTo cache.now worker.old }
+    ensures { BelongsTo cache.now worker.new }
+{
+    let model = known(alloc)?;
+    let count = worker.len(rt, cache);
+    assert!(rt; count == KNOWN as u64, "another number was counted");
+    let keys = keys_of_all(rt, alloc, cache, worker)?;
+    let right = are_keys_of(alloc, &keys, &model)?;
+    assert!(rt; right, "other keys were listed, or one twice");
+    Ok(())
+}
+
+/// Nothing is counted, listed or found.
+fn assert_none<R: Abort + Wait>(
+    rt: &R,
+    alloc: Global,
+    cache: &Cache,
+    worker: &mut Worker,
+) -> Result<(), Fail>
+    requires { BelongsTo cache.now worker.old }
+{
+    let keys = keys_of_all(rt, alloc, cache, worker)?;
+    assert!(rt; keys.is_empty(), "a key is listed behind the clear");
+    let missing = missing_known(rt, cache, worker);
+    assert!(rt; missing == KNOWN as u64, "a key is there behind the clear");
+    Ok(())
+}
+
+/// Known keys of two shards are counted and listed, and a clear deletes each.
+#[test]
+fn known_keys_are_counted_listed_and_cleared(rt: HostRuntime) -> Result<(), Fail> {
+    let (cache, mut worker, _tender) = with_one_worker(&rt, rt.alloc(), 2)?;
+    let refused = store_known(&rt, &cache, &mut worker);
+    assert!(rt; refused == 0, "a key wasn't stored");
+    assert_known(&rt, rt.alloc(), &cache, &mut worker)?;
+    let cleared = clear_and_count(&rt, &cache, &mut worker);
+    assert!(rt;
+        cleared == Ok((KNOWN as u64, 0)),
+        "other keys were deleted, or some are left"
+    );
+    assert_none(&rt, rt.alloc(), &cache, &mut worker)
+}
+
+/// Stores the known keys within one try for each lock. How many of them were refused.
+fn store_known_within(cache: &Cache, worker: &mut Worker) -> u64
+    requires { RestsIn cache.now worker.old }
+    ensures { RestsIn cache.now worker.new }
+{
+    let mut refused: u64 = 0;
+    for number in 0..KNOWN {
+        if worker.set_within(cache, &[number], VALUE, 1).is_err() {
+            refused = refused.wrapping_add(1);
+        }
+    }
+    refused
+}
+
+/// Without a try a count and a clear are held, and nothing is deleted. With tries they are done.
+#[test]
+fn clears_and_counts_want_a_try(rt: HostRuntime) -> Result<(), Fail> {
+    let (cache, mut worker) = with_resting_worker(rt.alloc(), 2)?;
+    let refused = store_known_within(&cache, &mut worker);
+    assert!(rt; refused == 0, "a key wasn't stored");
+    let uncounted = worker.len_within(&cache, 0);
+    assert!(rt; uncounted.is_err(), "a count without a lock");
+    let uncleared = worker.clear_within(&cache, 0);
+    assert!(rt;
+        matches!(uncleared, Err(WithinError::Held)),
+        "a clear without a lock"
+    );
+    let counted = worker.len_within(&cache, 1);
+    assert!(rt; matches!(counted, Ok(30)), "a held clear deleted a key");
+    let cleared = worker.clear_within(&cache, 8);
+    assert!(rt; matches!(cleared, Ok(30)), "a clear left a key");
+    let left = worker.len_within(&cache, 8);
+    assert!(rt; matches!(left, Ok(0)), "a key is counted behind the clear");
+    Ok(())
+}
