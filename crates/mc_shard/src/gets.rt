@@ -11,7 +11,7 @@ ghost use Rattle.mc_shard.specs.Hands.{IsIdleHandOf};
 ghost use Rattle.mc_shard.specs.Reading.{LeavesSlabs, RefersTo, TakesSlabsOnce};
 ghost use Rattle.mc_shard.specs.Recording.{RecordsGetAtMost};
 
-use crate::hints::{HintTable, Mark};
+use crate::hints::{HintTable, Look};
 use crate::label::Label;
 use crate::lookup::get_item;
 use crate::reading::is_of;
@@ -46,7 +46,7 @@ pub fn get<R: Wait>(
     ensures number { hand_number hand.new ≡ hand_number hand.old }
     ensures idle { IsIdleHandOf arena.now hand.new }
 {
-    value_of(rt, arena, hints, hand, at, Mark::Use, into)
+    value_of(rt, arena, hints, hand, at, Look::Use, into)
 }
 
 /// Puts the key's value behind the bytes that are there, and returns whether the key has one. It waits for the lock of the hash's
@@ -75,7 +75,7 @@ pub fn peek<R: Wait>(
     ensures number { hand_number hand.new ≡ hand_number hand.old }
     ensures idle { IsIdleHandOf arena.now hand.new }
 {
-    value_of(rt, arena, hints, hand, at, Mark::Keep, into)
+    value_of(rt, arena, hints, hand, at, Look::Peek, into)
 }
 
 // The same, by a look that changes the mark of the item's hint.
@@ -86,7 +86,7 @@ fn value_of<R: Wait>(
     hints: &HintTable,
     hand: &mut Hand,
     at: Label,
-    look: Mark,
+    look: Look,
     into: &mut Vec<u8>,
 ) -> Result<bool, Refused>
     requires { IsIdleHandOf arena.now hand.old }
@@ -132,7 +132,7 @@ pub fn touch<R: Wait>(
     ensures number { hand_number hand.new ≡ hand_number hand.old }
     ensures idle { IsIdleHandOf arena.now hand.new }
 {
-    let Some(item) = get_item(rt, arena, hints, hand, at.hash, Mark::Keep)? else {
+    let Some(item) = get_item(rt, arena, hints, hand, at.hash, Look::Peek)? else {
         return Ok(false);
     };
     Ok(touch_own(rt, arena, hand, item, at.key))

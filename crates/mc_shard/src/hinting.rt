@@ -8,7 +8,7 @@ ghost use Rattle.mc_shard.specs.Finding.{FindsItem, TriesHint};
 ghost use Rattle.mc_shard.specs.Hands.{IsIdleHandOf};
 ghost use Rattle.mc_shard.specs.Reading.{LeavesSlabs};
 
-use crate::hints::{HintTable, Mark, hint_in, mark_found};
+use crate::hints::{HintTable, Look, hint_in, mark_found};
 use mc_items::{Ref, again, release};
 use mc_words::{Arena, Hand};
 
@@ -21,7 +21,7 @@ pub(crate) fn get_hinted(
     hints: &HintTable,
     hand: &mut Hand,
     hash: u64,
-    look: Mark,
+    look: Look,
 ) -> Option<Ref>
     requires { IsIdleHandOf arena.now hand.old }
     ensures item { IfSome result (λ item. FindsItem arena.now hash item hand.old hand.new) }

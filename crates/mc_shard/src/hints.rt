@@ -45,21 +45,21 @@ fn is_of(word: u64, hash: u64) -> bool {
     word >> 17 & 0x7fff == part_of(hash)
 }
 
-// What a look at an item does to its mark.
+// Why an item is looked at.
 #[derive(Clone, Copy)]
-pub(crate) enum Mark {
-    // Counts one use more, up to three.
+pub(crate) enum Look {
+    // For its value: its mark counts one use more, up to three.
     Use,
-    // Leaves it.
-    Keep,
+    // For anything else: its mark stays.
+    Peek,
 }
 
-impl Mark {
-    // What becomes of a mark.
+impl Look {
+    // What becomes of the mark.
     #[inline(always)]
-    fn change(self, mark: u64) -> u64 {
+    fn mark_after(self, mark: u64) -> u64 {
         match self {
-            Mark::Use if mark < MARK => mark.wrapping_add(USE),
+            Look::Use if mark < MARK => mark.wrapping_add(USE),
             _ => mark,
         }
     }
@@ -119,10 +119,10 @@ impl HintTable {
     }
 
     /// Puts the hint of an item that a look found, with the mark that a place of the hash has, or no mark, changed by the look.
-    pub(crate) fn note_found(&self, hash: u64, hint: Hint, look: Mark) {
+    pub(crate) fn note_found(&self, hash: u64, hint: Hint, look: Look) {
         match self.find(hash) {
-            Some((place, word)) => put(place, hash, hint, look.change(word & MARK)),
-            None => self.note_new(hash, hint, look.change(0)),
+            Some((place, word)) => put(place, hash, hint, look.mark_after(word & MARK)),
+            None => self.note_new(hash, hint, look.mark_after(0)),
         }
     }
 
@@ -130,7 +130,7 @@ impl HintTable {
     /// item was evicted meanwhile. (own, after S3-FIFO's queue of keys that went)
     pub(crate) fn note_stored(&self, hash: u64, hint: Hint) {
         match self.find(hash) {
-            Some((place, word)) => put(place, hash, hint, Mark::Use.change(word & MARK)),
+            Some((place, word)) => put(place, hash, hint, Look::Use.mark_after(word & MARK)),
             None => self.note_new(hash, hint, 0),
         }
     }
@@ -170,8 +170,8 @@ pub(crate) fn hint_in(arena: &Arena, word: u64) -> Option<Hint>
 
 /// Changes the mark of the word that a look found at the place. A greatest mark is left, so most gets only load the word.
 #[inline(always)]
-pub(crate) fn mark_found(place: &AtomicU64, word: u64, look: Mark) {
-    if let Mark::Use = look {
+pub(crate) fn mark_found(place: &AtomicU64, word: u64, look: Look) {
+    if let Look::Use = look {
         if word & MARK < MARK {
             place.store(word.wrapping_add(USE), SeqCst);
         }

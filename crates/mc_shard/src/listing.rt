@@ -12,7 +12,7 @@ ghost use Rattle.mc_shard.specs.Listing.{FindsNoKey, ListsStripe, LooksUpFirst, 
 ghost use Rattle.mc_shard.specs.Reading.{LeavesSlabs, OnlyReads, RefersTo};
 ghost use Rattle.mc_shard.specs.Recording.{RecordsGetAtMost};
 
-use crate::hints::{HintTable, Mark};
+use crate::hints::{HintTable, Look};
 use crate::lookup::get_item;
 use mc_items::{Ref, keys_of_stripe, read, release};
 use mc_memory::{Refused, push};
@@ -121,7 +121,7 @@ fn key_under<R: Wait>(
     ensures stores_nothing { StoresNothing (view hand.old) (view hand.new) }
     ensures slabs { LeavesSlabs (view hand.old) (view hand.new) }
 {
-    match get_item(rt, arena, hints, hand, hash, Mark::Keep) {
+    match get_item(rt, arena, hints, hand, hash, Look::Peek) {
         Ok(Some(item)) => take_key(alloc, arena, hand, item),
         Ok(None) => Ok(None),
         Err(refused) => Err(refused),

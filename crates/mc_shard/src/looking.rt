@@ -11,7 +11,7 @@ ghost use Rattle.mc_shard.specs.Reading.{LeavesSlabs};
 ghost use Rattle.mc_shard.specs.Recording.{RecordsGetAtMost};
 ghost use Rattle.mc_shard.specs.Within.{MissesLock};
 
-use crate::hints::{HintTable, Mark};
+use crate::hints::{HintTable, Look};
 use crate::label::Label;
 use crate::lookup::{get_item, item_within};
 use crate::try_gets::{TryGetError, tell_key};
@@ -49,7 +49,7 @@ pub(crate) fn look<R: Wait>(
     ensures number { hand_number hand.new ≡ hand_number hand.old }
     ensures idle { IsIdleHandOf arena.now hand.new }
 {
-    let Some(item) = get_item(rt, arena, hints, hand, at.hash, Mark::Keep)? else {
+    let Some(item) = get_item(rt, arena, hints, hand, at.hash, Look::Peek)? else {
         return Ok(Seen::Nothing);
     };
     let stamp = item.stamp();
@@ -82,7 +82,7 @@ pub(crate) fn look_within(
     ensures number { hand_number hand.new ≡ hand_number hand.old }
     ensures idle { IsIdleHandOf arena.now hand.new }
 {
-    match item_within(arena, hints, hand, at.hash, tries, Mark::Keep) {
+    match item_within(arena, hints, hand, at.hash, tries, Look::Peek) {
         Ok(Some(item)) => {
             let stamp = item.stamp();
             if tell_key(arena, hand, item, at.key) {

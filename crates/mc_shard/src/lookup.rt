@@ -11,7 +11,7 @@ ghost use Rattle.mc_shard.specs.Recording.{RecordsGetAtMost};
 ghost use Rattle.mc_shard.specs.Within.{MissesLock};
 
 use crate::hinting::get_hinted;
-use crate::hints::{HintTable, Mark};
+use crate::hints::{HintTable, Look};
 use crate::try_gets::TryGetError;
 use mc_items::{GetError, Ref, hint};
 use mc_memory::Refused;
@@ -28,7 +28,7 @@ pub(crate) fn get_item<R: Wait>(
     hints: &HintTable,
     hand: &mut Hand,
     hash: u64,
-    look: Mark,
+    look: Look,
 ) -> Result<Option<Ref>, Refused>
     requires { IsIdleHandOf arena.now hand.old }
     ensures item { IfOk result (λ found. IfSome found (λ item.
@@ -63,7 +63,7 @@ pub(crate) fn try_item(
     hints: &HintTable,
     hand: &mut Hand,
     hash: u64,
-    look: Mark,
+    look: Look,
 ) -> Result<Option<Ref>, TryGetError>
     requires { IsIdleHandOf arena.now hand.old }
     ensures item { IfOk result (λ found. IfSome found (λ item.
@@ -103,7 +103,7 @@ pub(crate) fn item_within(
     hand: &mut Hand,
     hash: u64,
     tries: u64,
-    look: Mark,
+    look: Look,
 ) -> Result<Option<Ref>, TryGetError>
     requires { IsIdleHandOf arena.now hand.old }
     ensures item { IfOk result (λ found. IfSome found (λ item.

@@ -11,7 +11,7 @@ ghost use Rattle.mc_shard.specs.Hands.{IsIdleHandOf};
 ghost use Rattle.mc_shard.specs.Reading.{LeavesSlabs, OnlyReads, RefersTo};
 
 use crate::class_items::{ClassItems, ItemSize, add_item};
-use crate::hints::{HintTable, Mark};
+use crate::hints::{HintTable, Look};
 use crate::lookup::get_item;
 use crate::reading::read_word;
 use mc_items::{Ref, first_place, keys_of_stripe, release};
@@ -126,7 +126,7 @@ fn size_under<R: Wait>(
     ensures stores_nothing { StoresNothing (view hand.old) (view hand.new) }
     ensures slabs { LeavesSlabs (view hand.old) (view hand.new) }
 {
-    match get_item(rt, arena, hints, hand, hash, Mark::Keep) {
+    match get_item(rt, arena, hints, hand, hash, Look::Peek) {
         Ok(Some(item)) => Ok(take_size(arena, hand, item)),
         Ok(None) => Ok(None),
         Err(refused) => Err(refused),

@@ -12,7 +12,7 @@ ghost use Rattle.mc_shard.specs.Hands.{IsIdleHandOf};
 ghost use Rattle.mc_shard.specs.Reading.{LeavesSlabs, RefersTo};
 ghost use Rattle.mc_shard.specs.Recording.{RecordsGetAtMost};
 
-use crate::hints::{HintTable, Mark};
+use crate::hints::{HintTable, Look};
 use crate::label::Label;
 use crate::lookup::{get_item, try_item};
 use crate::reading::{is_of, push_value};
@@ -60,7 +60,7 @@ pub fn try_get(
     ensures number { hand_number hand.new ≡ hand_number hand.old }
     ensures idle { IsIdleHandOf arena.now hand.new }
 {
-    match try_item(arena, hints, hand, at.hash, Mark::Use) {
+    match try_item(arena, hints, hand, at.hash, Look::Use) {
         Ok(Some(item)) => match give_value(arena, hand, item, at.key, into) {
             Ok(there) => Ok(there),
             Err(refused) => Err(TryGetError::NoMemory(refused)),
@@ -91,7 +91,7 @@ pub fn contains<R: Wait>(
     ensures stores_nothing { StoresNothing (view hand.old) (view hand.new) }
     ensures slabs { LeavesSlabs (view hand.old) (view hand.new) }
 {
-    let Some(item) = get_item(rt, arena, hints, hand, at.hash, Mark::Keep)? else {
+    let Some(item) = get_item(rt, arena, hints, hand, at.hash, Look::Peek)? else {
         return Ok(false);
     };
     Ok(tell_key(arena, hand, item, at.key))

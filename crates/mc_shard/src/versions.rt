@@ -11,7 +11,7 @@ ghost use Rattle.mc_shard.specs.Reading.{LeavesSlabs};
 ghost use Rattle.mc_shard.specs.Recording.{RecordsGetAtMost};
 ghost use Rattle.mc_shard.specs.Within.{MissesLock};
 
-use crate::hints::{HintTable, Mark};
+use crate::hints::{HintTable, Look};
 use crate::label::Label;
 use crate::lookup::{get_item, item_within};
 use crate::try_gets::{TryGetError, give_value};
@@ -46,7 +46,7 @@ pub fn get_with_version<R: Wait>(
     ensures number { hand_number hand.new ≡ hand_number hand.old }
     ensures idle { IsIdleHandOf arena.now hand.new }
 {
-    let Some(item) = get_item(rt, arena, hints, hand, at.hash, Mark::Use)? else {
+    let Some(item) = get_item(rt, arena, hints, hand, at.hash, Look::Use)? else {
         return Ok(None);
     };
     let version = item.stamp();
@@ -86,7 +86,7 @@ pub fn get_with_version_within(
     ensures number { hand_number hand.new ≡ hand_number hand.old }
     ensures idle { IsIdleHandOf arena.now hand.new }
 {
-    let item = match item_within(arena, hints, hand, at.hash, tries, Mark::Use) {
+    let item = match item_within(arena, hints, hand, at.hash, tries, Look::Use) {
         Ok(Some(item)) => item,
         Ok(None) => return Ok(None),
         Err(TryGetError::NoMemory(refused)) => return Err(TryGetError::NoMemory(refused)),

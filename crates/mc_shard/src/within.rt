@@ -15,7 +15,7 @@ ghost use Rattle.mc_shard.specs.Reading.{LeavesSlabs, RefersTo, TakesSlabsOnce};
 ghost use Rattle.mc_shard.specs.Recording.{RecordsDeleteAtMost, RecordsGetAtMost};
 ghost use Rattle.mc_shard.specs.Within.{MissesDelete, MissesLock, MissesKeyTouch};
 
-use crate::hints::{HintTable, Mark};
+use crate::hints::{HintTable, Look};
 use crate::label::Label;
 use crate::lookup::item_within;
 use crate::reading::is_of;
@@ -51,7 +51,7 @@ pub fn get_within(
     ensures number { hand_number hand.new ≡ hand_number hand.old }
     ensures idle { IsIdleHandOf arena.now hand.new }
 {
-    match item_within(arena, hints, hand, at.hash, tries, Mark::Use) {
+    match item_within(arena, hints, hand, at.hash, tries, Look::Use) {
         Ok(Some(item)) => match give_value(arena, hand, item, at.key, into) {
             Ok(there) => Ok(there),
             Err(refused) => Err(TryGetError::NoMemory(refused)),
@@ -85,7 +85,7 @@ pub fn contains_within(
     ensures stores_nothing { StoresNothing (view hand.old) (view hand.new) }
     ensures slabs { LeavesSlabs (view hand.old) (view hand.new) }
 {
-    match item_within(arena, hints, hand, at.hash, tries, Mark::Keep) {
+    match item_within(arena, hints, hand, at.hash, tries, Look::Peek) {
         Ok(Some(item)) => Ok(tell_key(arena, hand, item, at.key)),
         Ok(None) => Ok(false),
         Err(TryGetError::NoMemory(refused)) => Err(TryGetError::NoMemory(refused)),
@@ -150,7 +150,7 @@ pub fn touch_within(
     ensures number { hand_number hand.new ≡ hand_number hand.old }
     ensures idle { IsIdleHandOf arena.now hand.new }
 {
-    match item_within(arena, hints, hand, at.hash, tries, Mark::Keep) {
+    match item_within(arena, hints, hand, at.hash, tries, Look::Peek) {
         Ok(Some(item)) => touch_own_within(arena, hand, item, at.key, tries),
         Ok(None) => Ok(false),
         Err(TryGetError::NoMemory(refused)) => Err(WithinError::NoMemory(refused)),
