@@ -7,6 +7,7 @@ ghost use Rattle.mc_core.specs.model.State.{is_class};
 ghost use Rattle.mc_words.specs.hand.Arenas.{IsHandOf, setup_of, view};
 ghost use Rattle.mc_words.specs.hand.Idle.{has_no_stripes};
 ghost use Rattle.mc_words.specs.hand.Observers.{HasSlabs, hand_number, locks_of, slabs_lent};
+ghost use Rattle.mc_words.specs.chunk.Sweeps.{Recovers};
 ghost use Rattle.mc_words.specs.hand.Ready.{IsReady, StaysReady};
 ghost use Rattle.mc_words.specs.item.Refs.{KeepsHoldings};
 ghost use Rattle.mc_items.specs.Keeping.{StoresNothing};
@@ -38,8 +39,8 @@ pub enum Room {
     Full,
 }
 
-/// Makes room in a class, if it has no free chunk, so that the next `set` finds one and sweeps nothing. It puts back dead chunks that
-/// hints name; else it gives the class the next page; else it evicts some of the class's oldest items that nobody holds, of which each
+/// Makes room in a class, if it has no free chunk, so that the next `set` finds one and sweeps nothing. It puts back the chunk that the
+/// hand left dead when it last stored over an item, or dead chunks that hints name; else it gives the class the next page; else it evicts some of the class's oldest items that nobody holds, of which each
 /// that is marked gets a second chance. It waits for the lock of the slabs alone. (memcached's items.c `lru_pull_tail`, with a second
 /// chance as its `ITEM_ACTIVE` items get; unlink in place of condemn: own)
 pub fn make_room<R: Wait, M: Marks>(
@@ -103,7 +104,7 @@ pub(crate) fn make_room_held<M: Marks>(
     }
 }
 
-// Whether the class has a free chunk. Where it has none, dead chunks that hints name are put back first.
+// Whether the class has a free chunk. Where it has none, the dead chunk that the hand remembers or those that hints name are put back first.
 fn find_free(arena: &Arena, hand: &mut Hand, slabs: &mut SlabsHeld, class: ClassId) -> bool
     requires arena { IsHandOf arena.now hand.old }
     requires class { is_class (setup_of arena.now).table class ≡ true }
@@ -119,8 +120,26 @@ fn find_free(arena: &Arena, hand: &mut Hand, slabs: &mut SlabsHeld, class: Class
     if slabs.slabs().first_free(class).is_some() {
         return true;
     }
-    arena.recover(hand, slabs, class);
+    put_back_dead(arena, hand, slabs, class);
     slabs.slabs().first_free(class).is_some()
+}
+
+// Puts the dead chunk back that the hand remembers, or where it remembers none of the class, those that hints name.
+fn put_back_dead(arena: &Arena, hand: &mut Hand, slabs: &mut SlabsHeld, class: ClassId)
+    requires arena { IsHandOf arena.now hand.old }
+    requires class { is_class (setup_of arena.now).table class ≡ true }
+    requires slabs { HasSlabs hand.old slabs.old }
+    ensures arena { IsHandOf arena.now hand.new }
+    ensures locks { locks_of hand.new ≡ locks_of hand.old }
+    ensures slabs { HasSlabs hand.new slabs.new }
+    ensures recovers { Recovers (class_at (slabs_lent slabs.old) class).order
+        (view hand.old) (slabs_lent slabs.old) (view hand.new) (slabs_lent slabs.new) }
+    ensures seen { SeesMore hand.old hand.new }
+{
+    if arena.recover_own(hand, slabs, class) {
+        return;
+    }
+    arena.recover(hand, slabs, class);
 }
 
 // Evicts some of the class's oldest items, and asks for a move of a page to the class, if one was evicted and the automover's mode

@@ -9,5 +9,6 @@ pub mod Sweeps
 pub mod SweepViews
 pub mod FewDead
 pub mod Recovered
+pub mod OwnDead
 pub mod DeadOrders
 pub mod Judging

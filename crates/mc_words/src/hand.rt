@@ -9,6 +9,7 @@ ghost use Rattle.mc_words.specs.hand.Tallies.{IsTallied};
 
 use crate::lock::locks::{Lock, Locks};
 use crate::rule::HandSeat;
+use mc_pages::ChunkId;
 
 /// A hand's stamps begin at this times its number.
 const STAMP_UNIT: u64 = 281_474_976_710_656;
@@ -28,6 +29,9 @@ pub struct Hand {
     pub(crate) stamps: u64,
     /// How many of its chunks it fills.
     pub(crate) fresh: u64,
+    /// A chunk that the hand left dead when it stored over an item, which no hint names. Nothing proved rests on it: who puts it back looks at
+    /// its header.
+    pub(crate) dead: Option<ChunkId>,
     ghost noted: { IsNoted seat.me number chunks locks },
     ghost tallied: { IsTallied seat.me stamps fresh },
 }

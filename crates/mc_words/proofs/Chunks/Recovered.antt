@@ -1,9 +1,9 @@
 -- What was looked at and put back, as a caller has it: each chunk of the order that was looked at and is handed out still was seen alive last.
-use Rattle.std.proofs.Common.{◌≡◌, ℕ, ◌≤◌, true, List, [], Some, ap, subst, ◌∙◌, arith}
+use Rattle.std.proofs.Common.{◌≡◌, ℕ, ◌≤◌, true, List, [], Some, subst, ◌∙◌, arith}
 use Rattle.std.specs.Prelude.{Contains}
 use Rattle.mc_pages.specs.declared.ids.ChunkId.{ChunkId}
 use Rattle.mc_pages.specs.ClassState.{times_in}
-use Rattle.mc_pages.specs.SlabState.{SlabState, class_at, class_of_chunk, class_of_page}
+use Rattle.mc_pages.specs.SlabState.{SlabState, class_at, class_of_chunk}
 use Rattle.mc_pages.proofs.Chunks.{times_from_Contains}
 use Rattle.mc_core.specs.model.State.{is_class}
 use Rattle.mc_words.specs.chunk.Sweeps.{SweepsEach}

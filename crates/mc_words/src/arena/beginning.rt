@@ -139,6 +139,7 @@ impl Arena {
             locks: Locks::Neither,
             stamps: 0,
             fresh: 0,
+            dead: None,
         };
         Ok((arena, hand))
     }

@@ -50,8 +50,32 @@ impl Hints {
         }
     }
 
-    // The chunk may be dead.
-    fn note(&self, chunk: ChunkId) {
+    /// The chunk's header is this now: where the chunk is dead, its hand keeps it, and the one that it kept before is noted. Returns what the
+    /// hand keeps.
+    #[inline(always)]
+    pub(crate) fn keep_if_dead(
+        &self,
+        kept: Option<ChunkId>,
+        chunk: ChunkId,
+        head: u64,
+    ) -> Option<ChunkId> {
+        if head % ISSUE_UNIT != DEAD {
+            return kept;
+        }
+        self.note_kept(kept);
+        Some(chunk)
+    }
+
+    /// The chunk that a hand kept may be dead, if it kept one.
+    #[inline(always)]
+    pub(crate) fn note_kept(&self, kept: Option<ChunkId>) {
+        if let Some(chunk) = kept {
+            self.note(chunk);
+        }
+    }
+
+    /// The chunk may be dead.
+    pub(crate) fn note(&self, chunk: ChunkId) {
         if let Some(word) = self.chunks.get(place(chunk.page, chunk.index / BITS)) {
             word.fetch_or(1 << (chunk.index % BITS), SeqCst);
             self.note_page(chunk.page);

@@ -1,13 +1,13 @@
 //! Dead chunks that are found by hints, and put back.
-ghost use Rattle.std.specs.Prelude.{◌≡◌, ◌<◌, ◌≤◌, List, [], Some, true};
+ghost use Rattle.std.specs.Prelude.{◌≡◌, ◌<◌, ◌≤◌, List, [], Some, false, true};
 ghost use Rattle.mc_classes.specs.Limits.{most_page_chunks};
 ghost use Rattle.mc_classes.specs.Classes.{arena_pages_of};
 ghost use Rattle.mc_pages.specs.declared.ids.ChunkId.{ChunkId};
 ghost use Rattle.mc_pages.specs.SlabState.{class_at, class_of_page};
-ghost use Rattle.mc_core.specs.model.State.{is_class, most_of};
+ghost use Rattle.mc_core.specs.model.State.{has_chunk, is_class, most_of};
 ghost use Rattle.mc_words.specs.hand.Arenas.{IsHandOf, setup_of, view};
 ghost use Rattle.mc_words.specs.chunk.Dead.{AreHandedOut, AreJudged, IsAliveOrNoted};
-ghost use Rattle.mc_words.specs.chunk.Sweeps.{Recovers, SeesHeaders, with_seen};
+ghost use Rattle.mc_words.specs.chunk.Sweeps.{Recovers, SeesHeaders, SweepsOne, with_seen};
 
 use crate::arena::Arena;
 use crate::chunk::dead::DeadChunks;
@@ -18,9 +18,48 @@ use mc_classes::{ClassId, PageId};
 use mc_pages::ChunkId;
 
 impl Arena {
+    /// Puts the chunk back that the hand left dead when it last stored over an item, if the class handed that one out and it is dead still. It
+    /// follows no other hint, and puts nothing else back. False where the hand remembers no such chunk: nothing is done then. (own, as slabs.c
+    /// frees a chunk when its last reference goes)
+    pub fn recover_own(&self, hand: &mut Hand, held: &mut SlabsHeld, class: ClassId) -> bool
+        requires arena { IsHandOf self.now hand.old }
+        requires class { is_class (setup_of self.now).table class ≡ true }
+        requires held { (view hand.old).slabs ≡ Some held.old.shared }
+        ensures arena { IsHandOf self.now hand.new }
+        ensures locks { hand.new.locks ≡ hand.old.locks }
+        ensures held { (view hand.new).slabs ≡ Some held.new.shared }
+        ensures recovers { result ≡ true → Recovers (class_at held.old.shared class).order
+            (view hand.old) held.old.shared (view hand.new) held.new.shared }
+        ensures one { result ≡ true → (chunk : ChunkId)
+            × SweepsOne chunk (view hand.old) held.old.shared (view hand.new) held.new.shared }
+        ensures view { view hand.new ≡ with_seen (view hand.old) (view hand.new) }
+        ensures none { result ≡ false →
+            (view hand.new ≡ view hand.old) × (held.new.shared ≡ held.old.shared) }
+    {
+        let Some(chunk) = hand.dead.take() else {
+            return false;
+        };
+        if !self.is_of_class(hand, held, class, chunk) {
+            self.hints.note(chunk);
+            return false;
+        }
+        let _ = self.put_back(hand, held, chunk);
+        true
+    }
+
+    // Whether the chunk is one of the arena's, on a page of the class.
+    fn is_of_class(&self, hand: &Hand, held: &SlabsHeld, class: ClassId, chunk: ChunkId) -> bool
+        requires arena { IsHandOf self.now hand.now }
+        requires held { (view hand.now).slabs ≡ Some held.now.shared }
+        ensures in_range { result ≡ true → has_chunk (setup_of self.now).table chunk ≡ true }
+        ensures own { result ≡ true → class_of_page held.now.shared chunk.page ≡ class }
+    {
+        self.has_chunk(chunk) && held.slabs().owner(chunk.page).class() == class
+    }
+
     /// Looks at those chunks of the class that hints name as perhaps dead, and puts back the dead ones, the oldest first. The
-    /// call that leaves a chunk dead gives a hint of it; but one that dies meanwhile may be missed. Where there is no hint at
-    /// all, nothing is done. (own, as slabs.c frees a chunk when its last reference goes)
+    /// call that leaves a chunk dead gives a hint of it, or its hand remembers it; but one that dies meanwhile may be missed. Where there is no
+    /// hint at all, nothing is done. (own, as slabs.c frees a chunk when its last reference goes)
     pub fn recover(&self, hand: &mut Hand, held: &mut SlabsHeld, class: ClassId)
         requires arena { IsHandOf self.now hand.old }
         requires class { is_class (setup_of self.now).table class ≡ true }
@@ -32,6 +71,7 @@ impl Arena {
             (view hand.old) held.old.shared (view hand.new) held.new.shared }
         ensures view { view hand.new ≡ with_seen (view hand.old) (view hand.new) }
     {
+        self.hints.note_kept(hand.dead.take());
         if self.hints.pages() == 0 {
             return;
         }

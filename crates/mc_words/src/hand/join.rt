@@ -31,8 +31,14 @@ impl Arena {
             locks: _,
             stamps,
             fresh,
+            dead,
         } = hand;
-        let Hand { seat: spent, .. } = other;
+        let Hand {
+            seat: spent,
+            dead: kept,
+            ..
+        } = other;
+        self.hints.note_kept(kept);
         self.unite(&mut seat, spent);
         Hand {
             seat,
@@ -41,6 +47,7 @@ impl Arena {
             locks: Locks::Neither,
             stamps,
             fresh,
+            dead,
         }
     }
 

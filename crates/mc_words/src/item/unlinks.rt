@@ -54,7 +54,8 @@ impl Arena {
             held.stripe.stripe_mut().unlink(hand.number, key);
             return false;
         };
-        self.unlink_from(hand, held, key, chunk);
+        let head = self.unlink_from(hand, held, key, chunk);
+        self.hints.note_if_dead(chunk, head);
         if hand.has_fresh() {
             held.stripe.stripe_mut().lift(key);
         } else {
@@ -64,8 +65,8 @@ impl Arena {
     }
 
     /// Unlinks the item of a key, if it has one, for a hand that fills a chunk: the key's entry is put aside, until the hand links that
-    /// chunk. False where the key has no item: nothing is done then, and no call is recorded. It looks the key up once. (items.c's
-    /// `item_replace`, up to `do_item_link`)
+    /// chunk. False where the key has no item: nothing is done then, and no call is recorded. It looks the key up once. Where that leaves the
+    /// item's chunk dead, the hand remembers the chunk, for `recover_own`. (items.c's `item_replace`, up to `do_item_link`)
     pub fn put_aside(&self, hand: &mut Hand, held: &mut StripeHeld, key: Key) -> bool
         requires arena { IsHandOf self.now hand.old }
         requires of_key { key % (setup_of self.now).config.stripes ≡ held.old.number }
@@ -92,13 +93,14 @@ impl Arena {
         let Some((item, _)) = held.stripe().find(key) else {
             return false;
         };
-        self.unlink_from(hand, held, key, item);
+        let head = self.unlink_from(hand, held, key, item);
+        hand.dead = self.hints.keep_if_dead(hand.dead, item, head);
         held.stripe.stripe_mut().lift(key);
         true
     }
 
-    // Takes the link away from the chunk to which the key leads.
-    fn unlink_from(&self, hand: &mut Hand, held: &StripeHeld, key: Key, chunk: ChunkId)
+    // Takes the link away from the chunk to which the key leads, and returns the header that it leaves.
+    fn unlink_from(&self, hand: &mut Hand, held: &StripeHeld, key: Key, chunk: ChunkId) -> u64
         requires arena { IsHandOf self.now hand.old }
         requires of_key { key % (setup_of self.now).config.stripes ≡ held.now.number }
         requires held { slice_index_or (view hand.old).stripes held.now.number None
@@ -119,6 +121,6 @@ impl Arena {
     {
         let word = self.head_word(chunk);
         let found = self.subtract(&mut hand.seat, word, LINKED, Step::Unlink(key));
-        self.hints.note_if_dead(chunk, found.wrapping_sub(LINKED));
+        found.wrapping_sub(LINKED)
     }
 }

@@ -8,8 +8,8 @@ use Rattle.mc_items.proofs.making_room.find_free.Goals as goal
 
 pub first_free-requires-2 : goal.first_free-requires-2
 first_free-requires-2 c =
-    let is = ap (λ (s : Setup). is_class s.table c.args.class) c.recover.ensures.arena.setup ∙ c.requires.class in
-    subst (λ (s : SlabState). (1 ≤ c.args.class) × (c.args.class ≤ length s.classes)) (sym c.slabs-2.ensures.slabs) (class_here c.recover.new.hand.seat.me.0 c.recover.ensures.arena.lawful c.recover.new.held.shared c.recover.ensures.held c.args.class is)
+    let is = ap (λ (s : Setup). is_class s.table c.args.class) c.put_back_dead.ensures.arena.setup ∙ c.requires.class in
+    subst (λ (s : SlabState). (1 ≤ c.args.class) × (c.args.class ≤ length s.classes)) (sym c.slabs-2.ensures.slabs) (class_here c.put_back_dead.new.hand.seat.me.0 c.put_back_dead.ensures.arena.lawful c.put_back_dead.new.slabs.shared c.put_back_dead.ensures.slabs c.args.class is)
 
 pub returns-clause-uncut : goal.returns-clause-uncut
-returns-clause-uncut c = recovers_uncut (class_at c.args.slabs.now.shared c.args.class).order c.args.hand.now.seat.me.0 c.args.slabs.now.shared c.recover.new.hand.seat.me.0 c.recover.new.held.shared c.recover.ensures.recovers
+returns-clause-uncut c = recovers_uncut (class_at c.args.slabs.now.shared c.args.class).order c.args.hand.now.seat.me.0 c.args.slabs.now.shared c.put_back_dead.new.hand.seat.me.0 c.put_back_dead.new.slabs.shared c.put_back_dead.ensures.recovers

@@ -1,6 +1,5 @@
 use Rattle.std.proofs.Common.{◌∙◌, ap}
 use Rattle.mc_core.specs.model.State.{is_class}
-use Rattle.mc_words.specs.hand.Arenas.{view}
 use Rattle.mc_words.specs.chunk.Sweeps.{with_seen}
 use Rattle.mc_words.specs.hand.View.{Setup, View}
 use Rattle.mc_words.proofs.Pages.LookedOver.{sees_headers_alone}

@@ -1,6 +1,5 @@
 use Rattle.std.proofs.Common.{[], ◌∷◌, ◌++◌, ◌∙◌, ◌≢◌, length-append, arith}
 use Rattle.std.proofs.lemmas.List.Elements.{All-append, All-cons}
-use Rattle.mc_words.specs.lock.Wait.{MissesSlabsEachTime}
 use Rattle.mc_words.proofs.Locks.Waits.{missed_again}
 use Rattle.mc_words.proofs.arena.Arena.slabs_within.Goals as goal
 

@@ -1,4 +1,4 @@
-use Rattle.std.proofs.Common.{◌≢◌, List, [], ◌∷◌, ◌++◌, length, length-append, ap, ◌∙◌, slice_get, arith}
+use Rattle.std.proofs.Common.{◌≢◌, List, [], ◌∷◌, ◌++◌, length-append, ap, ◌∙◌, slice_get, arith}
 use Rattle.std.proofs.lemmas.List.Elements.{All-append, All-cons}
 use Rattle.mc_stripe.specs.declared.history.Call.{Call}
 use Rattle.mc_words.specs.lock.Out.{locks_have_no_stripe}

@@ -5,7 +5,7 @@ use Rattle.mc_words.specs.declared.item.refs.Ref.{Ref}
 use Rattle.mc_words.specs.hand.Arenas.{IsHandOf, setup_of, view}
 use Rattle.mc_words.specs.hand.View.{Setup}
 use Rattle.mc_words.specs.item.Items.{held_item}
-use Rattle.mc_words.specs.item.Refs.{IsRefOf, first_place}
+use Rattle.mc_words.specs.item.Refs.{IsRefOf}
 use Rattle.mc_words.specs.rule.Layout.{data_word, config_from, word_count}
 use Rattle.mc_words.proofs.Items.WordReads.{item_found, word_near}
 use Rattle.mc_words.proofs.arena.Arena.word_from.Goals as goal
