@@ -64,9 +64,9 @@ arena_bytes config =
     8 * words_an_arena config + lock_bytes config.stripes + class_bytes (class_count config) + page_list_bytes (pages_in_all config)
     + row_bytes (pages_in_all config * (config.page / first_size config)) + 8 * 508
 
--- the bytes that a shard takes: those of its arena and its decider, and 48 for each hand
+-- the bytes that a shard takes: those of its arena and its decider, and 56 for each hand
 abbrev pub shard_bytes : CacheConfig → ℕ
-shard_bytes config = arena_bytes config.arena + 656 + 72 + 48 * (config.workers + 1)
+shard_bytes config = arena_bytes config.arena + 656 + 72 + 56 * (config.workers + 1)
 
 -- the bytes that the workers and the tender take beside their hands
 abbrev pub worker_bytes : CacheConfig → ℕ

@@ -12,11 +12,11 @@ use Rattle.mc_cache.specs.Windows.{turns_tended}
 abbrev pub SmallCaches : Type 0
 SmallCaches =
     let config : CacheConfig = record { arena = record { page = 64; limit = 128; first = 24; num = 5; den = 4; max = 64; stripes = 1; bulk = 1 }; shards = 3; workers = 2 } in
-    (config_table_bytes config ≡ 3192) × (cache_bytes config ≡ 27264)
+    (config_table_bytes config ≡ 3192) × (cache_bytes config ≡ 27336)
 
 -- four shards of 64 pages of 16,384 bytes, with chunks of 64 bytes at least and 16 stripes. Two workers
 abbrev pub LargeCache : Type 0
-LargeCache = cache_bytes (record { arena = record { page = 16384; limit = 1048576; first = 64; num = 2; den = 1; max = 4096; stripes = 16; bulk = 64 }; shards = 4; workers = 2 }) ≡ 6946736
+LargeCache = cache_bytes (record { arena = record { page = 16384; limit = 1048576; first = 64; num = 2; den = 1; max = 4096; stripes = 16; bulk = 64 }; shards = 4; workers = 2 }) ≡ 6946832
 
 -- the first class for items of 72 and of 1,032 bytes, and when a size is refused: there is no worker, or there are too few bytes
 abbrev pub UsualSizes : Type 0
@@ -26,8 +26,8 @@ UsualSizes =
     × (sized_stripes (sized_chunks 72 1048576) ≡ 20)
     × (sized_first 1032 ≡ 1088)
     × (sizing_refusal 1000000 72 0 ≡ Some Workers)
-    × (sizing_refusal 168303 72 1 ≡ Some TooFewBytes)
-    × (sizing_refusal 168304 72 1 ≡ None)
+    × (sizing_refusal 168319 72 1 ≡ Some TooFewBytes)
+    × (sizing_refusal 168320 72 1 ≡ None)
 
 -- a turn that went on and one that finished: one move that ended, and what both did
 abbrev pub TwoTurns : Type 0

@@ -29,9 +29,9 @@ const ARENA: u64 = 656;
 const _: () = prove!(size_of::<Arena>() == 656);
 
 // The bytes of a hand.
-const HAND: u64 = 48;
+const HAND: u64 = 56;
 
-const _: () = prove!(size_of::<Hand>() == 48);
+const _: () = prove!(size_of::<Hand>() == 56);
 
 // The bytes of a worker, beside what it points to.
 const WORKER: u64 = 48;
@@ -247,8 +247,8 @@ impl Cache {
 }
 
 /// Worked cases. With two pages of 64 bytes, and one more for each of five classes from 24 bytes on, with one stripe, an arena's table has 133
-/// words: 48 of locks, 11 a page, and 8. Three such shards and two workers take 27,264 bytes, of which 3,192 are those of
-/// the tables. Four shards of the largest limit, with chunks of 64 bytes at least, and two workers take 6,946,736 bytes.
+/// words: 48 of locks, 11 a page, and 8. Three such shards and two workers take 27,336 bytes, of which 3,192 are those of
+/// the tables. Four shards of the largest limit, with chunks of 64 bytes at least, and two workers take 6,946,832 bytes.
 pub fn worked_bytes()
     ensures small { SmallCaches }
     ensures large { LargeCache }

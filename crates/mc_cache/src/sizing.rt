@@ -218,7 +218,7 @@ fn roomiest(bytes: u64, usual_item: u64, workers: u64, least: CacheConfig) -> Ca
 
 /// Worked cases. Items of 72 bytes of key and value have chunks of 120 bytes in the first class, 136 a page. Those of 1,032 bytes have chunks of
 /// 1,080, of which a page has 15, and 1,088 bytes have as much room. For the first items, a page wants 1 stripe, and 64 pages want 20. The
-/// smallest cache for one worker and these items takes 168,304 bytes with its index, as large as it ever gets.
+/// smallest cache for one worker and these items takes 168,320 bytes with its index, as large as it ever gets.
 pub fn worked_sizes()
     ensures { UsualSizes }
 {}

@@ -1,15 +1,16 @@
 //! The hands of an arena.
 pub(crate) mod held;
 pub(crate) mod join;
+pub(crate) mod kept_chunk;
 pub(crate) mod recall;
 
 ghost use Rattle.mc_core.specs.run.Chunks.{most_holdings};
 ghost use Rattle.mc_words.specs.lock.Out.{IsNoted};
 ghost use Rattle.mc_words.specs.hand.Tallies.{IsTallied};
 
+use crate::hand::kept_chunk::KeptChunk;
 use crate::lock::locks::{Lock, Locks};
 use crate::rule::HandSeat;
-use mc_pages::ChunkId;
 
 /// A hand's stamps begin at this times its number.
 const STAMP_UNIT: u64 = 281_474_976_710_656;
@@ -29,9 +30,8 @@ pub struct Hand {
     pub(crate) stamps: u64,
     /// How many of its chunks it fills.
     pub(crate) fresh: u64,
-    /// A chunk that the hand left dead when it stored over an item, which no hint names. Nothing proved rests on it: who puts it back looks at
-    /// its header.
-    pub(crate) dead: Option<ChunkId>,
+    /// The chunk that it left dead when it last stored over an item.
+    pub(crate) dead: KeptChunk,
     ghost noted: { IsNoted seat.me number chunks locks },
     ghost tallied: { IsTallied seat.me stamps fresh },
 }

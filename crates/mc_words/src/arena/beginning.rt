@@ -14,6 +14,7 @@ use crate::arena::Arena;
 use crate::arena::plan::Plan;
 use crate::chunk::hints::Hints;
 use crate::hand::Hand;
+use crate::hand::kept_chunk::KeptChunk;
 use crate::header::ISSUE_UNIT;
 use crate::lock::boxed_stripe::BoxedStripe;
 use crate::lock::contention::Contention;
@@ -139,7 +140,7 @@ impl Arena {
             locks: Locks::Neither,
             stamps: 0,
             fresh: 0,
-            dead: None,
+            dead: KeptChunk::none(),
         };
         Ok((arena, hand))
     }

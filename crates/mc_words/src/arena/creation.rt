@@ -13,6 +13,7 @@ use crate::arena::Arena;
 use crate::arena::plan::Plan;
 use crate::arena::refusal::NewError;
 use crate::hand::Hand;
+use crate::hand::kept_chunk::KeptChunk;
 use crate::lock::locks::Locks;
 use crate::rule::HandView;
 use atomic_table::Split;
@@ -108,7 +109,7 @@ impl Arena {
             locks: Locks::Neither,
             stamps: 0,
             fresh: 0,
-            dead: None,
+            dead: KeptChunk::none(),
         }
     }
 }

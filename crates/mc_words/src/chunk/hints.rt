@@ -1,5 +1,6 @@
 //! Hints of where dead chunks may be, beside the table. Nothing proved rests on them: who follows one looks at the chunk's header, and
 //! who has none looks at all headers.
+use crate::hand::kept_chunk::KeptChunk;
 use crate::header::{DEAD, ISSUE_UNIT};
 use crossbeam_utils::CachePadded;
 use mc_classes::PageId;
@@ -53,23 +54,19 @@ impl Hints {
     /// The chunk's header is this now: where the chunk is dead, its hand keeps it, and the one that it kept before is noted. Returns what the
     /// hand keeps.
     #[inline(always)]
-    pub(crate) fn keep_if_dead(
-        &self,
-        kept: Option<ChunkId>,
-        chunk: ChunkId,
-        head: u64,
-    ) -> Option<ChunkId> {
+    pub(crate) fn keep_if_dead(&self, kept: KeptChunk, chunk: ChunkId, head: u64) -> KeptChunk {
         if head % ISSUE_UNIT != DEAD {
             return kept;
         }
         self.note_kept(kept);
-        Some(chunk)
+        KeptChunk::of(chunk)
     }
 
     /// The chunk that a hand kept may be dead, if it kept one.
     #[inline(always)]
-    pub(crate) fn note_kept(&self, kept: Option<ChunkId>) {
-        if let Some(chunk) = kept {
+    pub(crate) fn note_kept(&self, kept: KeptChunk) {
+        let mut kept = kept;
+        if let Some(chunk) = kept.take() {
             self.note(chunk);
         }
     }

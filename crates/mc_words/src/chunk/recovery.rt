@@ -71,7 +71,9 @@ impl Arena {
             (view hand.old) held.old.shared (view hand.new) held.new.shared }
         ensures view { view hand.new ≡ with_seen (view hand.old) (view hand.new) }
     {
-        self.hints.note_kept(hand.dead.take());
+        if let Some(chunk) = hand.dead.take() {
+            self.hints.note(chunk);
+        }
         if self.hints.pages() == 0 {
             return;
         }
