@@ -113,7 +113,7 @@ missing None is there = cc
 missing (Some place) is there = cc
 
 -- a key of the index isn't aside
-not_aside : (index : Index) (aside : Option (ℕ × Place)) (key : ℕ) → ((entry : ℕ × Place) → aside ≡ Some entry → entry_at index entry.0 ≡ None) → IsSome (entry_at index key) → IfSome (option_map (λ (entry : ℕ × Place). entry.0) aside) (λ other. other ≢ key)
+pub not_aside : (index : Index) (aside : Option (ℕ × Place)) (key : ℕ) → ((entry : ℕ × Place) → aside ≡ Some entry → entry_at index entry.0 ≡ None) → IsSome (entry_at index key) → IfSome (option_map (λ (entry : ℕ × Place). entry.0) aside) (λ other. other ≢ key)
 not_aside index None key apart there = tt
 not_aside index (Some entry) key apart there = λ is. missing (entry_at index key) (ap (entry_at index) (sym is) ∙ apart entry refl) there
 

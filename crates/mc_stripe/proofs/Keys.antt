@@ -1,13 +1,11 @@
 -- The keys of a table and of its entries by rising key: they are the same, in another order.
-use Rattle.std.proofs.Common.{◌≡◌, ℕ, nat_eq, false, List, [], ◌∷◌, ◌++◌, length, Some, None, IsSome, refl, sym, ap, ◌∙◌, subst}
+use Rattle.std.proofs.Common.{◌≡◌, ℕ, nat_eq, false, List, [], ◌∷◌, length, Some, None, IsSome, refl, sym, ap, ◌∙◌, subst}
 use Rattle.std.specs.List.{AllByRecursion, IsDistinct}
 use Rattle.std.specs.List.Sorted.{IsPermutation}
 use Rattle.std.specs.Map.{keys_of}
 use Rattle.std.proofs.lemmas.List.Sorted.{IsPermutation-refl, IsPermutation-sym, IsPermutation-cons, IsPermutation-middle, IsPermutation-trans, length_permutation}
 use Rattle.std.proofs.lemmas.Map.Entries.{length-keys_of}
 use Rattle.mc_stripe.specs.Entries.{HasEachKeyOnce, by_key, entry_at, with_entry}
-use Rattle.mc_stripe.specs.Keys.{AddsKeys}
-use Rattle.mc_stripe.specs.StripeState.{Index}
 use Rattle.mc_stripe.proofs.Entries.{at_by_key, by_order, nat_eq_same}
 
 module _ {X : Type 0} where
@@ -68,11 +66,3 @@ module _ {X : Type 0} where
   none_by_none [] is = refl
   none_by_none (entry ∷ entries) is =
       absurd (not_none entry.1 (sym (here entry entries) ∙ (sym (at_by_key (entry ∷ entries) entry.0) ∙ ap (λ (l : List (ℕ × X)). entry_at l entry.0) is)))
-
--- all keys of the table were put behind the others
-pub keys_put : (entries : Index) (old new : List ℕ) → HasEachKeyOnce entries → new ≡ old ++ keys_of entries → AddsKeys (by_key entries) old new
-keys_put entries old new once is = record {
-  added = keys_of entries;
-  behind = is;
-  each = IsPermutation-sym _ _ (keys-by_key entries once);
-}

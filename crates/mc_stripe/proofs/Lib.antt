@@ -9,3 +9,4 @@ pub mod Once
 pub mod Fields
 pub mod Tails
 pub mod Keys
+pub mod Asides

@@ -1,5 +1,5 @@
 -- Maps from keys to something else, as lists of entries by rising key.
-use Rattle.std.specs.Prelude.{ℕ, ◌<◌, nat_eq, ⊤, List, [], ◌∷◌, Option}
+use Rattle.std.specs.Prelude.{ℕ, ◌<◌, nat_eq, ⊤, List, [], ◌∷◌, Option, Some, None}
 use Rattle.std.specs.Ordering.{nat_cmp}
 use Rattle.std.specs.BTreeMap.{insert_entry}
 use Rattle.std.specs.List.{IsDistinct}
@@ -17,6 +17,11 @@ module _ {X : Type 0} where
   -- the key leads nowhere any more
   abbrev pub without_entry : List (ℕ × X) → ℕ → List (ℕ × X)
   without_entry entries key = remove_entry (nat_eq key) entries
+
+  -- the entries of all keys but this one, if there is one
+  abbrev pub entries_but : Option ℕ → List (ℕ × X) → List (ℕ × X)
+  entries_but None entries = entries
+  entries_but (Some key) entries = without_entry entries key
 
   -- the key is below all of these
   abbrev pub IsBelow : ℕ → List (ℕ × X) → Type 0

@@ -1,10 +1,13 @@
 -- A stripe in memory, and what it keeps.
-use Rattle.std.specs.Prelude.{◌≡◌, ◌<◌, ◌^◌, ◌-◌, ◌++◌, [], length, min, true, false, if◌then◌else◌, Some, None, vec_len, vec_capacity}
+use Rattle.std.specs.Prelude.{◌≡◌, ◌<◌, ◌^◌, ◌-◌, ◌++◌, [], length, min, true, false, if◌then◌else◌, Some, None, IfSome, vec_len, vec_capacity}
 use Rattle.std.specs.HashMap.{spare}
+use Rattle.std.specs.Option.{option_map}
+use Rattle.mc_stripe.specs.declared.places.Places.TheInside.{Inside as PlacesInside}
 use Rattle.mc_stripe.specs.declared.recorded.Recorded.TheInside.{Inside as RecordedInside}
 use Rattle.mc_stripe.specs.declared.stripe.Stripe.TheInside.{Inside}
-use Rattle.mc_stripe.specs.Entries.{by_key, HasEachKeyOnce}
+use Rattle.mc_stripe.specs.Entries.{by_key, entries_but, entry_at, HasEachKeyOnce}
 use Rattle.mc_stripe.specs.History.{stamps_after_calls}
+use Rattle.mc_stripe.specs.Places.{PlaceTable}
 use Rattle.mc_stripe.specs.Recorded.{Calls, CanRecord}
 use Rattle.mc_stripe.specs.StripeState.{StripeState, ReadyStripe}
 use Rattle.mc_stripe.specs.Legal.{IsLegal}
@@ -30,9 +33,21 @@ pub record AreCallsRecorded (calls : RecordedInside) : Type 0 where
   -- no call is in memory where none is recorded
   pub none : calls.is_recorded ≡ false → calls.tail.items ≡ []
 
--- the stripe as its callers see it: the index by rising key, in whatever order the table has it
+-- the index by rising key, in whatever order the table has it, without the key aside
+abbrev pub places_of : PlacesInside → PlaceTable
+places_of places = record {
+  index = entries_but (option_map (λ entry. entry.0) places.aside) (by_key places.table.entries);
+  aside = places.aside;
+  room = spare places.table;
+}
+
+-- the table leads the key aside to its place still
+abbrev pub IsAsideInTable : PlacesInside → Type 0
+IsAsideInTable places = IfSome places.aside (λ entry. entry_at (by_key places.table.entries) entry.0 ≡ Some entry.1)
+
+-- the stripe as its callers see it
 abbrev pub callers_stripe : Inside → StripeState
-callers_stripe stripe = record { index = by_key stripe.index.entries; aside = stripe.aside; history = stripe.calls.all; recorded_from = stripe.calls.recorded_from }
+callers_stripe stripe = record { index = stripe.places.index; aside = stripe.places.aside; history = stripe.calls.all; recorded_from = stripe.calls.recorded_from }
 
 -- the stripe and its room
 abbrev pub ready_of : Inside → ReadyStripe
@@ -42,8 +57,8 @@ ready_of stripe = record { state = callers_stripe stripe; ready = stripe.ready; 
 -- an entry uses it
 pub record IsStripeInOrder (stripe : Inside) : Type 0 where
   pub legal : IsLegal (callers_stripe stripe)
-  -- the index has room where that is known
-  pub spare : stripe.spare_entry ≡ true → 0 < spare stripe.index
+  -- the table has room where that is known
+  pub spare : stripe.spare_entry ≡ true → 0 < stripe.places.room
   -- where the stripe has room for an entry of the call that comes, that room is known
   pub entry : stripe.entry ≡ true → stripe.spare_entry ≡ true
   pub call : stripe.ready ≡ true → CanRecord stripe.calls

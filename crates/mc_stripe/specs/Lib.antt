@@ -4,6 +4,7 @@ pub mod Sequential
 pub mod Recorded
 pub mod StripeState
 pub mod Keys
+pub mod Places
 pub mod Changes
 pub mod Legal
 pub mod InOrder

@@ -1,10 +1,11 @@
-//! The table from keys to chunks and stamps. Contracts see its entries by rising key.
-ghost use Rattle.std.specs.Prelude.{◌≡◌, ◌+◌, ◌++◌, ◌<◌, ◌≤◌, ◌^◌, ◌↔◌, [], length, None, OnErr, OnOk, IfSome, IsOk, IsSome, vec_capacity, vec_len};
+//! The table from keys to chunks and stamps. Contracts see its entries by rising key. Walks pass one key over, where one is aside.
+ghost use Rattle.std.specs.Prelude.{◌≡◌, ◌+◌, ◌∷◌, ◌++◌, ◌<◌, ◌≤◌, ◌^◌, ◌↔◌, [], length, None, OnErr, OnOk, IfSome, IsOk, IsSome, vec_capacity, vec_len};
 ghost use Rattle.std.specs.HashMap.{spare};
 ghost use Rattle.std.specs.Map.{keys_of};
 ghost use Rattle.std.specs.Option.{option_map};
-ghost use Rattle.mc_stripe.specs.Entries.{by_key, entry_at, with_entry, without_entry};
-ghost use Rattle.mc_stripe.specs.Keys.{AddsKeys};
+ghost use Rattle.mc_stripe.specs.Entries.{HasEachKeyOnce, by_key, entries_but, entry_at, with_entry, without_entry};
+ghost use Rattle.mc_stripe.specs.Keys.{AddsKeys, keys_but};
+ghost use Rattle.mc_stripe.specs.StripeState.{index_stamps};
 
 use crate::history::{Key, Stamp};
 use mc_memory::{Refused, reserve, reserve_entries};
@@ -29,32 +30,54 @@ pub(crate) fn key_count(index: &Index) -> usize
     index.len()
 }
 
-/// One of the keys, if there is any: the one that the table has first. It looks at no other.
-pub(crate) fn first_key(index: &Index) -> Option<Key>
-    ensures there { IfSome result (λ key. IsSome (entry_at (by_key index.now.entries) key)) }
-    ensures none { (result ≡ None) ↔ (by_key index.now.entries ≡ []) }
+/// A key but the one aside, if there is any. It looks at the first two keys of the table at most.
+pub(crate) fn first_key(index: &Index, aside: Option<Key>) -> Option<Key>
+    ensures there { IfSome result (λ key.
+        IsSome (entry_at (entries_but aside (by_key index.now.entries)) key)) }
+    ensures none { (result ≡ None) ↔ (entries_but aside (by_key index.now.entries) ≡ []) }
 {
-    index.keys().next().copied()
+    let mut keys = index.keys();
+    let first = keys.next().copied();
+    if first == aside {
+        return keys.next().copied();
+    }
+    first
 }
 
-/// Puts each key behind what is there, once. Where memory is refused, nothing is put.
-pub(crate) fn keys_into(index: &Index, into: &mut Vec<Key>) -> Result<(), Refused>
-    ensures keys { OnOk result (AddsKeys (by_key index.now.entries) into.old.items
-        into.new.items) }
+/// Puts each key but the one aside behind what is there, once. Where memory is refused, nothing is put.
+pub(crate) fn keys_into(
+    index: &Index,
+    aside: Option<Key>,
+    into: &mut Vec<Key>,
+) -> Result<(), Refused>
+    ensures keys { OnOk result (AddsKeys (entries_but aside (by_key index.now.entries))
+        into.old.items into.new.items) }
     ensures refused { OnErr result (into.new.items ≡ into.old.items) }
 {
     reserve(into, index.len())?;
-    push_keys(into, index);
+    push_keys(into, index, aside);
     Ok(())
 }
 
-// The keys come behind what is there. There is room for them.
-fn push_keys(into: &mut Vec<Key>, index: &Index)
+// The keys come behind what is there, but for the one aside. There is room for them.
+fn push_keys(into: &mut Vec<Key>, index: &Index, aside: Option<Key>)
     requires { vec_len into.old + length index.now.entries ≤ vec_capacity into.old }
-    ensures { into.new.items ≡ into.old.items ++ keys_of index.now.entries }
+    ensures { into.new.items ≡ into.old.items ++ keys_but aside (keys_of index.now.entries) }
 {
     for key in index.keys() {
-        into.push(*key).unwrap();
+        push_key(into, *key, aside);
+    }
+}
+
+// The key comes behind what is there, if it isn't the one aside. There is room for it.
+fn push_key(into: &mut Vec<Key>, key: Key, aside: Option<Key>)
+    requires { vec_len into.old < vec_capacity into.old }
+    ensures items { into.new.items ≡ into.old.items ++ keys_but aside (key ∷ []) }
+    ensures len { vec_len into.new ≤ vec_len into.old + 1 }
+    ensures capacity { vec_capacity into.old ≤ vec_capacity into.new }
+{
+    if aside != Some(key) {
+        into.push(key).unwrap();
     }
 }
 
@@ -110,6 +133,16 @@ pub(crate) fn put(index: &mut Index, key: Key, place: (ChunkId, Stamp))
     put.unwrap();
 }
 
+/// The key, which is there, leads to this place now, in the same place of the table. No room is used up.
+pub(crate) fn put_over(index: &mut Index, key: Key, place: (ChunkId, Stamp))
+    requires there { IsSome (entry_at (by_key index.old.entries) key) }
+    ensures entries { by_key index.new.entries
+        ≡ with_entry (by_key index.old.entries) key place }
+    ensures room { spare index.new ≡ spare index.old }
+{
+    *index.get_mut(&key).unwrap() = place;
+}
+
 /// The key leads nowhere any more: where it led, if it was there.
 pub(crate) fn take(index: &mut Index, key: Key) -> Option<(ChunkId, Stamp)>
     ensures place { result ≡ entry_at (by_key index.old.entries) key }
@@ -119,12 +152,26 @@ pub(crate) fn take(index: &mut Index, key: Key) -> Option<(ChunkId, Stamp)>
     index.remove(&key)
 }
 
-/// Takes the key's entry out of the table, if it is there.
-pub(crate) fn take_entry(index: &mut Index, key: Key) -> Option<(Key, (ChunkId, Stamp))>
-    ensures entry { result ≡ option_map (λ place.
-        (key, place)) (entry_at (by_key index.old.entries) key) }
-    ensures entries { by_key index.new.entries ≡ without_entry (by_key index.old.entries) key }
-    ensures kept { spare index.old ≤ spare index.new }
+/// Makes these the stamps of the table, each key's once. Where memory runs out they stay as they are.
+pub(crate) fn copy_stamps(index: &Index, base: &mut Vec<(Key, Stamp)>) -> Result<(), Refused>
+    ensures copied { OnOk result (by_key base.new.items
+        ≡ index_stamps (by_key index.now.entries)) }
+    ensures each_once { OnOk result (HasEachKeyOnce base.new.items) }
+    ensures refused { OnErr result (base.new.items ≡ base.old.items) }
 {
-    take(index, key).map(|place| (key, place))
+    let wanted = index.len();
+    reserve(base, wanted.saturating_sub(base.len()))?;
+    base.clear();
+    push_stamps(base, index);
+    Ok(())
+}
+
+// The stamps of the table come behind what is there. There is room for them.
+fn push_stamps(base: &mut Vec<(Key, Stamp)>, index: &Index)
+    requires { vec_len base.old + length index.now.entries ≤ vec_capacity base.old }
+    ensures { base.new.items ≡ base.old.items ++ index_stamps index.now.entries }
+{
+    for (key, place) in index.iter() {
+        base.push((*key, place.1)).unwrap();
+    }
 }

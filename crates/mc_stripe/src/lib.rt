@@ -31,6 +31,7 @@ mod history;
 mod index;
 mod laws;
 mod past;
+mod places;
 mod recorded;
 mod refusal;
 mod stripe;

@@ -1,21 +1,17 @@
 //! The calls of a stripe: those that are recorded, and what the others leave.
-ghost use Rattle.std.specs.Prelude.{◌≡◌, ◌≤◌, ◌^◌, ◌-◌, [], ◌∷◌, ◌++◌, true, length, min, Some, None, OnOk, OnErr, Err, IsOk, IfSome, is_some, ◌+◌, vec_len, vec_capacity};
-ghost use Rattle.mc_stripe.specs.Entries.{HasEachKeyOnce, by_key, entry_at};
+ghost use Rattle.std.specs.Prelude.{◌≡◌, ◌≤◌, ◌^◌, ◌-◌, [], ◌∷◌, ◌++◌, true, length, min, Some, None, OnOk, OnErr, Err, IsOk, IfSome, is_some};
+ghost use Rattle.mc_stripe.specs.Entries.{HasEachKeyOnce, by_key};
 ghost use Rattle.mc_stripe.specs.History.{stamps_after_calls};
 ghost use Rattle.mc_stripe.specs.Recorded.{CanRecord, count_trimmed, left_by_trimmed, recorded_calls, recorded_behind};
 ghost use Rattle.mc_stripe.specs.StripeState.{index_stamps, with_aside};
 
 use crate::history::{Call, Key, Stamp};
-use crate::index::Index;
 use crate::past::Past;
+use crate::places::Places;
 use crate::refusal::Trim;
 use mc_memory::{Refused, reserve};
-use mc_pages::ChunkId;
 use std::alloc::Global;
 use std::marker::Model;
-
-/// What the index has for a key.
-type Place = (ChunkId, Stamp);
 
 /// All calls on a stripe's keys. The newest are in memory, or none is.
 #[derive(Drop)]
@@ -88,11 +84,9 @@ impl Recorded {
     }
 
     /// The calls so far aren't recorded any more: they leave what index and entry aside have. Where none is recorded, nothing changes.
-    pub(crate) fn trim(&mut self, index: &Index, aside: Option<(Key, Place)>) -> Result<(), Trim>
+    pub(crate) fn trim(&mut self, places: &Places) -> Result<(), Trim>
         requires replayed { stamps_after_calls [] self.old.all
-            ≡ Some (index_stamps (with_aside (by_key index.now.entries) aside)) }
-        requires apart { IfSome aside (λ entry. entry_at (by_key index.now.entries) entry.0
-            ≡ None) }
+            ≡ Some (index_stamps (with_aside places.now.index places.now.aside)) }
         ensures all { self.new.all ≡ self.old.all }
         ensures from { OnOk result (self.new.recorded_from
             ≡ recorded_behind self.old.recorded_from (length self.old.all)) }
@@ -110,7 +104,7 @@ impl Recorded {
         let Some(trimmed) = self.trimmed.checked_add(self.tail.len() as u64) else {
             return Err(Trim::Full);
         };
-        if let Err(refused) = copy_stamps(&mut self.base, index, aside) {
+        if let Err(refused) = places.copy_stamps(&mut self.base) {
             return Err(Trim::NoMemory(refused));
         }
         self.past = self.past.and(self.tail.as_slice());
@@ -159,37 +153,5 @@ impl Recorded {
         ensures { result.now ≡ recorded_calls self.now.all self.now.recorded_from }
     {
         self.tail.as_slice()
-    }
-}
-
-// Makes the base the stamps of the index, the entry aside counted in, whose key the index lacks. Where memory runs out it stays as it is.
-fn copy_stamps(
-    base: &mut Vec<(Key, Stamp)>,
-    index: &Index,
-    aside: Option<(Key, Place)>,
-) -> Result<(), Refused>
-    requires apart { IfSome aside (λ entry. entry_at (by_key index.now.entries) entry.0 ≡ None) }
-    ensures copied { OnOk result (by_key base.new.items
-        ≡ index_stamps (with_aside (by_key index.now.entries) aside)) }
-    ensures each_once { OnOk result (HasEachKeyOnce base.new.items) }
-    ensures refused { OnErr result (base.new.items ≡ base.old.items) }
-{
-    let wanted = index.len() + 1;
-    reserve(base, wanted.saturating_sub(base.len()))?;
-    base.clear();
-    if let Some((key, place)) = aside {
-        base.push((key, place.1)).unwrap();
-    }
-    push_stamps(base, index);
-    Ok(())
-}
-
-// The stamps of the index come behind what is there. There is room for them.
-fn push_stamps(base: &mut Vec<(Key, Stamp)>, index: &Index)
-    requires { vec_len base.old + length index.now.entries ≤ vec_capacity base.old }
-    ensures { base.new.items ≡ base.old.items ++ index_stamps index.now.entries }
-{
-    for (key, place) in index.iter() {
-        base.push((*key, place.1)).unwrap();
     }
 }

@@ -8,12 +8,11 @@ mod looks;
 
 use crate::history::{Call, HandId, Key, Stamp};
 use crate::index;
-use crate::index::Index;
+use crate::places::Places;
 use crate::recorded::Recorded;
 use crate::refusal::{NoMemory, Trim};
 use mc_pages::ChunkId;
 use std::alloc::Global;
-use std::collections::HashMap;
 use std::marker::Model;
 
 /// The index and the history of one item lock's part.
@@ -22,11 +21,9 @@ use std::marker::Model;
 /// up, take no memory and can't fail.
 #[derive(Drop)]
 pub struct Stripe {
-    index: Index,
-    /// An entry that was lifted out of the index, until its key comes back.
-    aside: Option<(Key, (ChunkId, Stamp))>,
+    places: Places,
     calls: Recorded,
-    /// The index is known to have room for one more entry, whoever made it.
+    /// The table is known to have room for one more key, whoever made it.
     spare_entry: bool,
     /// Room was made for one more call.
     ready: bool,
@@ -53,8 +50,7 @@ impl Stripe {
         ensures legal { IsLegal result.state }
     {
         Stripe {
-            index: HashMap::new(alloc),
-            aside: None,
+            places: Places::new(alloc),
             calls: Recorded::new(alloc),
             spare_entry: false,
             ready: false,
@@ -84,7 +80,7 @@ impl Stripe {
         ensures legal { IsLegal self.new.state }
     {
         if !self.spare_entry {
-            index::reserve_one(&mut self.index)?;
+            self.places.reserve_one()?;
             self.spare_entry = true;
         }
         self.calls.reserve()?;
@@ -101,9 +97,7 @@ impl Stripe {
         ensures linked { self.new ≡ used_up (after_link self.old.state hand key chunk stamp) }
         ensures legal { IsLegal self.new.state }
     {
-        self.aside = None;
-        index::put(&mut self.index, key, (chunk, stamp));
-        self.spare_entry = false;
+        self.spare_entry = self.places.put(key, (chunk, stamp));
         self.calls.tell(Call::Set(hand, key, stamp));
         self.ready = false;
         self.entry = false;
@@ -125,7 +119,7 @@ impl Stripe {
         ensures idle { self.old.state.recorded_from ≡ None → IsOk result }
         ensures legal { IsLegal self.new.state }
     {
-        self.calls.trim(&self.index, self.aside)
+        self.calls.trim(&self.places)
     }
 
     /// No call is recorded from now on, and none of those so far. A later call then needs no room but that of its index entry.
@@ -144,7 +138,7 @@ impl Stripe {
         ensures unlinked { self.new ≡ used_up (after_unlink self.old.state hand key) }
         ensures legal { IsLegal self.new.state }
     {
-        let was_there = index::take(&mut self.index, key).is_some();
+        let was_there = self.places.take(key).is_some();
         self.calls.tell(Call::Delete(hand, key, was_there));
         self.ready = false;
         self.entry = false;
@@ -171,7 +165,7 @@ impl Stripe {
         ensures evicted { self.new ≡ used_up (after_evict self.old.state hand key) }
         ensures legal { IsLegal self.new.state }
     {
-        index::take(&mut self.index, key);
+        self.places.take(key);
         self.calls.tell(Call::Evict(hand, key));
         self.ready = false;
         self.entry = false;
@@ -184,7 +178,18 @@ impl Stripe {
         ensures lifted { self.new ≡ record self.old { state = after_lift self.old.state key } }
         ensures legal { IsLegal self.new.state }
     {
-        self.aside = index::take_entry(&mut self.index, key);
+        let place = self.places.find(key).unwrap();
+        self.places.lift(key, place);
+    }
+
+    /// The key's entry is put aside, which a look-up found at this place, until its `link` or `rescue`. It isn't looked up again. (own)
+    pub fn lift_found(&mut self, key: Key, place: (ChunkId, Stamp))
+        requires found { chunk_and_stamp self.old.state key ≡ Some place }
+        requires none { self.old.state.aside ≡ None }
+        ensures lifted { self.new ≡ record self.old { state = after_lift self.old.state key } }
+        ensures legal { IsLegal self.new.state }
+    {
+        self.places.lift(key, place);
     }
 
     /// The entry aside comes back, in another chunk and with the stamp that it had. (slabs.c's `slab_rebalance_move`)
@@ -194,10 +199,8 @@ impl Stripe {
         ensures rescued { self.new ≡ used_up (after_rescue self.old.state hand key chunk) }
         ensures legal { IsLegal self.new.state }
     {
-        if let Some((_, (_, stamp))) = self.aside {
-            self.aside = None;
-            index::put(&mut self.index, key, (chunk, stamp));
-            self.spare_entry = false;
+        if let Some((_, (_, stamp))) = self.places.entry_aside() {
+            self.places.put_back(key, (chunk, stamp));
             self.calls.tell(Call::Rescue(hand, key));
             self.ready = false;
             self.entry = false;

@@ -7,7 +7,6 @@ ghost use Rattle.mc_stripe.specs.Legal.{IsLegal};
 
 use super::Stripe;
 use crate::history::{Call, Key, Stamp};
-use crate::index;
 use crate::refusal::NoMemory;
 use mc_pages::ChunkId;
 
@@ -16,7 +15,7 @@ impl Stripe {
     pub fn find(&self, key: Key) -> Option<(ChunkId, Stamp)>
         ensures { result ≡ chunk_and_stamp self.now.state key }
     {
-        index::place_in(&self.index, key)
+        self.places.find(key)
     }
 
     /// The number of keys that the index has. An entry aside isn't counted. (own)
@@ -24,15 +23,15 @@ impl Stripe {
         ensures count { result ≡ length self.now.state.index }
         ensures small { result < 2 ^ 63 }
     {
-        index::key_count(&self.index)
+        self.places.key_count()
     }
 
-    /// A key that the index has, if it has any. It looks at one entry of the table, however many there are. (own)
+    /// A key that the index has, if it has any. It looks at two entries of the table at most, however many there are. (own)
     pub fn first_key(&self) -> Option<Key>
         ensures there { IfSome result (λ key. IsSome (chunk_and_stamp self.now.state key)) }
         ensures none { (result ≡ None) ↔ (self.now.state.index ≡ []) }
     {
-        index::first_key(&self.index)
+        self.places.first_key()
     }
 
     /// Puts each key of the index behind what is there, once and in no order. That costs as much as the index has keys. Where memory is refused,
@@ -42,7 +41,7 @@ impl Stripe {
             (AddsKeys self.now.state.index into.old.items into.new.items) }
         ensures refused { OnErr result (into.new.items ≡ into.old.items) }
     {
-        index::keys_into(&self.index, into)
+        self.places.keys_into(into)
     }
 
     /// Whether room was made for one more call.
@@ -63,14 +62,14 @@ impl Stripe {
     pub fn aside(&self) -> Option<Key>
         ensures { result ≡ key_aside self.now.state }
     {
-        self.aside.map(|entry| entry.0)
+        self.places.key_aside()
     }
 
     /// The entry that is aside, if one is: its key, and the chunk and the stamp of the item.
     pub fn entry_aside(&self) -> Option<(Key, (ChunkId, Stamp))>
         ensures { result ≡ self.now.state.aside }
     {
-        self.aside
+        self.places.entry_aside()
     }
 
     /// The calls that are recorded, the oldest first: all behind those that were trimmed.

@@ -1,5 +1,4 @@
-use Rattle.std.proofs.Common.{refl, ap}
-use Rattle.mc_stripe.specs.Entries.{by_key}
+use Rattle.std.proofs.Common.{}
 use Rattle.mc_stripe.specs.StripeState.{new_stripe}
 use Rattle.mc_stripe.proofs.Kept.{IsLegal-new}
 use Rattle.mc_stripe.proofs.Fields.{IsLegal-fields}
@@ -7,7 +6,7 @@ use Rattle.mc_stripe.proofs.stripe.Stripe.new.Goals as goal
 
 pub invariant_of-result : goal.invariant_of-result
 invariant_of-result c = record {
-  legal = IsLegal-fields new_stripe.state _ _ _ _ (ap by_key c.new.ensures.empty) refl c.new-2.ensures.all c.new-2.ensures.from IsLegal-new;
+  legal = IsLegal-fields new_stripe.state _ _ _ _ c.new.ensures.index c.new.ensures.aside c.new-2.ensures.all c.new-2.ensures.from IsLegal-new;
   spare = λ is. absurd cc;
   entry = λ is. absurd cc;
   call = λ is. absurd cc;

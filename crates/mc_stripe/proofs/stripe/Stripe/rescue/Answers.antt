@@ -1,4 +1,4 @@
-use Rattle.std.proofs.Common.{◌≡◌, ℕ, Option, Some, refl, sym, ap, ◌∙◌, subst}
+use Rattle.std.proofs.Common.{◌≡◌, ℕ, Option, Some, arith, sym, ap, ◌∙◌, subst}
 use Rattle.std.specs.Option.{option_map_or}
 use Rattle.mc_pages.specs.declared.ids.ChunkId.{ChunkId}
 use Rattle.mc_stripe.specs.Entries.{with_entry}
@@ -19,8 +19,8 @@ invariant_of-self c =
     let stripe = callers_stripe c.self.inside in
     let is = subst (λ (s : ReadyStripe). key_aside s.state ≡ Some c.args.key) (sym c.self.view_is) c.requires.aside in
     record {
-      legal = IsLegal-fields (after_rescue stripe c.args.hand c.args.key c.args.chunk) _ _ _ _ (c.put.ensures ∙ chunk_put stripe.index _ _ c.args.key c.args.chunk c.in-Some.is) refl c.tell.ensures.all c.tell.ensures.from (IsLegal-after_rescue stripe c.args.hand c.args.key c.args.chunk c.self.invariant.legal is);
-      spare = λ is. absurd cc;
+      legal = IsLegal-fields (after_rescue stripe c.args.hand c.args.key c.args.chunk) _ _ _ _ (c.put_back.ensures.index ∙ chunk_put stripe.index _ _ c.args.key c.args.chunk (sym c.entry_aside.ensures ∙ c.in-Some.is)) c.put_back.ensures.aside c.tell.ensures.all c.tell.ensures.from (IsLegal-after_rescue stripe c.args.hand c.args.key c.args.chunk c.self.invariant.legal is);
+      spare = λ is. omega (arith, c.put_back.ensures.room, c.self.invariant.spare is);
       entry = λ is. absurd cc;
       call = λ is. absurd cc;
     }

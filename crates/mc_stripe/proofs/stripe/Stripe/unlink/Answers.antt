@@ -1,4 +1,4 @@
-use Rattle.std.proofs.Common.{◌≢◌, is_some, IfSome, arith, refl, sym, ap, ◌∙◌, subst}
+use Rattle.std.proofs.Common.{◌≢◌, is_some, IfSome, arith, sym, ap, ◌∙◌, subst}
 use Rattle.mc_stripe.specs.declared.history.Call.TheVariants.{Delete}
 use Rattle.mc_stripe.specs.StripeState.{ReadyStripe, key_aside}
 use Rattle.mc_stripe.specs.Changes.{after_unlink}
@@ -14,8 +14,8 @@ invariant_of-self c =
     let was_there = c.is_some-was_there.ensures ∙ ap is_some c.take.ensures.place in
     let told = ends_by stripe.history _ _ _ c.tell.ensures.all (ap (Delete c.args.hand c.args.key) was_there) in
     record {
-      legal = IsLegal-fields (after_unlink stripe c.args.hand c.args.key) _ _ _ _ c.take.ensures.entries refl told c.tell.ensures.from (IsLegal-after_unlink stripe c.args.hand c.args.key c.self.invariant.legal apart);
-      spare = λ is. omega (arith, c.self.invariant.spare is);
+      legal = IsLegal-fields (after_unlink stripe c.args.hand c.args.key) _ _ _ _ c.take.ensures.index c.take.ensures.aside told c.tell.ensures.from (IsLegal-after_unlink stripe c.args.hand c.args.key c.self.invariant.legal apart);
+      spare = λ is. omega (arith, c.self.invariant.spare is, c.take.ensures.kept);
       entry = λ is. absurd cc;
       call = λ is. absurd cc;
     }
