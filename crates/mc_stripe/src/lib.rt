@@ -6,7 +6,7 @@
 //! - [`Stripe::new`] has no keys. [`Stripe::reserve`] makes room for a call and an entry, and [`Stripe::reserve_call`] for a
 //!   call.
 //! - [`Stripe::find`] looks a key up. [`Stripe::link`], `unlink`, `got`, `evict` and `rescue` change the index and record one
-//!   call each. [`Stripe::lift`] puts an entry aside until `rescue` or `link` brings its key back.
+//!   call each. [`Stripe::lift`] and `lift_found` put an entry aside until `rescue` or `link` brings its key back.
 //! - [`Stripe::key_count`], `first_key` and `keys_into` are for a walk over the keys of the index.
 //! - [`Stripe::history`] lends the recorded calls. [`Stripe::trim`] and [`Stripe::forget`] take calls out of memory, and
 //!   [`Stripe::base`] lends the stamps that they left.

@@ -178,8 +178,8 @@ impl Stripe {
         ensures lifted { self.new ≡ record self.old { state = after_lift self.old.state key } }
         ensures legal { IsLegal self.new.state }
     {
-        let place = self.places.find(key).unwrap();
-        self.places.lift(key, place);
+        let found = self.places.find(key).unwrap();
+        self.places.lift(key, found);
     }
 
     /// The key's entry is put aside, which a look-up found at this place, until its `link` or `rescue`. It isn't looked up again. (own)

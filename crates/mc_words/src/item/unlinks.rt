@@ -49,7 +49,7 @@ impl Arena {
         ensures view { result ≡ false → view hand.new
             ≡ key_not_deleted hand.old.number held.old.number held.old.stripe key (view hand.old) }
     {
-        let Some((chunk, _)) = held.stripe().find(key) else {
+        let Some((chunk, stamp)) = held.stripe().find(key) else {
             self.tell_none(hand, held, key, Change::DeletedNone(key));
             held.stripe.stripe_mut().unlink(hand.number, key);
             return false;
@@ -57,7 +57,7 @@ impl Arena {
         let head = self.unlink_from(hand, held, key, chunk);
         self.hints.note_if_dead(chunk, head);
         if hand.has_fresh() {
-            held.stripe.stripe_mut().lift(key);
+            held.stripe.stripe_mut().lift_found(key, (chunk, stamp));
         } else {
             held.stripe.stripe_mut().unlink(hand.number, key);
         }
@@ -90,12 +90,12 @@ impl Arena {
             ≡ key_unlinked hand.old.number held.old.number held.old.stripe key (view hand.old) }
         ensures same { result ≡ false → (held.new ≡ held.old) × (view hand.new ≡ view hand.old) }
     {
-        let Some((item, _)) = held.stripe().find(key) else {
+        let Some((item, stamp)) = held.stripe().find(key) else {
             return false;
         };
         let head = self.unlink_from(hand, held, key, item);
         hand.dead = self.hints.keep_if_dead(hand.dead, item, head);
-        held.stripe.stripe_mut().lift(key);
+        held.stripe.stripe_mut().lift_found(key, (item, stamp));
         true
     }
 

@@ -12,7 +12,7 @@ use Rattle.mc_stripe.proofs.stripe.Stripe.lift.Goals as goal
 pub invariant_of-self : goal.invariant_of-self
 invariant_of-self c =
     let stripe = callers_stripe c.self.inside in
-    let found = sym c.find.ensures ∙ c.unwrap-place.ensures in
+    let found = sym c.find.ensures ∙ c.unwrap-found.ensures in
     let none = subst (λ (s : ReadyStripe). s.state.aside ≡ None) (sym c.self.view_is) c.requires.none in
     let there = subst IsSome (sym found) refl in
     let aside = ap (λ (table : PlaceTable). table.aside) c.lift.ensures ∙ ap (option_map (λ (place : Place). (c.args.key, place))) (sym found) in
