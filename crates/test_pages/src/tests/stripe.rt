@@ -3,6 +3,7 @@ ghost use Rattle.std.specs.Prelude.{◌≡◌, false, IfSome};
 
 mod plain;
 mod trims;
+mod walks;
 
 use super::{assert_equal, assert_same};
 use mc_pages::ChunkId;
@@ -22,10 +23,11 @@ enum Try {
     Got(HandId, Key),
     Evict(HandId, Key),
     Lift(Key),
+    LiftFound(Key),
     Rescue(HandId, Key, ChunkId),
 }
 
-use Try::{Evict, Got, Lift, Link, Rescue, Unlink};
+use Try::{Evict, Got, Lift, LiftFound, Link, Rescue, Unlink};
 
 /// Whether another key than this one is aside.
 fn another_is_aside(aside: Option<Key>, key: Key) -> bool
@@ -72,6 +74,15 @@ fn made(stripe: &mut Stripe, call: Try) -> bool {
             }
             stripe.lift(key);
         }
+        LiftFound(key) => {
+            let Some(place) = stripe.find(key) else {
+                return false;
+            };
+            if aside.is_some() {
+                return false;
+            }
+            stripe.lift_found(key, place);
+        }
         Rescue(hand, key, chunk) => {
             if !stripe.can_store() || aside != Some(key) {
                 return false;
@@ -102,7 +113,7 @@ fn assert_row(rt: &impl Abort, stripe: &mut Stripe, row: Row) -> Result<(), Fail
     stripe.reserve()?;
     assert_same(rt, stripe.is_ready(), true, "is_ready");
     assert_same(rt, made(stripe, call), true, "made");
-    let is_lift = matches!(call, Lift(_));
+    let is_lift = matches!(call, Lift(_) | LiftFound(_));
     let found = (stripe.is_ready(), stripe.aside());
     assert_same(rt, found, (is_lift, aside), "is_ready and aside");
     let found = (stripe.find(1), stripe.history().last().copied());
@@ -135,7 +146,7 @@ const ROWS: [Row; 18] = [
         Some(Call::Set(1, 1, 8)),
     ),
     // The item goes into another chunk, and keeps its stamp.
-    (Lift(1), None, Some(1), Some(Call::Set(1, 1, 8))),
+    (LiftFound(1), None, Some(1), Some(Call::Set(1, 1, 8))),
     (
         Rescue(3, 1, ChunkId { page: 0, index: 6 }),
         Some((6, 8)),
@@ -200,7 +211,8 @@ fn any_call(random: &mut Pcg32, number: u64) -> Try {
         6 | 7 => Unlink(hand, key),
         8 | 9 => Got(hand, key),
         10 => Evict(hand, key),
-        11 | 12 => Lift(key),
+        11 => Lift(key),
+        12 => LiftFound(key),
         _ => Rescue(hand, key, chunk),
     }
 }

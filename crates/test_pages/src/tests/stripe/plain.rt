@@ -70,13 +70,8 @@ impl Plain {
     /// Makes the call where its conditions hold, and returns whether they did.
     pub(super) fn made(&mut self, call: Try) -> Result<bool, AllocError> {
         match call {
-            Try::Lift(key) => {
-                if self.aside.is_some() || self.find(key).is_none() {
-                    return Ok(false);
-                }
-                self.aside = self.take(key);
-                Ok(true)
-            }
+            Try::Lift(key) => Ok(self.lift(key)),
+            Try::LiftFound(key) => Ok(self.lift(key)),
             _ => {
                 if self.ready {
                     self.told(call)
@@ -85,6 +80,15 @@ impl Plain {
                 }
             }
         }
+    }
+
+    /// The key's item is put aside, if it is there and none is aside.
+    fn lift(&mut self, key: Key) -> bool {
+        if self.aside.is_some() || self.find(key).is_none() {
+            return false;
+        }
+        self.aside = self.take(key);
+        true
     }
 
     /// A call that writes an entry of the history.
@@ -111,6 +115,7 @@ impl Plain {
             },
             Try::Rescue(hand, key, chunk) => self.come_back(hand, key, chunk),
             Try::Lift(_) => Ok(false),
+            Try::LiftFound(_) => Ok(false),
         }
     }
 
