@@ -10,3 +10,6 @@ pub mod Replaced
 pub mod Visited
 pub mod TwoGets
 pub mod Walked
+pub mod Leased
+pub mod Lengthened
+pub mod Stocked

@@ -3,11 +3,12 @@ use Rattle.std.specs.Prelude.{◌⊎◌, ◌≡◌, ◌++◌, ℕ, ◌∷◌, []
 use Rattle.mc_words.specs.hand.Arenas.{setup_of}
 use Rattle.mc_words.specs.declared.arena.Arena.{Arena}
 use Rattle.mc_words.specs.declared.hand.Hand.{Hand}
-use Rattle.mc_items.specs.declared.comparing.Expected.TheVariants.{Item}
+use Rattle.mc_items.specs.declared.comparing.Expected.TheVariants.{Item, Something}
 use Rattle.mc_cache.specs.Conditional.{StoresBehindLook}
 use Rattle.mc_cache.specs.Deleting.{DeletesVersionThere}
 use Rattle.mc_cache.specs.Versions.{ReadsVersion}
 use Rattle.mc_shard.specs.Conditions.{FindsVersion}
+use Rattle.mc_shard.specs.Finding.{FindsKey}
 use Rattle.mc_cache.specs.declared.cache.Cache.{Cache}
 use Rattle.mc_cache.specs.declared.cache.Worker.{Worker}
 use Rattle.mc_cache.specs.declared.stats.CacheStats.{CacheStats}
@@ -62,3 +63,8 @@ pub record DeletesFound (cache : Cache) (key old new : List ℕ) (before now : W
   pub between : Worker
   pub finds : ActsOnKey cache key (ReadsVersion (hash_in cache key) key found version) before between
   pub deletes : ActsOnKey cache key (DeletesVersionThere (hash_in cache key) key version) between now
+
+-- the hand saw that the key has a value, and then stored another one under the key, whose hash had an item still
+abbrev pub StoresOverValue : ℕ → List ℕ → List ℕ → Arena → Hand → Hand → Type 0
+StoresOverValue hash key value arena before now =
+    FindsKey (setup_of arena) hash key before × ((stamp : ℕ) × StoresBehindLook Something hash stamp key value before now)

@@ -9,3 +9,6 @@ pub mod Counted
 pub mod Renewed
 pub mod Walked
 pub mod Classed
+pub mod Leased
+pub mod Lengthened
+pub mod Stocked
