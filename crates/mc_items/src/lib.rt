@@ -13,7 +13,8 @@
 //!   [`compare_and_delete`] deletes a key's item only where it has a given stamp.
 //! - [`clear_stripe`] deletes every key of a stripe, [`count_stripe`] counts a stripe's keys, and [`keys_of_stripe`] lists them.
 //! - [`get_within`], [`touch_within`], [`bump_within`], [`delete_within`], [`compare_and_delete_within`], [`set_hinted_within`],
-//!   [`make_room_within`], [`clear_stripe_within`] and [`count_stripe_within`] do so and give up after n tries for each lock.
+//!   [`make_room_within`], [`clear_stripe_within`], [`count_stripe_within`] and [`keys_of_stripe_within`] do so and give up after n
+//!   tries for each lock.
 //!
 //! ```rust
 //! fn read_own<R: Wait>(rt: &R, alloc: Global, arena: &Arena, hand: &mut Hand) -> Option<Vec<u64>> {
@@ -78,7 +79,7 @@ pub use within::deleting::delete_within;
 pub use within::deleting_where::{CompareDeleteWithinError, compare_and_delete_within};
 pub use within::error::WithinError;
 pub use within::getting::get_within;
-pub use within::listing::count_stripe_within;
+pub use within::listing::{count_stripe_within, keys_of_stripe_within};
 pub use within::making_room::make_room_within;
 pub use within::touching::touch_within;
 pub use within::{SetWithinError, set_hinted_within, set_within};
