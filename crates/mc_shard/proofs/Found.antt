@@ -109,6 +109,9 @@ module _ (arena : Arena) (hash : ℕ) (key : List ℕ) (before got : Hand) (item
 pub same_ok : {T E : Type 0} (x y : T) → ◌≡◌ {A = Result T E} (Ok x) (Ok y) → x ≡ y
 same_ok x y is = cc
 
+pub same_error : {T E : Type 0} (x y : E) → ◌≡◌ {A = Result T E} (Err x) (Err y) → x ≡ y
+same_error x y is = cc
+
 -- the stripe was found full, with no hint before
 pub full_at_once : (setup : Setup) (hash : ℕ) (before now : Hand) → FindsNoRoomFor setup hash before now → FindsFull setup hash before now
 full_at_once setup hash before now full = record { tried = before; tries = no_hint hash before; full = full }

@@ -1,5 +1,7 @@
 -- Keys of items that a hand looks up: what a read of an item's words leaves, and one key more.
-use Rattle.std.proofs.Common.{◌≡◌, ◌∙◌, ◌+◌, ◌++◌, ℕ, List, [], ◌∷◌, Option, Some, None, Ok, Err, Result, IfOk, IfSome, OnErr, OnOk, Vec, Global, if◌then◌else◌, is_ok, add-one, ap, append-nil, append_assoc, length, refl, slice_index, subst, sym}
+use Rattle.std.proofs.Common.{◌≡◌, ◌∙◌, ◌+◌, ◌++◌, ℕ, List, [], ◌∷◌, Option, Some, None, Ok, Err, Result, IfOk, IfSome, OnErr, OnOk, Vec, Global, if◌then◌else◌, is_ok, add-one, ap, append-nil, append_assoc, length, refl, slice_index, subst, sym, take}
+use Rattle.std.proofs.Math.Seq.{take-append_seam}
+use Rattle.std.proofs.lemmas.List.{length-map, take-map}
 use Rattle.std.specs.Option.{option_to_list}
 use Rattle.mc_pages.specs.declared.ids.ChunkId.{ChunkId}
 use Rattle.mc_packing.specs.Packing.{AreBytes, IsPackingOf}
@@ -10,7 +12,7 @@ use Rattle.mc_items.specs.Calls.{FindsStripe}
 use Rattle.mc_items.specs.Listing.{HasKeysPut}
 use Rattle.mc_items.specs.Reading.{words_seen}
 use Rattle.mc_shard.specs.Finding.{FindsKey, FindsWords}
-use Rattle.mc_shard.specs.Listing.{FindsNoKey, ListsStripe, LooksForKey, LooksUpFirst, PutsKey, PutsSome, bytes_of_keys}
+use Rattle.mc_shard.specs.Listing.{FindsNoKey, ListsStripe, LooksForKey, LooksUpFirst, MissesLook, PutsKey, PutsSome, StopsLooking, bytes_of_keys}
 use Rattle.mc_shard.specs.Recording.{RecordsGetAtMost}
 
 -- whatever reads leave stays
@@ -83,3 +85,19 @@ lists_stripe setup stripe hashes none old new before between now (Err error) emp
 -- no key so far
 pub puts_no_more : (old : List (List ℕ)) → PutsSome old old
 puts_no_more old = record { keys = []; put = sym (append-nil old) }
+
+-- the keys that were put are cut off again
+pub cut_off : (old new : List (Vec ℕ Global)) (count : ℕ) → count ≡ length old → PutsSome (bytes_of_keys old) (bytes_of_keys new) → bytes_of_keys (take count new) ≡ bytes_of_keys old
+cut_off old new count same puts =
+    let bytes : Vec ℕ Global → List ℕ = λ key. key.items in
+    let long : count ≡ length (bytes_of_keys old) = same ∙ sym (length-map old bytes) in
+    sym (take-map bytes count new) ∙ (ap (take count) puts.put ∙ (ap (λ (n : ℕ). take n (bytes_of_keys old ++ puts.keys)) long ∙ take-append_seam (bytes_of_keys old) puts.keys))
+
+-- why a list of a stripe's keys stopped: the look of one of its hashes missed the lock
+pub stops_looking : (setup : Setup) (tries stripe : ℕ) (hashes none : List ℕ) (before between now : Hand) → none ≡ [] → FindsStripe (HasKeysPut none hashes) stripe (view before) (view between) → MissesLook setup tries hashes between now → StopsLooking setup tries stripe before now
+stops_looking setup tries stripe hashes none before between now empty lists misses = record {
+  hashes = hashes;
+  between = between;
+  lists = subst (λ (l : List ℕ). FindsStripe (HasKeysPut l hashes) stripe (view before) (view between)) empty lists;
+  misses = misses;
+}

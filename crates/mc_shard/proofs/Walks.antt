@@ -106,10 +106,12 @@ stopped_clearing setup before middle now stripe counts number in_range each stop
     stopped_at (ClearsStripe (hand_number before)) (StopsClearing (hand_number before)) setup before now stripe counts (view middle) in_range each (subst (λ (n : ℕ). StopsClearing n stripe (view middle) (view now)) number stops)
 
 -- one that missed a lock
-pub missed_clearing : (setup : Setup) (tries : ℕ) (before middle now : Hand) (stripe : ℕ) (counts : List ℕ) → stripe < setup.config.stripes → DoesFirst (ClearsStripe (hand_number before)) stripe counts (view before) (view middle)
-    → MissesStripeEachTime tries stripe (view middle) (view now) → MissesClearingShard setup tries before now
-missed_clearing setup tries before middle now stripe counts in_range each misses =
-    stopped_at (ClearsStripe (hand_number before)) (MissesStripeEachTime tries) setup before now stripe counts (view middle) in_range each misses
+pub missed_clearing : (setup : Setup) (tries total : ℕ) (before middle now : Hand) (stripe : ℕ) (counts : List ℕ) → stripe < setup.config.stripes → DoesFirst (ClearsStripe (hand_number before)) stripe counts (view before) (view middle)
+    → MissesStripeEachTime tries stripe (view middle) (view now) → total ≡ saturated_sum counts → MissesClearingShard setup tries total before now
+missed_clearing setup tries total before middle now stripe counts in_range each misses summed = record {
+  walk = record { stripe = stripe; in_range = in_range; counts = counts; between = view middle; each = each; stops = misses };
+  summed = summed;
+}
 
 pub missed_counting : (setup : Setup) (tries : ℕ) (before middle now : Hand) (stripe : ℕ) (counts : List ℕ) → stripe < setup.config.stripes → DoesFirst CountsStripe stripe counts (view before) (view middle)
     → MissesStripeEachTime tries stripe (view middle) (view now) → MissesCounting setup tries before now

@@ -1,15 +1,17 @@
 -- The keys of the items of a stripe: the stripe's hashes are listed in one hold of its lock, and then each is looked up.
-use Rattle.std.specs.Prelude.{◌≡◌, ℕ, zero, suc, List, [], ◌++◌, length, map, Option, Some, None, IfSome, slice_index, Vec}
+use Rattle.std.specs.Prelude.{◌≡◌, ◌<◌, ◌⊎◌, ℕ, zero, suc, List, [], ◌++◌, length, map, Option, Some, None, IfSome, slice_index, Vec}
 use Rattle.std.specs.Global.{Global}
 use Rattle.std.specs.Option.{option_to_list}
 use Rattle.mc_packing.specs.Packing.{AreBytes, IsPackingOf}
 use Rattle.mc_words.specs.declared.hand.Hand.{Hand}
 use Rattle.mc_words.specs.hand.Arenas.{view}
 use Rattle.mc_words.specs.hand.View.{Setup}
+use Rattle.mc_words.specs.lock.Wait.{MissesStripeEachTime}
 use Rattle.mc_items.specs.Calls.{FindsStripe}
 use Rattle.mc_items.specs.Listing.{HasKeysPut}
 use Rattle.mc_shard.specs.Finding.{FindsKey, FindsWords}
 use Rattle.mc_shard.specs.Recording.{RecordsGetAtMost}
+use Rattle.mc_shard.specs.Within.{MissesLock}
 
 -- no item is under the hash, or one whose words are a packing of no key
 pub record FindsNoKey (setup : Setup) (hash : ℕ) (before : Hand) : Type 0 where
@@ -60,3 +62,24 @@ pub record PutsKey (setup : Setup) (hash : ℕ) (old new : List (List ℕ)) (bef
 pub record PutsSome (old new : List (List ℕ)) : Type 0 where
   pub keys : List (List ℕ)
   pub put : new ≡ old ++ keys
+
+-- the hand looked the first of these hashes up, in turn, and at the look of the next one each try for the lock of its stripe missed
+pub record MissesLook (setup : Setup) (tries : ℕ) (hashes : List ℕ) (before now : Hand) : Type 0 where
+  -- how many hashes were looked up
+  pub place : ℕ
+  pub in_range : place < length hashes
+  pub keys : List (List ℕ)
+  pub between : Hand
+  pub looks : LooksUpFirst setup hashes place keys before between
+  pub missed : MissesLock setup tries (slice_index hashes place) between now
+
+-- the hashes of the stripe were listed in one hold of its lock, each once, and then the look of one of them missed the lock
+pub record StopsLooking (setup : Setup) (tries stripe : ℕ) (before now : Hand) : Type 0 where
+  pub hashes : List ℕ
+  pub between : Hand
+  pub lists : FindsStripe (HasKeysPut [] hashes) stripe (view before) (view between)
+  pub misses : MissesLook setup tries hashes between now
+
+-- each try for the lock of the stripe missed: as its hashes were to be listed, or at the look of one of them
+abbrev pub MissesListing : Setup → ℕ → ℕ → Hand → Hand → Type 0
+MissesListing setup tries stripe before now = MissesStripeEachTime tries stripe (view before) (view now) ⊎ StopsLooking setup tries stripe before now

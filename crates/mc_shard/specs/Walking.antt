@@ -10,6 +10,8 @@ use Rattle.mc_words.specs.lock.Wait.{MissesStripeEachTime}
 use Rattle.mc_items.specs.Calls.{FindsStripe}
 use Rattle.mc_items.specs.Clearing.{ClearsStripe, GivesBackEmpty, StopsClearing}
 use Rattle.mc_items.specs.Listing.{HasKeyCount}
+use Rattle.mc_shard.specs.declared.clearing.ClearWithinError.{ClearWithinError}
+use Rattle.mc_shard.specs.declared.clearing.ClearWithinError.TheVariants.{Held, NoMemory}
 
 -- what a hand does with a stripe, of which it counts something
 abbrev pub StripeCall : Type 1
@@ -49,9 +51,16 @@ ClearsShard setup count before now = WalksShard (ClearsStripe (hand_number befor
 abbrev pub StopsClearingShard : Setup → Hand → Hand → Type 0
 StopsClearingShard setup before now = WalksUpToStripe (ClearsStripe (hand_number before)) (StopsClearing (hand_number before)) setup before now
 
--- the hand cleared some stripes, and then each try for the lock of one missed
-abbrev pub MissesClearingShard : Setup → ℕ → Hand → Hand → Type 0
-MissesClearingShard setup tries before now = WalksUpToStripe (ClearsStripe (hand_number before)) (MissesStripeEachTime tries) setup before now
+-- the hand cleared some stripes, where it deleted n keys in all, and then each try for the lock of one missed
+pub record MissesClearingShard (setup : Setup) (tries count : ℕ) (before now : Hand) : Type 0 where
+  pub walk : WalksUpToStripe (ClearsStripe (hand_number before)) (MissesStripeEachTime tries) setup before now
+  pub summed : count ≡ saturated_sum walk.counts
+
+-- why a clear within this many tries stopped: a stripe had no room for the call of a delete; or each try for the lock of one missed, and n keys were
+-- deleted before
+abbrev pub StopsClearWithin : Setup → ℕ → ClearWithinError → Hand → Hand → Type 0
+StopsClearWithin setup tries (NoMemory refused) before now = StopsClearingShard setup before now
+StopsClearWithin setup tries (Held count) before now = MissesClearingShard setup tries count before now
 
 -- no stripe of the shard had a key as the hand last gave the stripe's lock back
 abbrev pub GivesAllBackEmpty : Setup → Hand → Type 0

@@ -11,8 +11,9 @@
 //!   that the caller got.
 //! - [`set_within`], [`set_if_within`], [`get_within`], [`contains_within`], [`touch_within`], [`delete_within`] and
 //!   [`delete_version_within`] try for each lock n times, and don't wait.
-//! - [`clear`] deletes every key, stripe by stripe, and [`count`] returns how many items there are. [`clear_within`] and [`count_within`]
-//!   don't wait. [`keys`] lists the keys of a stripe. [`items_of_stripe`] and [`items_of_shard`] count items and their bytes by class.
+//! - [`clear`] deletes every key, stripe by stripe, and [`count`] returns how many items there are. [`keys`] lists the keys of a stripe.
+//!   [`clear_within`], [`count_within`] and [`keys_within`] don't wait. [`items_of_stripe`] and [`items_of_shard`] count items and their
+//!   bytes by class.
 //! - [`max_value`] returns the most bytes that a value may have beside a key. A set of a longer one is refused before it is packed.
 //! - A [`HintTable`] has notes of where items may be. A call that finds one gets the item with no lock.
 //!
@@ -41,6 +42,7 @@ mod hinting;
 mod hints;
 mod label;
 mod listing;
+mod listing_within;
 mod looking;
 mod lookup;
 mod reading;
@@ -53,7 +55,7 @@ mod versions;
 mod within;
 
 pub use class_items::{ClassItems, ItemSize, rows_are_sums, worked_class_items};
-pub use clearing::{clear, clear_within};
+pub use clearing::{ClearWithinError, clear, clear_within};
 pub use conditions::{Outcome, When, set_if, set_if_within};
 pub use counting::{count, count_within};
 pub use deleting::delete;
@@ -62,6 +64,7 @@ pub use gets::{get, peek, touch};
 pub use hints::HintTable;
 pub use label::Label;
 pub use listing::keys;
+pub use listing_within::keys_within;
 pub use looking::Seen;
 pub use setting::set;
 pub use setting_within::set_within;

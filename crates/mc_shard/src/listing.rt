@@ -129,7 +129,7 @@ fn key_under<R: Wait>(
 }
 
 // The key of an item that the hand holds, and nothing else. The reference is given up.
-fn take_key(
+pub(crate) fn take_key(
     alloc: Global,
     arena: &Arena,
     hand: &mut Hand,

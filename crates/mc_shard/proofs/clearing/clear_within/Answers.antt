@@ -1,4 +1,4 @@
-use Rattle.std.proofs.Common.{◌≡◌, ◌<◌, ◌++◌, ◌∷◌, [], ◌∙◌, ℕ, ap, subst, arith}
+use Rattle.std.proofs.Common.{◌≡◌, ◌<◌, ◌++◌, ◌∷◌, [], ◌∙◌, ℕ, Err, ap, subst, arith}
 use Rattle.mc_classes.specs.declared.config.Config.{Config}
 use Rattle.mc_words.specs.hand.Arenas.{setup_of, view}
 use Rattle.mc_words.specs.hand.View.{View}
@@ -53,16 +53,16 @@ returns-clause-gone c =
     let ends : c.loop-stripe.stripe ≡ (setup_of c.args.arena.now).config.stripes = omega (arith, c.loop-stripe-test.false, c.loop-stripe.auto.stripe-end, same) in
     all_lost c.args.arena.now before now inv.done.0 before.number c.requires.of_arena.setup (subst (λ (n : ℕ). DoesFirst (ClearsStripe before.number) n inv.done.0 (view before) (view now)) ends inv.done.1)
 
-pub returns-in-Err-clause-stops : goal.returns-in-Err-clause-stops
-returns-in-Err-clause-stops c is =
+pub returns-in-Err-NoMemory-clause-stops : goal.returns-in-Err-NoMemory-clause-stops
+returns-in-Err-NoMemory-clause-stops c =
     let inv = c.loop-stripe.invariant in
     let same = ap (λ (f : Config). f.stripes) c.config.ensures.config in
     let in_range : c.loop-stripe.stripe < (setup_of c.args.arena.now).config.stripes = omega (arith, c.loop-stripe-test.true, same) in
-    stopped_clearing (setup_of c.args.arena.now) c.args.hand.now c.loop-stripe.hand c.clear_stripe_within.new.hand c.loop-stripe.stripe inv.done.0 inv.number in_range inv.done.1 (c.in-Err.ensures.stops is)
+    stopped_clearing (setup_of c.args.arena.now) c.args.hand.now c.loop-stripe.hand c.clear_stripe_within.new.hand c.loop-stripe.stripe inv.done.0 inv.number in_range inv.done.1 (c.in-Err-NoMemory.ensures.stops (ap Err c.in-Err-NoMemory.field-0-is))
 
-pub returns-in-Err-clause-held : goal.returns-in-Err-clause-held
-returns-in-Err-clause-held c is =
+pub returns-in-Err-Held-clause-stops : goal.returns-in-Err-Held-clause-stops
+returns-in-Err-Held-clause-stops c =
     let inv = c.loop-stripe.invariant in
     let same = ap (λ (f : Config). f.stripes) c.config.ensures.config in
     let in_range : c.loop-stripe.stripe < (setup_of c.args.arena.now).config.stripes = omega (arith, c.loop-stripe-test.true, same) in
-    missed_clearing (setup_of c.args.arena.now) c.args.tries c.args.hand.now c.loop-stripe.hand c.clear_stripe_within.new.hand c.loop-stripe.stripe inv.done.0 in_range inv.done.1 (c.in-Err.ensures.held is)
+    missed_clearing (setup_of c.args.arena.now) c.args.tries c.loop-stripe.count c.args.hand.now c.loop-stripe.hand c.clear_stripe_within.new.hand c.loop-stripe.stripe inv.done.0 in_range inv.done.1 (c.in-Err-Held.ensures.held (ap Err c.in-Err-Held.field-0-is)) inv.done.2
