@@ -3,7 +3,8 @@ use Rattle.std.proofs.Common.{◌≡◌, ◌⊎◌, ℕ, zero, suc, is_some, tru
 use Rattle.mc_pages.specs.declared.moves.Reassign.{Reassign}
 use Rattle.mc_pages.specs.Changes.{HasNoPageFor}
 use Rattle.mc_pages.specs.ClassState.{first_free}
-use Rattle.mc_pages.specs.SlabState.{SlabState, class_at}
+use Rattle.mc_pages.specs.SlabState.{HasClass, SlabState, class_at}
+use Rattle.mc_words.specs.chunk.Sweeps.{SweepsOneOf}
 use Rattle.mc_words.specs.declared.hand.Hand.{Hand}
 use Rattle.mc_words.specs.declared.lock.locks.Locks.{Locks}
 use Rattle.mc_words.specs.declared.lock.locks.Locks.TheVariants.{Neither, Slabs, Stripe, SlabsLast, StripeLast}
@@ -17,12 +18,12 @@ use Rattle.mc_words.proofs.Locks.Unlocked.{unlocked_from}
 use Rattle.mc_items.specs.declared.evicting.Supply.{Supply}
 use Rattle.mc_items.specs.declared.making_room.Room.{Room}
 use Rattle.mc_items.specs.declared.making_room.Room.TheVariants.{Had, Page, Freed, Full}
-use Rattle.mc_items.specs.MakingRoom.{EvictsForRoom, EvictsOldest, EvictsOldestFor, LacksCallForRoom, LacksFree, LacksPage, LacksRoomMemory, MakesRoom, evicted_for, room_by, supply_by}
+use Rattle.mc_items.specs.MakingRoom.{EvictsForRoom, EvictsOldest, EvictsOldestFor, LacksCallForRoom, LacksFree, LacksPage, LacksRoomMemory, MakesRoom, PutsBackDead, evicted_for, room_by, supply_by}
 use Rattle.mc_items.specs.Sources.{AsksMove}
-use Rattle.mc_items.specs.Supplying.{SweepsEmpty}
 use Rattle.mc_items.specs.Visiting.{VisitsOldest}
+use Rattle.mc_items.proofs.Freed.{back_is_free}
 use Rattle.mc_items.proofs.Locks.{waits_slabs_keep}
-use Rattle.mc_items.proofs.Made.{empty_keeps, grows_keep, recovers_keep}
+use Rattle.mc_items.proofs.Made.{grows_keep, recovers_keep}
 use Rattle.mc_items.proofs.Passes.{own_of}
 use Rattle.mc_items.proofs.Visits.{Deletions, deletes_after, deletes_before, deletes_none, lacking_deletes, oldest_deletes}
 
@@ -31,9 +32,21 @@ none_from : {A : Type 0} (o : Option A) → is_some o ≡ false → o ≡ None
 none_from None none = refl
 none_from (Some a) none = absurd (cc)
 
-pub lacks_so : (class : ℕ) (view : View) (slabs : SlabState) (now : View) (left : SlabState) → SweepsEmpty class view slabs now left → is_some (first_free (class_at left class)) ≡ false → LacksFree class view slabs now left
+pub lacks_so : (class : ℕ) (view : View) (slabs : SlabState) (now : View) (left : SlabState) → PutsBackDead class view slabs now left → is_some (first_free (class_at left class)) ≡ false → LacksFree class view slabs now left
 lacks_so class view slabs now left (inl (some, same, is)) none = absurd (let never : false ≡ true = sym none ∙ (ap (λ (s : SlabState). is_some (first_free (class_at s class))) is ∙ some) in cc)
-lacks_so class view slabs now left (inr (empty, recovers)) none = record { empty = empty; recovers = recovers; still = none_from (first_free (class_at left class)) none }
+lacks_so class view slabs now left (inr (before, recovers)) none = let still = none_from (first_free (class_at left class)) none in record { empty = before still; recovers = recovers; still = still }
+
+-- where one chunk of the class was swept and none is free, none was free before
+pub none_before : (class : ℕ) (view : View) (slabs : SlabState) (now : View) (left : SlabState) → HasClass slabs class → SweepsOneOf class view slabs now left → first_free (class_at left class) ≡ None → first_free (class_at slabs class) ≡ None
+none_before class view slabs now left here (chunk, own, one) none = elim one [
+  | inl back ↦ absurd (let free = ap (λ (s : SlabState). is_some (first_free (class_at s class))) back.1 ∙ back_is_free slabs class chunk here own in let never : false ≡ true = sym (ap is_some none) ∙ free in cc)
+  | inr other ↦ ap (λ (s : SlabState). first_free (class_at s class)) (sym other.1) ∙ none
+]
+
+-- dead chunks that were put back leave what the hand has
+back_keeps : (class : ℕ) (view : View) (slabs : SlabState) (now : View) (left : SlabState) → PutsBackDead class view slabs now left → own_of now ≡ own_of view
+back_keeps class view slabs now left (inl (some, same, is)) = ap own_of same
+back_keeps class view slabs now left (inr (before, recovers)) = recovers_keep (class_at slabs class).order view slabs now left recovers
 
 -- the answer, by how many were evicted and put back
 pub evicts_for : (number class evicted freed : ℕ) (view : View) (slabs : SlabState) (visited : View) (between : SlabState) (now : View) (left : SlabState) → VisitsOldest number class evicted freed view slabs visited between → AsksMove number class (supply_by evicted) visited between now left
@@ -70,7 +83,7 @@ room_deletes number class room view slabs now left evicts =
 
 -- what a call deletes is what it says that it evicted
 pub makes_delete : (number class : ℕ) (room : Room) (view : View) (slabs : SlabState) (now : View) (left : SlabState) → MakesRoom number class room view slabs now left → Deletions number (evicted_for room) view now
-makes_delete number class Had view slabs now left finds = deletes_none number view now (empty_keeps class view slabs now left finds.0)
+makes_delete number class Had view slabs now left finds = deletes_none number view now (back_keeps class view slabs now left finds.0)
 makes_delete number class Page view slabs now left gets =
     deletes_none number view now (grows_keep number class gets.tried gets.between now left gets.grows ∙ lacks_own class view slabs gets.tried gets.between gets.lacks)
 makes_delete number class (Freed evicted freed) view slabs now left evicts = room_deletes number class (Freed evicted freed) view slabs now left evicts

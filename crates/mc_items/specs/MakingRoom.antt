@@ -11,12 +11,18 @@ use Rattle.mc_items.specs.declared.evicting.Supply.TheVariants as supply
 use Rattle.mc_items.specs.declared.making_room.Room.{Room}
 use Rattle.mc_items.specs.declared.making_room.Room.TheVariants.{Had, Page, Freed, Full}
 use Rattle.mc_items.specs.Sources.{AsksMove}
-use Rattle.mc_items.specs.Supplying.{Grows, SweepsEmpty}
+use Rattle.mc_items.specs.Supplying.{Grows}
 use Rattle.mc_items.specs.Visiting.{LacksCallAtOldest, RecordsDeletes, VisitsOldest}
 
--- the class has a free chunk: it had one, and nothing was done; or it had none, and dead chunks that hints named were put back
+-- the class had a free chunk, and nothing was done; or dead chunks were put back, and the class lacks a free one only if it lacked one before
+abbrev pub PutsBackDead : ℕ → SlabsDoing
+PutsBackDead class view slabs now left =
+    ((is_some (first_free (class_at slabs class)) ≡ true) × (now ≡ view) × (left ≡ slabs))
+    ⊎ ((first_free (class_at left class) ≡ None → first_free (class_at slabs class) ≡ None) × Recovers (class_at slabs class).order view slabs now left)
+
+-- the class has a free chunk: it had one, or dead chunks were put back
 abbrev pub FindsFree : ℕ → SlabsDoing
-FindsFree class view slabs now left = SweepsEmpty class view slabs now left × (is_some (first_free (class_at left class)) ≡ true)
+FindsFree class view slabs now left = PutsBackDead class view slabs now left × (is_some (first_free (class_at left class)) ≡ true)
 
 -- the class had no free chunk, and no chunk came free of those that hints named
 pub record LacksFree (class : ℕ) (view : View) (slabs : SlabState) (now : View) (left : SlabState) : Type 0 where

@@ -30,7 +30,7 @@ room_tries = 16
 
 -- how many items are evicted at most
 abbrev pub room_items : ℕ
-room_items = 1
+room_items = 4
 
 -- the key of the chunk's item, as the hand read it, led to the chunk, and was deleted
 pub record Unlinks (number stripe : ℕ) (chunk : ChunkId) (value : ReadyStripe) (view : View) (left : ReadyStripe) (now : View) : Type 0 where

@@ -7,13 +7,11 @@ ghost use Rattle.mc_core.specs.model.State.{is_class};
 ghost use Rattle.mc_words.specs.hand.Arenas.{IsHandOf, setup_of, view};
 ghost use Rattle.mc_words.specs.hand.Idle.{has_no_stripes};
 ghost use Rattle.mc_words.specs.hand.Observers.{HasSlabs, hand_number, locks_of, slabs_lent};
-ghost use Rattle.mc_words.specs.chunk.Sweeps.{Recovers};
 ghost use Rattle.mc_words.specs.hand.Ready.{IsReady, StaysReady};
 ghost use Rattle.mc_words.specs.item.Refs.{KeepsHoldings};
 ghost use Rattle.mc_items.specs.Keeping.{StoresNothing};
-ghost use Rattle.mc_items.specs.MakingRoom.{EvictsOldestFor, LacksRoomMemory, MakesRoom, RecordsSomeDeletes, evicted_for, room_by, supply_by};
+ghost use Rattle.mc_items.specs.MakingRoom.{EvictsOldestFor, LacksRoomMemory, MakesRoom, PutsBackDead, RecordsSomeDeletes, evicted_for, room_by, supply_by};
 ghost use Rattle.mc_items.specs.OnKeys.{Acts, ActsOnce, SeesMore};
-ghost use Rattle.mc_items.specs.Supplying.{SweepsEmpty};
 ghost use Rattle.mc_items.specs.Visiting.{LacksCallAtOldest, RecordsDeletes};
 
 use crate::evicting::Supply;
@@ -104,7 +102,8 @@ pub(crate) fn make_room_held<M: Marks>(
     }
 }
 
-// Whether the class has a free chunk. Where it has none, the dead chunk that the hand remembers or those that hints name are put back first.
+// Whether the class has a free chunk, once the dead chunk that the hand remembers was put back. Where the hand remembers none of the class, and
+// none is free, dead chunks that hints name are put back first.
 fn find_free(arena: &Arena, hand: &mut Hand, slabs: &mut SlabsHeld, class: ClassId) -> bool
     requires arena { IsHandOf arena.now hand.old }
     requires class { is_class (setup_of arena.now).table class ≡ true }
@@ -112,34 +111,19 @@ fn find_free(arena: &Arena, hand: &mut Hand, slabs: &mut SlabsHeld, class: Class
     ensures arena { IsHandOf arena.now hand.new }
     ensures locks { locks_of hand.new ≡ locks_of hand.old }
     ensures slabs { HasSlabs hand.new slabs.new }
-    ensures sweeps { Acts (SweepsEmpty class) hand.old slabs.old hand.new slabs.new }
+    ensures puts_back { Acts (PutsBackDead class) hand.old slabs.old hand.new slabs.new }
     ensures free { result ≡ is_some (first_free (class_at (slabs_lent slabs.new) class)) }
     ensures seen { SeesMore hand.old hand.new }
     ensures uncut { (slabs_lent slabs.new).uncut ≡ (slabs_lent slabs.old).uncut }
 {
+    if arena.recover_own(hand, slabs, class) {
+        return slabs.slabs().first_free(class).is_some();
+    }
     if slabs.slabs().first_free(class).is_some() {
         return true;
     }
-    put_back_dead(arena, hand, slabs, class);
-    slabs.slabs().first_free(class).is_some()
-}
-
-// Puts the dead chunk back that the hand remembers, or where it remembers none of the class, those that hints name.
-fn put_back_dead(arena: &Arena, hand: &mut Hand, slabs: &mut SlabsHeld, class: ClassId)
-    requires arena { IsHandOf arena.now hand.old }
-    requires class { is_class (setup_of arena.now).table class ≡ true }
-    requires slabs { HasSlabs hand.old slabs.old }
-    ensures arena { IsHandOf arena.now hand.new }
-    ensures locks { locks_of hand.new ≡ locks_of hand.old }
-    ensures slabs { HasSlabs hand.new slabs.new }
-    ensures recovers { Recovers (class_at (slabs_lent slabs.old) class).order
-        (view hand.old) (slabs_lent slabs.old) (view hand.new) (slabs_lent slabs.new) }
-    ensures seen { SeesMore hand.old hand.new }
-{
-    if arena.recover_own(hand, slabs, class) {
-        return;
-    }
     arena.recover(hand, slabs, class);
+    slabs.slabs().first_free(class).is_some()
 }
 
 // Evicts some of the class's oldest items, and asks for a move of a page to the class, if one was evicted and the automover's mode

@@ -26,9 +26,8 @@ use mc_words::{Arena, Hand, SlabsHeld, StripeHeld, header};
 /// How many of a class's oldest chunks a call visits at most.
 pub const ROOM_TRIES: u64 = 16;
 
-/// How many items a call evicts at most to make room. With more, the next sets would find free chunks, and what they store over would need
-/// hints: a hand remembers one dead chunk alone.
-pub const ROOM_ITEMS: u64 = 1;
+/// How many items a call evicts at most to make room.
+pub const ROOM_ITEMS: u64 = 4;
 
 /// What was done with the oldest chunk of a class.
 #[derive(Clone, Copy)]

@@ -4,7 +4,7 @@ use Rattle.std.specs.List.{list_all}
 use Rattle.mc_pages.specs.declared.ids.ChunkId.{ChunkId}
 use Rattle.mc_pages.specs.Changes.{after_back}
 use Rattle.mc_pages.specs.ClassState.{is_chunk}
-use Rattle.mc_pages.specs.SlabState.{SlabState, class_of_chunk}
+use Rattle.mc_pages.specs.SlabState.{SlabState, class_of_chunk, class_of_page}
 use Rattle.mc_core.specs.declared.event.Step.TheVariants as step
 use Rattle.mc_core.specs.declared.head.Head.{Head}
 use Rattle.mc_core.specs.model.Head.{is_dead}
@@ -19,6 +19,10 @@ use Rattle.mc_words.specs.page.Owner.{PutsBack, SeesOther}
 abbrev pub SweepsOne : ChunkId → View → SlabState → View → SlabState → Type 0
 SweepsOne chunk view slabs now left =
     (PutsBack view slabs chunk now × (left ≡ after_back slabs chunk)) ⊎ (SeesOther view (Some chunk) (λ head. is_dead head ≡ false) now × (left ≡ slabs))
+
+-- a chunk on a page of the class was seen dead and put back, or seen alive
+abbrev pub SweepsOneOf : ℕ → View → SlabState → View → SlabState → Type 0
+SweepsOneOf class view slabs now left = (chunk : ChunkId) × (class_of_page slabs chunk.page ≡ class) × SweepsOne chunk view slabs now left
 
 -- each of these chunks was seen dead and put back, or seen alive, one after another
 abbrev pub SweepsEach : List ChunkId → View → SlabState → View → SlabState → Type 0

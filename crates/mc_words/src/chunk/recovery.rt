@@ -7,7 +7,7 @@ ghost use Rattle.mc_pages.specs.SlabState.{class_at, class_of_page};
 ghost use Rattle.mc_core.specs.model.State.{has_chunk, is_class, most_of};
 ghost use Rattle.mc_words.specs.hand.Arenas.{IsHandOf, setup_of, view};
 ghost use Rattle.mc_words.specs.chunk.Dead.{AreHandedOut, AreJudged, IsAliveOrNoted};
-ghost use Rattle.mc_words.specs.chunk.Sweeps.{Recovers, SeesHeaders, SweepsOne, with_seen};
+ghost use Rattle.mc_words.specs.chunk.Sweeps.{Recovers, SeesHeaders, SweepsOneOf, with_seen};
 
 use crate::arena::Arena;
 use crate::chunk::dead::DeadChunks;
@@ -30,8 +30,8 @@ impl Arena {
         ensures held { (view hand.new).slabs ≡ Some held.new.shared }
         ensures recovers { result ≡ true → Recovers (class_at held.old.shared class).order
             (view hand.old) held.old.shared (view hand.new) held.new.shared }
-        ensures one { result ≡ true → (chunk : ChunkId)
-            × SweepsOne chunk (view hand.old) held.old.shared (view hand.new) held.new.shared }
+        ensures one { result ≡ true → SweepsOneOf class
+            (view hand.old) held.old.shared (view hand.new) held.new.shared }
         ensures view { view hand.new ≡ with_seen (view hand.old) (view hand.new) }
         ensures none { result ≡ false →
             (view hand.new ≡ view hand.old) × (held.new.shared ≡ held.old.shared) }

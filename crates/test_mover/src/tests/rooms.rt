@@ -33,10 +33,10 @@ pub fn makes<R: Wait>(rt: &R, arena: &Arena, hand: &mut Hand, below: Key, wanted
     }
 }
 
-/// One item was evicted, and its chunk put back.
-const ONE: Room = Room::Freed {
-    evicted: 1,
-    freed: 1,
+/// Four items were evicted, and their chunks put back.
+const FOUR: Room = Room::Freed {
+    evicted: 4,
+    freed: 4,
 };
 
 /// Eight items, which are all that there is room for.
@@ -46,16 +46,16 @@ const EIGHT: Step = Step::Sets(1, 9, 61);
 fn marked_items_get_a_second_chance(rt: HostRuntime) -> Result<(), Fail> {
     let steps = [
         EIGHT,
-        Step::Makes(3, ONE),
-        Step::Has(4, 4, 7, 1),
+        Step::Makes(3, FOUR),
+        Step::Has(4, 4, 4, 4),
         Step::Makes(0, Room::Had),
-        Step::Sets(21, 22, 61),
-        Step::Makes(0, ONE),
-        Step::Touches(1, true),
-        Step::Touches(2, true),
+        Step::Sets(21, 25, 61),
+        Step::Makes(0, FOUR),
+        Step::Touches(1, false),
+        Step::Touches(2, false),
         Step::Touches(3, false),
-        Step::Touches(4, false),
-        Step::Touches(5, true),
+        Step::Touches(6, false),
+        Step::Touches(8, false),
         Step::Touches(21, true),
     ];
     run(&rt, rt.alloc(), &FOUR_CLASSES, &steps)
@@ -66,10 +66,11 @@ fn held_items_stay(rt: HostRuntime) -> Result<(), Fail> {
     let steps = [
         EIGHT,
         Step::TryGets(1, None),
-        Step::Makes(0, ONE),
+        Step::Makes(0, FOUR),
         Step::Touches(1, true),
         Step::Touches(2, false),
-        Step::Touches(3, true),
+        Step::Touches(5, false),
+        Step::Touches(6, true),
     ];
     run(&rt, rt.alloc(), &FOUR_CLASSES, &steps)
 }
@@ -128,7 +129,7 @@ fn mode_two_asks_for_a_move(rt: HostRuntime) -> Result<(), Fail> {
         Step::Sets(1, 5, 61),
         Step::Sets(11, 17, 20),
         Step::Pages(4, 0, false),
-        Step::Makes(0, ONE),
+        Step::Makes(0, FOUR),
         Step::Pages(4, 0, true),
     ];
     run(&rt, rt.alloc(), &FOUR_CLASSES, &steps)

@@ -14,13 +14,13 @@ use Rattle.mc_items.proofs.Supplies.{if_error}
 use Rattle.mc_items.proofs.making_room.make_room_held.Goals as goal
 
 pub returns-then-find_free-clause-makes : goal.returns-then-find_free-clause-makes
-returns-then-find_free-clause-makes g c = (c.find_free.ensures.sweeps, sym c.find_free.ensures.free ∙ c.if-find_free.true)
+returns-then-find_free-clause-makes g c = (c.find_free.ensures.puts_back, sym c.find_free.ensures.free ∙ c.if-find_free.true)
 
 pub returns-in-Ok-true-clause-makes : goal.returns-in-Ok-true-clause-makes
 returns-in-Ok-true-clause-makes g c =
     let hand = c.args.hand.now in
     let tried = c.find_free.new in
-    let lacks = lacks_so c.args.class hand.seat.me.0 c.args.slabs.now.shared tried.hand.seat.me.0 tried.slabs.shared c.find_free.ensures.sweeps (sym c.find_free.ensures.free ∙ c.if-find_free.false) in
+    let lacks = lacks_so c.args.class hand.seat.me.0 c.args.slabs.now.shared tried.hand.seat.me.0 tried.slabs.shared c.find_free.ensures.puts_back (sym c.find_free.ensures.free ∙ c.if-find_free.false) in
     let number = number_stays hand tried.hand (ap (λ (v : View). v.row.ids) c.find_free.ensures.seen) in record {
       tried = tried.hand.seat.me.0;
       between = tried.slabs.shared;
@@ -47,7 +47,7 @@ returns-in-Ok-false-clause-makes g c =
     let tried = c.find_free.new in
     let grown = c.grow_for.new in
     let last = c.evict_oldest.new in
-    let lacks = lacks_so class hand.seat.me.0 slabs tried.hand.seat.me.0 tried.slabs.shared c.find_free.ensures.sweeps (sym c.find_free.ensures.free ∙ c.if-find_free.false) in
+    let lacks = lacks_so class hand.seat.me.0 slabs tried.hand.seat.me.0 tried.slabs.shared c.find_free.ensures.puts_back (sym c.find_free.ensures.free ∙ c.if-find_free.false) in
     let is = c.in-Ok-false.is ∙ ap (λ b. Ok b) c.in-Ok-false.field-0-test in
     let none = c.grow_for.ensures.none is in
     let full = c.grow_for.ensures.full is in
@@ -65,7 +65,7 @@ returns-in-Ok-false-clause-refused g c =
     let tried = c.find_free.new in
     let grown = c.grow_for.new in
     let last = c.evict_oldest.new in
-    let lacks = lacks_so class hand.seat.me.0 slabs tried.hand.seat.me.0 tried.slabs.shared c.find_free.ensures.sweeps (sym c.find_free.ensures.free ∙ c.if-find_free.false) in
+    let lacks = lacks_so class hand.seat.me.0 slabs tried.hand.seat.me.0 tried.slabs.shared c.find_free.ensures.puts_back (sym c.find_free.ensures.free ∙ c.if-find_free.false) in
     let is = c.in-Ok-false.is ∙ ap (λ b. Ok b) c.in-Ok-false.field-0-test in
     let none = c.grow_for.ensures.none is in
     let full = c.grow_for.ensures.full is in
@@ -89,7 +89,7 @@ pub returns-in-Err-clause-refused : goal.returns-in-Err-clause-refused
 returns-in-Err-clause-refused g c =
     let hand = c.args.hand.now in
     let tried = c.find_free.new in
-    let lacks = lacks_so c.args.class hand.seat.me.0 c.args.slabs.now.shared tried.hand.seat.me.0 tried.slabs.shared c.find_free.ensures.sweeps (sym c.find_free.ensures.free ∙ c.if-find_free.false) in record {
+    let lacks = lacks_so c.args.class hand.seat.me.0 c.args.slabs.now.shared tried.hand.seat.me.0 tried.slabs.shared c.find_free.ensures.puts_back (sym c.find_free.ensures.free ∙ c.if-find_free.false) in record {
       tried = tried.hand.seat.me.0;
       between = tried.slabs.shared;
       lacks = lacks;

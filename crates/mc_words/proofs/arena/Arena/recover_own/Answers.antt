@@ -12,3 +12,6 @@ returns-clause-recovers c is =
     let in_range = subst (λ (s : Setup). has_chunk s.table c.in-Some.chunk ≡ true) (sym c.requires.arena.setup) (c.is_of_class.ensures.in_range yes) in
     recovers_one view c.args.held.now.shared c.requires.held c.args.class c.in-Some.chunk (c.is_of_class.ensures.own yes) in_range c.put_back.new.hand.seat.me.0 c.put_back.new.held.shared
     (swept_one c.put_back.result c.put_back.ensures.back c.put_back.ensures.moved)
+
+pub returns-clause-one : goal.returns-clause-one
+returns-clause-one c = λ is. (c.in-Some.chunk, c.is_of_class.ensures.own c.if-not-is_of_class.false, swept_one c.put_back.result c.put_back.ensures.back c.put_back.ensures.moved)
