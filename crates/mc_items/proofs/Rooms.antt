@@ -28,7 +28,7 @@ use Rattle.mc_items.proofs.Passes.{own_of}
 use Rattle.mc_items.proofs.Visits.{Deletions, deletes_after, deletes_before, deletes_none, lacking_deletes, oldest_deletes}
 
 -- no free chunk, and none behind a recovery
-none_from : {A : Type 0} (o : Option A) → is_some o ≡ false → o ≡ None
+pub none_from : {A : Type 0} (o : Option A) → is_some o ≡ false → o ≡ None
 none_from None none = refl
 none_from (Some a) none = absurd (cc)
 
