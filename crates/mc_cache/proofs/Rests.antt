@@ -36,6 +36,12 @@ some_of P o a is = subst (λ (o : Option _). IfSome o P) is
 pub rests_after : (arenas : List Arena) (hands : List Hand) (shard : ℕ) (arena : Arena) (after : Hand) → shard < length arenas → arena ≡ get_or arenas shard arena → IsIdleHandOf arena after → ArePaired IsRestingHandOf arenas hands → ArePaired IsRestingHandOf arenas (set hands shard after)
 rests_after arenas hands shard arena after in_range is idle are = pair_set IsRestingHandOf arenas hands shard arena after in_range is (rests arena after idle) are
 
+-- what a hand of one shard did once it was recalled
+pub acts_again : (arenas : List Arena) (hands : List Hand) (shard : ℕ) (arena : Arena) (hand again after : Hand) (Does : Arena → Hand → Hand → Type 0) → shard < length arenas → length hands ≡ length arenas → arena ≡ get_or arenas shard arena → hand ≡ get_or hands shard hand
+    → view again ≡ view hand → hand_number again ≡ hand_number hand → Does arena again after → ActsOnShard arenas shard (ActsWhenRecalled Does) hands (set hands shard after)
+acts_again arenas hands shard arena hand again after Does in_range count is_arena is_hand same number does =
+    acts arenas hands shard arena hand after (ActsWhenRecalled Does) in_range count is_arena is_hand (record { again = again; view_is = same; number_is = number; does = does })
+
 -- a call on the shard of a key, by a hand that was recalled
 pub acted_again : (cache : Cache) (key : List ℕ) (hands : List Hand) (at : Place) (arena : Arena) (hand again after : Hand) (Does : ℕ → Arena → Hand → Hand → Type 0) → ArePaired IsRestingHandOf cache.arenas.items hands → at.hash ≡ hash_in cache key
     → at.shard ≡ shard_in cache key → at.shard < length cache.arenas.items → arena ≡ get_or cache.arenas.items at.shard arena → hand ≡ get_or hands at.shard hand → view again ≡ view hand → hand_number again ≡ hand_number hand → Does at.hash arena again after

@@ -1,18 +1,22 @@
 -- Walks over all shards: one shard more, and the one at which a walk was stopped.
-use Rattle.std.proofs.Common.{◌≡◌, ◌<◌, ◌≤◌, ◌+◌, ◌++◌, ◌∷◌, [], ◌∙◌, ℕ, List, arith, get_or, length, length-append, ap, refl, set, subst, sym, ⊎_elim}
+use Rattle.std.proofs.Common.{◌≡◌, ◌<◌, ◌≤◌, ◌+◌, ◌-◌, ◌^◌, ◌++◌, ◌∷◌, [], ◌∙◌, ℕ, List, arith, get_or, length, length-append, min, ap, refl, set, subst, sym, ⊎_elim}
 use Rattle.std.proofs.lemmas.Bool.{cases_eq}
 use Rattle.std.proofs.lemmas.List.{get_or-set_other, get_or_append_left, get_or_at}
 use Rattle.mc_words.specs.declared.arena.Arena.{Arena}
 use Rattle.mc_words.specs.declared.hand.Hand.{Hand}
 use Rattle.mc_words.specs.hand.Arenas.{setup_of, view}
+use Rattle.mc_words.specs.hand.Observers.{hand_number}
 use Rattle.mc_words.specs.hand.View.{Setup, View}
-use Rattle.mc_shard.specs.Walking.{LosesHash, saturated_sum}
+use Rattle.mc_shard.specs.declared.clearing.ClearWithinError.{ClearWithinError}
+use Rattle.mc_shard.specs.declared.clearing.ClearWithinError.TheVariants.{Held, NoMemory}
+use Rattle.mc_shard.specs.Walking.{LosesHash, MissesClearingShard, StopsClearWithin, StopsClearingShard, saturated_sum}
 use Rattle.mc_cache.specs.declared.cache.Cache.{Cache}
 use Rattle.mc_cache.specs.declared.cache.Worker.{Worker}
 use Rattle.mc_cache.specs.Pairs.{ArePaired}
-use Rattle.mc_cache.specs.Resting.{IsRestingHandOf}
+use Rattle.mc_cache.specs.Resting.{ActsWhenRecalled, IsRestingHandOf}
 use Rattle.mc_shard.specs.Hands.{IsIdleHandOf}
-use Rattle.mc_cache.specs.Walking.{ClearsCache, ClearsCacheAgain, DoesOnFirst, LosesEachHash, ShardCall, WalksShards, WalksUpToShard}
+use Rattle.mc_cache.specs.Walking.{ClearsCache, ClearsCacheAgain, ClearsOwnShard, DoesOnFirst, LosesEachHash, ShardCall, StopsClearingWithin, WalksShards, WalksUpToShard, stopped_behind}
+use Rattle.mc_shard.proofs.Walks.{sum_more}
 use Rattle.mc_cache.proofs.Tendings.{at_place, still_behind, was_there}
 
 module _ (Does : ShardCall) (arenas : List Arena) where
@@ -99,6 +103,31 @@ stopped_walk Does Stops arenas hands hands_now shard counts arena hand now in_ra
   stops = stopped_there Does arenas Stops shard hands hands_now counts arena hand now in_range near_hand is_arena is_hand stops walked;
   left = still_behind shard hands hands_now now walked.left;
 }
+
+-- so, with the sum of what was counted up to there
+pub stopped_summed : (Does : ShardCall) (Stops : Arena → Hand → Hand → Type 0) (arenas : List Arena) (hands hands_now : List Hand) (shard : ℕ) (counts : List ℕ) (arena : Arena) (hand now : Hand) (here total : ℕ) → shard < length arenas → shard < length hands_now
+    → arena ≡ get_or arenas shard arena → hand ≡ get_or hands_now shard hand → Stops arena hand now → AreWalked Does arenas shard hands hands_now counts → total ≡ saturated_sum (counts ++ here ∷ [])
+    → (walk : WalksUpToShard Does Stops arenas hands (set hands_now shard now)) × (total ≡ saturated_sum (walk.counts ++ here ∷ []))
+unfolding stopped_walk
+stopped_summed Does Stops arenas hands hands_now shard counts arena hand now here total in_range near_hand is_arena is_hand stops walked summed =
+    (stopped_walk Does Stops arenas hands hands_now shard counts arena hand now in_range near_hand is_arena is_hand stops walked, summed)
+
+-- why a clear stopped, where the hand of the shard took the place of the one before
+pub stops_behind : (cache : Cache) (tries count shard : ℕ) (counts : List ℕ) (error : ClearWithinError) (before middle after : Worker) (arena : Arena) (hand again now : Hand) → shard < length cache.arenas.items → shard < length middle.hands.items → arena ≡ get_or cache.arenas.items shard arena
+    → hand ≡ get_or middle.hands.items shard hand → view again ≡ view hand → hand_number again ≡ hand_number hand → AreWalked (λ count. ActsWhenRecalled (ClearsOwnShard count)) cache.arenas.items shard before.hands.items middle.hands.items counts
+    → count ≡ saturated_sum counts → after.hands.items ≡ set middle.hands.items shard now → StopsClearWithin (setup_of arena) tries error again now → StopsClearingWithin cache tries (stopped_behind count error) before after
+stops_behind cache tries count shard counts (NoMemory refused) before middle after arena hand again now in_range near_hand is_arena is_hand same number walked summed is stops =
+    let Does : ShardCall = λ count. ActsWhenRecalled (ClearsOwnShard count) in
+    let Stops : Arena → Hand → Hand → Type 0 = ActsWhenRecalled (λ arena. StopsClearingShard (setup_of arena)) in
+    subst (λ (hands : List Hand). WalksUpToShard Does Stops cache.arenas.items before.hands.items hands) (sym is)
+    (stopped_walk Does Stops cache.arenas.items before.hands.items middle.hands.items shard counts arena hand now in_range near_hand is_arena is_hand (record { again = again; view_is = same; number_is = number; does = stops }) walked)
+stops_behind cache tries count shard counts (Held here) before middle after arena hand again now in_range near_hand is_arena is_hand same number walked summed is stops =
+    let Does : ShardCall = λ count. ActsWhenRecalled (ClearsOwnShard count) in
+    let Stops : Arena → Hand → Hand → Type 0 = ActsWhenRecalled (λ arena. MissesClearingShard (setup_of arena) tries here) in
+    let total : ℕ = min (count + here) (2 ^ 64 - 1) in
+    let stopped = stopped_summed Does Stops cache.arenas.items before.hands.items middle.hands.items shard counts arena hand now here total in_range near_hand is_arena is_hand (record { again = again; view_is = same; number_is = number; does = stops }) walked (sum_more counts count here total summed refl) in
+    let walk = subst (λ (hands : List Hand). (walk : WalksUpToShard Does Stops cache.arenas.items before.hands.items hands) × (total ≡ saturated_sum (walk.counts ++ here ∷ []))) (sym is) stopped in
+    record { here = here; walk = walk.0; summed = walk.1 }
 
 -- each shard lost each hash
 pub lost_each : (cache : Cache) (count : ℕ) (before now : Worker) → ClearsCache cache count before now → LosesEachHash cache before now

@@ -3,7 +3,6 @@ use Rattle.std.specs.Prelude.{◌≡◌, ℕ, ◌*◌, ◌-◌, ◌^◌, ◌∷�
 use Rattle.mc_classes.specs.Classes.{Classes, per_page_of, size_of}
 use Rattle.mc_cache.specs.declared.chunks.ClassChunks.{ClassChunks}
 use Rattle.mc_cache.specs.declared.stats.ClassStats.{ClassStats}
-use Rattle.mc_cache.specs.Stats.{no_statistics}
 
 -- the chunks of this many pages; the number stays at 2^64 - 1 once there
 abbrev pub chunks_in_pages : ℕ → ℕ → ℕ

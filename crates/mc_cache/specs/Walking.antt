@@ -1,5 +1,5 @@
 -- Walks over all shards of a cache: what a worker's hand did on each, and what was counted there.
-use Rattle.std.specs.Prelude.{◌≡◌, ◌<◌, ℕ, List, length, slice_index_or}
+use Rattle.std.specs.Prelude.{◌≡◌, ◌<◌, ◌+◌, ◌-◌, ◌^◌, ◌++◌, ◌∷◌, [], ℕ, List, length, min, slice_index_or}
 use Rattle.mc_words.specs.declared.arena.Arena.{Arena}
 use Rattle.mc_words.specs.declared.hand.Hand.{Hand}
 use Rattle.mc_words.specs.hand.Arenas.{setup_of, view}
@@ -8,6 +8,8 @@ use Rattle.mc_cache.specs.declared.cache.Cache.{Cache}
 use Rattle.mc_cache.specs.declared.cache.Worker.{Worker}
 use Rattle.mc_cache.specs.Observers.{shard_count}
 use Rattle.mc_cache.specs.Resting.{ActsWhenRecalled}
+use Rattle.mc_shard.specs.declared.clearing.ClearWithinError.{ClearWithinError}
+use Rattle.mc_shard.specs.declared.clearing.ClearWithinError.TheVariants.{Held, NoMemory}
 use Rattle.mc_shard.specs.Reading.{LeavesSlabs}
 use Rattle.mc_shard.specs.Walking.{ClearsShard, CountsKeys, GivesAllBackEmpty, LosesAll, LosesHash, MissesClearingShard, MissesCounting, StopsClearingShard, saturated_sum}
 
@@ -83,15 +85,28 @@ CountsItems cache count before now = WalksCache CountsOwnShard cache count befor
 abbrev pub ClearsCacheAgain : Cache → ℕ → Worker → Worker → Type 0
 ClearsCacheAgain cache count before now = WalksCache (λ count. ActsWhenRecalled (ClearsOwnShard count)) cache count before now
 
--- recalled hands cleared some shards, and then each try for the lock of a stripe of one missed
-abbrev pub MissesClearingCache : Cache → ℕ → Worker → Worker → Type 0
-MissesClearingCache cache tries before now =
-    StopsAtShard (λ count. ActsWhenRecalled (ClearsOwnShard count)) (ActsWhenRecalled (λ arena. MissesClearingShard (setup_of arena) tries)) cache before now
+-- recalled hands cleared some shards, and then each try for the lock of a stripe of one missed, and they deleted n keys in all
+pub record MissesClearingCache (cache : Cache) (tries count : ℕ) (before now : Worker) : Type 0 where
+  -- how many keys were deleted on the last of these shards
+  pub here : ℕ
+  pub walk : StopsAtShard (λ count. ActsWhenRecalled (ClearsOwnShard count)) (ActsWhenRecalled (λ arena. MissesClearingShard (setup_of arena) tries here)) cache before now
+  pub summed : count ≡ saturated_sum (walk.counts ++ here ∷ [])
 
 -- recalled hands cleared some shards, and then a stripe of one had no room for the call of a delete
 abbrev pub StopsClearingAgain : Cache → Worker → Worker → Type 0
 StopsClearingAgain cache before now =
     StopsAtShard (λ count. ActsWhenRecalled (ClearsOwnShard count)) (ActsWhenRecalled (λ arena. StopsClearingShard (setup_of arena))) cache before now
+
+-- why a clear of the cache within this many tries stopped: a stripe had no room for the call of a delete; or each try for the lock of one missed,
+-- and n keys were deleted before
+abbrev pub StopsClearingWithin : Cache → ℕ → ClearWithinError → Worker → Worker → Type 0
+StopsClearingWithin cache tries (NoMemory refused) before now = StopsClearingAgain cache before now
+StopsClearingWithin cache tries (Held count) before now = MissesClearingCache cache tries count before now
+
+-- the error of a clear that stopped so at a shard, behind shards where n keys were deleted; the sum stays at 2^64 - 1 once there
+abbrev pub stopped_behind : ℕ → ClearWithinError → ClearWithinError
+stopped_behind count (NoMemory refused) = NoMemory refused
+stopped_behind count (Held here) = Held (min (count + here) (2 ^ 64 - 1))
 
 -- recalled hands counted the items of each shard, n in all
 abbrev pub CountsItemsAgain : Cache → ℕ → Worker → Worker → Type 0

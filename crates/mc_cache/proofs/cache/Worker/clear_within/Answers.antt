@@ -1,12 +1,13 @@
-use Rattle.std.proofs.Common.{◌≡◌, ◌<◌, ◌++◌, ◌∷◌, ◌∙◌, [], ap, arith, length}
+use Rattle.std.proofs.Common.{◌≡◌, ◌<◌, ◌++◌, ◌∷◌, ◌∙◌, [], ap, arith, length, refl, subst, sym}
+use Rattle.std.specs.Vec.{with_item}
 use Rattle.std.proofs.lemmas.List.{length-set}
 use Rattle.mc_words.specs.hand.View.{View}
-use Rattle.mc_words.specs.hand.Arenas.{setup_of}
 use Rattle.mc_cache.specs.Resting.{ActsWhenRecalled}
-use Rattle.mc_cache.specs.Walking.{ClearsOwnShard}
-use Rattle.mc_shard.specs.Walking.{MissesClearingShard, StopsClearingShard}
+use Rattle.mc_cache.specs.declared.cache.Worker.{Worker}
+use Rattle.mc_cache.specs.Walking.{ClearsOwnShard, StopsClearingWithin}
+use Rattle.mc_shard.specs.declared.clearing.ClearWithinError.{ClearWithinError}
 use Rattle.mc_cache.proofs.Rests.{rests_after}
-use Rattle.mc_cache.proofs.Walked.{resting_there, lost_each_again, one_walked, stopped_walk, walked_cache}
+use Rattle.mc_cache.proofs.Walked.{resting_there, lost_each_again, one_walked, stops_behind, walked_cache}
 use Rattle.mc_cache.proofs.Tendings.{still_unsaid}
 use Rattle.mc_shard.proofs.Walks.{sum_more}
 use Rattle.mc_cache.proofs.cache.Worker.clear_within.Goals as goal
@@ -53,16 +54,11 @@ returns-in-Err-clause-stores_nothing c =
     let near_hand : c.loop-shard.shard < length c.loop-shard.self.hands.items = omega (arith, c.loop-shard-test.true, inv.rests.count) in
     still_unsaid c.args.self.now.hands.items c.loop-shard.self.hands.items c.loop-shard.shard c.index_mut-hand.result.now c.clear_within.new.hand inv.count near_hand c.index_mut-hand.ensures.value (c.clear_within.ensures.stores_nothing ∙ ap (λ (v : View). v.row.knows.stored) c.recall.ensures.same) inv.stores_nothing
 
-pub returns-in-Err-clause-held : goal.returns-in-Err-clause-held
-returns-in-Err-clause-held c is =
+pub returns-in-Err-clause-stops : goal.returns-in-Err-clause-stops
+returns-in-Err-clause-stops c =
     let inv = c.loop-shard.invariant in
     let in_range : c.loop-shard.shard < length c.args.cache.now.arenas.items = omega (arith, c.loop-shard-test.true) in
     let near_hand : c.loop-shard.shard < length c.loop-shard.self.hands.items = omega (arith, in_range, inv.rests.count) in
-    (stopped_walk (λ count. ActsWhenRecalled (ClearsOwnShard count)) (ActsWhenRecalled (λ arena. MissesClearingShard (setup_of arena) c.args.tries)) c.args.cache.now.arenas.items c.args.self.now.hands.items c.loop-shard.self.hands.items c.loop-shard.shard inv.done.0 c.index-arena.result.now c.index_mut-hand.result.now c.clear_within.new.hand in_range near_hand c.index-arena.ensures c.index_mut-hand.ensures.value (record { again = c.recall.new.hand; view_is = c.recall.ensures.same; number_is = c.recall.ensures.number; does = c.in-Err.ensures.held is }) inv.done.1)
-
-pub returns-in-Err-clause-refused : goal.returns-in-Err-clause-refused
-returns-in-Err-clause-refused c is =
-    let inv = c.loop-shard.invariant in
-    let in_range : c.loop-shard.shard < length c.args.cache.now.arenas.items = omega (arith, c.loop-shard-test.true) in
-    let near_hand : c.loop-shard.shard < length c.loop-shard.self.hands.items = omega (arith, in_range, inv.rests.count) in
-    (stopped_walk (λ count. ActsWhenRecalled (ClearsOwnShard count)) (ActsWhenRecalled (λ arena. StopsClearingShard (setup_of arena))) c.args.cache.now.arenas.items c.args.self.now.hands.items c.loop-shard.self.hands.items c.loop-shard.shard inv.done.0 c.index-arena.result.now c.index_mut-hand.result.now c.clear_within.new.hand in_range near_hand c.index-arena.ensures c.index_mut-hand.ensures.value (record { again = c.recall.new.hand; view_is = c.recall.ensures.same; number_is = c.recall.ensures.number; does = c.in-Err.ensures.stops is }) inv.done.1)
+    let after : Worker = record { hands = with_item c.loop-shard.self.hands c.loop-shard.shard c.clear_within.new.hand; words = c.loop-shard.self.words } in
+    subst (λ (e : ClearWithinError). StopsClearingWithin c.args.cache.now c.args.tries e c.args.self.now after) (sym c.stopped_behind.ensures)
+    (stops_behind c.args.cache.now c.args.tries c.loop-shard.count c.loop-shard.shard inv.done.0 c.in-Err.error c.args.self.now c.loop-shard.self after c.index-arena.result.now c.index_mut-hand.result.now c.recall.new.hand c.clear_within.new.hand in_range near_hand c.index-arena.ensures c.index_mut-hand.ensures.value c.recall.ensures.same c.recall.ensures.number inv.done.1 inv.done.2 refl c.in-Err.ensures.stops)

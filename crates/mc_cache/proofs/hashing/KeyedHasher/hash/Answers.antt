@@ -1,7 +1,5 @@
-use Rattle.std.proofs.Common.{◌≡◌, ℕ, ◌+◌, ◌-◌, ◌%◌, ap, sym, ◌∙◌, arith, length, refl}
-use Rattle.std.specs.List.{fold}
-use Rattle.std.specs.declared.hash.DefaultHasher.{DefaultHasher}
-use Rattle.std.specs.Hash.DefaultHasher.{finish, wrapping_add, write, write_byte, write_word}
+use Rattle.std.proofs.Common.{◌≡◌, ℕ, ◌+◌, ◌-◌, ap, sym, ◌∙◌, arith, length, refl}
+use Rattle.std.specs.Hash.DefaultHasher.{finish, wrapping_add, write, write_word}
 use Rattle.mc_cache.specs.Hashing.{hash_of, started_by}
 use Rattle.mc_cache.specs.Sip.{hasher_of}
 use Rattle.mc_cache.proofs.SipWords.{with_tail, word_more}

@@ -1,4 +1,4 @@
-use Rattle.std.proofs.Common.{◌≡◌, ℕ, ◌+◌, ◌%◌, ◌^◌, ◌<◌, ◌≤◌, List, ap, refl, subst, sym, ◌∙◌, arith, length, take, take_all, get_or}
+use Rattle.std.proofs.Common.{◌≡◌, ℕ, ◌+◌, ◌%◌, ◌^◌, ◌<◌, List, ap, refl, subst, sym, ◌∙◌, arith, length, take_all, get_or}
 use Rattle.std.specs.List.{fold}
 use Rattle.std.specs.Hash.{le_bytes}
 use Rattle.std.specs.declared.hash.DefaultHasher.{DefaultHasher}
