@@ -59,7 +59,7 @@ enum mc_code {
     MC_BAD_CLASS = 12,     /* there is no such class */
     MC_NO_SPARE = 13,      /* the source has fewer than two pages */
     MC_SAME_CLASS = 14,    /* source and destination are one class */
-    MC_OUT_OF_RANGE = 15,  /* there is no such shard, or no such mode */
+    MC_OUT_OF_RANGE = 15,  /* there is no such shard, stripe or mode */
     MC_EXISTS = 27,        /* the key has a value, or one of another version */
 
     /* why a configuration is refused: the first test that it fails */
@@ -187,13 +187,20 @@ uint32_t mc_compare_and_delete(mc_worker *worker, const uint8_t *key, size_t key
 uint32_t mc_touch(mc_worker *worker, const uint8_t *key, size_t key_len, uint64_t tries);
 
 /* Deletes every key of the cache, and writes how many to *count, while other workers go on: what was stored before the call began is gone. It goes
- * from one stripe to the next, and tries for the lock of each. MC_HELD: the stripes before one are cleared, and *count isn't written. MC_NO_MEMORY:
- * so, and of that one some keys may be deleted. The next call begins at the first stripe, and counts what it deletes itself. MC_CLOSED. */
+ * from one stripe to the next, and tries for the lock of each. MC_HELD: the stripes before one are cleared, and *count has how many keys were
+ * deleted there. The next call begins at the first stripe, and counts what it deletes itself; so add these numbers up. MC_NO_MEMORY: the stripes
+ * before one are cleared, and of that one some keys may be deleted; *count isn't written. MC_CLOSED. */
 uint32_t mc_clear(mc_worker *worker, uint64_t tries, uint64_t *count);
 
 /* Writes to *count how many items the cache has, as a sum over the stripes, of which it looks at one after another. MC_HELD, MC_CLOSED: nothing is
  * written. */
 uint32_t mc_len(mc_worker *worker, uint64_t tries, uint64_t *count);
+
+/* Copies the keys of a part of the cache to `out`, one behind another, each behind a byte with its length, and writes to *len how many bytes these
+ * are. A part is a stripe of a shard. Both are counted from 0, and each key is in one part. First the part is listed under its lock, and then each
+ * item is looked up: one that goes meanwhile is left out, and one that comes may be. MC_OUT_OF_RANGE where there is no such part; MC_TOO_SMALL,
+ * where *len alone is written: give that room, and some more, as keys may come; MC_HELD, MC_NO_MEMORY, MC_CLOSED: nothing is written. */
+uint32_t mc_keys(mc_worker *worker, uint64_t shard, uint64_t stripe, uint64_t tries, uint8_t *out, size_t room, uint64_t *len);
 
 /* Does a window of each shard: call it about once a second. The chunks of items that are gone are put back. The shard's classes are looked at,
  * and a page may begin to move. Up to 16 turns of the move are done; a turn looks at `bulk` chunks. A window that other workers hold up is
@@ -304,11 +311,24 @@ static inline uint32_t mc_touch_again(mc_worker *worker, const uint8_t *key, siz
     return code;
 }
 
-/* *count has what the last of its calls deleted; those that returned MC_HELD deleted others. */
+/* *count has what all its calls deleted, those that returned MC_HELD and the last one; at another code than MC_OK it isn't written. */
 static inline uint32_t mc_clear_again(mc_worker *worker, uint64_t *count)
 {
     uint32_t code;
-    while ((code = mc_clear(worker, MC_TRIES, count)) == MC_HELD)
+    uint64_t here = 0, all = 0;
+    while ((code = mc_clear(worker, MC_TRIES, &here)) == MC_HELD) {
+        all += here;
+        sched_yield();
+    }
+    if (code == MC_OK)
+        *count = all + here;
+    return code;
+}
+
+static inline uint32_t mc_keys_again(mc_worker *worker, uint64_t shard, uint64_t stripe, uint8_t *out, size_t room, uint64_t *len)
+{
+    uint32_t code;
+    while ((code = mc_keys(worker, shard, stripe, MC_TRIES, out, room, len)) == MC_HELD)
         sched_yield();
     return code;
 }

@@ -246,11 +246,35 @@ static uint64_t wrong_walks(mc_worker *worker)
     wrong += mc_clear_again(worker, &count) != MC_OK;
     wrong += mc_set(worker, &keys[0], 1, out, 1, 1) != MC_OK || mc_set(worker, &keys[1], 1, out, 1, 1) != MC_OK;
     wrong += mc_len_again(worker, &count) != MC_OK || count != 2;
-    wrong += mc_len(worker, 0, &count) != MC_HELD || mc_clear(worker, 0, &count) != MC_HELD || count != 2;
+    wrong += mc_len(worker, 0, &count) != MC_HELD || count != 2;
+    wrong += mc_clear(worker, 0, &count) != MC_HELD || count != 0;
     wrong += mc_clear_again(worker, &count) != MC_OK || count != 2;
     wrong += mc_get(worker, &keys[0], 1, 1, out, 1, &len) != MC_MISSING || mc_get(worker, &keys[1], 1, 1, out, 1, &len) != MC_MISSING;
     wrong += mc_len_again(worker, &count) != MC_OK || count != 0;
     return wrong;
+}
+
+/* The key of one byte is listed in one part, behind its length, where there is room for it. */
+static uint64_t wrong_keys(mc_worker *worker)
+{
+    uint8_t out[8] = {9}, key = 5;
+    uint64_t count, shard, stripe, len = 7, all = 0, wrong = 0;
+    uint32_t code;
+    wrong += mc_clear_again(worker, &count) != MC_OK || mc_set(worker, &key, 1, &key, 1, 1) != MC_OK;
+    for (shard = 0; mc_keys(worker, shard, 0, MC_TRIES, out, sizeof out, &len) != MC_OUT_OF_RANGE; shard++)
+        for (stripe = 0; (code = mc_keys_again(worker, shard, stripe, out, 0, &len)) != MC_OUT_OF_RANGE; stripe++) {
+            all += len;
+            if (len == 0) {
+                wrong += code != MC_OK;
+                continue;
+            }
+            wrong += code != MC_TOO_SMALL || len != 2;
+            wrong += mc_keys_again(worker, shard, stripe, out, sizeof out, &len) != MC_OK || len != 2 || out[0] != 1 || out[1] != key;
+        }
+    len = 7;
+    wrong += mc_keys(worker, shard, 0, 1, out, sizeof out, &len) != MC_OUT_OF_RANGE || len != 7;
+    wrong += mc_keys(worker, 0, 0, 0, out, sizeof out, &len) != MC_HELD || len != 7;
+    return wrong + (all != 2);
 }
 
 /* The codes of handles that are closed, and of calls that are refused. */
@@ -272,6 +296,7 @@ static uint64_t wrong_codes(mc_worker *worker, mc_tender *tender)
     wrong += mc_touch(&none, key, 1, 1) != MC_CLOSED;
     wrong += mc_clear(&none, 1, &len) != MC_CLOSED || mc_clear(tender, 1, &len) != MC_CLOSED || len != 0;
     wrong += mc_len(&none, 1, &len) != MC_CLOSED || mc_len(tender, 1, &len) != MC_CLOSED || len != 0;
+    wrong += mc_keys(&none, 0, 0, 1, out, 1, &len) != MC_CLOSED || mc_keys(tender, 0, 0, 1, out, 1, &len) != MC_CLOSED || len != 0;
     wrong += mc_join(&none, &none) != MC_CLOSED;
     wrong += mc_close(&none) != MC_CLOSED;
     wrong += mc_get(tender, key, 1, 1, out, 1, &len) != MC_CLOSED;
@@ -290,7 +315,8 @@ static uint64_t wrong_codes(mc_worker *worker, mc_tender *tender)
     wrong += mc_delete(worker, key, 250, 1) != MC_OK;
     wrong += mc_delete(worker, key, 250, 1) != MC_MISSING;
     wrong += mc_join(worker, &none) != MC_NO_WORKERS;
-    return wrong + wrong_walks(worker);
+    wrong += wrong_walks(worker);
+    return wrong + wrong_keys(worker);
 }
 
 /* The codes of the calls that look at what the key has, and at its version, before they store. */

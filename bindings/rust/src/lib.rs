@@ -330,12 +330,17 @@ impl Worker {
         Ok(done == Answer::Done)
     }
 
-    /// Deletes every key of the cache while other workers go on. What was stored before the call began is gone. It returns how many keys its last
-    /// walk deleted: a walk that finds a lock held begins again, and what it had deleted isn't counted.
+    /// Deletes every key of the cache while other workers go on. What was stored before the call began is gone. It returns how many keys it
+    /// deleted, also in walks that found a lock held and began again.
     pub fn clear(&mut self) -> Result<u64, Error> {
-        let mut count = 0;
-        until_done(|| unsafe { raw::mc_clear(&mut self.handle, TRIES, &mut count) })?;
-        Ok(count)
+        let mut all: u64 = 0;
+        until_done(|| {
+            let mut here = 0;
+            let code = unsafe { raw::mc_clear(&mut self.handle, TRIES, &mut here) };
+            all = all.saturating_add(here);
+            code
+        })?;
+        Ok(all)
     }
 
     /// How many items the cache has, as a sum over its parts, of which it looks at one after another.
@@ -343,6 +348,50 @@ impl Worker {
         let mut count = 0;
         until_done(|| unsafe { raw::mc_len(&mut self.handle, TRIES, &mut count) })?;
         Ok(count)
+    }
+
+    /// The keys of the cache, in no order, while other workers go on. Each part of the cache is listed at once, and then each of its items is looked
+    /// up: one that goes meanwhile is left out, and one that comes may be.
+    ///
+    /// ```
+    /// use noddrefil::{Cache, Config};
+    ///
+    /// let cache = Cache::open(&Config::for_bytes(16 << 20, 100, 1)?.with_hash_key(1, 2))?;
+    /// let mut worker = cache.worker()?;
+    /// worker.set(b"river", b"Aare")?;
+    /// assert_eq!(worker.keys()?, [b"river"]);
+    /// # Ok::<(), noddrefil::Error>(())
+    /// ```
+    pub fn keys(&mut self) -> Result<Vec<Vec<u8>>, Error> {
+        let mut keys = Vec::new();
+        for shard in 0.. {
+            let mut stripes = 0;
+            while self.keys_of_part(shard, stripes, &mut keys)? {
+                stripes += 1;
+            }
+            if stripes == 0 {
+                break;
+            }
+        }
+        Ok(keys)
+    }
+
+    /// Puts the keys of a part behind those that are there, and returns whether there is such a part.
+    fn keys_of_part(&mut self, shard: u64, stripe: u64, keys: &mut Vec<Vec<u8>>) -> Result<bool, Error> {
+        let mut entries = Vec::new();
+        let handle = &mut self.handle;
+        match read(&mut entries, |out, room, len| unsafe { raw::mc_keys(handle, shard, stripe, TRIES, out, room, len) }) {
+            Ok(_) => {}
+            Err(Error::OutOfRange) => return Ok(false),
+            Err(error) => return Err(error),
+        }
+        let mut rest = entries.as_slice();
+        while let Some((&len, behind)) = rest.split_first() {
+            let (key, others) = behind.split_at(usize::from(len));
+            keys.push(key.to_vec());
+            rest = others;
+        }
+        Ok(true)
     }
 
     /// The most bytes that a value may have beside a key of this length: `None` where no value fits beside such a key.

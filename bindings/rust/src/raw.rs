@@ -130,6 +130,7 @@ extern "C" {
     pub(crate) fn mc_touch(worker: *mut Handle, key: *const u8, key_len: usize, tries: u64) -> u32;
     pub(crate) fn mc_clear(worker: *mut Handle, tries: u64, count: *mut u64) -> u32;
     pub(crate) fn mc_len(worker: *mut Handle, tries: u64, count: *mut u64) -> u32;
+    pub(crate) fn mc_keys(worker: *mut Handle, shard: u64, stripe: u64, tries: u64, out: *mut u8, room: usize, len: *mut u64) -> u32;
     pub(crate) fn mc_tend(tender: *mut Handle, tries: u64, done: *mut Tended) -> u32;
     pub(crate) fn mc_stats(tender: *mut Handle, tries: u64, totals: *mut Totals, classes: *mut ClassStats, room: usize, count: *mut u64) -> u32;
     pub(crate) fn mc_automove(tender: *mut Handle, mode: u64, tries: u64) -> u32;

@@ -99,6 +99,23 @@ fn threads_read_what_was_stored_under_the_key() {
     });
 }
 
+/// Each key is listed once, and none behind a clear.
+#[test]
+fn keys_are_listed() {
+    let mut worker = cache(1).worker().unwrap();
+    assert!(worker.keys().unwrap().is_empty());
+    let mut stored: Vec<Vec<u8>> = (1..=250).map(|len| vec![len as u8; len]).collect();
+    for key in &stored {
+        worker.set(key, b"value").unwrap();
+    }
+    let mut keys = worker.keys().unwrap();
+    keys.sort();
+    stored.sort();
+    assert_eq!(keys, stored);
+    worker.clear().unwrap();
+    assert!(worker.keys().unwrap().is_empty());
+}
+
 /// What is stored is counted, and gone behind a clear.
 #[test]
 fn values_are_counted_and_cleared() {

@@ -7,4 +7,5 @@ pub mod Walks
 pub mod TenderCalls
 pub mod Handles
 pub mod Joining
+pub mod Listing
 pub mod Opening

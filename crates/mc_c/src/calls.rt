@@ -34,7 +34,7 @@ pub(crate) fn get(
 }
 
 // Copies the value, if there is room for it, and writes its length.
-fn copy(value: &[u8], out: &mut [u8], len: &mut u64) -> u32
+pub(crate) fn copy(value: &[u8], out: &mut [u8], len: &mut u64) -> u32
     ensures { WritesValue (Ok true) value.now result out.old len.old out.new len.new }
 {
     *len = value.len() as u64;

@@ -15,6 +15,7 @@ ghost use Rattle.mc_c.specs.Codes.{refusal_code, sizing_code};
 ghost use Rattle.mc_c.specs.Configs.{WritesSized, config_for};
 ghost use Rattle.mc_c.specs.Handles.{ActsOn, client_of, tender_of, worker_of};
 ghost use Rattle.mc_c.specs.Joining.{JoinsAs};
+ghost use Rattle.mc_c.specs.Listing.{ListsAs};
 ghost use Rattle.mc_c.specs.Opening.{IsOpeningCode, OpensHandles};
 ghost use Rattle.mc_c.specs.TenderCalls.{CountsAs, ReassignsAs, SetsModeAs, TendsAs};
 ghost use Rattle.mc_c.specs.Walks.{ClearsAs, CountsItemsAs};
@@ -24,6 +25,7 @@ mod client;
 mod codes;
 mod config;
 mod handle;
+mod listing;
 mod opening;
 mod owner;
 mod parts;
@@ -353,6 +355,30 @@ pub extern "C" fn mc_len(worker: &mut Handle, tries: u64, count: &mut u64) -> u3
     }
     match worker.owner.as_mut() {
         Client::Worker(client) => walks::len(client, tries, count),
+        Client::Tender(_) => CLOSED,
+    }
+}
+
+/// Copies the keys of a part of the cache, each behind a byte with its length.
+#[unsafe(no_mangle)]
+pub extern "C" fn mc_keys(
+    alloc: Global,
+    worker: &mut Handle,
+    shard: u64,
+    stripe: u64,
+    tries: u64,
+    out: &mut [u8],
+    len: &mut u64,
+) -> u32
+    ensures acts { ActsOn worker_of (ListsAs result tries shard stripe out.old len.old out.new
+        len.new) result worker.old worker.new }
+    ensures kept { worker_of worker.old ≡ None → (out.new ≡ out.old) × (len.new ≡ len.old) }
+{
+    if !worker.is_open() {
+        return CLOSED;
+    }
+    match worker.owner.as_mut() {
+        Client::Worker(client) => listing::keys(alloc, client, shard, stripe, tries, out, len),
         Client::Tender(_) => CLOSED,
     }
 }
