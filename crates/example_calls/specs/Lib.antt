@@ -8,6 +8,7 @@ pub mod Visits
 pub mod Counted
 pub mod Renewed
 pub mod Walked
+pub mod WalkedWithin
 pub mod Classed
 pub mod Leased
 pub mod Lengthened

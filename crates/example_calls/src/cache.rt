@@ -21,6 +21,7 @@ mod tended;
 mod unused;
 mod visited;
 mod walked;
+mod walked_within;
 mod watched;
 mod whole;
 
@@ -45,5 +46,6 @@ pub use tended::tend_whole;
 pub use unused::get_from_new;
 pub use visited::count_visit;
 pub use walked::{clear_and_count, keys_of_shard};
+pub use walked_within::{clear_at_second_try, keys_at_second_try};
 pub use watched::tend_and_tell;
 pub use whole::{RefusedWhole, set_and_get_whole};

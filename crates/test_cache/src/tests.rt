@@ -10,6 +10,7 @@ mod counted;
 mod deleted;
 mod drawn;
 mod eight;
+mod held;
 mod made;
 mod marked;
 mod messages;

@@ -1,10 +1,14 @@
 //! Clears, counts and lists of keys: of known keys, also within tries.
+ghost use Rattle.std.specs.Prelude.{◌<◌};
 ghost use Rattle.mc_cache.specs.Belonging.{BelongsTo};
+ghost use Rattle.mc_cache.specs.Observers.{shard_count};
 ghost use Rattle.mc_cache.specs.Resting.{RestsIn};
 
 use super::made::{with_one_worker, with_resting_worker};
-use example_calls::cache::{clear_and_count, keys_of_shard};
-use mc_cache::{Cache, Worker};
+use example_calls::cache::{
+    clear_and_count, clear_at_second_try, keys_at_second_try, keys_of_shard,
+};
+use mc_cache::{Cache, ClearWithinError, Worker};
 use mc_items::WithinError;
 use mc_memory::Refused;
 use std::alloc::{AllocError, Global};
@@ -177,14 +181,70 @@ fn clears_and_counts_want_a_try(rt: HostRuntime) -> Result<(), Fail> {
     assert!(rt; uncounted.is_err(), "a count without a lock");
     let uncleared = worker.clear_within(&cache, 0);
     assert!(rt;
-        matches!(uncleared, Err(WithinError::Held)),
+        matches!(uncleared, Err(ClearWithinError::Held(0))),
         "a clear without a lock"
     );
     let counted = worker.len_within(&cache, 1);
     assert!(rt; matches!(counted, Ok(30)), "a held clear deleted a key");
-    let cleared = worker.clear_within(&cache, 8);
+    let cleared = clear_at_second_try(&cache, &mut worker, 8);
     assert!(rt; matches!(cleared, Ok(30)), "a clear left a key");
     let left = worker.len_within(&cache, 8);
     assert!(rt; matches!(left, Ok(0)), "a key is counted behind the clear");
+    Ok(())
+}
+
+/// Puts the keys of a shard behind those that are there, within tries for each lock.
+fn keys_of_shard_within(
+    alloc: Global,
+    cache: &Cache,
+    worker: &mut Worker,
+    shard: usize,
+    tries: u64,
+    into: &mut Vec<Vec<u8>>,
+) -> Result<(), WithinError>
+    requires rests { RestsIn cache.now worker.old }
+    requires shard { shard < shard_count cache.now }
+    ensures { RestsIn cache.now worker.new }
+{
+    for stripe in 0..cache.stripes(shard) {
+        keys_at_second_try(alloc, cache, worker, shard, stripe, tries, into)?;
+    }
+    Ok(())
+}
+
+/// The keys of all shards, within tries for each lock.
+fn keys_of_all_within(
+    alloc: Global,
+    cache: &Cache,
+    worker: &mut Worker,
+    tries: u64,
+) -> Result<Vec<Vec<u8>>, WithinError>
+    requires { RestsIn cache.now worker.old }
+    ensures { RestsIn cache.now worker.new }
+{
+    let mut keys = Vec::new(alloc);
+    for shard in 0..cache.shards() {
+        keys_of_shard_within(alloc, cache, worker, shard, tries, &mut keys)?;
+    }
+    Ok(keys)
+}
+
+/// Without a try a list of keys is held. With one it has each known key once.
+#[test]
+fn lists_want_a_try(rt: HostRuntime) -> Result<(), Fail> {
+    let (cache, mut worker) = with_resting_worker(rt.alloc(), 2)?;
+    let refused = store_known_within(&cache, &mut worker);
+    assert!(rt; refused == 0, "a key wasn't stored");
+    let unlisted = keys_of_all_within(rt.alloc(), &cache, &mut worker, 0);
+    assert!(rt;
+        matches!(unlisted, Err(WithinError::Held)),
+        "a list without a lock"
+    );
+    let Ok(keys) = keys_of_all_within(rt.alloc(), &cache, &mut worker, 1) else {
+        return Err(Fail::new("the keys weren't listed"));
+    };
+    let model = known(rt.alloc())?;
+    let right = are_keys_of(rt.alloc(), &keys, &model)?;
+    assert!(rt; right, "other keys were listed, or one twice");
     Ok(())
 }
