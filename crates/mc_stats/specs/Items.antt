@@ -1,5 +1,5 @@
 -- The texts of a cache's items in the forms of memcached's `stats items` and `stats`.
-use Rattle.std.specs.Prelude.{◌≡◌, ℕ, zero, suc, ◌+◌, ◌-◌, ◌^◌, ◌==◌, if◌then◌else◌, List, [], ◌∷◌, ◌++◌, codes, decimal, fold, length, min, slice_index_or}
+use Rattle.std.specs.Prelude.{◌≡◌, ℕ, zero, suc, ◌+◌, ◌==◌, if◌then◌else◌, List, [], ◌∷◌, ◌++◌, codes, fold, length, slice_index_or}
 use Rattle.mc_watch.specs.Texts.{line, stat_line}
 use Rattle.mc_shard.specs.ClassItems.{no_items}
 use Rattle.mc_shard.specs.declared.class_items.ClassItems.{ClassItems}

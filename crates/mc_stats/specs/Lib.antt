@@ -5,3 +5,4 @@ pub mod Texts
 pub mod Rows
 pub mod Slabs
 pub mod Items
+pub mod ClassMetrics

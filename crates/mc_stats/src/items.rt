@@ -72,7 +72,7 @@ fn write_each<W: Sink>(
 }
 
 // The items of the class at the place, or none.
-fn items_at(items: &[ClassItems], place: usize) -> ClassItems
+pub(crate) fn items_at(items: &[ClassItems], place: usize) -> ClassItems
     ensures { result ≡ slice_index_or items.now place no_items }
 {
     match items.get(place) {

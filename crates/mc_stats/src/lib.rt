@@ -6,6 +6,7 @@
 //! - [`Counts::plus`] and [`sum_of`] add the counts of several threads.
 //! - [`Counts::write_stats`] and [`Counts::write_openmetrics`] write their texts to any [`mc_io::Sink`].
 //! - [`write_slabs`] writes the pages and chunks of a cache's classes, and [`write_items`] and [`write_usage`] its items.
+//! - [`write_class_metrics`] writes all of them in the format OpenMetrics, and [`Counts::write_exposition`] also the counts.
 //!
 //! ```rust
 //! fn serve<R: Wait>(rt: &R, cache: &Cache, worker: Worker, keys: &[&[u8]], into: &mut Vec<u8>) -> Result<Counts, CallError> {
@@ -22,6 +23,7 @@
 #![tactic(auto)]
 
 mod changes;
+mod class_metrics;
 mod counted;
 mod counts;
 mod gets;
@@ -34,6 +36,7 @@ mod slabs;
 mod stats;
 mod worker;
 
+pub use class_metrics::{worked_class_metrics, write_class_metrics};
 pub use counts::{Counts, sum_of};
 pub use items::{worked_items, write_items, write_usage};
 pub use laws::{counts_never_fall, sums_add_each_number, worked_texts};
