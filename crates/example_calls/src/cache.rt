@@ -27,7 +27,9 @@ mod whole;
 
 pub use chained::call_twice;
 pub use classed::items_of_class;
-pub use classes::{is_half_used, write_class_texts};
+pub use classes::{
+    is_half_used, write_class_exposition, write_class_texts, write_summed_exposition,
+};
 pub use counted::get_both;
 pub use exchanged::exchange;
 pub use fitted::store_begin;
