@@ -1,4 +1,4 @@
-//! Changes, counts and deadlines in rows, in drawn calls against a model, of two threads at once, and where memory is refused.
+//! Changes, counts and deadlines in rows, in drawn calls against a model, all calls mixed, of two threads at once, and where memory is refused.
 mod adding;
 mod counting;
 mod counting_texts;
@@ -9,6 +9,7 @@ mod large_drawn;
 mod large_threads;
 mod large_values;
 mod made;
+mod mixed;
 mod refused;
 mod rows;
 mod threads;

@@ -3,7 +3,7 @@ ghost use Rattle.std.specs.Thread.{IsSync};
 ghost use Rattle.mc_cache.specs.Belonging.{BelongsTo};
 ghost use Rattle.mc_stats.specs.Counting.{worker_in};
 
-use super::made::{KEY, next_worker, with_one_worker, with_workers};
+use super::made::{KEY, pass_if, with_one_worker, with_threads_workers};
 use mc_cache::{Cache, When, Worker};
 use mc_stats::{CountingWorker, Counts, sum_of};
 use rand_core::Rng;
@@ -245,8 +245,7 @@ fn drawn_calls_count_as_the_model(rt: HostRuntime) -> Result<(), Fail> {
     let (cache, worker) = with_one_worker(&rt, rt.alloc())?;
     let mut counting = CountingWorker::new(worker);
     let right = act_often(&rt, rt.alloc(), &cache, &mut counting);
-    assert!(rt; right, "a call counted something else than the model's");
-    Ok(())
+    pass_if(right, "a call counted something else than the model's")
 }
 
 /// A thread's gets of a key that has a value, and their counts.
@@ -266,11 +265,9 @@ fn get_often<R: Wait>(rt: &R, alloc: Global, cache: &Cache, worker: Worker) -> C
 /// Two threads at once: the sum has each get of both.
 #[test]
 fn threads_counts_are_summed(rt: HostRuntime) -> Result<(), Fail> {
-    let (cache, mut workers) = with_workers(&rt, rt.alloc(), 3)?;
-    let first = next_worker(&cache, &mut workers)?;
-    let second = next_worker(&cache, &mut workers)?;
-    let mut third = next_worker(&cache, &mut workers)?;
-    third.set(&rt, &cache, KEY, b"Bern")?;
+    let (cache, mut own, (first, second)) = with_threads_workers(&rt, rt.alloc())?;
+    let stored = own.set(&rt, &cache, KEY, b"Bern");
+    assert!(rt; stored.is_ok(), "no value was set");
     let (one, other) = join(
         &rt,
         || -> Counts

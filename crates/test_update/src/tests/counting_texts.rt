@@ -4,7 +4,7 @@ ghost use Rattle.std.specs.Prelude.{◌≡◌, ◌<◌};
 use mc_cache::{CacheStats, ClassItems, ClassStats};
 use mc_classes::{ClassTable, Config};
 use mc_io::{Failures, Fault, Sink};
-use mc_stats::{Counts, write_items, write_slabs, write_usage};
+use mc_stats::{Counts, write_class_metrics, write_items, write_slabs, write_usage};
 use std::alloc::Global;
 use std::marker::Brand;
 use std::sync::ledger::{Blank, Ledger};
@@ -48,6 +48,8 @@ enum Form {
     Slabs,
     Items,
     Usage,
+    ClassMetrics,
+    Exposition,
 }
 
 /// What the texts are written of.
@@ -82,6 +84,13 @@ const ITEMS: &[u8] =
 
 const USAGE: &[u8] =
     b"STAT curr_items 18446744073709551615\r\nSTAT bytes 18446744073709551615\r\nSTAT evictions 9\r\nEND\r\n";
+
+const CLASS_METRICS: &[u8] =
+    b"# TYPE mc_class_chunk_bytes gauge\n# UNIT mc_class_chunk_bytes bytes\nmc_class_chunk_bytes{class=\"2\"} 192\nmc_class_chunk_bytes{class=\"3\"} 392\n# TYPE mc_class_chunks_per_page gauge\nmc_class_chunks_per_page{class=\"2\"} 5\nmc_class_chunks_per_page{class=\"3\"} 2\n# TYPE mc_class_pages gauge\nmc_class_pages{class=\"2\"} 3\nmc_class_pages{class=\"3\"} 1\n# TYPE mc_class_chunks gauge\nmc_class_chunks{class=\"2\"} 15\nmc_class_chunks{class=\"3\"} 2\n# TYPE mc_class_used_chunks gauge\nmc_class_used_chunks{class=\"2\"} 11\nmc_class_used_chunks{class=\"3\"} 0\n# TYPE mc_class_free_chunks gauge\nmc_class_free_chunks{class=\"2\"} 4\nmc_class_free_chunks{class=\"3\"} 2\n# TYPE mc_class_items gauge\nmc_class_items{class=\"2\"} 3\nmc_class_items{class=\"3\"} 18446744073709551615\n# TYPE mc_class_item_bytes gauge\n# UNIT mc_class_item_bytes bytes\nmc_class_item_bytes{class=\"2\"} 500\nmc_class_item_bytes{class=\"3\"} 18446744073709551615\n# TYPE mc_class_evictions counter\nmc_class_evictions_total{class=\"2\"} 7\nmc_class_evictions_total{class=\"3\"} 0\n";
+
+// The classes come first, so that the one end of the text is that of the counts.
+const EXPOSITION: &[u8] =
+    b"# TYPE mc_class_chunk_bytes gauge\n# UNIT mc_class_chunk_bytes bytes\nmc_class_chunk_bytes{class=\"2\"} 192\nmc_class_chunk_bytes{class=\"3\"} 392\n# TYPE mc_class_chunks_per_page gauge\nmc_class_chunks_per_page{class=\"2\"} 5\nmc_class_chunks_per_page{class=\"3\"} 2\n# TYPE mc_class_pages gauge\nmc_class_pages{class=\"2\"} 3\nmc_class_pages{class=\"3\"} 1\n# TYPE mc_class_chunks gauge\nmc_class_chunks{class=\"2\"} 15\nmc_class_chunks{class=\"3\"} 2\n# TYPE mc_class_used_chunks gauge\nmc_class_used_chunks{class=\"2\"} 11\nmc_class_used_chunks{class=\"3\"} 0\n# TYPE mc_class_free_chunks gauge\nmc_class_free_chunks{class=\"2\"} 4\nmc_class_free_chunks{class=\"3\"} 2\n# TYPE mc_class_items gauge\nmc_class_items{class=\"2\"} 3\nmc_class_items{class=\"3\"} 18446744073709551615\n# TYPE mc_class_item_bytes gauge\n# UNIT mc_class_item_bytes bytes\nmc_class_item_bytes{class=\"2\"} 500\nmc_class_item_bytes{class=\"3\"} 18446744073709551615\n# TYPE mc_class_evictions counter\nmc_class_evictions_total{class=\"2\"} 7\nmc_class_evictions_total{class=\"3\"} 0\n# TYPE mc_gets counter\nmc_gets_total{result=\"hit\"} 12\nmc_gets_total{result=\"miss\"} 3\n# TYPE mc_sets counter\nmc_sets_total{result=\"stored\"} 7\nmc_sets_total{result=\"unmet\"} 0\nmc_sets_total{result=\"too_large\"} 1\nmc_sets_total{result=\"no_memory\"} 0\n# TYPE mc_deletes counter\nmc_deletes_total{result=\"hit\"} 1\nmc_deletes_total{result=\"miss\"} 0\n# TYPE mc_touches counter\nmc_touches_total{result=\"hit\"} 18446744073709551615\nmc_touches_total{result=\"miss\"} 0\n# EOF\n";
 
 const CONFIG: Config = Config {
     page: 1024,
@@ -170,6 +179,15 @@ fn written<L: Ledger>(
         Form::Slabs => write_slabs(&numbers.classes, &numbers.stats, &mut sink),
         Form::Items => write_items(&numbers.items, &numbers.stats, &mut sink),
         Form::Usage => write_usage(&numbers.items, &numbers.stats, &mut sink),
+        Form::ClassMetrics => {
+            write_class_metrics(&numbers.classes, &numbers.stats, &numbers.items, &mut sink)
+        }
+        Form::Exposition => numbers.counts.write_exposition(
+            &numbers.classes,
+            &numbers.stats,
+            &numbers.items,
+            &mut sink,
+        ),
     };
     let FailingSink {
         bytes,
@@ -210,10 +228,36 @@ fn try_each_write(alloc: Global, form: Form, text: &[u8]) -> Result<(), Fail> {
 }
 
 #[test]
-fn texts_until_a_failure(rt: HostRuntime) -> Result<(), Fail> {
-    try_each_write(rt.alloc(), Form::Stats, STATS)?;
-    try_each_write(rt.alloc(), Form::OpenMetrics, OPEN_METRICS)?;
-    try_each_write(rt.alloc(), Form::Slabs, SLABS)?;
-    try_each_write(rt.alloc(), Form::Items, ITEMS)?;
+fn stats_until_a_failure(rt: HostRuntime) -> Result<(), Fail> {
+    try_each_write(rt.alloc(), Form::Stats, STATS)
+}
+
+#[test]
+fn open_metrics_until_a_failure(rt: HostRuntime) -> Result<(), Fail> {
+    try_each_write(rt.alloc(), Form::OpenMetrics, OPEN_METRICS)
+}
+
+#[test]
+fn slabs_until_a_failure(rt: HostRuntime) -> Result<(), Fail> {
+    try_each_write(rt.alloc(), Form::Slabs, SLABS)
+}
+
+#[test]
+fn items_until_a_failure(rt: HostRuntime) -> Result<(), Fail> {
+    try_each_write(rt.alloc(), Form::Items, ITEMS)
+}
+
+#[test]
+fn usage_until_a_failure(rt: HostRuntime) -> Result<(), Fail> {
     try_each_write(rt.alloc(), Form::Usage, USAGE)
+}
+
+#[test]
+fn class_metrics_until_a_failure(rt: HostRuntime) -> Result<(), Fail> {
+    try_each_write(rt.alloc(), Form::ClassMetrics, CLASS_METRICS)
+}
+
+#[test]
+fn exposition_until_a_failure(rt: HostRuntime) -> Result<(), Fail> {
+    try_each_write(rt.alloc(), Form::Exposition, EXPOSITION)
 }

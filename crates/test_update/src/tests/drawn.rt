@@ -1,7 +1,7 @@
 //! Drawn changes of one worker against a model of one value.
 ghost use Rattle.mc_cache.specs.Belonging.{BelongsTo};
 
-use super::made::{KEY, with_one_worker};
+use super::made::{KEY, pass_if, with_one_worker};
 use mc_cache::{Cache, Worker};
 use mc_update::Updater;
 use rand_core::Rng;
@@ -81,6 +81,5 @@ fn drawn_counts_are_the_models(rt: HostRuntime) -> Result<(), Fail> {
     let (cache, mut worker) = with_one_worker(&rt, rt.alloc())?;
     let mut updater = Updater::new(rt.alloc());
     let right = act_often(&rt, &cache, &mut worker, &mut updater);
-    assert!(rt; right, "a count returned another number than the model's");
-    Ok(())
+    pass_if(right, "a count returned another number than the model's")
 }

@@ -230,6 +230,27 @@ fn reply_to<R: Wait>(
 }
 
 /// Plays the rows, up to the first with another reply.
+fn play_by<R: Wait>(
+    rt: &R,
+    cache: &Cache,
+    worker: &mut Worker,
+    large: &mut Large,
+    room: &mut Vec<u8>,
+    key: &[u8],
+    rows: &[Row],
+) -> Result<(), Fail>
+    requires { BelongsTo cache.now worker.old }
+    ensures { BelongsTo cache.now worker.new }
+{
+    for (step, reply, wrong) in rows {
+        if reply_to(rt, cache, worker, large, key, *step, room) != *reply {
+            return Err(Fail::new(*wrong));
+        }
+    }
+    Ok(())
+}
+
+/// The same, by a new store of large values.
 fn play<R: Wait>(
     rt: &R,
     alloc: Global,
@@ -243,12 +264,7 @@ fn play<R: Wait>(
 {
     let mut large = Large::new(alloc);
     let mut room = Vec::new(alloc);
-    for (step, reply, wrong) in rows {
-        if reply_to(rt, cache, worker, &mut large, key, *step, &mut room) != *reply {
-            return Err(Fail::new(*wrong));
-        }
-    }
-    Ok(())
+    play_by(rt, cache, worker, &mut large, &mut room, key, rows)
 }
 
 #[test]

@@ -3,7 +3,7 @@ ghost use Rattle.std.specs.Thread.{IsSync};
 ghost use Rattle.mc_cache.specs.Belonging.{BelongsTo};
 
 use super::large_values::{KEY, fill, is_value};
-use super::made::{WIDE, next_worker, with_shards};
+use super::made::{WIDE, pass_if, with_two_workers};
 use mc_cache::{Cache, Worker};
 use mc_large::Large;
 use std::alloc::Global;
@@ -74,9 +74,7 @@ fn act_often<R: Wait>(rt: &R, alloc: Global, cache: &Cache, worker: Worker, firs
 
 #[test]
 fn each_get_is_one_whole_value(rt: HostRuntime) -> Result<(), Fail> {
-    let (cache, mut workers) = with_shards(&rt, rt.alloc(), WIDE, 4, 2)?;
-    let first = next_worker(&cache, &mut workers)?;
-    let second = next_worker(&cache, &mut workers)?;
+    let (cache, first, second) = with_two_workers(&rt, rt.alloc(), WIDE, 4)?;
     let (one, other) = join(
         &rt,
         || -> u64
@@ -86,6 +84,5 @@ fn each_get_is_one_whole_value(rt: HostRuntime) -> Result<(), Fail> {
             requires { BelongsTo cache second }
         { act_often(&rt, rt.alloc(), &cache, second, ROUNDS) },
     );
-    assert!(rt; one == 0 && other == 0, "a get returned no whole value");
-    Ok(())
+    pass_if(one == 0 && other == 0, "a get returned no whole value")
 }

@@ -107,6 +107,49 @@ pub fn with_one_worker<R: Wait>(rt: &R, alloc: Global) -> Result<(Cache, Worker)
     Ok((cache, worker))
 }
 
+/// The first two workers.
+fn first_two(cache: &Cache, workers: Vec<Worker>) -> Result<(Worker, Worker), Fail>
+    requires { All (BelongsTo cache.now) workers.items }
+    ensures { IfOk result (λ two. BelongsTo cache.now two.0 × BelongsTo cache.now two.1) }
+{
+    let mut workers = workers;
+    let first = next_worker(cache, &mut workers)?;
+    let second = next_worker(cache, &mut workers)?;
+    Ok((first, second))
+}
+
+/// A cache of n shards of such an arena each, with two workers.
+pub fn with_two_workers<R: Wait>(
+    rt: &R,
+    alloc: Global,
+    arena: Config,
+    shards: u64,
+) -> Result<(Cache, Worker, Worker), Fail>
+    ensures { IfOk result (λ made. BelongsTo made.0 made.1 × BelongsTo made.0 made.2) }
+{
+    let (cache, workers) = with_shards(rt, alloc, arena, shards, 2)?;
+    match first_two(&cache, workers) {
+        Ok((first, second)) => Ok((cache, first, second)),
+        Err(fail) => Err(fail),
+    }
+}
+
+/// A small cache with a worker, and the workers of two threads.
+pub fn with_threads_workers<R: Wait>(
+    rt: &R,
+    alloc: Global,
+) -> Result<(Cache, Worker, (Worker, Worker)), Fail>
+    ensures own { IfOk result (λ made. BelongsTo made.0 made.1) }
+    ensures threads { IfOk result (λ made. BelongsTo made.0 made.2.0 × BelongsTo made.0 made.2.1) }
+{
+    let (cache, mut workers) = with_workers(rt, alloc, 3)?;
+    let own = next_worker(&cache, &mut workers)?;
+    match first_two(&cache, workers) {
+        Ok(two) => Ok((cache, own, two)),
+        Err(fail) => Err(fail),
+    }
+}
+
 /// A cache of four shards of 1 MiB each, with one worker.
 pub fn with_wide_worker<R: Wait>(rt: &R, alloc: Global) -> Result<(Cache, Worker), Fail>
     ensures { IfOk result (λ made. BelongsTo made.0 made.1) }
@@ -114,4 +157,13 @@ pub fn with_wide_worker<R: Wait>(rt: &R, alloc: Global) -> Result<(Cache, Worker
     let (cache, mut workers) = with_shards(rt, alloc, WIDE, 4, 1)?;
     let worker = next_worker(&cache, &mut workers)?;
     Ok((cache, worker))
+}
+
+/// Fails for this reason, unless all was right.
+pub fn pass_if(is_right: bool, wrong: &'static str) -> Result<(), Fail> {
+    if is_right {
+        Ok(())
+    } else {
+        Err(Fail::new(wrong))
+    }
 }

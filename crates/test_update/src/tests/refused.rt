@@ -7,6 +7,7 @@ mod listing;
 
 use super::made::{KEY, SMALL, next_worker, opened};
 use listing::answer_of_keys;
+pub use listing::list_all;
 use mc_cache::{Cache, CallError, Outcome, SetError, Worker};
 use mc_expiry::{Expiry, ExpiryError};
 use mc_stripe::Stamp;

@@ -141,36 +141,70 @@ fn play<R: Wait>(
     Ok(())
 }
 
+/// Counts in rows, and then by the calls that return the number.
+fn count<R: Wait>(
+    rt: &R,
+    cache: &Cache,
+    worker: &mut Worker,
+    updater: &mut Updater,
+) -> Result<(), Fail>
+    requires { BelongsTo cache.now worker.old }
+{
+    worker.set(rt, cache, KEY, b"9")?;
+    play(rt, cache, worker, updater, &COUNTS)?;
+    if updater.increment(rt, cache, worker, KEY, 41) != Ok(Some(41)) {
+        return Err(Fail::new("the sum isn't returned"));
+    }
+    if updater.decrement(rt, cache, worker, KEY, 1) != Ok(Some(40)) {
+        return Err(Fail::new("what is left isn't returned"));
+    }
+    Ok(())
+}
+
 #[test]
 fn counters_count(rt: HostRuntime) -> Result<(), Fail> {
     let (cache, mut worker) = with_one_worker(&rt, rt.alloc())?;
     let mut updater = Updater::new(rt.alloc());
-    worker.set(&rt, &cache, KEY, b"9")?;
-    play(&rt, &cache, &mut worker, &mut updater, &COUNTS)?;
-    let sum = updater.increment(&rt, &cache, &mut worker, KEY, 41);
-    assert!(rt; sum == Ok(Some(41)), "the sum isn't returned");
-    let left = updater.decrement(&rt, &cache, &mut worker, KEY, 1);
-    assert!(rt; left == Ok(Some(40)), "what is left isn't returned");
-    Ok(())
+    count(&rt, &cache, &mut worker, &mut updater)
+}
+
+/// Joins bytes in rows, and gets what they made.
+fn join_bytes<R: Wait>(
+    rt: &R,
+    cache: &Cache,
+    worker: &mut Worker,
+    updater: &mut Updater,
+    bytes: &mut Vec<u8>,
+) -> Result<(), Fail>
+    requires { BelongsTo cache.now worker.old }
+{
+    worker.set(rt, cache, KEY, b"9")?;
+    play(rt, cache, worker, updater, &ENDS)?;
+    let found = worker.get(rt, cache, KEY, bytes);
+    if found == Ok(true) && bytes.as_slice() == b"-95 ".as_slice() {
+        Ok(())
+    } else {
+        Err(Fail::new("the cache has another value than was returned"))
+    }
 }
 
 #[test]
 fn bytes_come_at_both_ends(rt: HostRuntime) -> Result<(), Fail> {
     let (cache, mut worker) = with_one_worker(&rt, rt.alloc())?;
     let mut updater = Updater::new(rt.alloc());
-    worker.set(&rt, &cache, KEY, b"9")?;
-    play(&rt, &cache, &mut worker, &mut updater, &ENDS)?;
     let mut bytes = Vec::new(rt.alloc());
-    let found = worker.get(&rt, &cache, KEY, &mut bytes);
-    let right = found == Ok(true) && bytes.as_slice() == b"-95 ".as_slice();
-    assert!(rt; right, "the cache has another value than was returned");
-    Ok(())
+    join_bytes(&rt, &cache, &mut worker, &mut updater, &mut bytes)
 }
 
-#[test]
-fn changes_are_refused(rt: HostRuntime) -> Result<(), Fail> {
-    let (cache, mut worker) = with_one_worker(&rt, rt.alloc())?;
-    let mut updater = Updater::new(rt.alloc());
+/// Changes no value, one that is no number, and one that becomes too large.
+fn change_in_vain<R: Wait>(
+    rt: &R,
+    cache: &Cache,
+    worker: &mut Worker,
+    updater: &mut Updater,
+) -> Result<(), Fail>
+    requires { BelongsTo cache.now worker.old }
+{
     let none = [
         (Change::Increment(1), Reply::Missing, "no value was counted"),
         (
@@ -179,8 +213,8 @@ fn changes_are_refused(rt: HostRuntime) -> Result<(), Fail> {
             "a byte was added to no value",
         ),
     ];
-    play(&rt, &cache, &mut worker, &mut updater, &none)?;
-    worker.set(&rt, &cache, KEY, TOO_GREAT)?;
+    play(rt, cache, worker, updater, &none)?;
+    worker.set(rt, cache, KEY, TOO_GREAT)?;
     let wide = [b'x'; 1000];
     let refused = [
         (Change::Increment(1), Reply::NotNumber, "2^64 was counted"),
@@ -195,11 +229,16 @@ fn changes_are_refused(rt: HostRuntime) -> Result<(), Fail> {
             "a refused change changed the value",
         ),
     ];
-    play(&rt, &cache, &mut worker, &mut updater, &refused)?;
-    let key = updater.append(&rt, &cache, &mut worker, b"", b"x");
-    assert!(rt;
-        key == Err(ChangeError::KeyLength),
-        "a key of no byte was taken"
-    );
-    Ok(())
+    play(rt, cache, worker, updater, &refused)?;
+    match updater.append(rt, cache, worker, b"", b"x") {
+        Err(ChangeError::KeyLength) => Ok(()),
+        _ => Err(Fail::new("a key of no byte was taken")),
+    }
+}
+
+#[test]
+fn changes_are_refused(rt: HostRuntime) -> Result<(), Fail> {
+    let (cache, mut worker) = with_one_worker(&rt, rt.alloc())?;
+    let mut updater = Updater::new(rt.alloc());
+    change_in_vain(&rt, &cache, &mut worker, &mut updater)
 }

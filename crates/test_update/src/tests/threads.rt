@@ -2,7 +2,7 @@
 ghost use Rattle.std.specs.Thread.{IsSync};
 ghost use Rattle.mc_cache.specs.Belonging.{BelongsTo};
 
-use super::made::{KEY, next_worker, with_workers};
+use super::made::{KEY, with_threads_workers};
 use mc_cache::{Cache, Worker};
 use mc_update::Updater;
 use std::alloc::Global;
@@ -45,15 +45,34 @@ fn change_often<R: Wait>(rt: &R, alloc: Global, cache: &Cache, worker: Worker) -
     missed
 }
 
+/// Whether each change of both is there.
+fn has_each_change<R: Wait>(
+    rt: &R,
+    cache: &Cache,
+    worker: &mut Worker,
+    updater: &mut Updater,
+    bytes: &mut Vec<u8>,
+) -> Result<(), Fail>
+    requires { BelongsTo cache.now worker.old }
+{
+    if updater.increment(rt, cache, worker, KEY, 0) != Ok(Some(6 * ROUNDS)) {
+        return Err(Fail::new("a count was lost, or one was done twice"));
+    }
+    let found = worker.get(rt, cache, BYTES, bytes);
+    if found == Ok(true) && bytes.len() as u64 == 2 * ROUNDS {
+        Ok(())
+    } else {
+        Err(Fail::new("a byte was lost, or one was added twice"))
+    }
+}
+
 /// Two threads at once. A lost change would leave the count too small, or the bytes too few.
 #[test]
 fn no_change_is_lost(rt: HostRuntime) -> Result<(), Fail> {
-    let (cache, mut workers) = with_workers(&rt, rt.alloc(), 3)?;
-    let first = next_worker(&cache, &mut workers)?;
-    let second = next_worker(&cache, &mut workers)?;
-    let mut third = next_worker(&cache, &mut workers)?;
-    third.set(&rt, &cache, KEY, b"0")?;
-    third.set(&rt, &cache, BYTES, b"")?;
+    let (cache, mut own, (first, second)) = with_threads_workers(&rt, rt.alloc())?;
+    let count = own.set(&rt, &cache, KEY, b"0");
+    let bytes = own.set(&rt, &cache, BYTES, b"");
+    assert!(rt; count.is_ok() && bytes.is_ok(), "no value was set");
     let (one, other) = join(
         &rt,
         || -> u64
@@ -65,14 +84,6 @@ fn no_change_is_lost(rt: HostRuntime) -> Result<(), Fail> {
     );
     assert!(rt; one == 0 && other == 0, "a change wasn't done");
     let mut updater = Updater::new(rt.alloc());
-    let count = updater.increment(&rt, &cache, &mut third, KEY, 0);
-    assert!(rt;
-        count == Ok(Some(6 * ROUNDS)),
-        "a count was lost, or one was done twice"
-    );
     let mut bytes = Vec::new(rt.alloc());
-    let found = third.get(&rt, &cache, BYTES, &mut bytes);
-    let right = found == Ok(true) && bytes.len() as u64 == 2 * ROUNDS;
-    assert!(rt; right, "a byte was lost, or one was added twice");
-    Ok(())
+    has_each_change(&rt, &cache, &mut own, &mut updater, &mut bytes)
 }

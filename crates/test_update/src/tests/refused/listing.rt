@@ -30,7 +30,7 @@ fn list_shard<R: Wait>(
 }
 
 /// Puts all keys behind those that are there.
-fn list_all<R: Wait>(
+pub fn list_all<R: Wait>(
     rt: &R,
     alloc: Global,
     cache: &Cache,
