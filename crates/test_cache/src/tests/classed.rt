@@ -77,18 +77,30 @@ fn assert_rows<R: Abort + Wait>(
     assert_row(rt, alloc, cache, worker, 5, None)
 }
 
+/// Counts the items of each class before and after some are stored and deleted.
+fn count_items<R: Abort + Wait>(
+    rt: &R,
+    alloc: Global,
+    cache: &Cache,
+    worker: &mut Worker,
+) -> Result<(), Fail>
+    requires { BelongsTo cache.now worker.old }
+{
+    let none = row_of(0, 0);
+    assert_rows(rt, alloc, cache, worker, none, none)?;
+    set_each(rt, cache, worker, 0, 30, &SHORT);
+    set_each(rt, cache, worker, 100, 105, &LONG);
+    let (short, long) = (row_of(30, 30 * 48), row_of(5, 5 * 408));
+    assert_rows(rt, alloc, cache, worker, short, long)?;
+    delete_each(rt, cache, worker, 3, 13);
+    delete_each(rt, cache, worker, 101, 103);
+    let (short, long) = (row_of(20, 20 * 48), row_of(3, 3 * 408));
+    assert_rows(rt, alloc, cache, worker, short, long)
+}
+
 /// Thirty short values and five long ones over two shards, of which ten and two are deleted: each number is that of keys and values.
 #[test]
 fn items_are_counted_by_class(rt: HostRuntime) -> Result<(), Fail> {
     let (cache, mut worker, _tender) = with_one_worker(&rt, rt.alloc(), 2)?;
-    let none = row_of(0, 0);
-    assert_rows(&rt, rt.alloc(), &cache, &mut worker, none, none)?;
-    set_each(&rt, &cache, &mut worker, 0, 30, &SHORT);
-    set_each(&rt, &cache, &mut worker, 100, 105, &LONG);
-    let (short, long) = (row_of(30, 30 * 48), row_of(5, 5 * 408));
-    assert_rows(&rt, rt.alloc(), &cache, &mut worker, short, long)?;
-    delete_each(&rt, &cache, &mut worker, 3, 13);
-    delete_each(&rt, &cache, &mut worker, 101, 103);
-    let (short, long) = (row_of(20, 20 * 48), row_of(3, 3 * 408));
-    assert_rows(&rt, rt.alloc(), &cache, &mut worker, short, long)
+    count_items(&rt, rt.alloc(), &cache, &mut worker)
 }

@@ -142,19 +142,30 @@ fn assert_none<R: Abort + Wait>(
     Ok(())
 }
 
+/// Counts and lists known keys, and clears the cache.
+fn clear_known<R: Abort + Wait>(
+    rt: &R,
+    alloc: Global,
+    cache: &Cache,
+    worker: &mut Worker,
+) -> Result<(), Fail>
+    requires { BelongsTo cache.now worker.old }
+{
+    if store_known(rt, cache, worker) != 0 {
+        return Err(Fail::new("a key wasn't stored"));
+    }
+    assert_known(rt, alloc, cache, worker)?;
+    if clear_and_count(rt, cache, worker) != Ok((KNOWN as u64, 0)) {
+        return Err(Fail::new("other keys were deleted, or some are left"));
+    }
+    assert_none(rt, alloc, cache, worker)
+}
+
 /// Known keys of two shards are counted and listed, and a clear deletes each.
 #[test]
 fn known_keys_are_counted_listed_and_cleared(rt: HostRuntime) -> Result<(), Fail> {
     let (cache, mut worker, _tender) = with_one_worker(&rt, rt.alloc(), 2)?;
-    let refused = store_known(&rt, &cache, &mut worker);
-    assert!(rt; refused == 0, "a key wasn't stored");
-    assert_known(&rt, rt.alloc(), &cache, &mut worker)?;
-    let cleared = clear_and_count(&rt, &cache, &mut worker);
-    assert!(rt;
-        cleared == Ok((KNOWN as u64, 0)),
-        "other keys were deleted, or some are left"
-    );
-    assert_none(&rt, rt.alloc(), &cache, &mut worker)
+    clear_known(&rt, rt.alloc(), &cache, &mut worker)
 }
 
 /// Stores the known keys within one try for each lock. How many of them were refused.
@@ -171,26 +182,39 @@ fn store_known_within(cache: &Cache, worker: &mut Worker) -> u64
     refused
 }
 
+/// Counts and clears without a try and with some.
+fn clear_within_tries(cache: &Cache, worker: &mut Worker) -> Result<(), Fail>
+    requires { RestsIn cache.now worker.old }
+{
+    if store_known_within(cache, worker) != 0 {
+        return Err(Fail::new("a key wasn't stored"));
+    }
+    if worker.len_within(cache, 0).is_ok() {
+        return Err(Fail::new("a count without a lock"));
+    }
+    match worker.clear_within(cache, 0) {
+        Err(ClearWithinError::Held(0)) => {}
+        _ => return Err(Fail::new("a clear without a lock")),
+    }
+    match worker.len_within(cache, 1) {
+        Ok(30) => {}
+        _ => return Err(Fail::new("a held clear deleted a key")),
+    }
+    match clear_at_second_try(cache, worker, 8) {
+        Ok(30) => {}
+        _ => return Err(Fail::new("a clear left a key")),
+    }
+    match worker.len_within(cache, 8) {
+        Ok(0) => Ok(()),
+        _ => Err(Fail::new("a key is counted behind the clear")),
+    }
+}
+
 /// Without a try a count and a clear are held, and nothing is deleted. With tries they are done.
 #[test]
 fn clears_and_counts_want_a_try(rt: HostRuntime) -> Result<(), Fail> {
     let (cache, mut worker) = with_resting_worker(rt.alloc(), 2)?;
-    let refused = store_known_within(&cache, &mut worker);
-    assert!(rt; refused == 0, "a key wasn't stored");
-    let uncounted = worker.len_within(&cache, 0);
-    assert!(rt; uncounted.is_err(), "a count without a lock");
-    let uncleared = worker.clear_within(&cache, 0);
-    assert!(rt;
-        matches!(uncleared, Err(ClearWithinError::Held(0))),
-        "a clear without a lock"
-    );
-    let counted = worker.len_within(&cache, 1);
-    assert!(rt; matches!(counted, Ok(30)), "a held clear deleted a key");
-    let cleared = clear_at_second_try(&cache, &mut worker, 8);
-    assert!(rt; matches!(cleared, Ok(30)), "a clear left a key");
-    let left = worker.len_within(&cache, 8);
-    assert!(rt; matches!(left, Ok(0)), "a key is counted behind the clear");
-    Ok(())
+    clear_within_tries(&cache, &mut worker)
 }
 
 /// Puts the keys of a shard behind those that are there, within tries for each lock.

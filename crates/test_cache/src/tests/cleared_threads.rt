@@ -3,7 +3,7 @@ ghost use Rattle.std.specs.Thread.{IsSync};
 ghost use Rattle.mc_cache.specs.Belonging.{BelongsTo};
 
 use super::cleared::{missing_known, store_known};
-use super::made::{HASH_KEY, config_of, next_worker};
+use super::made::with_threads_workers;
 use example_calls::cache::clear_and_count;
 use mc_cache::{Cache, Worker};
 use std::process::Abort;
@@ -152,15 +152,8 @@ fn assert_cleared<R: Abort + Wait>(rt: &R, cache: &Cache, worker: &mut Worker)
 /// One thread clears while the other stores. Whatever the schedule, each clear takes what was stored before it, and leaves what comes behind it.
 #[test]
 fn clears_take_what_was_stored_before(rt: HostRuntime) -> Result<(), Fail> {
-    let (cache, mut workers, _tender) = Cache::new(&rt, rt.alloc(), &config_of(2, 3), HASH_KEY)?;
-    let (Some(first), Some(second), Some(mut third)) = (
-        next_worker(&cache, &mut workers),
-        next_worker(&cache, &mut workers),
-        next_worker(&cache, &mut workers),
-    ) else {
-        return Err(Fail::new("there are three workers"));
-    };
-    let unstored = store_known(&rt, &cache, &mut third);
+    let (cache, mut own, (first, second)) = with_threads_workers(&rt, rt.alloc(), 2)?;
+    let unstored = store_known(&rt, &cache, &mut own);
     let (begun, ended) = (AtomicU64::new(0), AtomicU64::new(0));
     let (refused, wrong) = join(
         &rt,
@@ -173,6 +166,6 @@ fn clears_take_what_was_stored_before(rt: HostRuntime) -> Result<(), Fail> {
     );
     assert!(rt; unstored == 0 && refused == 0, "a call was refused");
     assert!(rt; wrong == 0, "a clear took or left another key");
-    assert_cleared(&rt, &cache, &mut third);
+    assert_cleared(&rt, &cache, &mut own);
     Ok(())
 }

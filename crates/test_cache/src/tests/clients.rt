@@ -1,9 +1,12 @@
 //! The small proved clients of `example_calls` that open, fill and read a cache, as they run.
-use super::made::{HASH_KEY, config_of, with_one_worker};
+ghost use Rattle.mc_cache.specs.Belonging.{BelongsTo};
+
+use super::made::{HASH_KEY, config_of, pass_if, with_one_worker};
 use example_calls::cache::{
     OpenError, delete_what_was_got, get_from_new, open_within, set_twice_and_get,
 };
-use mc_cache::{Deletion, SizingError};
+use mc_cache::{Cache, Deletion, SizingError, Worker};
+use std::sync::Wait;
 use std::test::Fail;
 
 /// A worker that stores two values under a key gets the second.
@@ -20,29 +23,40 @@ fn the_second_value_is_got(rt: HostRuntime) -> Result<(), Fail> {
         b"Basel",
         &mut bytes,
     );
-    assert!(rt; matches!(found, Ok(true)), "the key has no value");
-    assert!(rt;
-        bytes.as_slice() == b"Basel".as_slice(),
-        "another value was found"
-    );
-    Ok(())
+    let is_second = matches!(found, Ok(true)) && bytes.as_slice() == b"Basel".as_slice();
+    pass_if(is_second, "no value was found, or another one")
+}
+
+/// Takes a value off its key twice.
+fn take_twice<R: Wait>(
+    rt: &R,
+    cache: &Cache,
+    worker: &mut Worker,
+    bytes: &mut Vec<u8>,
+) -> Result<(), Fail>
+    requires { BelongsTo cache.now worker.old }
+{
+    let _stored = worker.set(rt, cache, b"city", b"Bern");
+    let first = delete_what_was_got(rt, cache, worker, b"city", bytes)?;
+    let second = delete_what_was_got(rt, cache, worker, b"city", bytes)?;
+    if first != Deletion::Deleted {
+        return Err(Fail::new("it isn't deleted"));
+    }
+    if second != Deletion::Missing {
+        return Err(Fail::new("it is there still"));
+    }
+    pass_if(
+        bytes.as_slice() == b"Bern".as_slice(),
+        "another value was found",
+    )
 }
 
 /// A value is taken off its key once, and its bytes are the ones that were stored.
 #[test]
 fn a_value_is_taken_once(rt: HostRuntime) -> Result<(), Fail> {
     let (cache, mut worker, _tender) = with_one_worker(&rt, rt.alloc(), 2)?;
-    let _stored = worker.set(&rt, &cache, b"city", b"Bern");
     let mut bytes = Vec::new(rt.alloc());
-    let first = delete_what_was_got(&rt, &cache, &mut worker, b"city", &mut bytes)?;
-    let second = delete_what_was_got(&rt, &cache, &mut worker, b"city", &mut bytes)?;
-    assert!(rt; first == Deletion::Deleted, "it isn't deleted");
-    assert!(rt; second == Deletion::Missing, "it is there still");
-    assert!(rt;
-        bytes.as_slice() == b"Bern".as_slice(),
-        "another value was found"
-    );
-    Ok(())
+    take_twice(&rt, &cache, &mut worker, &mut bytes)
 }
 
 /// A worker of a new cache finds nothing.

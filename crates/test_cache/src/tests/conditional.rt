@@ -2,7 +2,9 @@
 ghost use Rattle.std.specs.Prelude.{IfOk};
 ghost use Rattle.mc_cache.specs.Belonging.{BelongsTo};
 
-use super::made::{HASH_KEY, SMALL, config_of, next_worker, with_one_worker, with_resting_worker};
+use super::made::{
+    HASH_KEY, SMALL, config_of, next_worker, pass_if, with_one_worker, with_resting_worker,
+};
 use super::rows::{Call, Reply, Row, play};
 use super::rows_within::play_within;
 use super::values::{Call as Drawn, Trial, key_of, value_of};
@@ -102,12 +104,48 @@ const VERSIONS: [Row<'static>; 6] = [
     ),
 ];
 
+/// Plays the rows of adds and replaces, and then those of versions where the key has no value.
+fn meet_conditions<R: Wait>(
+    rt: &R,
+    alloc: Global,
+    cache: &Cache,
+    worker: &mut Worker,
+) -> Result<(), Fail>
+    requires { BelongsTo cache.now worker.old }
+{
+    play(rt, alloc, cache, worker, &ADDS_AND_REPLACES)?;
+    worker.delete(rt, cache, b"city")?;
+    play(rt, alloc, cache, worker, &VERSIONS)
+}
+
 #[test]
 fn conditions_are_met_row_by_row(rt: HostRuntime) -> Result<(), Fail> {
     let (cache, mut worker, _tender) = with_one_worker(&rt, rt.alloc(), 2)?;
-    play(&rt, rt.alloc(), &cache, &mut worker, &ADDS_AND_REPLACES)?;
-    worker.delete(&rt, &cache, b"city")?;
-    play(&rt, rt.alloc(), &cache, &mut worker, &VERSIONS)
+    meet_conditions(&rt, rt.alloc(), &cache, &mut worker)
+}
+
+/// Looks for a version before a store and behind it.
+fn find_version<R: Wait>(
+    rt: &R,
+    cache: &Cache,
+    worker: &mut Worker,
+    bytes: &mut Vec<u8>,
+) -> Result<(), Fail>
+    requires { BelongsTo cache.now worker.old }
+{
+    if worker.get_with_version(rt, cache, b"city", bytes) != Ok(None) {
+        return Err(Fail::new("a version was found of no value"));
+    }
+    let Ok(Outcome::Stored(version)) = worker.add(rt, cache, b"city", b"Bern") else {
+        return Err(Fail::new("an add didn't store"));
+    };
+    if worker.get_with_version(rt, cache, b"city", bytes) != Ok(Some(version)) {
+        return Err(Fail::new("another version was found"));
+    }
+    pass_if(
+        bytes.as_slice() == b"Bern".as_slice(),
+        "another value was found",
+    )
 }
 
 /// A version that a get returns is that of the store.
@@ -115,16 +153,7 @@ fn conditions_are_met_row_by_row(rt: HostRuntime) -> Result<(), Fail> {
 fn versions_are_found(rt: HostRuntime) -> Result<(), Fail> {
     let (cache, mut worker, _tender) = with_one_worker(&rt, rt.alloc(), 2)?;
     let mut bytes = Vec::new(rt.alloc());
-    let none = worker.get_with_version(&rt, &cache, b"city", &mut bytes);
-    assert!(rt; none == Ok(None), "a version was found of no value");
-    let Ok(Outcome::Stored(version)) = worker.add(&rt, &cache, b"city", b"Bern") else {
-        return Err(Fail::new("an add didn't store"));
-    };
-    let found = worker.get_with_version(&rt, &cache, b"city", &mut bytes);
-    assert!(rt; found == Ok(Some(version)), "another version was found");
-    let right = bytes.as_slice() == b"Bern".as_slice();
-    assert!(rt; right, "another value was found");
-    Ok(())
+    find_version(&rt, &cache, &mut worker, &mut bytes)
 }
 
 /// Keys and values that no set takes.

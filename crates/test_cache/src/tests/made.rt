@@ -42,6 +42,77 @@ pub fn next_worker(cache: &Cache, workers: &mut Vec<Worker>) -> Option<Worker>
     }
 }
 
+/// The first two workers.
+fn first_two(cache: &Cache, workers: Vec<Worker>) -> Result<(Worker, Worker), Fail>
+    requires { All (BelongsTo cache.now) workers.items }
+    ensures { IfOk result (λ two. BelongsTo cache.now two.0 × BelongsTo cache.now two.1) }
+{
+    let mut workers = workers;
+    let Some(first) = next_worker(cache, &mut workers) else {
+        return Err(Fail::new("there is a first worker"));
+    };
+    match next_worker(cache, &mut workers) {
+        Some(second) => Ok((first, second)),
+        None => Err(Fail::new("there is a second worker")),
+    }
+}
+
+/// A cache of n shards, and its workers.
+fn with_workers<R: Wait>(
+    rt: &R,
+    alloc: Global,
+    shards: u64,
+    workers: u64,
+) -> Result<(Cache, Vec<Worker>), NewError>
+    ensures { IfOk result (λ made. All (BelongsTo made.0) made.1.items) }
+{
+    let (cache, workers, _tender) = Cache::new(rt, alloc, &config_of(shards, workers), HASH_KEY)?;
+    Ok((cache, workers))
+}
+
+/// A cache of n shards with two workers.
+pub fn with_two_workers<R: Wait>(
+    rt: &R,
+    alloc: Global,
+    shards: u64,
+) -> Result<(Cache, Worker, Worker), Fail>
+    ensures { IfOk result (λ made. BelongsTo made.0 made.1 × BelongsTo made.0 made.2) }
+{
+    let (cache, workers) = with_workers(rt, alloc, shards, 2)?;
+    match first_two(&cache, workers) {
+        Ok((first, second)) => Ok((cache, first, second)),
+        Err(fail) => Err(fail),
+    }
+}
+
+/// A cache of n shards with a worker, and the workers of two threads.
+pub fn with_threads_workers<R: Wait>(
+    rt: &R,
+    alloc: Global,
+    shards: u64,
+) -> Result<(Cache, Worker, (Worker, Worker)), Fail>
+    ensures own { IfOk result (λ made. BelongsTo made.0 made.1) }
+    ensures threads { IfOk result (λ made. BelongsTo made.0 made.2.0 × BelongsTo made.0 made.2.1) }
+{
+    let (cache, mut workers) = with_workers(rt, alloc, shards, 3)?;
+    let Some(own) = next_worker(&cache, &mut workers) else {
+        return Err(Fail::new("there is a worker"));
+    };
+    match first_two(&cache, workers) {
+        Ok(two) => Ok((cache, own, two)),
+        Err(fail) => Err(fail),
+    }
+}
+
+/// Fails for this reason, unless all was right.
+pub fn pass_if(is_right: bool, wrong: &'static str) -> Result<(), Fail> {
+    if is_right {
+        Ok(())
+    } else {
+        Err(Fail::new(wrong))
+    }
+}
+
 /// A configuration of this many shards and workers.
 pub fn config_of(shards: u64, workers: u64) -> CacheConfig
     ensures { result.workers ≡ workers }

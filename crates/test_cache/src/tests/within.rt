@@ -1,9 +1,11 @@
 //! Calls that try for each lock n times, by a worker or a tender that lies in a struct.
-use super::made::{HASH_KEY, config_of, with_resting_worker};
+ghost use Rattle.mc_cache.specs.Resting.{TenderRestsIn};
+
+use super::made::{HASH_KEY, config_of, pass_if, with_resting_worker};
 use super::rows::{Call, Reply, Row};
 use super::rows_within::play_within;
 use example_calls::cache::Client;
-use mc_cache::Cache;
+use mc_cache::{Cache, Tender};
 use std::test::Fail;
 
 /// What was stored is found, touched and deleted, and then isn't there.
@@ -118,16 +120,55 @@ fn calls_within_tries_are_done_or_held(rt: HostRuntime) -> Result<(), Fail> {
     play_within(rt.alloc(), &cache, &mut worker, &UNTRIED)
 }
 
+/// Stores a value, finds it, and finds no other.
+fn store_and_find(client: &mut Client, bytes: &mut Vec<u8>) -> Result<(), Fail> {
+    if !client.store(b"river", b"Aare") {
+        return Err(Fail::new("it isn't stored"));
+    }
+    if !client.find(b"river", bytes) {
+        return Err(Fail::new("it isn't found"));
+    }
+    if client.find(b"lake", bytes) {
+        return Err(Fail::new("a lake is found"));
+    }
+    pass_if(bytes.as_slice() == b"Aare".as_slice(), "the bytes changed")
+}
+
 /// A client that has cache and worker in one struct finds what it stored, and keeps the bytes where it finds nothing.
 #[test]
 fn a_struct_has_cache_and_worker(rt: HostRuntime) -> Result<(), Fail> {
     let (cache, worker) = with_resting_worker(rt.alloc(), 2)?;
     let mut client = Client::new(cache, worker);
     let mut bytes = Vec::new(rt.alloc());
-    assert!(rt; client.store(b"river", b"Aare"), "it isn't stored");
-    assert!(rt; client.find(b"river", &mut bytes), "it isn't found");
-    assert!(rt; !client.find(b"lake", &mut bytes), "a lake is found");
-    assert!(rt; bytes.as_slice() == b"Aare".as_slice(), "the bytes changed");
+    store_and_find(&mut client, &mut bytes)
+}
+
+/// Windows, surveys and modes without a try and with one, and a page for a class that isn't there.
+fn tend_within_tries(cache: &Cache, tender: &mut Tender) -> Result<(), Fail>
+    requires { TenderRestsIn cache.now tender.old }
+{
+    if tender.tend_within(cache, 0)?.held != 2 {
+        return Err(Fail::new("a window without a lock"));
+    }
+    if tender.tend_within(cache, 1)?.held != 0 {
+        return Err(Fail::new("a free lock was missed"));
+    }
+    if tender.stats_within(cache, 0).is_ok() {
+        return Err(Fail::new("a survey without a lock"));
+    }
+    if tender.stats_within(cache, 1).is_err() {
+        return Err(Fail::new("no survey with a lock"));
+    }
+    if tender.set_automove_within(cache, 2, 0).is_ok() {
+        return Err(Fail::new("a mode without a lock"));
+    }
+    if tender.set_automove_within(cache, 2, 1).is_err() {
+        return Err(Fail::new("no mode with a lock"));
+    }
+    if cache.shards() > 1 {
+        let answer = tender.reassign_within(cache, 1, None, cache.classes().count() + 1, 1);
+        return pass_if(matches!(answer, Ok(Err(_))), "a page for no class");
+    }
     Ok(())
 }
 
@@ -138,29 +179,5 @@ fn a_tender_without_a_try_is_held(rt: HostRuntime) -> Result<(), Fail> {
     let Ok((cache, _workers, mut tender)) = made else {
         return Err(Fail::new("no cache was made"));
     };
-    let untried = tender.tend_within(&cache, 0)?;
-    assert!(rt; untried.held == 2, "a window without a lock");
-    let tended = tender.tend_within(&cache, 1)?;
-    assert!(rt; tended.held == 0, "a free lock was missed");
-    assert!(rt;
-        tender.stats_within(&cache, 0).is_err(),
-        "a survey without a lock"
-    );
-    assert!(rt;
-        tender.stats_within(&cache, 1).is_ok(),
-        "no survey with a lock"
-    );
-    assert!(rt;
-        tender.set_automove_within(&cache, 2, 0).is_err(),
-        "a mode without a lock"
-    );
-    assert!(rt;
-        tender.set_automove_within(&cache, 2, 1).is_ok(),
-        "no mode with a lock"
-    );
-    if cache.shards() > 1 {
-        let answer = tender.reassign_within(&cache, 1, None, cache.classes().count() + 1, 1);
-        assert!(rt; matches!(answer, Ok(Err(_))), "a page for no class");
-    }
-    Ok(())
+    tend_within_tries(&cache, &mut tender)
 }
