@@ -132,7 +132,7 @@ fn bytes_are_told(rt: HostRuntime) -> Result<(), Fail> {
         + (504 + 104 * 4 + 40 * 4)
         + 12 * (64 + 16 * 20)
         + 508 * 8;
-    let shard = table + lists + 656 + 72 + 48 * 3;
+    let shard = table + lists + 656 + 72 + 56 * 3;
     // two workers and the tender; and a place for a hint for each 128 bytes of the limits
     let wanted = 3 * shard + 3 * 48 + 192 * 8;
     assert!(rt; bytes == Some(wanted), "three arenas");
