@@ -30,7 +30,7 @@ pub struct Hand {
     pub(crate) stamps: u64,
     /// How many of its chunks it fills.
     pub(crate) fresh: u64,
-    /// The chunk that it left dead when it last stored over an item.
+    /// The chunk that it left dead when it last stored over an item, if it remembers such chunks.
     pub(crate) dead: KeptChunk,
     ghost noted: { IsNoted seat.me number chunks locks },
     ghost tallied: { IsTallied seat.me stamps fresh },

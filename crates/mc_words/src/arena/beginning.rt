@@ -140,7 +140,7 @@ impl Arena {
             locks: Locks::Neither,
             stamps: 0,
             fresh: 0,
-            dead: KeptChunk::none(),
+            dead: KeptChunk::new(),
         };
         Ok((arena, hand))
     }

@@ -109,7 +109,7 @@ impl Arena {
             locks: Locks::Neither,
             stamps: 0,
             fresh: 0,
-            dead: KeptChunk::none(),
+            dead: KeptChunk::new(),
         }
     }
 }

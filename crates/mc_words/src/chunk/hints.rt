@@ -51,11 +51,15 @@ impl Hints {
         }
     }
 
-    /// The chunk's header is this now: where the chunk is dead, its hand keeps it, and the one that it kept before is noted. Returns what the
-    /// hand keeps.
+    /// The chunk's header is this now: where the chunk is dead, it is noted, or its hand keeps it, if the hand remembers chunks. Then the one that
+    /// it kept before is noted. Returns what the hand keeps.
     #[inline(always)]
     pub(crate) fn keep_if_dead(&self, kept: KeptChunk, chunk: ChunkId, head: u64) -> KeptChunk {
         if head % ISSUE_UNIT != DEAD {
+            return kept;
+        }
+        if !kept.is_asked_for() {
+            self.note(chunk);
             return kept;
         }
         self.note_kept(kept);
@@ -65,8 +69,7 @@ impl Hints {
     /// The chunk that a hand kept may be dead, if it kept one.
     #[inline(always)]
     pub(crate) fn note_kept(&self, kept: KeptChunk) {
-        let mut kept = kept;
-        if let Some(chunk) = kept.take() {
+        if let Some(chunk) = kept.chunk() {
             self.note(chunk);
         }
     }

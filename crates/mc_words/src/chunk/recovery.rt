@@ -19,8 +19,8 @@ use mc_pages::ChunkId;
 
 impl Arena {
     /// Puts the chunk back that the hand left dead when it last stored over an item, if the class handed that one out and it is dead still. It
-    /// follows no other hint, and puts nothing else back. False where the hand remembers no such chunk: nothing is done then. (own, as slabs.c
-    /// frees a chunk when its last reference goes)
+    /// follows no other hint, and puts nothing else back. False where the hand remembers no such chunk: nothing is done then. A hand remembers
+    /// chunks from its first such call on. (own, as slabs.c frees a chunk when its last reference goes)
     pub fn recover_own(&self, hand: &mut Hand, held: &mut SlabsHeld, class: ClassId) -> bool
         requires arena { IsHandOf self.now hand.old }
         requires class { is_class (setup_of self.now).table class ≡ true }
@@ -71,9 +71,8 @@ impl Arena {
             (view hand.old) held.old.shared (view hand.new) held.new.shared }
         ensures view { view hand.new ≡ with_seen (view hand.old) (view hand.new) }
     {
-        if let Some(chunk) = hand.dead.take() {
-            self.hints.note(chunk);
-        }
+        self.hints.note_kept(hand.dead);
+        hand.dead = hand.dead.without_chunk();
         if self.hints.pages() == 0 {
             return;
         }

@@ -108,11 +108,13 @@ fn dead_chunks_come_before_an_eviction(rt: HostRuntime) -> Result<(), Fail> {
     run(&rt, rt.alloc(), &FOUR_CLASSES, &steps)
 }
 
-/// A set over item 5 evicts item 1, and leaves the chunk of item 5 dead. Nothing names that chunk but the hand.
+/// A hand that made room remembers what its sets leave dead. A set over item 5 evicts item 1, and leaves the chunk of item 5 dead.
 #[test]
 fn the_own_dead_chunk_comes_before_an_eviction(rt: HostRuntime) -> Result<(), Fail> {
     let steps = [
-        EIGHT,
+        Step::Sets(1, 8, 61),
+        Step::Makes(0, Room::Had),
+        Step::Sets(8, 9, 61),
         Step::Sets(5, 6, 61),
         Step::Makes(0, Room::Had),
         Step::Touches(1, false),
